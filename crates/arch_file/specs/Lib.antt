@@ -1,0 +1,2 @@
+pub mod Architecture
+pub mod Fields
