@@ -1,0 +1,10 @@
+pub mod Examples
+pub mod Printing
+pub mod Parts
+pub mod BadLines
+pub mod Splitting
+pub mod Joining
+pub mod Texts
+pub mod Spelled
+pub mod NumberExamples
+pub mod Transfers

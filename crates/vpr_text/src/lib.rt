@@ -1,0 +1,25 @@
+//! The text of a VPR file: its logical lines and words, its numbers, and the bytes that carry it.
+#![tactic(auto)]
+
+mod adapted;
+mod fault;
+mod line;
+mod numbers;
+mod output;
+mod reading;
+mod sink;
+mod source;
+mod split;
+
+pub use adapted::Adapted;
+pub use fault::TextFault;
+pub use line::Lines;
+pub use numbers::{fixed, is_decimal, number};
+pub use output::OutputBuffer;
+pub use reading::{ReadFault, read_all};
+pub use sink::ByteSink;
+pub use source::{Broken, ByteSource};
+pub use split::lines;
+
+#[cfg(test)]
+mod tests;
