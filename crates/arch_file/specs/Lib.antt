@@ -1,2 +1,14 @@
 pub mod Architecture
 pub mod Fields
+pub mod Keyword
+pub mod Lines
+pub mod Faults
+pub mod Word
+pub mod Pairs
+pub mod Values
+pub mod PinLine
+pub mod SegmentLine
+pub mod SwitchLine
+pub mod Judge
+pub mod Reading
+pub mod Reads

@@ -2,7 +2,23 @@
 #![tactic(auto)]
 
 mod arch;
+mod fault;
+mod judge;
+mod keyword;
+mod line;
+mod pairs;
 mod parts;
+mod pins;
+mod reading;
+mod segments;
+mod switches;
+mod values;
+mod words;
 
 pub use arch::Arch;
+pub use fault::{ArchFault, Entry};
 pub use parts::{Direction, FcType, Pin, Segment, SegmentLength, Sides, Switch};
+pub use reading::parse;
+
+#[cfg(test)]
+mod tests;

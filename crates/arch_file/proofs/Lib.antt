@@ -1,0 +1,5 @@
+pub mod Drops
+pub mod Lines
+pub mod Faultless
+pub mod Kept
+pub mod Related

@@ -1,0 +1,109 @@
+//! `switch` lines.
+
+ghost use Rattle.std.specs.Prelude.{◌≡◌};
+ghost use Rattle.arch_file.specs.SwitchLine.{has_switch, repeats_switch, is_wrong_value, has_wrong_value, has_bad_number, has_switch_keys, is_buffer_word, switch_line};
+
+use crate::fault::LineFault;
+use crate::keyword::is;
+use crate::line::ArchLine;
+use crate::pairs::{has_key, is_value, pairs_in};
+use crate::parts::Switch;
+use crate::words::Words;
+use vpr_text::is_decimal;
+
+/// The greatest number of a switch.
+const GREATEST_SWITCH: u32 = 255;
+
+/// Whether a line gives the switch of this number.
+#[tactic(auto, unfolding(crate::specs::SwitchLine::has_switch))]
+pub(crate) fn has_switch(lines: &[ArchLine], number: u32) -> bool
+    ensures { result ≡ has_switch lines.now number }
+{
+    lines
+        .iter()
+        .filter_map(|line| line.switch())
+        .any(|switch| switch.number == number)
+}
+
+/// Whether a line before gives the switch of this number.
+fn repeats_switch(before: &[ArchLine], words: &Words) -> bool
+    ensures { result ≡ repeats_switch before.now words.now }
+{
+    match words.number(1) {
+        Some(number) => has_switch(before, number),
+        None => false,
+    }
+}
+
+/// Whether the value isn't the number that the key wants.
+#[tactic(auto, unfolding(crate::specs::SwitchLine::is_wrong_value))]
+fn is_wrong_value(key: &[u8], value: &[u8]) -> bool
+    ensures { result ≡ is_wrong_value (key.now, value.now) }
+{
+    if is(key, "R:") || is(key, "Cin:") || is(key, "Cout:") || is(key, "Tdel:") {
+        return !is_decimal(value);
+    }
+    false
+}
+
+/// Whether some value isn't the number that its key wants.
+#[tactic(auto, unfolding(crate::specs::SwitchLine::has_wrong_value))]
+fn has_wrong_value(pairs: &Words) -> bool
+    ensures { result ≡ has_wrong_value pairs.now }
+{
+    pairs_in(pairs).any(|pair| is_wrong_value(pair.0, pair.1))
+}
+
+/// Whether a number of the line is none.
+#[tactic(auto, unfolding(crate::specs::SwitchLine::has_bad_number))]
+fn has_bad_number(words: &Words) -> bool
+    ensures { result ≡ has_bad_number words.now }
+{
+    (words.has(1) && words.number(1).is_none()) || has_wrong_value(&words.rest(2))
+}
+
+/// Whether the words are the five pairs: with as many words and each key among them, no key is unknown, repeated or left
+/// out.
+#[tactic(auto, unfolding(crate::specs::SwitchLine::has_switch_keys))]
+fn has_switch_keys(pairs: &Words) -> bool
+    ensures { result ≡ has_switch_keys pairs.now }
+{
+    pairs.len() == 10
+        && has_key(pairs, "buffered:")
+        && has_key(pairs, "R:")
+        && has_key(pairs, "Cin:")
+        && has_key(pairs, "Cout:")
+        && has_key(pairs, "Tdel:")
+}
+
+/// Whether `buffered:` has one of its two words.
+fn is_buffer_word(pairs: &Words) -> bool
+    ensures { result ≡ is_buffer_word pairs.now }
+{
+    is_value(pairs, "buffered:", "yes") || is_value(pairs, "buffered:", "no")
+}
+
+/// `switch n` and its five pairs.
+#[tactic(auto, unfolding(crate::specs::SwitchLine::switch_line))]
+pub(crate) fn switch_line(before: &[ArchLine], words: &Words) -> Result<ArchLine, LineFault>
+    ensures { result ≡ switch_line before.now words.now }
+{
+    if repeats_switch(before, words) {
+        return Err(LineFault::Repeated);
+    }
+    if has_bad_number(words) {
+        return Err(LineFault::BadNumber);
+    }
+    let pairs = words.rest(2);
+    if !has_switch_keys(&pairs) || !is_buffer_word(&pairs) {
+        return Err(LineFault::BadWord);
+    }
+    let number = words.number(1).unwrap_or(0);
+    if number > GREATEST_SWITCH {
+        return Err(LineFault::TooMany);
+    }
+    Ok(ArchLine::Switch(Switch {
+        number,
+        buffered: is_value(&pairs, "buffered:", "yes"),
+    }))
+}

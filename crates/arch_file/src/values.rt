@@ -1,0 +1,146 @@
+//! Lines of one value.
+
+ghost use Rattle.std.specs.Prelude.{◌≡◌};
+ghost use Rattle.arch_file.specs.Values.{io_rat_line, is_one, chan_width_io_line, is_distribution, channel_line, number_line, fixed_line, switch_block_type_line, fc_type_line};
+
+use crate::fault::LineFault;
+use crate::line::ArchLine;
+use crate::parts::FcType;
+use crate::words::Words;
+
+/// The greatest number of pads at one place of the perimeter.
+const MOST_PADS: u32 = 16;
+
+/// 1 in units of 10^-9.
+pub(crate) const ONE: u64 = 1_000_000_000;
+
+/// `io_rat n`: pads at each place of the perimeter.
+#[tactic(auto, unfolding(crate::specs::Values::io_rat_line))]
+pub(crate) fn io_rat_line(words: &Words) -> Result<ArchLine, LineFault>
+    ensures { result ≡ io_rat_line words.now }
+{
+    let pads = words.number(1).unwrap_or(0);
+    if words.has(1) && pads == 0 {
+        return Err(LineFault::BadNumber);
+    }
+    if words.len() != 2 {
+        return Err(LineFault::BadWord);
+    }
+    if pads > MOST_PADS {
+        return Err(LineFault::TooMany);
+    }
+    Ok(ArchLine::IoRat(pads))
+}
+
+/// Whether word `j` is the number 1.
+fn is_one(words: &Words, j: usize) -> bool
+    ensures { result ≡ is_one words.now j }
+{
+    words.fixed(j).unwrap_or(0) == ONE
+}
+
+/// `chan_width_io v`.
+#[tactic(auto, unfolding(crate::specs::Values::chan_width_io_line))]
+pub(crate) fn chan_width_io_line(words: &Words) -> Result<ArchLine, LineFault>
+    ensures { result ≡ chan_width_io_line words.now }
+{
+    if words.has(1) && words.fixed(1).is_none() {
+        return Err(LineFault::BadNumber);
+    }
+    if words.len() != 2 {
+        return Err(LineFault::BadWord);
+    }
+    if !is_one(words, 1) {
+        return Err(LineFault::Unsupported);
+    }
+    Ok(ArchLine::ChanWidthIo)
+}
+
+/// Whether the line asks for channels whose widths differ.
+fn is_distribution(words: &Words) -> bool
+    ensures { result ≡ is_distribution words.now }
+{
+    words.is(1, "gaussian") || words.is(1, "pulse") || words.is(1, "delta")
+}
+
+/// `chan_width_x uniform v` and `chan_width_y uniform v`.
+#[tactic(auto, unfolding(crate::specs::Values::channel_line))]
+pub(crate) fn channel_line(words: &Words, line: ArchLine) -> Result<ArchLine, LineFault>
+    ensures { result ≡ channel_line words.now line }
+{
+    if is_distribution(words) {
+        return Err(LineFault::Unsupported);
+    }
+    if words.has(2) && words.fixed(2).is_none() {
+        return Err(LineFault::BadNumber);
+    }
+    if !words.is(1, "uniform") || words.len() != 3 {
+        return Err(LineFault::BadWord);
+    }
+    if !is_one(words, 2) {
+        return Err(LineFault::Unsupported);
+    }
+    Ok(line)
+}
+
+/// A keyword and a number.
+#[tactic(auto, unfolding(crate::specs::Values::number_line))]
+pub(crate) fn number_line(words: &Words, line: ArchLine) -> Result<ArchLine, LineFault>
+    ensures { result ≡ number_line words.now line }
+{
+    if words.has(1) && words.number(1).is_none() {
+        return Err(LineFault::BadNumber);
+    }
+    if words.len() != 2 {
+        return Err(LineFault::BadWord);
+    }
+    Ok(line)
+}
+
+/// A keyword and a number with decimals.
+#[tactic(auto, unfolding(crate::specs::Values::fixed_line))]
+pub(crate) fn fixed_line(words: &Words, line: ArchLine) -> Result<ArchLine, LineFault>
+    ensures { result ≡ fixed_line words.now line }
+{
+    if words.has(1) && words.fixed(1).is_none() {
+        return Err(LineFault::BadNumber);
+    }
+    if words.len() != 2 {
+        return Err(LineFault::BadWord);
+    }
+    Ok(line)
+}
+
+/// `switch_block_type subset`.
+#[tactic(auto, unfolding(crate::specs::Values::switch_block_type_line))]
+pub(crate) fn switch_block_type_line(words: &Words) -> Result<ArchLine, LineFault>
+    ensures { result ≡ switch_block_type_line words.now }
+{
+    if words.len() != 2 {
+        return Err(LineFault::BadWord);
+    }
+    if words.is(1, "wilton") || words.is(1, "universal") {
+        return Err(LineFault::Unsupported);
+    }
+    if !words.is(1, "subset") {
+        return Err(LineFault::BadWord);
+    }
+    Ok(ArchLine::SwitchBlockType)
+}
+
+/// `Fc_type absolute` and `Fc_type fractional`.
+#[tactic(auto, unfolding(crate::specs::Values::fc_type_line))]
+pub(crate) fn fc_type_line(words: &Words) -> Result<ArchLine, LineFault>
+    ensures { result ≡ fc_type_line words.now }
+{
+    if words.len() != 2 {
+        return Err(LineFault::BadWord);
+    }
+    if words.is(1, "absolute") {
+        return Ok(ArchLine::FcType(FcType::Absolute));
+    }
+    if words.is(1, "fractional") {
+        return Ok(ArchLine::FcType(FcType::Fractional));
+    }
+    Err(LineFault::BadWord)
+}
