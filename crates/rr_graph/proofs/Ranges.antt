@@ -1,0 +1,111 @@
+-- The numbers from one on: the first that passes a test, one number more, and tests over them.
+use Rattle.std.proofs.Common.{◌≡◌, ℕ, ◌+◌, ◌-◌, ◌<◌, ◌≤◌, inl, inr, zero, suc, Bool, true, false, cond, List, [], ◌∷◌, ◌++◌, length, map, refl, sym, ap, ◌∙◌, arith, zero-add}
+use Rattle.std.specs.List.{range_with_len, position_or_len, list_any, filter, flat_map, sum_by}
+use Rattle.std.proofs.lemmas.List.{append_assoc, append-nil, map-append, flat_map_more, length_push}
+use Rattle.std.proofs.lemmas.List.Elements.{filter-append}
+use Rattle.std.specs.Prelude.{◌||◌}
+use Rattle.std.proofs.lemmas.Bool.{or_from, or_left, or_right, cases_Bool}
+use Rattle.std.proofs.lemmas.List.Sums.{position_or_len_is, sum_by_push}
+use Rattle.std.proofs.lemmas.List.FromFn.{length-range_with_len, get_or-range_with_len}
+
+pub first_in_range : (p : ℕ → Bool) (a n i : ℕ) → i ≤ n → ((k : ℕ) → k < i → p (a + k) ≡ false) → (i < n → p (a + i) ≡ true) → position_or_len p (range_with_len a n) ≡ i
+first_in_range p a n i le below here =
+    position_or_len_is p (range_with_len a n) i 0 (omega (arith, length-range_with_len a n))
+    (λ k l. let lt : k < n = omega arith in rw (get_or-range_with_len a n k 0 lt) (below k l))
+    (λ l. let lt : i < n = omega (arith, length-range_with_len a n) in rw (get_or-range_with_len a n i 0 lt) (here lt))
+
+pub first_below : (p : ℕ → Bool) (n i : ℕ) → i ≤ n → ((k : ℕ) → k < i → p k ≡ false) → (i < n → p i ≡ true) → position_or_len p (range_with_len 0 n) ≡ i
+first_below p n i le below here =
+    first_in_range p 0 n i le (λ k l. ap p (zero-add k) ∙ below k l) (λ l. ap p (zero-add i) ∙ here l)
+
+pub none_in_range : (p : ℕ → Bool) (a n : ℕ) → ((k : ℕ) → k < n → p (a + k) ≡ false) → list_any p (range_with_len a n) ≡ false
+none_in_range p a zero h = refl
+none_in_range p a (suc n) h =
+    or_from (p a) (list_any p (range_with_len (a + 1) n)) (let e : a + 0 ≡ a = omega arith in ap p (sym e) ∙ h 0 (omega arith))
+    (none_in_range p (a + 1) n (λ k l. let e : a + 1 + k ≡ a + suc k = omega arith in ap p e ∙ h (suc k) (omega arith)))
+
+pub some_in_range : (p : ℕ → Bool) (a n i : ℕ) → i < n → p (a + i) ≡ true → list_any p (range_with_len a n) ≡ true
+some_in_range p a zero i l h = absurd (omega arith)
+some_in_range p a (suc n) zero l h = or_left (p a) (list_any p (range_with_len (a + 1) n)) (let e : a ≡ a + 0 = omega arith in ap p e ∙ h)
+some_in_range p a (suc n) (suc i) l h =
+    or_right (p a) (list_any p (range_with_len (a + 1) n))
+    (some_in_range p (a + 1) n i (omega arith) (let e : a + 1 + i ≡ a + suc i = omega arith in ap p e ∙ h))
+
+pub none_below : (p : ℕ → Bool) (n : ℕ) → ((k : ℕ) → k < n → p k ≡ false) → list_any p (range_with_len 0 n) ≡ false
+none_below p n h = none_in_range p 0 n (λ k l. ap p (zero-add k) ∙ h k l)
+
+pub some_below : (p : ℕ → Bool) (n i : ℕ) → i < n → p i ≡ true → list_any p (range_with_len 0 n) ≡ true
+some_below p n i l h = some_in_range p 0 n i l (ap p (zero-add i) ∙ h)
+
+pub list_any-map : {A B : Type 0} (p : B → Bool) (g : A → B) (xs : List A) → list_any p (map g xs) ≡ list_any (λ x. p (g x)) xs
+list_any-map p g [] = refl
+list_any-map p g (x ∷ xs) = ap (λ b. p (g x) || b) (list_any-map p g xs)
+
+pub none_mapped : (p : ℕ → Bool) (g : ℕ → ℕ) (n : ℕ) → ((k : ℕ) → k < n → p (g k) ≡ false) → list_any p (map g (range_with_len 0 n)) ≡ false
+none_mapped p g n h = list_any-map p g (range_with_len 0 n) ∙ none_below (λ k. p (g k)) n h
+
+pub some_mapped : (p : ℕ → Bool) (g : ℕ → ℕ) (n i : ℕ) → i < n → p (g i) ≡ true → list_any p (map g (range_with_len 0 n)) ≡ true
+some_mapped p g n i l h = list_any-map p g (range_with_len 0 n) ∙ some_below (λ k. p (g k)) n i l h
+
+pub range_more : (a n : ℕ) → range_with_len a (n + 1) ≡ range_with_len a n ++ (a + n) ∷ []
+range_more a zero = let e : a ≡ a + 0 = omega arith in ap (λ b. b ∷ []) e
+range_more a (suc n) =
+    let e : suc n + 1 ≡ suc (n + 1) = omega arith in
+    let s : a + 1 + n ≡ a + suc n = omega arith in
+    ap (range_with_len a) e ∙ ap (λ ys. a ∷ ys) (range_more (a + 1) n ∙ ap (λ b. range_with_len (a + 1) n ++ b ∷ []) s)
+
+pub below_next : (n : ℕ) → range_with_len 0 (n + 1) ≡ range_with_len 0 n ++ n ∷ []
+below_next n = range_more 0 n ∙ ap (λ b. range_with_len 0 n ++ b ∷ []) (zero-add n)
+
+pub filter_next : (p : ℕ → Bool) (i : ℕ) → filter p (range_with_len 0 (i + 1)) ≡ filter p (range_with_len 0 i) ++ cond (p i) (i ∷ []) []
+filter_next p i = ap (filter p) (below_next i) ∙ filter-append p (range_with_len 0 i) (i ∷ [])
+
+module _ {X : Type 0} where
+  pub mapped_more : (f : ℕ → X) (xs : List X) (i : ℕ) → (xs ++ map f (range_with_len 0 i)) ++ (f i ∷ []) ≡ xs ++ map f (range_with_len 0 (i + 1))
+  mapped_more f xs i =
+      append_assoc xs (map f (range_with_len 0 i)) (f i ∷ []) ∙ ap (λ ys. xs ++ ys) (sym (ap (map f) (below_next i) ∙ map-append f (range_with_len 0 i) (i ∷ [])))
+
+  pub kept_more : (p : ℕ → Bool) (f : ℕ → X) (xs : List X) (i : ℕ) → p i ≡ true → (xs ++ map f (filter p (range_with_len 0 i))) ++ (f i ∷ []) ≡ xs ++ map f (filter p (range_with_len 0 (i + 1)))
+  kept_more p f xs i e =
+      append_assoc xs (map f (filter p (range_with_len 0 i))) (f i ∷ [])
+      ∙ ap (λ ys. xs ++ ys) (sym (ap (map f) (filter_next p i ∙ ap (λ b. filter p (range_with_len 0 i) ++ cond b (i ∷ []) []) e) ∙ map-append f (filter p (range_with_len 0 i)) (i ∷ [])))
+
+  pub skipped_more : (p : ℕ → Bool) (f : ℕ → X) (xs : List X) (i : ℕ) → p i ≡ false → xs ++ map f (filter p (range_with_len 0 i)) ≡ xs ++ map f (filter p (range_with_len 0 (i + 1)))
+  skipped_more p f xs i e =
+      ap (λ ys. xs ++ map f ys) (sym (filter_next p i ∙ ap (λ b. filter p (range_with_len 0 i) ++ cond b (i ∷ []) []) e ∙ append-nil (filter p (range_with_len 0 i))))
+
+  pub joined_more : (g : ℕ → List X) (xs : List X) (i : ℕ) → (xs ++ flat_map g (range_with_len 0 i)) ++ g i ≡ xs ++ flat_map g (range_with_len 0 (i + 1))
+  joined_more g xs i = flat_map_more g xs (range_with_len 0 i) i ∙ ap (λ ys. xs ++ flat_map g ys) (sym (below_next i))
+
+pub kept_next : (p : ℕ → Bool) (i : ℕ) → p i ≡ true → filter p (range_with_len 0 i) ++ (i ∷ []) ≡ filter p (range_with_len 0 (i + 1))
+kept_next p i e = sym (filter_next p i ∙ ap (λ b. filter p (range_with_len 0 i) ++ cond b (i ∷ []) []) e)
+
+pub skipped_next : (p : ℕ → Bool) (i : ℕ) → p i ≡ false → filter p (range_with_len 0 i) ≡ filter p (range_with_len 0 (i + 1))
+skipped_next p i e =
+    sym (filter_next p i ∙ ap (λ b. filter p (range_with_len 0 i) ++ cond b (i ∷ []) []) e ∙ append-nil (filter p (range_with_len 0 i)))
+
+pub count_kept : (p : ℕ → Bool) (i : ℕ) → p i ≡ true → length (filter p (range_with_len 0 (i + 1))) ≡ length (filter p (range_with_len 0 i)) + 1
+count_kept p i e = ap length (sym (kept_next p i e)) ∙ length_push (filter p (range_with_len 0 i)) i
+
+pub count_skipped : (p : ℕ → Bool) (i : ℕ) → p i ≡ false → length (filter p (range_with_len 0 (i + 1))) ≡ length (filter p (range_with_len 0 i))
+count_skipped p i e = ap length (sym (skipped_next p i e))
+
+pub count_grows : (p : ℕ → Bool) (m k : ℕ) → length (filter p (range_with_len 0 m)) ≤ length (filter p (range_with_len 0 (m + k)))
+count_grows p m zero = let e : m ≡ m + 0 = omega arith in let f = ap (λ n. length (filter p (range_with_len 0 n))) e in omega (arith, f)
+count_grows p m (suc k) =
+    let e : m + suc k ≡ m + k + 1 = omega arith in
+    let f = ap (λ n. length (filter p (range_with_len 0 n))) e in
+    elim (cases_Bool (p (m + k))) [
+      | inl t ↦ omega (arith, f, count_grows p m k, count_kept p (m + k) t)
+      | inr t ↦ omega (arith, f, count_grows p m k, count_skipped p (m + k) t)
+    ]
+
+-- what passes at i comes on top of what passes before
+pub count_less : (p : ℕ → Bool) (n i : ℕ) → i < n → p i ≡ true → length (filter p (range_with_len 0 i)) < length (filter p (range_with_len 0 n))
+count_less p n i l t =
+    let e : i + 1 + (n - (i + 1)) ≡ n = omega arith in
+    let f = ap (λ m. length (filter p (range_with_len 0 m))) e in
+    omega (arith, f, count_grows p (i + 1) (n - (i + 1)), count_kept p i t)
+
+pub sum_next : (g : ℕ → ℕ) (i : ℕ) → sum_by g (range_with_len 0 (i + 1)) ≡ sum_by g (range_with_len 0 i) + g i
+sum_next g i = ap (sum_by g) (below_next i) ∙ sum_by_push g (range_with_len 0 i) i

@@ -1,0 +1,256 @@
+//! The device and its look-ups.
+
+ghost use Rattle.std.specs.Prelude.{◌≡◌, ℕ, ◌+◌, ◌^◌, ◌<◌, ◌≤◌, ◌↔◌, ◌⊎◌, [], length, Contains, true, IfOk, IfSome, OnOk, OnErr, IsOk, Option, Result};
+ghost use Rattle.std.specs.List.Sorted.{IsStrictlyIncreasing};
+ghost use Rattle.std.specs.Option.{option_map};
+ghost use Rattle.rr_graph.specs.Fabric.{Fabric, IsFabric};
+ghost use Rattle.rr_graph.specs.Nodes.{node_count_of, node_at, number_of, label_of, capacity_of, span_of};
+ghost use Rattle.rr_graph.specs.Edges.{edge_between, successors_of, edge_count_of};
+
+use crate::fault::DeviceFault;
+use crate::layout::Layout;
+use crate::nodes::is_same;
+use crate::parts::{Label, Mode, Node, Span};
+use arch_file::Arch;
+use smallvec::SmallVec;
+use std::alloc::{AllocError, Global};
+use std::marker::Model;
+
+/// A device: the nodes of its routing-resource graph by number, and the edges among them.
+/// Contracts see it as the record of its architecture, the size of its array, its channels' width and its mode.
+#[derive(Drop)]
+pub struct Device {
+    layout: Layout,
+    nodes: Vec<Node>,
+}
+
+impl Model for Device {
+    ghost use Rattle.rr_graph.specs.Fabric.{Fabric};
+
+    ghost Value = { Fabric };
+
+    ghost use Rattle.std.specs.Prelude.{◌≡◌};
+    ghost use Rattle.rr_graph.specs.Fabric.{IsFabric};
+    ghost use Rattle.rr_graph.specs.Nodes.{nodes_of};
+
+    ghost view = { λ d. d.layout };
+
+    ghost invariant = { λ d. IsFabric d.layout × (d.nodes.items ≡ nodes_of d.layout) };
+}
+
+impl Device {
+    /// A device in which each track has wires of its own. `Width` is answered for a width outside 1 to 256.
+    pub fn new(
+        alloc: Global,
+        arch: &Arch,
+        nx: u32,
+        ny: u32,
+        width: u32,
+    ) -> Result<Device, DeviceFault>
+        requires columns { (1 ≤ nx) × (nx ≤ 100) }
+        requires rows { (1 ≤ ny) × (ny ≤ 100) }
+        ensures made { IfOk result
+            (λ d. d ≡ record { architecture = arch.now; nx = nx; ny = ny; width = width; mode = Mode.Detailed }) }
+        ensures width { (result ≡ Err DeviceFault.Width) ↔ ((width ≡ 0) ⊎ (256 < width)) }
+    {
+        Device::make(alloc, arch, nx, ny, width, Mode::Detailed)
+    }
+
+    /// A device in which each place of a channel is one node, as wide as the channel.
+    /// `Width` is answered for a width outside 1 to 256.
+    pub fn global(
+        alloc: Global,
+        arch: &Arch,
+        nx: u32,
+        ny: u32,
+        width: u32,
+    ) -> Result<Device, DeviceFault>
+        requires columns { (1 ≤ nx) × (nx ≤ 100) }
+        requires rows { (1 ≤ ny) × (ny ≤ 100) }
+        ensures made { IfOk result
+            (λ d. d ≡ record { architecture = arch.now; nx = nx; ny = ny; width = width; mode = Mode.Global }) }
+        ensures width { (result ≡ Err DeviceFault.Width) ↔ ((width ≡ 0) ⊎ (256 < width)) }
+    {
+        Device::make(alloc, arch, nx, ny, width, Mode::Global)
+    }
+
+    fn make(
+        alloc: Global,
+        arch: &Arch,
+        nx: u32,
+        ny: u32,
+        width: u32,
+        mode: Mode,
+    ) -> Result<Device, DeviceFault>
+        requires columns { (1 ≤ nx) × (nx ≤ 100) }
+        requires rows { (1 ≤ ny) × (ny ≤ 100) }
+        ensures made { IfOk result
+            (λ d. d ≡ record { architecture = arch.now; nx = nx; ny = ny; width = width; mode = mode }) }
+        ensures width { (result ≡ Err DeviceFault.Width) ↔ ((width ≡ 0) ⊎ (256 < width)) }
+    {
+        if width == 0 || width > 256 {
+            return Err(DeviceFault::Width);
+        }
+        let layout = Layout::new(alloc, arch, nx, ny, width, mode)?;
+        let nodes = layout.nodes(alloc)?;
+        Ok(Device { layout, nodes })
+    }
+
+    /// Columns of logic blocks.
+    pub fn nx(&self) -> u32
+        ensures entry { result ≡ self.now.nx }
+        ensures limits { IsFabric self.now }
+    {
+        self.layout.nx()
+    }
+
+    /// Rows of logic blocks.
+    pub fn ny(&self) -> u32
+        ensures entry { result ≡ self.now.ny }
+        ensures limits { IsFabric self.now }
+    {
+        self.layout.ny()
+    }
+
+    /// Tracks in each channel.
+    pub fn width(&self) -> u32
+        ensures entry { result ≡ self.now.width }
+        ensures limits { IsFabric self.now }
+    {
+        self.layout.width()
+    }
+
+    /// Whether each track has wires of its own.
+    pub fn mode(&self) -> Mode
+        ensures { result ≡ self.now.mode }
+    {
+        self.layout.mode()
+    }
+
+    /// The architecture.
+    pub fn architecture(&self) -> &Arch
+        ensures { result.now ≡ self.now.architecture }
+    {
+        self.layout.architecture()
+    }
+
+    /// How many nodes there are: fewer than 2^23.
+    #[tactic(auto, using(crate::proofs::Order::node_count_below))]
+    pub fn node_count(&self) -> u32
+        ensures count { result ≡ node_count_of self.now }
+        ensures few { result < 2 ^ 23 }
+    {
+        self.nodes.len() as u32
+    }
+
+    /// The node of a number.
+    pub fn node(&self, id: u32) -> Option<Node>
+        ensures node { result ≡ node_at self.now id }
+        ensures inverse { IfSome result (λ n. number_of self.now n ≡ Some id) }
+    {
+        self.nodes.get(id as usize).copied()
+    }
+
+    /// What a node's number counts.
+    pub fn label(&self, id: u32) -> Option<Label>
+        ensures { result ≡ option_map (label_of self.now) (node_at self.now id) }
+    {
+        match self.node(id) {
+            None => None,
+            Some(node) => Some(self.layout.label_of(node)),
+        }
+    }
+
+    /// The number of a node: how many nodes stand before it. None for what is no node.
+    pub fn id(&self, node: Node) -> Option<u32>
+        ensures number { result ≡ number_of self.now node }
+        ensures inverse { IfSome result (λ i. node_at self.now i ≡ Some node) }
+    {
+        for id in 0..self.node_count() {
+            if is_same(self.nodes[id as usize], node) {
+                return Some(id);
+            }
+        }
+        None
+    }
+
+    /// How many nets may use a node.
+    pub fn capacity(&self, id: u32) -> Option<u32>
+        ensures { result ≡ option_map (capacity_of self.now) (node_at self.now id) }
+    {
+        match self.node(id) {
+            None => None,
+            Some(node) => Some(self.layout.capacity_of(node)),
+        }
+    }
+
+    /// The first and the last place of a node; only those of a wire may differ.
+    pub fn span(&self, id: u32) -> Option<Span>
+        ensures { result ≡ option_map (span_of self.now) (node_at self.now id) }
+    {
+        match self.node(id) {
+            None => None,
+            Some(node) => Some(self.layout.span_of(node)),
+        }
+    }
+
+    /// Whether an edge leads from node `from` to node `to`; false where one of them is no node.
+    #[tactic(auto, unfolding(crate::specs::Edges::edge_between))]
+    pub fn edge(&self, from: u32, to: u32) -> bool
+        ensures { result ≡ edge_between self.now from to }
+    {
+        match (self.node(from), self.node(to)) {
+            (Some(a), Some(b)) => self.layout.is_edge(a, b),
+            _ => false,
+        }
+    }
+
+    /// How many edges lead from a node.
+    #[tactic(auto, using(crate::proofs::Ranges::count_kept, crate::proofs::Ranges::count_skipped), unfolding(crate::specs::Edges::successors_of))]
+    fn degree(&self, id: u32) -> u32
+        ensures count { result ≡ length (successors_of self.now id) }
+        ensures few { result < 2 ^ 23 }
+    {
+        let mut count = 0;
+        for to in 0..self.node_count() {
+            if self.edge(id, to) {
+                count += 1;
+            }
+        }
+        count
+    }
+
+    /// How many edges there are.
+    #[tactic(auto, using(crate::proofs::Ranges::sum_next), unfolding(crate::specs::Edges::edge_count_of))]
+    pub fn edge_count(&self) -> u64
+        ensures { result ≡ edge_count_of self.now }
+    {
+        let mut count = 0u64;
+        for id in 0..self.node_count() {
+            count += u64::from(self.degree(id));
+        }
+        count
+    }
+
+    /// The numbers of the nodes to which an edge leads from node `id`, ascending; none for what is no node.
+    /// The list is cleared first; where memory is refused it is left empty.
+    #[tactic(auto, using(crate::proofs::Ranges::kept_next, crate::proofs::Ranges::skipped_next), unfolding(crate::specs::Edges::successors_of))]
+    pub fn successors(&self, id: u32, list: &mut SmallVec<u32, 8>) -> Result<(), AllocError>
+        ensures listed { OnOk result (list.new.items ≡ successors_of self.now id) }
+        ensures all { OnOk result
+            ((to : ℕ) → Contains list.new.items to ↔ (edge_between self.now id to ≡ true)) }
+        ensures ascending { OnOk result (IsStrictlyIncreasing list.new.items) }
+        ensures refused { OnErr result (list.new.items ≡ []) }
+        ensures room { length (successors_of self.now id) ≤ list.old.capacity → IsOk result }
+        ensures kept { list.old.capacity ≤ list.new.capacity }
+    {
+        list.clear();
+        for to in 0..self.node_count() {
+            if self.edge(id, to) && list.push(to).is_err() {
+                list.clear();
+                return Err(AllocError);
+            }
+        }
+        Ok(())
+    }
+}

@@ -1,0 +1,113 @@
+//! What a device is made from: its architecture, the size of its array, the width of its channels, and its mode.
+
+ghost use Rattle.std.specs.Prelude.{◌≡◌, ℕ, ◌+◌, ◌≤◌, ◌<◌, IfOk};
+ghost use Rattle.rr_graph.specs.Fabric.{IsFabric, is_block, is_pad};
+
+use crate::parts::Mode;
+use arch_file::{Arch, Segment};
+use std::alloc::{AllocError, Global};
+use std::marker::Model;
+
+/// Contracts see it as the record of its parts.
+#[derive(Drop)]
+pub struct Layout {
+    pub(crate) arch: Arch,
+    pub(crate) nx: u32,
+    pub(crate) ny: u32,
+    pub(crate) width: u32,
+    pub(crate) mode: Mode,
+}
+
+impl Model for Layout {
+    ghost use Rattle.rr_graph.specs.Fabric.{Fabric, IsFabric};
+
+    ghost Value = { Fabric };
+
+    ghost use Rattle.rr_graph.specs.Fields.{fabric_of};
+
+    ghost view = { fabric_of };
+
+    ghost invariant = { λ l. IsFabric (fabric_of l) };
+}
+
+impl Layout {
+    pub(crate) fn new(
+        alloc: Global,
+        arch: &Arch,
+        nx: u32,
+        ny: u32,
+        width: u32,
+        mode: Mode,
+    ) -> Result<Layout, AllocError>
+        requires columns { (1 ≤ nx) × (nx ≤ 100) }
+        requires rows { (1 ≤ ny) × (ny ≤ 100) }
+        requires tracks { (1 ≤ width) × (width ≤ 256) }
+        ensures made { IfOk result
+            (λ l. l ≡ record { architecture = arch.now; nx = nx; ny = ny; width = width; mode = mode }) }
+        ensures limits { IfOk result IsFabric }
+    {
+        let _limits = arch.io_rat();
+        Ok(Layout {
+            arch: arch.copy(alloc)?,
+            nx,
+            ny,
+            width,
+            mode,
+        })
+    }
+
+    pub(crate) fn architecture(&self) -> &Arch
+        ensures { result.now ≡ self.now.architecture }
+    {
+        &self.arch
+    }
+
+    pub(crate) fn nx(&self) -> u32
+        ensures entry { result ≡ self.now.nx }
+        ensures limits { IsFabric self.now }
+    {
+        self.nx
+    }
+
+    pub(crate) fn ny(&self) -> u32
+        ensures entry { result ≡ self.now.ny }
+        ensures limits { IsFabric self.now }
+    {
+        self.ny
+    }
+
+    pub(crate) fn width(&self) -> u32
+        ensures entry { result ≡ self.now.width }
+        ensures limits { IsFabric self.now }
+    {
+        self.width
+    }
+
+    pub(crate) fn mode(&self) -> Mode
+        ensures { result ≡ self.now.mode }
+    {
+        self.mode
+    }
+
+    pub(crate) fn segments(&self) -> &[Segment]
+        ensures entry { result.now ≡ self.now.architecture.segments }
+        ensures limits { IsFabric self.now }
+    {
+        self.arch.segments()
+    }
+
+    /// A logic block stands at (x, y).
+    pub(crate) fn is_block(&self, x: u32, y: u32) -> bool
+        ensures { result ≡ is_block self.now x y }
+    {
+        (1 <= x && x <= self.nx) && (1 <= y && y <= self.ny)
+    }
+
+    /// Pads stand at (x, y).
+    pub(crate) fn is_pad(&self, x: u32, y: u32) -> bool
+        ensures { result ≡ is_pad self.now x y }
+    {
+        ((x == 0 || x == self.nx + 1) && (1 <= y && y <= self.ny))
+            || ((y == 0 || y == self.ny + 1) && (1 <= x && x <= self.nx))
+    }
+}

@@ -1,0 +1,162 @@
+//! The pins of logic blocks and pads, and the tracks that they tap.
+
+ghost use Rattle.std.specs.Prelude.{◌≡◌, ℕ, ◌+◌, ◌*◌, ◌/◌, ◌%◌, ◌==◌, ◌≤◌, ◌<◌, slice_get};
+ghost use Rattle.std.specs.List.{list_any};
+ghost use Rattle.rr_graph.specs.Wires.{runs_through};
+ghost use Rattle.rr_graph.specs.Pins.{tap_count, tracks_by, tapped_tracks, fc_at, channels_of_pin, channel_of_pad, channels_beside, is_marked_global, has_class, taps, belongs};
+
+use crate::layout::Layout;
+use crate::parts::{Kind, Mode, Node};
+use arch_file::{FcType, Pin};
+
+/// Whether the pin has a dedicated network.
+fn is_marked_global(pin: Option<Pin>) -> bool
+    ensures { result ≡ is_marked_global pin }
+{
+    match pin {
+        None => false,
+        Some(pin) => pin.global,
+    }
+}
+
+/// Whether the pin is of the class.
+fn has_class(pin: Option<Pin>, class: u32) -> bool
+    ensures { result ≡ has_class pin class }
+{
+    match pin {
+        None => false,
+        Some(pin) => pin.class == class,
+    }
+}
+
+impl Layout {
+    /// The pin of a block by its number.
+    pub(crate) fn pin(&self, number: u32) -> Option<Pin>
+        ensures { result ≡ slice_get self.now.architecture.pins number }
+    {
+        self.arch.pins().get(number as usize).copied()
+    }
+
+    /// How many tracks of each channel a pin taps.
+    fn tap_count(&self, fc: u64) -> u32
+        ensures count { result ≡ tap_count self.now.architecture.fc_type fc self.now.width }
+        ensures some { 1 ≤ result }
+        ensures few { result ≤ 256 }
+    {
+        let tracks = match self.arch.fc_type() {
+            FcType::Absolute => u128::from(fc),
+            FcType::Fractional => u128::from(fc) * u128::from(self.width),
+        };
+        let rounded = (tracks + 500_000_000) / 1_000_000_000;
+        let count = 1u128.max(u128::from(self.width).min(rounded));
+        count as u32
+    }
+
+    /// Whether pin `number` taps the track by `fc`, in a detailed device.
+    fn taps_detailed(&self, fc: u64, number: u32, track: u32) -> bool
+        ensures { result
+            ≡ list_any (λ t. t == track) (tracks_by Mode.Detailed (tap_count self.now.architecture.fc_type fc self.now.width) self.now.width number) }
+    {
+        let count = self.tap_count(fc);
+        for i in 0..count {
+            let step = u64::from(i) * u64::from(self.width) / u64::from(count);
+            if (u64::from(number) + step) % u64::from(self.width) == u64::from(track) {
+                return true;
+            }
+        }
+        false
+    }
+
+    /// Whether pin `number` taps the track by `fc`.
+    #[tactic(auto, unfolding(crate::specs::Pins::tapped_tracks))]
+    fn taps_track(&self, fc: u64, number: u32, track: u32) -> bool
+        ensures { result ≡ list_any (λ t. t == track) (tapped_tracks self.now fc number) }
+    {
+        match self.mode {
+            Mode::Global => track == 0,
+            Mode::Detailed => self.taps_detailed(fc, number, track),
+        }
+    }
+
+    /// Fc of a node of kind Opin or Ipin.
+    fn fc_at(&self, pin: Node) -> u64
+        ensures { result ≡ fc_at self.now pin }
+    {
+        if self.is_block(pin.x, pin.y) {
+            match pin.kind {
+                Kind::Opin => self.arch.fc_output(),
+                _ => self.arch.fc_input(),
+            }
+        } else {
+            self.arch.fc_pad()
+        }
+    }
+
+    /// Whether the wire runs beside a side where the pin of the block at (x, y) is reached.
+    fn is_beside_block(&self, pin: Option<Pin>, x: u32, y: u32, wire: Node) -> bool
+        ensures { result ≡ list_any (runs_through self.now wire) (channels_of_pin pin x y) }
+    {
+        match pin {
+            None => false,
+            Some(pin) => {
+                (pin.sides.top && self.runs_through(wire, Kind::Chanx, x, y))
+                    || (pin.sides.bottom
+                        && self.runs_through(wire, Kind::Chanx, x, y.saturating_sub(1)))
+                    || (pin.sides.right && self.runs_through(wire, Kind::Chany, x, y))
+                    || (pin.sides.left
+                        && self.runs_through(wire, Kind::Chany, x.saturating_sub(1), y))
+            }
+        }
+    }
+
+    /// Whether the wire runs beside the pad at (x, y).
+    fn is_beside_pad(&self, x: u32, y: u32, wire: Node) -> bool
+        ensures { result ≡ runs_through self.now wire (channel_of_pad self.now x y) }
+    {
+        if x == 0 {
+            self.runs_through(wire, Kind::Chany, 0, y)
+        } else if x == self.nx + 1 {
+            self.runs_through(wire, Kind::Chany, self.nx, y)
+        } else if y == 0 {
+            self.runs_through(wire, Kind::Chanx, x, 0)
+        } else {
+            self.runs_through(wire, Kind::Chanx, x, self.ny)
+        }
+    }
+
+    /// Whether the wire runs beside the pin.
+    #[tactic(auto, unfolding(crate::specs::Pins::channels_beside))]
+    fn is_beside(&self, pin: Node, wire: Node) -> bool
+        ensures { result ≡ list_any (runs_through self.now wire) (channels_beside self.now pin) }
+    {
+        if self.is_block(pin.x, pin.y) {
+            self.is_beside_block(self.pin(pin.number), pin.x, pin.y, wire)
+        } else {
+            self.is_beside_pad(pin.x, pin.y, wire)
+        }
+    }
+
+    /// Whether the pin, a node of kind Opin or Ipin, taps the wire.
+    #[tactic(auto, unfolding(crate::specs::Pins::taps))]
+    pub(crate) fn taps(&self, pin: Node, wire: Node) -> bool
+        ensures { result ≡ taps self.now pin wire }
+    {
+        let is_global = self.is_block(pin.x, pin.y) && is_marked_global(self.pin(pin.number));
+        !is_global
+            && (self.is_beside(pin, wire)
+                && self.taps_track(self.fc_at(pin), pin.number, wire.number))
+    }
+
+    /// Whether the pin is of the terminal, a node of kind Source or Sink.
+    #[tactic(auto, unfolding(crate::specs::Pins::belongs))]
+    pub(crate) fn belongs(&self, pin: Node, terminal: Node) -> bool
+        ensures { result ≡ belongs self.now pin terminal }
+    {
+        (pin.x == terminal.x && pin.y == terminal.y)
+            && (if self.is_block(pin.x, pin.y) {
+                has_class(self.pin(pin.number), terminal.number)
+            } else {
+                pin.number == terminal.number
+            })
+    }
+}
