@@ -1,0 +1,84 @@
+//! The words of the command line.
+
+ghost use Rattle.std.specs.Prelude.{◌≤◌, IfSome};
+
+use clap::{Arg, ArgAction, ArgMatches, Command, value_parser};
+use std::alloc::{AllocError, Global};
+
+/// The greatest array size on each side, in logic blocks.
+const MOST_BLOCKS: u32 = 100;
+
+/// The greatest channel width, in tracks.
+const MOST_TRACKS: u32 = 256;
+
+fn number<'a>(alloc: Global, name: &'a str, most: u32, help: &'a str) -> Arg<'a> {
+    Arg::new(alloc, name)
+        .required(true)
+        .value_parser(value_parser!(u32).range(1..=i64::from(most)))
+        .help(help)
+}
+
+fn graph_command<'a>(alloc: Global) -> Result<Command<'a>, AllocError> {
+    let command = Command::new(alloc, "graph")
+        .about("Print the nodes and edges of a device's routing-resource graph")
+        .arg(
+            Arg::new(alloc, "ARCH")
+                .required(true)
+                .help("The architecture file; `stdin` is standard input"),
+        )?
+        .arg(number(alloc, "NX", MOST_BLOCKS, "Logic blocks in a row"))?
+        .arg(number(alloc, "NY", MOST_BLOCKS, "Logic blocks in a column"))?
+        .arg(number(alloc, "W", MOST_TRACKS, "Tracks in a channel"))?;
+    command.arg(
+        Arg::new(alloc, "global")
+            .long("global")
+            .action(ArgAction::SetTrue)
+            .help("Global routing: one node for each channel place"),
+    )
+}
+
+/// The command line of the program.
+pub fn command<'a>(alloc: Global) -> Result<Command<'a>, AllocError> {
+    Command::new(alloc, "pathfinder")
+        .about("Routes placed designs in the text formats of VPR 4.30")
+        .subcommand_required(true)
+        .arg_required_else_help(true)
+        .subcommand(graph_command(alloc)?)
+}
+
+/// What the `graph` command was given.
+#[derive(Clone, Copy)]
+pub struct GraphWords<'a> {
+    pub arch: &'a str,
+    pub nx: u32,
+    pub ny: u32,
+    pub width: u32,
+    pub global: bool,
+}
+
+/// A number of the command line; None where it isn't in 1 to `most`, which the parser refuses.
+fn number_within(matches: &ArgMatches<'_>, name: &str, most: u32) -> Option<u32>
+    ensures { IfSome result (λ n. (1 ≤ n) × (n ≤ most)) }
+{
+    let number = matches.get_one::<u32>(name)?;
+    if number >= 1 && number <= most {
+        Some(number)
+    } else {
+        None
+    }
+}
+
+/// The words of the `graph` command; None where one is out of its range.
+pub fn graph_words<'a>(matches: &ArgMatches<'a>) -> Option<GraphWords<'a>>
+    ensures columns { IfSome result (λ g. (1 ≤ g.nx) × (g.nx ≤ 100)) }
+    ensures rows { IfSome result (λ g. (1 ≤ g.ny) × (g.ny ≤ 100)) }
+    ensures tracks { IfSome result (λ g. (1 ≤ g.width) × (g.width ≤ 256)) }
+{
+    Some(GraphWords {
+        arch: matches.get_str("ARCH")?,
+        nx: number_within(matches, "NX", MOST_BLOCKS)?,
+        ny: number_within(matches, "NY", MOST_BLOCKS)?,
+        width: number_within(matches, "W", MOST_TRACKS)?,
+        global: matches.get_flag("global"),
+    })
+}

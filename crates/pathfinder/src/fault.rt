@@ -1,0 +1,179 @@
+//! What can go wrong in a run of the program, how it is printed, and the exit status it gives.
+
+ghost use Rattle.std.specs.Prelude.{◌≡◌, OnOk, OnErr, IsTrue};
+ghost use Rattle.std.specs.Io.KnownBytes.{Appends};
+ghost use Rattle.vpr_text.specs.Output.{Sends, stream};
+ghost use Rattle.pathfinder.specs.declared.fault.AppFault.TheVariants.{Memory};
+ghost use Rattle.pathfinder.specs.Faults.{fault_of_arch, fault_text, input_text, line_fault_text, line_of, name_of, status_of, unread_text};
+
+use crate::text::put_number;
+use arch_file::ArchFault;
+use std::alloc::AllocError;
+use thiserror::Error;
+use vpr_text::{Broken, ByteSink, OutputBuffer, TextFault};
+
+/// An input file of the program.
+#[derive(Clone, Copy, Debug, PartialEq, Eq)]
+pub enum InputFile {
+    Arch,
+}
+
+/// What can go wrong in a run.
+#[derive(Clone, Copy, Debug, PartialEq, Eq, Error)]
+pub enum AppFault {
+    /// The architecture file has this fault; never that of memory.
+    #[error("the architecture file: {0}")]
+    Arch(ArchFault),
+    /// An input file could not be opened, or reading it failed.
+    #[error("an input file cannot be read")]
+    Unread(InputFile),
+    /// Writing failed.
+    #[error("the output cannot be written")]
+    Unwritten,
+    /// Memory ran out.
+    #[error("memory ran out")]
+    Memory,
+}
+
+impl From<AllocError> for AppFault {
+    ghost from_gives = { λ _ e. e ≡ Memory };
+
+    fn from(_e: AllocError) -> AppFault {
+        AppFault::Memory
+    }
+}
+
+/// The fault of a run whose architecture file has this one: that of memory is the run's own.
+pub fn of_arch(fault: ArchFault) -> AppFault
+    ensures { result ≡ fault_of_arch fault }
+{
+    match fault {
+        ArchFault::Memory | ArchFault::Text(TextFault::Memory) => AppFault::Memory,
+        ArchFault::Text(TextFault::TooLong)
+        | ArchFault::Text(TextFault::BadByte(_))
+        | ArchFault::UnknownKeyword(_)
+        | ArchFault::Repeated(_)
+        | ArchFault::BadNumber(_)
+        | ArchFault::BadWord(_)
+        | ArchFault::Unsupported(_)
+        | ArchFault::TooMany(_)
+        | ArchFault::Missing(_) => AppFault::Arch(fault),
+    }
+}
+
+/// The exit status that a fault gives: 4 for bad input, 5 for reading or writing that failed, 6 for memory.
+pub fn status(fault: &AppFault) -> u8
+    ensures { result ≡ status_of fault.now }
+{
+    match fault {
+        AppFault::Arch(_) => 4,
+        AppFault::Unread(_) | AppFault::Unwritten => 5,
+        AppFault::Memory => 6,
+    }
+}
+
+/// An input file's name in a fault's text.
+fn input_name(file: InputFile) -> &'static [u8]
+    ensures { result.now ≡ input_text file }
+{
+    match file {
+        InputFile::Arch => b"arch",
+    }
+}
+
+/// The line of an architecture's fault; 0 where it has none.
+fn line_of(fault: ArchFault) -> u32
+    ensures { result ≡ line_of fault }
+{
+    match fault {
+        ArchFault::Text(TextFault::BadByte(line))
+        | ArchFault::UnknownKeyword(line)
+        | ArchFault::Repeated(line)
+        | ArchFault::BadNumber(line)
+        | ArchFault::BadWord(line)
+        | ArchFault::Unsupported(line)
+        | ArchFault::TooMany(line) => line,
+        ArchFault::Text(TextFault::TooLong)
+        | ArchFault::Text(TextFault::Memory)
+        | ArchFault::Missing(_)
+        | ArchFault::Memory => 0,
+    }
+}
+
+/// The name of an architecture's fault.
+fn name_of(fault: ArchFault) -> &'static [u8]
+    ensures { result.now ≡ name_of fault }
+{
+    match fault {
+        ArchFault::Text(TextFault::TooLong) => b"TooLong",
+        ArchFault::Text(TextFault::BadByte(_)) => b"BadByte",
+        ArchFault::Text(TextFault::Memory) => b"Memory",
+        ArchFault::UnknownKeyword(_) => b"UnknownKeyword",
+        ArchFault::Repeated(_) => b"Repeated",
+        ArchFault::BadNumber(_) => b"BadNumber",
+        ArchFault::BadWord(_) => b"BadWord",
+        ArchFault::Unsupported(_) => b"Unsupported",
+        ArchFault::TooMany(_) => b"TooMany",
+        ArchFault::Missing(_) => b"Missing",
+        ArchFault::Memory => b"Memory",
+    }
+}
+
+/// Prints the line of a fault in an input file.
+fn put_line_fault<W: ByteSink>(
+    out: &mut OutputBuffer,
+    sink: &mut W,
+    file: InputFile,
+    line: u32,
+    name: &[u8],
+)
+    ensures { Sends (stream (W.taken sink.old) (W.failed sink.old) out.old) (stream (W.taken sink.new) (W.failed sink.new) out.new) (line_fault_text (input_text file) line name.now) }
+{
+    out.push(sink, b"error: ");
+    out.push(sink, input_name(file));
+    out.push(sink, b" line ");
+    put_number(out, sink, line);
+    out.push(sink, b": ");
+    out.push(sink, name);
+    out.push(sink, b"\n");
+}
+
+/// Prints the line of an input file that cannot be read.
+fn put_unread<W: ByteSink>(out: &mut OutputBuffer, sink: &mut W, file: InputFile)
+    ensures { Sends (stream (W.taken sink.old) (W.failed sink.old) out.old) (stream (W.taken sink.new) (W.failed sink.new) out.new) (unread_text (input_text file)) }
+{
+    out.push(sink, b"error: ");
+    out.push(sink, input_name(file));
+    out.push(sink, b" cannot be read\n");
+}
+
+/// Prints a fault's line through a buffer.
+fn put_fault<W: ByteSink>(out: &mut OutputBuffer, sink: &mut W, fault: &AppFault)
+    ensures { Sends (stream (W.taken sink.old) (W.failed sink.old) out.old) (stream (W.taken sink.new) (W.failed sink.new) out.new) (fault_text fault.now) }
+{
+    match fault {
+        AppFault::Arch(arch) => put_line_fault(
+            out,
+            sink,
+            InputFile::Arch,
+            line_of(*arch),
+            name_of(*arch),
+        ),
+        AppFault::Unread(file) => put_unread(out, sink, *file),
+        AppFault::Unwritten => out.push(sink, b"error: cannot write\n"),
+        AppFault::Memory => out.push(sink, b"error: memory\n"),
+    }
+}
+
+/// Prints a fault's line. It takes no memory.
+///
+/// # Errors
+/// Broken where the sink failed.
+pub fn print_fault<W: ByteSink>(fault: &AppFault, out: &mut W) -> Result<(), Broken>
+    ensures ok { OnOk result (Appends (W.taken out.old) (W.taken out.new) (fault_text fault.now)) }
+    ensures err { OnErr result (IsTrue (W.failed out.new)) }
+{
+    let mut buffer = OutputBuffer::new();
+    put_fault(&mut buffer, out, fault);
+    buffer.finish(out)
+}
