@@ -203,7 +203,7 @@ fixed_suits : (before : List ArchLine) (words : List (List ℕ)) (given x : Arch
 unfolding fixed_line
 fixed_suits before words given x suits e = subst (Suits before) (accepted (is_not_fixed words 1) (not (eqb (length words) 2)) false false given x e).1 suits
 
--- the last rung of a ladder
+-- the last of the faults of a line
 last_suits : (before : List ArchLine) (b : Bool) (given x : ArchLine) (f : LineFault) → Suits before given → cond b (Ok given) (Err f) ≡ Ok x → Suits before x
 last_suits before true given x f suits e = let is : given ≡ x = cc in subst (Suits before) is suits
 last_suits before false given x f suits e = absurd cc

@@ -47,6 +47,6 @@ class_count a = fold (λ n p. max n (p.class + 1)) 0 a.pins
 abbrev pub class_size : Architecture → ℕ → ℕ
 class_size a class = count_by (λ p. p.class == class) a.pins
 
--- the direction of a class, which is that of each of its pins
+-- the direction of a class: that of its first pin
 abbrev pub class_direction : Architecture → ℕ → Option Direction
 class_direction a class = option_map (λ p. p.direction) (find (λ p. p.class == class) a.pins)
