@@ -38,7 +38,7 @@ reaches segments width track s =
 unfoldable pub type_of : List Segment → (width track : ℕ) → ℕ
 type_of segments width track = position_or_len (reaches segments width track) (numbers_below (length segments))
 
--- a track's rank among the tracks of its type
+-- a track's rank among the tracks of its type, which lie side by side
 unfoldable pub rank_of : List Segment → (width track : ℕ) → ℕ
 rank_of segments width track =
     track - position_or_len (λ t. type_of segments width t == type_of segments width track) (numbers_below width)
