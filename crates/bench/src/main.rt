@@ -1,0 +1,70 @@
+//! `bench`: measures the libraries of the router. Without words it does nothing; a word says what is measured.
+#![tactic(auto)]
+
+mod device;
+mod edges;
+mod fault;
+mod figure;
+mod look_ups;
+mod size;
+mod spread;
+
+use device::measure_device;
+use fault::BenchFault;
+use size::size_of_words;
+use std::process::ExitCode;
+use std::rt::Runtime;
+use std::{env, io};
+
+/// The status where a measurement ended early.
+const ENDED_EARLY: u8 = 1;
+
+/// The status of words that the command line may not have.
+const BAD_WORDS: u8 = 2;
+
+fn main(rt: HostRuntime) -> ExitCode {
+    ExitCode::from(run(&rt))
+}
+
+/// Measures what the command line names, and answers the exit status.
+fn run(rt: &(impl Runtime + AllocGlobal)) -> u8 {
+    let words = match words(rt) {
+        Ok(words) => words,
+        Err(error) => return failed(rt, BenchFault::Io(error)),
+    };
+    match words.as_slice() {
+        [] | [_] => 0,
+        [_, word, given @ ..] => match word.as_str() {
+            "device" => run_device(rt, given),
+            _ => usage(rt),
+        },
+    }
+}
+
+/// The words of the command line, the program's name first.
+fn words(rt: &(impl Runtime + AllocGlobal)) -> io::Result<Vec<String>> {
+    Ok(env::args(rt)?.collect(rt.alloc())?)
+}
+
+/// Says what the words may be.
+fn usage(rt: &impl Runtime) -> u8 {
+    let _ = eprintln!(rt; "usage: bench [device [NX NY W]]");
+    BAD_WORDS
+}
+
+/// Says why a measurement ended early.
+fn failed(rt: &impl Runtime, fault: BenchFault) -> u8 {
+    let _ = eprintln!(rt; "error: {fault}");
+    ENDED_EARLY
+}
+
+/// The word `device`: measures the device of the size that is given.
+fn run_device(rt: &(impl Runtime + AllocGlobal), given: &[String]) -> u8 {
+    let Some(size) = size_of_words(given) else {
+        return usage(rt);
+    };
+    match measure_device(rt, size.nx, size.ny, size.width) {
+        Ok(()) => 0,
+        Err(fault) => failed(rt, fault),
+    }
+}

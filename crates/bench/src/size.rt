@@ -1,0 +1,65 @@
+//! The size of a device, by the words of the command line.
+
+ghost use Rattle.std.specs.Prelude.{◌≡◌, ◌≤◌, ◌⊎◌, [], IfSome, None, Some};
+ghost use Rattle.bench.specs.Sizes.{number_within};
+
+use vpr_text::number;
+
+/// The greatest array size on each side, in logic blocks.
+const MOST_BLOCKS: u32 = 100;
+
+/// The greatest channel width, in tracks.
+const MOST_TRACKS: u32 = 256;
+
+/// The size of a device: columns and rows of logic blocks, and tracks in each channel.
+#[derive(Clone, Copy)]
+pub struct Size {
+    pub nx: u32,
+    pub ny: u32,
+    pub width: u32,
+}
+
+/// The number of a word, None where it isn't one in 1 to `most`.
+fn number_within(word: &str, most: u32) -> Option<u32>
+    ensures number { result ≡ number_within most word.now }
+    ensures limits { IfSome result (λ n. (1 ≤ n) × (n ≤ most)) }
+{
+    let number = number(word.as_bytes())?;
+    if number >= 1 && number <= most {
+        Some(number)
+    } else {
+        None
+    }
+}
+
+/// The size of three words, None where one is out of its range.
+fn size_of(nx: &str, ny: &str, width: &str) -> Option<Size>
+    ensures columns { IfSome result (λ s. (1 ≤ s.nx) × (s.nx ≤ 100) × (number_within 100 nx.now ≡ Some s.nx)) }
+    ensures rows { IfSome result (λ s. (1 ≤ s.ny) × (s.ny ≤ 100) × (number_within 100 ny.now ≡ Some s.ny)) }
+    ensures tracks { IfSome result (λ s. (1 ≤ s.width) × (s.width ≤ 256) × (number_within 256 width.now ≡ Some s.width)) }
+    ensures refused { result ≡ None → (number_within 100 nx.now ≡ None) ⊎ (number_within 100 ny.now ≡ None) ⊎ (number_within 256 width.now ≡ None) }
+{
+    Some(Size {
+        nx: number_within(nx, MOST_BLOCKS)?,
+        ny: number_within(ny, MOST_BLOCKS)?,
+        width: number_within(width, MOST_TRACKS)?,
+    })
+}
+
+/// The size that is given, the greatest where none is. None for words that give no size of a device.
+pub fn size_of_words(words: &[String]) -> Option<Size>
+    ensures columns { IfSome result (λ s. (1 ≤ s.nx) × (s.nx ≤ 100)) }
+    ensures rows { IfSome result (λ s. (1 ≤ s.ny) × (s.ny ≤ 100)) }
+    ensures tracks { IfSome result (λ s. (1 ≤ s.width) × (s.width ≤ 256)) }
+    ensures greatest { words.now ≡ [] → result ≡ Some (record { nx = 100; ny = 100; width = 256 }) }
+{
+    match words {
+        [] => Some(Size {
+            nx: MOST_BLOCKS,
+            ny: MOST_BLOCKS,
+            width: MOST_TRACKS,
+        }),
+        [nx, ny, width] => size_of(nx.as_str(), ny.as_str(), width.as_str()),
+        _ => None,
+    }
+}

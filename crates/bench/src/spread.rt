@@ -1,0 +1,28 @@
+//! Numbers in an order that jumps about, as the look-ups of a search do.
+
+ghost use Rattle.std.specs.Prelude.{◌≡◌, ◌*◌, ◌%◌, ◌<◌, ◌≤◌};
+
+use std::alloc::{AllocError, Global};
+
+/// A prime above any count of nodes, so that `count` turns in a row reach each number below `count` once.
+const STRIDE: u64 = 8_388_617;
+
+/// The number below `count` at a turn.
+pub fn spread(turn: u32, count: u32) -> u32
+    requires { 1 ≤ count }
+    ensures number { result ≡ turn * 8388617 % count }
+    ensures below { result < count }
+{
+    (u64::from(turn) * STRIDE % u64::from(count)) as u32
+}
+
+/// The numbers below `count` at the first turns.
+pub fn spread_numbers(alloc: Global, turns: u32, count: u32) -> Result<Vec<u32>, AllocError>
+    requires { 1 ≤ count }
+{
+    let mut numbers = Vec::new(alloc);
+    for turn in 0..turns {
+        numbers.push(spread(turn, count))?;
+    }
+    Ok(numbers)
+}
