@@ -27,7 +27,7 @@ abbrev pub Rises : ℕ → ℕ → List ℕ → Type 0
 Rises lo hi [] = lo ≤ hi
 Rises lo hi (n ∷ ns) = (lo ≤ n) × Rises (n + 1) hi ns
 
-rises-lower : (low lo hi : ℕ) (ns : List ℕ) → low ≤ lo → Rises lo hi ns → Rises low hi ns
+pub rises-lower : (low lo hi : ℕ) (ns : List ℕ) → low ≤ lo → Rises lo hi ns → Rises low hi ns
 rises-lower low lo hi [] l h = omega arith
 rises-lower low lo hi (n ∷ ns) l h = (omega (arith, h.0), h.1)
 
@@ -42,20 +42,20 @@ rises-cond : (b : Bool) (lo hi n : ℕ) (ns : List ℕ) → lo ≤ n → Rises (
 rises-cond true lo hi n ns l h = (l, h)
 rises-cond false lo hi n ns l h = rises-lower lo (n + 1) hi ns (omega arith) h
 
-rises-filter : (p : ℕ → Bool) (lo hi : ℕ) (ns : List ℕ) → Rises lo hi ns → Rises lo hi (filter p ns)
+pub rises-filter : (p : ℕ → Bool) (lo hi : ℕ) (ns : List ℕ) → Rises lo hi ns → Rises lo hi (filter p ns)
 rises-filter p lo hi [] h = h
 rises-filter p lo hi (n ∷ ns) h = rises-cond (p n) lo hi n (filter p ns) h.0 (rises-filter p (n + 1) hi ns h.1)
 
-rises-higher : (lo hi high : ℕ) (ns : List ℕ) → hi ≤ high → Rises lo hi ns → Rises lo high ns
+pub rises-higher : (lo hi high : ℕ) (ns : List ℕ) → hi ≤ high → Rises lo hi ns → Rises lo high ns
 rises-higher lo hi high [] l h = omega arith
 rises-higher lo hi high (n ∷ ns) l h = (h.0, rises-higher (n + 1) hi high ns l h.1)
 
-length-rises : (lo hi : ℕ) (ns : List ℕ) → Rises lo hi ns → lo + length ns ≤ hi
+pub length-rises : (lo hi : ℕ) (ns : List ℕ) → Rises lo hi ns → lo + length ns ≤ hi
 length-rises lo hi [] h = omega arith
 length-rises lo hi (n ∷ ns) h = omega (arith, h.0, length-rises (n + 1) hi ns h.1)
 
 -- all below a bound
-rises-below : (n high : ℕ) → n ≤ high → Rises 0 high (range_with_len 0 n)
+pub rises-below : (n high : ℕ) → n ≤ high → Rises 0 high (range_with_len 0 n)
 rises-below n high l = rises-higher 0 (0 + n) high (range_with_len 0 n) (omega arith) (rises-range 0 n)
 
 -- ---- a node's place in the order, as one number
@@ -96,13 +96,13 @@ ascends-joined g base step each a (suc n) =
     ascends-append (base + a * step) (base + a * step + step) (base + (a + suc n) * step) (g a) (flat_map g (range_with_len (a + 1) n)) (each a)
     (subst F (sym next) (subst H last (ascends-joined g base step each (a + 1) n)))
 
-length-joined : (g : ℕ → List Node) (most : ℕ) → ((i : ℕ) → length (g i) ≤ most) → (a n : ℕ) → length (flat_map g (range_with_len a n)) ≤ n * most
+pub length-joined : {X : Type 0} (g : ℕ → List X) (most : ℕ) → ((i : ℕ) → length (g i) ≤ most) → (a n : ℕ) → length (flat_map g (range_with_len a n)) ≤ n * most
 length-joined g most each a zero = omega arith
 length-joined g most each a (suc n) =
     omega (arith, length-append (g a) (flat_map g (range_with_len (a + 1) n)), each a, length-joined g most each (a + 1) n)
 
 -- ---- the numbers of the nodes at a place
-rises-if : (b : Bool) (high : ℕ) (ms ns : List ℕ) → Rises 0 high ms → Rises 0 high ns → Rises 0 high (if b then ms else ns)
+pub rises-if : (b : Bool) (high : ℕ) (ms ns : List ℕ) → Rises 0 high ms → Rises 0 high ns → Rises 0 high (if b then ms else ns)
 rises-if true high ms ns g h = g
 rises-if false high ms ns g h = h
 
@@ -128,7 +128,7 @@ number_limit Ipin = 64
 number_limit Chanx = 256
 number_limit Chany = 256
 
-number_limit_small : (k : Kind) → number_limit k ≤ 256
+pub number_limit_small : (k : Kind) → number_limit k ≤ 256
 number_limit_small Source = omega arith
 number_limit_small Sink = omega arith
 number_limit_small Opin = omega arith
@@ -142,15 +142,15 @@ terminals-rise f x y ns l r =
     rises-if (is_block f x y) 64 ns (if is_pad f x y then numbers_below f.architecture.io_rat else []) r
     (rises-if (is_pad f x y) 64 (numbers_below f.architecture.io_rat) [] (rises-below f.architecture.io_rat 64 pads) (omega arith))
 
-classes-rise : (a : Architecture) (d : Direction) → IsWithinLimits a → Rises 0 64 (classes_of a d)
+pub classes-rise : (a : Architecture) (d : Direction) → IsWithinLimits a → Rises 0 64 (classes_of a d)
 unfolding classes_of
 classes-rise a d l = rises-filter _ 0 64 (numbers_below (class_count a)) (rises-below (class_count a) 64 (few_classes a l))
 
-pins-rise : (a : Architecture) (d : Direction) → IsWithinLimits a → Rises 0 64 (pins_of a d)
+pub pins-rise : (a : Architecture) (d : Direction) → IsWithinLimits a → Rises 0 64 (pins_of a d)
 unfolding pins_of
 pins-rise a d l = rises-filter _ 0 64 (numbers_below (length a.pins)) (rises-below (length a.pins) 64 l.few_pins)
 
-beginnings-rise : (f : Fabric) (n place : ℕ) → IsFabric f → Rises 0 256 (beginnings_at f n place)
+pub beginnings-rise : (f : Fabric) (n place : ℕ) → IsFabric f → Rises 0 256 (beginnings_at f n place)
 beginnings-rise f n place l =
     rises-filter _ 0 256 (numbers_below (tracks_in f.mode f.width)) (rises-below (tracks_in f.mode f.width) 256 (few_tracks f.mode f.width l.few_tracks))
 
@@ -303,11 +303,6 @@ pub node_inverse : (f : Fabric) → IsFabric f → (i : ℕ) (r : Option Node) �
 node_inverse f l i None e = tt
 node_inverse f l i (Some n) e = number_of_node f l i n (sym e)
 
--- what a scan of the nodes finds
-pub node_found : (f : Fabric) (i : ℕ) (n : Node) → i < node_count_of f → is_same (get_or (nodes_of f) i n) n ≡ true → node_at f i ≡ Some n
-node_found f i n l t = slice_get-get_or (nodes_of f) i n l ∙ ap Some (is_same-true (get_or (nodes_of f) i n) n t)
-
-pub no_number : (f : Fabric) (n : Node) → ((k : ℕ) → k < node_count_of f → is_same (get_or (nodes_of f) k n) n ≡ false) → number_of f n ≡ None
-no_number f n none =
-    let at : position_or_len (λ m. is_same m n) (nodes_of f) ≡ node_count_of f = position_or_len_is (λ m. is_same m n) (nodes_of f) (node_count_of f) n (omega arith) none (λ l. absurd (omega (arith, l))) in
-    ap (λ p. cond (nat_lt p (node_count_of f)) (Some p) None) at ∙ ap (λ b. cond b (Some (node_count_of f)) None) (le-ltb (node_count_of f) (node_count_of f) (omega arith))
+pub number_inverse : (f : Fabric) (n : Node) (r : Option ℕ) → r ≡ number_of f n → IfSome r (λ i. node_at f i ≡ Some n)
+number_inverse f n None e = tt
+number_inverse f n (Some i) e = node_of_number f i n (sym e)

@@ -1,12 +1,12 @@
 -- The numbers from one on: the first that passes a test, one number more, and tests over them.
-use Rattle.std.proofs.Common.{◌≡◌, ℕ, ◌+◌, ◌-◌, ◌<◌, ◌≤◌, inl, inr, zero, suc, Bool, true, false, cond, List, [], ◌∷◌, ◌++◌, length, map, refl, sym, ap, ◌∙◌, arith, zero-add}
+use Rattle.std.proofs.Common.{◌≡◌, ℕ, ◌+◌, ◌-◌, ◌<◌, ◌≤◌, inl, inr, zero, suc, Bool, true, false, cond, List, [], ◌∷◌, ◌++◌, length, map, get_or, refl, sym, ap, ◌∙◌, arith, zero-add}
 use Rattle.std.specs.List.{range_with_len, position_or_len, list_any, filter, flat_map, sum_by}
-use Rattle.std.proofs.lemmas.List.{append_assoc, append-nil, map-append, flat_map_more, length_push}
+use Rattle.std.proofs.lemmas.List.{append_assoc, append-nil, length-map, map-append, flat_map_more, length_push}
 use Rattle.std.proofs.lemmas.List.Elements.{filter-append}
 use Rattle.std.specs.Prelude.{◌||◌}
 use Rattle.std.proofs.lemmas.Bool.{or_from, or_left, or_right, cases_Bool}
 use Rattle.std.proofs.lemmas.List.Sums.{position_or_len_is, sum_by_push}
-use Rattle.std.proofs.lemmas.List.FromFn.{length-range_with_len, get_or-range_with_len}
+use Rattle.std.proofs.lemmas.List.FromFn.{length-range_with_len, get_or-range_with_len, get_or-map-range_with_len}
 
 pub first_in_range : (p : ℕ → Bool) (a n i : ℕ) → i ≤ n → ((k : ℕ) → k < i → p (a + k) ≡ false) → (i < n → p (a + i) ≡ true) → position_or_len p (range_with_len a n) ≡ i
 first_in_range p a n i le below here =
@@ -57,6 +57,12 @@ range_more a (suc n) =
 pub below_next : (n : ℕ) → range_with_len 0 (n + 1) ≡ range_with_len 0 n ++ n ∷ []
 below_next n = range_more 0 n ∙ ap (λ b. range_with_len 0 n ++ b ∷ []) (zero-add n)
 
+pub length_below : {X : Type 0} (g : ℕ → X) (n : ℕ) → length (map g (range_with_len 0 n)) ≡ n
+length_below g n = length-map (range_with_len 0 n) g ∙ length-range_with_len 0 n
+
+pub get_below : {X : Type 0} (g : ℕ → X) (n i : ℕ) (d : X) → i < n → get_or (map g (range_with_len 0 n)) i d ≡ g i
+get_below g n i d l = get_or-map-range_with_len g 0 n i i d l (zero-add i)
+
 pub filter_next : (p : ℕ → Bool) (i : ℕ) → filter p (range_with_len 0 (i + 1)) ≡ filter p (range_with_len 0 i) ++ cond (p i) (i ∷ []) []
 filter_next p i = ap (filter p) (below_next i) ∙ filter-append p (range_with_len 0 i) (i ∷ [])
 
@@ -64,6 +70,9 @@ module _ {X : Type 0} where
   pub mapped_more : (f : ℕ → X) (xs : List X) (i : ℕ) → (xs ++ map f (range_with_len 0 i)) ++ (f i ∷ []) ≡ xs ++ map f (range_with_len 0 (i + 1))
   mapped_more f xs i =
       append_assoc xs (map f (range_with_len 0 i)) (f i ∷ []) ∙ ap (λ ys. xs ++ ys) (sym (ap (map f) (below_next i) ∙ map-append f (range_with_len 0 i) (i ∷ [])))
+
+  pub mapped_next : (f : ℕ → X) (i : ℕ) → map f (range_with_len 0 i) ++ (f i ∷ []) ≡ map f (range_with_len 0 (i + 1))
+  mapped_next f i = mapped_more f [] i
 
   pub kept_more : (p : ℕ → Bool) (f : ℕ → X) (xs : List X) (i : ℕ) → p i ≡ true → (xs ++ map f (filter p (range_with_len 0 i))) ++ (f i ∷ []) ≡ xs ++ map f (filter p (range_with_len 0 (i + 1)))
   kept_more p f xs i e =

@@ -7,10 +7,13 @@ ghost use Rattle.rr_graph.specs.Fabric.{Fabric, IsFabric};
 ghost use Rattle.rr_graph.specs.Nodes.{node_count_of, node_at, number_of, label_of, capacity_of, span_of};
 ghost use Rattle.rr_graph.specs.Edges.{edge_between, successors_of, edge_count_of};
 
+use crate::block::Block;
+use crate::channel::Channel;
 use crate::fault::DeviceFault;
 use crate::layout::Layout;
-use crate::nodes::is_same;
 use crate::parts::{Label, Mode, Node, Span};
+use crate::sides::BlockSides;
+use crate::starts::Starts;
 use arch_file::Arch;
 use smallvec::SmallVec;
 use std::alloc::{AllocError, Global};
@@ -20,8 +23,12 @@ use std::marker::Model;
 /// Contracts see it as the record of its architecture, the size of its array, its channels' width and its mode.
 #[derive(Drop)]
 pub struct Device {
-    layout: Layout,
-    nodes: Vec<Node>,
+    pub(crate) layout: Layout,
+    pub(crate) block: Block,
+    pub(crate) rows: Channel,
+    pub(crate) columns: Channel,
+    pub(crate) sides: BlockSides,
+    pub(crate) starts: Starts,
 }
 
 impl Model for Device {
@@ -29,13 +36,12 @@ impl Model for Device {
 
     ghost Value = { Fabric };
 
-    ghost use Rattle.std.specs.Prelude.{◌≡◌};
     ghost use Rattle.rr_graph.specs.Fabric.{IsFabric};
-    ghost use Rattle.rr_graph.specs.Nodes.{nodes_of};
+    ghost use Rattle.rr_graph.specs.Numbers.{IsTabled};
 
     ghost view = { λ d. d.layout };
 
-    ghost invariant = { λ d. IsFabric d.layout × (d.nodes.items ≡ nodes_of d.layout) };
+    ghost invariant = { λ d. IsFabric d.layout × IsTabled d.layout d.block d.rows d.columns d.sides d.starts };
 }
 
 impl Device {
@@ -92,8 +98,19 @@ impl Device {
             return Err(DeviceFault::Width);
         }
         let layout = Layout::new(alloc, arch, nx, ny, width, mode)?;
-        let nodes = layout.nodes(alloc)?;
-        Ok(Device { layout, nodes })
+        let block = layout.block(alloc)?;
+        let rows = layout.channel(alloc, nx)?;
+        let columns = layout.channel(alloc, ny)?;
+        let sides = layout.sides(alloc)?;
+        let starts = layout.starts(&block, &rows, &columns);
+        Ok(Device {
+            layout,
+            block,
+            rows,
+            columns,
+            sides,
+            starts,
+        })
     }
 
     /// Columns of logic blocks.
@@ -140,7 +157,7 @@ impl Device {
         ensures count { result ≡ node_count_of self.now }
         ensures few { result < 2 ^ 23 }
     {
-        self.nodes.len() as u32
+        self.starts.end
     }
 
     /// The node of a number.
@@ -148,7 +165,8 @@ impl Device {
         ensures node { result ≡ node_at self.now id }
         ensures inverse { IfSome result (λ n. number_of self.now n ≡ Some id) }
     {
-        self.nodes.get(id as usize).copied()
+        let _ = &self.layout;
+        self.node_of(id)
     }
 
     /// What a node's number counts.
@@ -166,12 +184,7 @@ impl Device {
         ensures number { result ≡ number_of self.now node }
         ensures inverse { IfSome result (λ i. node_at self.now i ≡ Some node) }
     {
-        for id in 0..self.node_count() {
-            if is_same(self.nodes[id as usize], node) {
-                return Some(id);
-            }
-        }
-        None
+        self.id_of(node)
     }
 
     /// How many nets may use a node.
@@ -190,7 +203,7 @@ impl Device {
     {
         match self.node(id) {
             None => None,
-            Some(node) => Some(self.layout.span_of(node)),
+            Some(node) => Some(self.layout.span_of(node, self.last_of(id, node))),
         }
     }
 
@@ -200,24 +213,25 @@ impl Device {
         ensures { result ≡ edge_between self.now from to }
     {
         match (self.node(from), self.node(to)) {
-            (Some(a), Some(b)) => self.layout.is_edge(a, b),
+            (Some(a), Some(b)) => {
+                self.layout
+                    .is_edge(a, self.last_of(from, a), b, self.last_of(to, b))
+            }
             _ => false,
         }
     }
 
     /// How many edges lead from a node.
-    #[tactic(auto, using(crate::proofs::Ranges::count_kept, crate::proofs::Ranges::count_skipped), unfolding(crate::specs::Edges::successors_of))]
+    #[tactic(auto, using(crate::proofs::NodeSuccessors::no_successors, crate::proofs::NodeSuccessors::node_listed, crate::proofs::NodeSuccessors::node_placed, crate::proofs::NodeSuccessors::few_successors))]
     fn degree(&self, id: u32) -> u32
         ensures count { result ≡ length (successors_of self.now id) }
         ensures few { result < 2 ^ 23 }
     {
-        let mut count = 0;
-        for to in 0..self.node_count() {
-            if self.edge(id, to) {
-                count += 1;
-            }
+        let _limits = self.nx();
+        match self.node(id) {
+            None => 0,
+            Some(node) => self.degree_of(node),
         }
-        count
     }
 
     /// How many edges there are.
@@ -234,7 +248,7 @@ impl Device {
 
     /// The numbers of the nodes to which an edge leads from node `id`, ascending; none for what is no node.
     /// The list is cleared first; where memory is refused it is left empty.
-    #[tactic(auto, using(crate::proofs::Ranges::kept_next, crate::proofs::Ranges::skipped_next), unfolding(crate::specs::Edges::successors_of))]
+    #[tactic(auto, using(crate::proofs::NodeSuccessors::no_successors, crate::proofs::NodeSuccessors::node_listed, crate::proofs::NodeSuccessors::node_placed, crate::proofs::Graph::successors_contain, crate::proofs::Graph::successors_ascend))]
     pub fn successors(&self, id: u32, list: &mut SmallVec<u32, 8>) -> Result<(), AllocError>
         ensures listed { OnOk result (list.new.items ≡ successors_of self.now id) }
         ensures all { OnOk result
@@ -244,13 +258,15 @@ impl Device {
         ensures room { length (successors_of self.now id) ≤ list.old.capacity → IsOk result }
         ensures kept { list.old.capacity ≤ list.new.capacity }
     {
+        let _limits = self.nx();
         list.clear();
-        for to in 0..self.node_count() {
-            if self.edge(id, to) && list.push(to).is_err() {
-                list.clear();
-                return Err(AllocError);
+        match self.node(id) {
+            None => Ok(()),
+            Some(node) => {
+                list.reserve(self.degree_of(node) as usize)?;
+                self.push_successors(list, node);
+                Ok(())
             }
         }
-        Ok(())
     }
 }

@@ -1,127 +1,74 @@
 //! The edges of a device.
 
-ghost use Rattle.std.specs.Prelude.{◌≡◌, ℕ, ◌+◌, ◌≤◌, ◌&&◌, ◌||◌, nat_le};
-ghost use Rattle.std.specs.List.{list_any};
-ghost use Rattle.rr_graph.specs.Wires.{steps_of};
-ghost use Rattle.rr_graph.specs.Edges.{is_same_corner, corners_by, corners_of, touches, joins, is_edge};
+ghost use Rattle.std.specs.Prelude.{◌≡◌, ◌==◌, ◌&&◌};
+ghost use Rattle.rr_graph.specs.Wires.{last_by};
+ghost use Rattle.rr_graph.specs.Channels.{is_next_to, passes_corner};
+ghost use Rattle.rr_graph.specs.Edges.{is_edge};
 
 use crate::layout::Layout;
-use crate::nodes::is_same;
 use crate::parts::{Kind, Node};
 
+/// Whether two wires of one track of a channel are different and touch a common corner.
+fn is_next_to(first: u32, last: u32, other: u32, other_last: u32) -> bool
+    ensures { result ≡ is_next_to first last other other_last }
+{
+    other != first && (other <= last.saturating_add(1) && first <= other_last.saturating_add(1))
+}
+
+/// Whether a wire touches a corner of its channel.
+fn passes_corner(first: u32, last: u32, corner: u32) -> bool
+    ensures { result ≡ passes_corner first last corner }
+{
+    first <= corner.saturating_add(1) && corner <= last
+}
+
+/// Whether two wires above rows are of one track, different, and have a common corner.
+fn rows_join(a: Node, a_last: u32, b: Node, b_last: u32) -> bool
+    ensures { result ≡ ((b.number == a.number) && ((b.y == a.y) && is_next_to a.x a_last b.x b_last)) }
+{
+    b.number == a.number && (b.y == a.y && is_next_to(a.x, a_last, b.x, b_last))
+}
+
+/// Whether a wire above a row and one right of a column are of one track and have a common corner.
+fn row_and_column_join(a: Node, a_last: u32, b: Node, b_last: u32) -> bool
+    ensures { result ≡ ((b.number == a.number) && (passes_corner a.x a_last b.x && passes_corner b.y b_last a.y)) }
+{
+    b.number == a.number && (passes_corner(a.x, a_last, b.x) && passes_corner(b.y, b_last, a.y))
+}
+
+/// Whether a wire right of a column and one above a row are of one track and have a common corner.
+fn column_and_row_join(a: Node, a_last: u32, b: Node, b_last: u32) -> bool
+    ensures { result ≡ ((b.number == a.number) && (passes_corner a.y a_last b.y && passes_corner b.x b_last a.x)) }
+{
+    b.number == a.number && (passes_corner(a.y, a_last, b.y) && passes_corner(b.x, b_last, a.x))
+}
+
+/// Whether two wires right of columns are of one track, different, and have a common corner.
+fn columns_join(a: Node, a_last: u32, b: Node, b_last: u32) -> bool
+    ensures { result ≡ ((b.number == a.number) && ((b.x == a.x) && is_next_to a.y a_last b.y b_last)) }
+{
+    b.number == a.number && (b.x == a.x && is_next_to(a.y, a_last, b.y, b_last))
+}
+
 impl Layout {
-    /// Whether corner `at` of a channel of `places` places is at an end of a place of the wire that begins at `first`.
-    fn has_end(&self, places: u32, track: u32, first: u32, at: u32) -> bool
-        requires { 1 ≤ places }
-        ensures { result
-            ≡ (nat_le first (at + 1) && nat_le at (first + steps_of self.now places track first)) }
-    {
-        first <= at.saturating_add(1) && at <= first + self.steps_of(places, track, first)
-    }
-
-    /// Whether the wire above a row touches the corner (x, y).
-    fn row_touches(&self, wire: Node, x: u32, y: u32) -> bool
-        ensures { result ≡ list_any (is_same_corner (x, y)) (corners_by Kind.Chanx self.now wire) }
-    {
-        y == wire.y && self.has_end(self.nx(), wire.number, wire.x, x)
-    }
-
-    /// Whether the wire right of a column touches the corner (x, y).
-    fn column_touches(&self, wire: Node, x: u32, y: u32) -> bool
-        ensures { result ≡ list_any (is_same_corner (x, y)) (corners_by Kind.Chany self.now wire) }
-    {
-        x == wire.x && self.has_end(self.ny(), wire.number, wire.y, y)
-    }
-
-    /// Whether the wire touches the corner (x, y).
-    #[tactic(auto, unfolding(crate::specs::Edges::touches, crate::specs::Edges::corners_of))]
-    fn touches(&self, wire: Node, x: u32, y: u32) -> bool
-        ensures { result ≡ touches self.now wire (x, y) }
-    {
-        match wire.kind {
-            Kind::Source => false,
-            Kind::Sink => false,
-            Kind::Opin => false,
-            Kind::Ipin => false,
-            Kind::Chanx => self.row_touches(wire, x, y),
-            Kind::Chany => self.column_touches(wire, x, y),
-        }
-    }
-
-    /// Whether the wire touches one of the two corners (x1, y1) and (x2, y2).
-    fn touches_either(&self, wire: Node, x1: u32, y1: u32, x2: u32, y2: u32) -> bool
-        ensures { result ≡ (touches self.now wire (x1, y1) || touches self.now wire (x2, y2)) }
-    {
-        self.touches(wire, x1, y1) || self.touches(wire, x2, y2)
-    }
-
-    /// Whether wire `b` touches a corner of the wire `a` above a row.
-    fn meets_row(&self, a: Node, b: Node) -> bool
-        ensures { result ≡ list_any (touches self.now b) (corners_by Kind.Chanx self.now a) }
-    {
-        let steps = self.steps_of(self.nx(), a.number, a.x);
-        for step in 0..steps + 1 {
-            let x = a.x + step;
-            if self.touches_either(b, x.saturating_sub(1), a.y, x, a.y) {
-                return true;
-            }
-        }
-        false
-    }
-
-    /// Whether wire `b` touches a corner of the wire `a` right of a column.
-    fn meets_column(&self, a: Node, b: Node) -> bool
-        ensures { result ≡ list_any (touches self.now b) (corners_by Kind.Chany self.now a) }
-    {
-        let steps = self.steps_of(self.ny(), a.number, a.y);
-        for step in 0..steps + 1 {
-            let y = a.y + step;
-            if self.touches_either(b, a.x, y.saturating_sub(1), a.x, y) {
-                return true;
-            }
-        }
-        false
-    }
-
-    /// Whether wire `b` touches a corner of wire `a`.
-    #[tactic(auto, unfolding(crate::specs::Edges::corners_of))]
-    fn meets(&self, a: Node, b: Node) -> bool
-        ensures { result ≡ list_any (touches self.now b) (corners_of self.now a) }
-    {
-        match a.kind {
-            Kind::Source => false,
-            Kind::Sink => false,
-            Kind::Opin => false,
-            Kind::Ipin => false,
-            Kind::Chanx => self.meets_row(a, b),
-            Kind::Chany => self.meets_column(a, b),
-        }
-    }
-
-    /// Whether the two are different wires of one track with a common corner.
-    #[tactic(auto, unfolding(crate::specs::Edges::joins))]
-    fn joins(&self, a: Node, b: Node) -> bool
-        ensures { result ≡ joins self.now a b }
-    {
-        (!is_same(a, b) && a.number == b.number) && self.meets(a, b)
-    }
-
-    /// Whether an edge leads from a to b.
-    #[tactic(auto, unfolding(crate::specs::Edges::is_edge))]
-    pub(crate) fn is_edge(&self, a: Node, b: Node) -> bool
+    /// Whether an edge leads from a to b, whose last places are given.
+    #[tactic(auto, using(crate::proofs::JoinTests::rows_join, crate::proofs::JoinTests::row_and_column_join, crate::proofs::JoinTests::column_and_row_join, crate::proofs::JoinTests::columns_join), unfolding(crate::specs::Edges::is_edge))]
+    pub(crate) fn is_edge(&self, a: Node, a_last: u32, b: Node, b_last: u32) -> bool
+        requires a_last { a_last ≡ last_by a.kind self.now a }
+        requires b_last { b_last ≡ last_by b.kind self.now b }
         ensures { result ≡ is_edge self.now a b }
     {
         match (a.kind, b.kind) {
             (Kind::Source, Kind::Opin) => self.belongs(b, a),
-            (Kind::Opin, Kind::Chanx) => self.taps(a, b),
-            (Kind::Opin, Kind::Chany) => self.taps(a, b),
-            (Kind::Chanx, Kind::Ipin) => self.taps(b, a),
-            (Kind::Chany, Kind::Ipin) => self.taps(b, a),
+            (Kind::Opin, Kind::Chanx) => self.taps(a, b, b_last),
+            (Kind::Opin, Kind::Chany) => self.taps(a, b, b_last),
+            (Kind::Chanx, Kind::Ipin) => self.taps(b, a, a_last),
+            (Kind::Chany, Kind::Ipin) => self.taps(b, a, a_last),
             (Kind::Ipin, Kind::Sink) => self.belongs(a, b),
-            (Kind::Chanx, Kind::Chanx) => self.joins(a, b),
-            (Kind::Chanx, Kind::Chany) => self.joins(a, b),
-            (Kind::Chany, Kind::Chanx) => self.joins(a, b),
-            (Kind::Chany, Kind::Chany) => self.joins(a, b),
+            (Kind::Chanx, Kind::Chanx) => rows_join(a, a_last, b, b_last),
+            (Kind::Chanx, Kind::Chany) => row_and_column_join(a, a_last, b, b_last),
+            (Kind::Chany, Kind::Chanx) => column_and_row_join(a, a_last, b, b_last),
+            (Kind::Chany, Kind::Chany) => columns_join(a, a_last, b, b_last),
             _ => false,
         }
     }

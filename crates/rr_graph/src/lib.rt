@@ -2,14 +2,24 @@
 //! (Betz, Rose and Marquardt 1999; VPR and T-VPack manual 4.30).
 #![tactic(auto)]
 
+mod block;
+mod channel;
+mod decoding;
 mod device;
 mod edges;
+mod fanout;
 mod fault;
+mod ids;
 mod layout;
-mod listing;
 mod nodes;
+mod numbering;
+mod opins;
 mod parts;
 mod pins;
+mod sides;
+mod starts;
+mod successors;
+mod terminals;
 mod wires;
 
 pub use device::Device;

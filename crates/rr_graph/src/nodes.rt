@@ -3,33 +3,11 @@
 ghost use Rattle.std.specs.Prelude.{◌≡◌, if◌then◌else◌};
 ghost use Rattle.arch_file.specs.Architecture.{class_size};
 ghost use Rattle.rr_graph.specs.Fabric.{is_block};
-ghost use Rattle.rr_graph.specs.Nodes.{is_same, rank_of_kind, label_of, wire_capacity, capacity_of, span_of};
+ghost use Rattle.rr_graph.specs.Wires.{last_by};
+ghost use Rattle.rr_graph.specs.Nodes.{label_of, wire_capacity, capacity_of, span_of};
 
 use crate::layout::Layout;
 use crate::parts::{Kind, Label, Mode, Node, Span};
-
-/// A kind's place among the kinds.
-fn rank_of_kind(kind: Kind) -> u32
-    ensures { result ≡ rank_of_kind kind }
-{
-    match kind {
-        Kind::Source => 0,
-        Kind::Sink => 1,
-        Kind::Opin => 2,
-        Kind::Ipin => 3,
-        Kind::Chanx => 4,
-        Kind::Chany => 5,
-    }
-}
-
-/// Whether the two are one node.
-#[tactic(auto, unfolding(crate::specs::Nodes::is_same))]
-pub(crate) fn is_same(a: Node, b: Node) -> bool
-    ensures { result ≡ is_same a b }
-{
-    (rank_of_kind(a.kind) == rank_of_kind(b.kind) && a.x == b.x)
-        && (a.y == b.y && a.number == b.number)
-}
 
 impl Layout {
     /// What the node's number counts.
@@ -82,13 +60,14 @@ impl Layout {
         }
     }
 
-    /// The first and the last place of the node.
-    pub(crate) fn span_of(&self, node: Node) -> Span
+    /// The first and the last place of the node; `last` is its last along its channel.
+    pub(crate) fn span_of(&self, node: Node, last: u32) -> Span
+        requires { last ≡ last_by node.kind self.now node }
         ensures { result ≡ span_of self.now node }
     {
         let (x2, y2) = match node.kind {
-            Kind::Chanx => (self.last_of(node), node.y),
-            Kind::Chany => (node.x, self.last_of(node)),
+            Kind::Chanx => (last, node.y),
+            Kind::Chany => (node.x, last),
             _ => (node.x, node.y),
         };
         Span {

@@ -2,7 +2,7 @@
 
 ghost use Rattle.std.specs.Prelude.{◌≡◌, ℕ, ◌+◌, ◌*◌, ◌/◌, ◌%◌, ◌==◌, ◌≤◌, ◌<◌, slice_get};
 ghost use Rattle.std.specs.List.{list_any};
-ghost use Rattle.rr_graph.specs.Wires.{runs_through};
+ghost use Rattle.rr_graph.specs.Wires.{last_by, runs_through};
 ghost use Rattle.rr_graph.specs.Pins.{tap_count, tracks_by, tapped_tracks, fc_at, channels_of_pin, channel_of_pad, channels_beside, is_marked_global, has_class, taps, belongs};
 
 use crate::layout::Layout;
@@ -10,7 +10,7 @@ use crate::parts::{Kind, Mode, Node};
 use arch_file::{FcType, Pin};
 
 /// Whether the pin has a dedicated network.
-fn is_marked_global(pin: Option<Pin>) -> bool
+pub(crate) fn is_marked_global(pin: Option<Pin>) -> bool
     ensures { result ≡ is_marked_global pin }
 {
     match pin {
@@ -20,13 +20,30 @@ fn is_marked_global(pin: Option<Pin>) -> bool
 }
 
 /// Whether the pin is of the class.
-fn has_class(pin: Option<Pin>, class: u32) -> bool
+pub(crate) fn has_class(pin: Option<Pin>, class: u32) -> bool
     ensures { result ≡ has_class pin class }
 {
     match pin {
         None => false,
         Some(pin) => pin.class == class,
     }
+}
+
+/// Whether pin `number` taps the track of a detailed device, where it taps `count` of `width` tracks. Its tap `i` lies
+/// `i * width / count` tracks on from the first one: only the first tap that is as far on as the track can be on it.
+fn is_tapped(width: u32, count: u32, number: u32, track: u32) -> bool
+    requires wide { 1 ≤ width }
+    requires narrow { width ≤ 256 }
+    requires some { 1 ≤ count }
+    requires few { count ≤ 256 }
+    ensures { result ≡ list_any (λ t. t == track) (tracks_by Mode.Detailed count width number) }
+{
+    if track >= width {
+        return false;
+    }
+    let steps = (track + width - number % width) % width;
+    let tap = (steps * count + width - 1) / width;
+    tap < count && tap * width / count == steps
 }
 
 impl Layout {
@@ -38,7 +55,7 @@ impl Layout {
     }
 
     /// How many tracks of each channel a pin taps.
-    fn tap_count(&self, fc: u64) -> u32
+    pub(crate) fn tap_count(&self, fc: u64) -> u32
         ensures count { result ≡ tap_count self.now.architecture.fc_type fc self.now.width }
         ensures some { 1 ≤ result }
         ensures few { result ≤ 256 }
@@ -52,19 +69,16 @@ impl Layout {
         count as u32
     }
 
-    /// Whether pin `number` taps the track by `fc`, in a detailed device.
-    fn taps_detailed(&self, fc: u64, number: u32, track: u32) -> bool
-        ensures { result
-            ≡ list_any (λ t. t == track) (tracks_by Mode.Detailed (tap_count self.now.architecture.fc_type fc self.now.width) self.now.width number) }
+    /// Whether pin `number` taps the track, where it taps `count` tracks.
+    pub(crate) fn taps_by_count(&self, count: u32, number: u32, track: u32) -> bool
+        requires some { 1 ≤ count }
+        requires few { count ≤ 256 }
+        ensures { result ≡ list_any (λ t. t == track) (tracks_by self.now.mode count self.now.width number) }
     {
-        let count = self.tap_count(fc);
-        for i in 0..count {
-            let step = u64::from(i) * u64::from(self.width) / u64::from(count);
-            if (u64::from(number) + step) % u64::from(self.width) == u64::from(track) {
-                return true;
-            }
+        match self.mode() {
+            Mode::Global => track == 0,
+            Mode::Detailed => is_tapped(self.width(), count, number, track),
         }
-        false
     }
 
     /// Whether pin `number` taps the track by `fc`.
@@ -72,10 +86,7 @@ impl Layout {
     fn taps_track(&self, fc: u64, number: u32, track: u32) -> bool
         ensures { result ≡ list_any (λ t. t == track) (tapped_tracks self.now fc number) }
     {
-        match self.mode {
-            Mode::Global => track == 0,
-            Mode::Detailed => self.taps_detailed(fc, number, track),
-        }
+        self.taps_by_count(self.tap_count(fc), number, track)
     }
 
     /// Fc of a node of kind Opin or Ipin.
@@ -92,58 +103,62 @@ impl Layout {
         }
     }
 
-    /// Whether the wire runs beside a side where the pin of the block at (x, y) is reached.
-    fn is_beside_block(&self, pin: Option<Pin>, x: u32, y: u32, wire: Node) -> bool
+    /// Whether the wire runs beside a side where the pin of the block at (x, y) is reached; `last` is the wire's last place.
+    fn is_beside_block(&self, pin: Option<Pin>, x: u32, y: u32, wire: Node, last: u32) -> bool
+        requires { last ≡ last_by wire.kind self.now wire }
         ensures { result ≡ list_any (runs_through self.now wire) (channels_of_pin pin x y) }
     {
         match pin {
             None => false,
             Some(pin) => {
-                (pin.sides.top && self.runs_through(wire, Kind::Chanx, x, y))
+                (pin.sides.top && self.runs_through(wire, last, Kind::Chanx, x, y))
                     || (pin.sides.bottom
-                        && self.runs_through(wire, Kind::Chanx, x, y.saturating_sub(1)))
-                    || (pin.sides.right && self.runs_through(wire, Kind::Chany, x, y))
+                        && self.runs_through(wire, last, Kind::Chanx, x, y.saturating_sub(1)))
+                    || (pin.sides.right && self.runs_through(wire, last, Kind::Chany, x, y))
                     || (pin.sides.left
-                        && self.runs_through(wire, Kind::Chany, x.saturating_sub(1), y))
+                        && self.runs_through(wire, last, Kind::Chany, x.saturating_sub(1), y))
             }
         }
     }
 
-    /// Whether the wire runs beside the pad at (x, y).
-    fn is_beside_pad(&self, x: u32, y: u32, wire: Node) -> bool
+    /// Whether the wire runs beside the pad at (x, y); `last` is the wire's last place.
+    fn is_beside_pad(&self, x: u32, y: u32, wire: Node, last: u32) -> bool
+        requires { last ≡ last_by wire.kind self.now wire }
         ensures { result ≡ runs_through self.now wire (channel_of_pad self.now x y) }
     {
         if x == 0 {
-            self.runs_through(wire, Kind::Chany, 0, y)
+            self.runs_through(wire, last, Kind::Chany, 0, y)
         } else if x == self.nx + 1 {
-            self.runs_through(wire, Kind::Chany, self.nx, y)
+            self.runs_through(wire, last, Kind::Chany, self.nx, y)
         } else if y == 0 {
-            self.runs_through(wire, Kind::Chanx, x, 0)
+            self.runs_through(wire, last, Kind::Chanx, x, 0)
         } else {
-            self.runs_through(wire, Kind::Chanx, x, self.ny)
+            self.runs_through(wire, last, Kind::Chanx, x, self.ny)
         }
     }
 
-    /// Whether the wire runs beside the pin.
+    /// Whether the wire runs beside the pin; `last` is the wire's last place.
     #[tactic(auto, unfolding(crate::specs::Pins::channels_beside))]
-    fn is_beside(&self, pin: Node, wire: Node) -> bool
+    fn is_beside(&self, pin: Node, wire: Node, last: u32) -> bool
+        requires { last ≡ last_by wire.kind self.now wire }
         ensures { result ≡ list_any (runs_through self.now wire) (channels_beside self.now pin) }
     {
         if self.is_block(pin.x, pin.y) {
-            self.is_beside_block(self.pin(pin.number), pin.x, pin.y, wire)
+            self.is_beside_block(self.pin(pin.number), pin.x, pin.y, wire, last)
         } else {
-            self.is_beside_pad(pin.x, pin.y, wire)
+            self.is_beside_pad(pin.x, pin.y, wire, last)
         }
     }
 
-    /// Whether the pin, a node of kind Opin or Ipin, taps the wire.
+    /// Whether the pin, a node of kind Opin or Ipin, taps the wire; `last` is the wire's last place.
     #[tactic(auto, unfolding(crate::specs::Pins::taps))]
-    pub(crate) fn taps(&self, pin: Node, wire: Node) -> bool
+    pub(crate) fn taps(&self, pin: Node, wire: Node, last: u32) -> bool
+        requires { last ≡ last_by wire.kind self.now wire }
         ensures { result ≡ taps self.now pin wire }
     {
         let is_global = self.is_block(pin.x, pin.y) && is_marked_global(self.pin(pin.number));
         !is_global
-            && (self.is_beside(pin, wire)
+            && (self.is_beside(pin, wire, last)
                 && self.taps_track(self.fc_at(pin), pin.number, wire.number))
     }
 

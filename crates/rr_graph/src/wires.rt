@@ -1,7 +1,7 @@
 //! The tracks of a channel, and the wires in them.
 
 ghost use Rattle.std.specs.Prelude.{◌≡◌, ℕ, ◌+◌, ◌-◌, ◌*◌, ◌^◌, ◌≤◌, ◌<◌, length, if◌then◌else◌};
-ghost use Rattle.rr_graph.specs.Wires.{tracks_in, total_frequency, weight_of_first, type_of, rank_of, length_of, begins, steps_of, last_by, runs_through};
+ghost use Rattle.rr_graph.specs.Wires.{tracks_in, total_frequency, weight_of_first, type_of, length_of, last_by, runs_through};
 
 use crate::layout::Layout;
 use crate::parts::{Kind, Mode, Node};
@@ -57,27 +57,19 @@ fn type_of(segments: &[Segment], width: u32, track: u32) -> usize
     segments.len()
 }
 
-/// A track's rank among the tracks of its type.
-#[tactic(auto, using(crate::proofs::Ranges::first_below), unfolding(crate::specs::Wires::rank_of))]
-fn rank_of(segments: &[Segment], width: u32, track: u32) -> u32
-    requires few { length segments.now ≤ 16 }
-    requires narrow { width ≤ 256 }
-    ensures { result ≡ rank_of segments.now width track }
-{
-    let kind = type_of(segments, width, track);
-    for first in 0..width {
-        if type_of(segments, width, first) == kind {
-            return track.saturating_sub(first);
-        }
-    }
-    track.saturating_sub(width)
-}
-
 impl Layout {
+    /// The type of a track.
+    pub(crate) fn type_of(&self, track: u32) -> usize
+        ensures { result ≡ type_of self.now.architecture.segments self.now.width track }
+    {
+        type_of(self.segments(), self.width(), track)
+    }
+
     /// Tracks in each channel.
     pub(crate) fn tracks(&self) -> u32
         ensures tracks { result ≡ tracks_in self.now.mode self.now.width }
         ensures few { result ≤ 256 }
+        ensures within { result ≤ self.now.width }
     {
         match self.mode {
             Mode::Detailed => self.width,
@@ -87,7 +79,7 @@ impl Layout {
 
     /// How many places the wires of a track pass in a channel of `places` places.
     #[tactic(auto, unfolding(crate::specs::Wires::length_of))]
-    fn length_of(&self, places: u32, track: u32) -> u32
+    pub(crate) fn length_of(&self, places: u32, track: u32) -> u32
         requires { 1 ≤ places }
         ensures length { result ≡ length_of self.now places track }
         ensures some { 1 ≤ result }
@@ -107,55 +99,18 @@ impl Layout {
         }
     }
 
-    /// Whether a wire of the track begins at a place of a channel of `places` places.
-    #[tactic(auto, unfolding(crate::specs::Wires::begins))]
-    pub(crate) fn begins(&self, places: u32, track: u32, place: u32) -> bool
-        requires { 1 ≤ places }
-        ensures { result ≡ begins self.now places track place }
-    {
-        let rank = u64::from(rank_of(self.arch.segments(), self.width, track));
-        let length = u64::from(self.length_of(places, track));
-        place == 1 || (u64::from(place.saturating_sub(1)) + rank) % length == 0
-    }
-
-    /// How many places a wire goes on after the place where it begins.
-    #[tactic(auto, using(crate::proofs::Ranges::first_in_range), unfolding(crate::specs::Wires::steps_of))]
-    pub(crate) fn steps_of(&self, places: u32, track: u32, place: u32) -> u32
-        requires { 1 ≤ places }
-        ensures steps { result ≡ steps_of self.now places track place }
-        ensures within { result ≤ places - place }
-    {
-        let rest = places.saturating_sub(place);
-        for steps in 0..rest {
-            if self.begins(places, track, place + 1 + steps) {
-                return steps;
-            }
-        }
-        rest
-    }
-
-    /// The last place of a node along its channel; of no wire its x.
-    pub(crate) fn last_of(&self, node: Node) -> u32
-        ensures { result ≡ last_by node.kind self.now node }
-    {
-        match node.kind {
-            Kind::Source | Kind::Sink | Kind::Opin | Kind::Ipin => node.x,
-            Kind::Chanx => node.x + self.steps_of(self.nx, node.number, node.x),
-            Kind::Chany => node.y + self.steps_of(self.ny, node.number, node.y),
-        }
-    }
-
-    /// Whether the wire runs through the place (x, y) of a channel.
+    /// Whether the wire runs through the place (x, y) of a channel; `last` is its last place.
     #[tactic(auto, unfolding(crate::specs::Wires::runs_through))]
-    pub(crate) fn runs_through(&self, wire: Node, kind: Kind, x: u32, y: u32) -> bool
+    pub(crate) fn runs_through(&self, wire: Node, last: u32, kind: Kind, x: u32, y: u32) -> bool
+        requires { last ≡ last_by wire.kind self.now wire }
         ensures { result ≡ runs_through self.now wire (kind, x, y) }
     {
         match (wire.kind, kind) {
             (Kind::Chanx, Kind::Chanx) => {
-                wire.y == y && (wire.x <= x && x <= self.last_of(wire))
+                wire.y == y && (wire.x <= x && x <= last)
             }
             (Kind::Chany, Kind::Chany) => {
-                wire.x == x && (wire.y <= y && y <= self.last_of(wire))
+                wire.x == x && (wire.y <= y && y <= last)
             }
             _ => false,
         }

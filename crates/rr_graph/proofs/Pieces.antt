@@ -1,0 +1,182 @@
+-- The nodes by number, kind by kind and place by place, and the successors of a node among them.
+use Rattle.std.proofs.Common.{◌≡◌, ℕ, ◌+◌, ◌<◌, inl, inr, false, List, [], ◌∷◌, ◌++◌, length, Some, refl, sym, ap, ◌∙◌, subst, arith, length-append, append-nil}
+use Rattle.std.specs.Prelude.{slice_get}
+use Rattle.std.specs.List.{flat_map, filter}
+use Rattle.std.specs.Option.{option_map}
+use Rattle.std.proofs.lemmas.Option.{none-some, slice_get-map}
+use Rattle.std.proofs.lemmas.List.Concat.{flat_map-append}
+use Rattle.rr_graph.specs.declared.parts.Kind.{Kind}
+use Rattle.rr_graph.specs.declared.parts.Kind.TheVariants.{Source, Sink, Opin, Ipin, Chanx, Chany}
+use Rattle.rr_graph.specs.declared.parts.Node.{Node}
+use Rattle.rr_graph.specs.Fabric.{Fabric, numbers_below}
+use Rattle.rr_graph.specs.Nodes.{numbers_at, node_of, nodes_at, nodes_of_column, nodes_of_kind, nodes_of, kinds, node_count_of, node_at}
+use Rattle.rr_graph.specs.Edges.{edge_by, edge_between_nodes, edge_between, is_edge, successors_of}
+use Rattle.rr_graph.specs.Picks.{picks}
+use Rattle.rr_graph.specs.Starts.{kind_start, column_start, place_start, pieces_at, pieces_of_kind}
+use Rattle.rr_graph.proofs.Windows.{flat_map_same, flat_map_none, slice_get-append_left, slice_get-append_right, slice_get-append_cases, slice_get-flat_map, slice_get_from_flat_map, slice_get_from_map}
+use Rattle.rr_graph.proofs.Picks.{picks-append, picks-flat_map, picks-map, picks_none, filter_by_index}
+
+module _ (f : Fabric) where
+  -- the kinds of a list begin one after another, from a number on
+  abbrev Follow : ℕ → List Kind → Type 0
+  Follow n [] = Unit {0}
+  Follow n (k ∷ ks) = (kind_start f k ≡ n) × Follow (n + length (nodes_of_kind f k)) ks
+
+  kinds-follow : Follow 0 kinds
+  unfolding kind_start
+  kinds-follow = (refl, (omega arith, (omega arith, (omega arith, (omega arith, (omega arith, tt))))))
+
+  start-follow :
+      (n : ℕ) (before after : List Kind) (k : Kind) → Follow n (before ++ k ∷ after)
+      → kind_start f k ≡ n + length (flat_map (nodes_of_kind f) before)
+  start-follow n [] after k h = omega (arith, h.0)
+  start-follow n (b ∷ before) after k h =
+      omega (arith, start-follow (n + length (nodes_of_kind f b)) before after k h.1, length-append (nodes_of_kind f b) (flat_map (nodes_of_kind f) before))
+
+  at-follow :
+      (before after : List Kind) (k : Kind) (i : ℕ) (a : Node) → Follow 0 (before ++ k ∷ after) → slice_get (nodes_of_kind f k) i ≡ Some a
+      → slice_get (flat_map (nodes_of_kind f) (before ++ k ∷ after)) (kind_start f k + i) ≡ Some a
+  at-follow before after k i a s h =
+      let front = flat_map (nodes_of_kind f) before in
+      let rest = flat_map (nodes_of_kind f) after in
+      let e : kind_start f k + i ≡ length front + i = omega (arith, start-follow 0 before after k s) in
+      ap (slice_get (flat_map (nodes_of_kind f) (before ++ k ∷ after))) e
+      ∙ ap (λ ns. slice_get ns (length front + i)) (flat_map-append (nodes_of_kind f) before (k ∷ after))
+      ∙ slice_get-append_right front (nodes_of_kind f k ++ rest) i ∙ slice_get-append_left (nodes_of_kind f k) rest i a h
+
+  kind_at : (k : Kind) (i : ℕ) (a : Node) → slice_get (nodes_of_kind f k) i ≡ Some a → node_at f (kind_start f k + i) ≡ Some a
+  unfolding nodes_of
+  kind_at Source i a h = at-follow [] (Sink ∷ Opin ∷ Ipin ∷ Chanx ∷ Chany ∷ []) Source i a kinds-follow h
+  kind_at Sink i a h = at-follow (Source ∷ []) (Opin ∷ Ipin ∷ Chanx ∷ Chany ∷ []) Sink i a kinds-follow h
+  kind_at Opin i a h = at-follow (Source ∷ Sink ∷ []) (Ipin ∷ Chanx ∷ Chany ∷ []) Opin i a kinds-follow h
+  kind_at Ipin i a h = at-follow (Source ∷ Sink ∷ Opin ∷ []) (Chanx ∷ Chany ∷ []) Ipin i a kinds-follow h
+  kind_at Chanx i a h = at-follow (Source ∷ Sink ∷ Opin ∷ Ipin ∷ []) (Chany ∷ []) Chanx i a kinds-follow h
+  kind_at Chany i a h = at-follow (Source ∷ Sink ∷ Opin ∷ Ipin ∷ Chanx ∷ []) [] Chany i a kinds-follow h
+
+  -- the node of the j-th number at a place
+  pub node_at_place :
+      (k : Kind) (x y j n : ℕ) → slice_get (numbers_at f k x y) j ≡ Some n → x < f.nx + 2 → y < f.ny + 2
+      → node_at f (place_start f k x y + j) ≡ Some (node_of k x y n)
+  unfolding place_start column_start
+  node_at_place k x y j n h in_columns in_rows =
+      let before = length (flat_map (nodes_of_column f k) (numbers_below x)) in
+      let below = length (flat_map (nodes_at f k x) (numbers_below y)) in
+      let e : kind_start f k + before + below + j ≡ kind_start f k + (before + (below + j)) = omega arith in
+      let a = node_of k x y n in
+      let here : slice_get (nodes_at f k x y) j ≡ Some a = slice_get-map (node_of k x y) (numbers_at f k x y) j ∙ ap (option_map (node_of k x y)) h in
+      ap (node_at f) e
+      ∙ kind_at k (before + (below + j)) a (slice_get-flat_map (nodes_of_column f k) (f.nx + 2) x (below + j) a in_columns
+      (slice_get-flat_map (nodes_at f k x) (f.ny + 2) y j a in_rows here))
+
+  pub node_count_by_kinds : node_count_of f ≡ kind_start f Chany + length (nodes_of_kind f Chany)
+  unfolding nodes_of
+  node_count_by_kinds =
+      let before = Source ∷ Sink ∷ Opin ∷ Ipin ∷ Chanx ∷ [] in
+      let joined = ap length (flat_map-append (nodes_of_kind f) before (Chany ∷ [])) in
+      let front = flat_map (nodes_of_kind f) before in
+      let last = nodes_of_kind f Chany in
+      omega (arith, start-follow 0 before [] Chany kinds-follow, joined, length-append front (last ++ []), length-append last [])
+
+  kind_found :
+      (n : ℕ) (ks : List Kind) (i : ℕ) (a : Node) → Follow n ks → slice_get (flat_map (nodes_of_kind f) ks) i ≡ Some a
+      → (k : Kind) × (j : ℕ) × (slice_get (nodes_of_kind f k) j ≡ Some a) × (n + i ≡ kind_start f k + j)
+  kind_found n [] i a s h = absurd (none-some a h)
+  kind_found n (k ∷ ks) i a s h = elim (slice_get-append_cases (nodes_of_kind f k) (flat_map (nodes_of_kind f) ks) i a h) [
+    | inl here ↦ (k, i, here, omega (arith, s.0))
+    | inr later ↦ (let r = kind_found (n + length (nodes_of_kind f k)) ks later.0 a s.1 later.1 in (r.0, r.1, r.2, omega (arith, r.3, later.2)))
+  ]
+
+  -- the node is the j-th at the place that its fields name, and i is its number
+  abbrev pub IsPlaced : ℕ → Node → Type 0
+  IsPlaced i a =
+      (j : ℕ) × (a.x < f.nx + 2) × (a.y < f.ny + 2) × (slice_get (numbers_at f a.kind a.x a.y) j ≡ Some a.number)
+      × (i ≡ place_start f a.kind a.x a.y + j)
+
+  -- a node stands where its own fields say
+  pub place_of_node : (i : ℕ) (a : Node) → node_at f i ≡ Some a → IsPlaced i a
+  unfolding nodes_of place_start column_start
+  place_of_node i a h =
+      let of_kind = kind_found 0 kinds i a kinds-follow h in
+      let k = of_kind.0 in
+      let column = slice_get_from_flat_map (nodes_of_column f k) (f.nx + 2) of_kind.1 a of_kind.2 in
+      let x = column.0 in
+      let place = slice_get_from_flat_map (nodes_at f k x) (f.ny + 2) column.1 a column.3 in
+      let y = place.0 in
+      let number = slice_get_from_map (node_of k x y) (numbers_at f k x y) place.1 a place.3 in
+      let e : i ≡ place_start f k x y + place.1 = omega (arith, of_kind.3, column.4, place.4) in
+      subst (IsPlaced i) {x = node_of k x y number.0} number.2 (place.1, column.2, place.2, number.1, e)
+
+  -- ---- the successors of a node
+  module _ (a : Node) where
+    picks_of_place : (k : Kind) (x y : ℕ) → picks (is_edge f a) (place_start f k x y) (nodes_at f k x y) ≡ pieces_at f a k x y
+    unfolding pieces_at
+    picks_of_place k x y = picks-map (is_edge f a) (node_of k x y) (place_start f k x y) (numbers_at f k x y)
+
+    picks_of_column : (k : Kind) (x : ℕ) → picks (is_edge f a) (column_start f k x) (nodes_of_column f k x) ≡ flat_map (λ y. pieces_at f a k x y) (numbers_below (f.ny + 2))
+    unfolding place_start
+    picks_of_column k x =
+        picks-flat_map (is_edge f a) (nodes_at f k x) (column_start f k x) (f.ny + 2) ∙ flat_map_same _ _ (picks_of_place k x) (numbers_below (f.ny + 2))
+
+    picks_of_kind : (k : Kind) → picks (is_edge f a) (kind_start f k) (nodes_of_kind f k) ≡ pieces_of_kind f a k
+    unfolding column_start pieces_of_kind
+    picks_of_kind k =
+        picks-flat_map (is_edge f a) (nodes_of_column f k) (kind_start f k) (f.nx + 2) ∙ flat_map_same _ _ (picks_of_column k) (numbers_below (f.nx + 2))
+
+    picks_of_kinds : (n : ℕ) (ks : List Kind) → Follow n ks → picks (is_edge f a) n (flat_map (nodes_of_kind f) ks) ≡ flat_map (pieces_of_kind f a) ks
+    picks_of_kinds n [] s = refl
+    picks_of_kinds n (k ∷ ks) s =
+        let rest = flat_map (nodes_of_kind f) ks in
+        picks-append (is_edge f a) n (nodes_of_kind f k) rest
+        ∙ ap (λ m. picks (is_edge f a) m (nodes_of_kind f k) ++ picks (is_edge f a) (n + length (nodes_of_kind f k)) rest) (sym s.0)
+        ∙ ap (λ ns. ns ++ picks (is_edge f a) (n + length (nodes_of_kind f k)) rest) (picks_of_kind k)
+        ∙ ap (λ ns. pieces_of_kind f a k ++ ns) (picks_of_kinds (n + length (nodes_of_kind f k)) ks s.1)
+
+  pub successors_by_kinds : (i : ℕ) (a : Node) → node_at f i ≡ Some a → successors_of f i ≡ flat_map (λ k. pieces_of_kind f a k) kinds
+  unfolding successors_of edge_between nodes_of
+  successors_by_kinds i a h =
+      ap (λ o. filter (λ j. edge_between_nodes f o (node_at f j)) (numbers_below (node_count_of f))) h
+      ∙ filter_by_index (edge_between_nodes f (Some a)) (nodes_of f) ∙ picks_of_kinds a 0 kinds kinds-follow
+
+  -- no edge leads to a node of the kind
+  no_pieces : (a : Node) (s k : Kind) → a.kind ≡ s → ((b : Node) → edge_by s k f a b ≡ false) → pieces_of_kind f a k ≡ []
+  unfolding pieces_of_kind pieces_at is_edge
+  no_pieces a s k e h =
+      flat_map_none _ (f.nx + 2) (λ x l. flat_map_none _ (f.ny + 2)
+      (λ y m. picks_none _ (λ n. ap (λ r. edge_by r k f a (node_of k x y n)) e ∙ h (node_of k x y n)) (place_start f k x y) (numbers_at f k x y)))
+
+  module _ (i : ℕ) (a : Node) (h : node_at f i ≡ Some a) where
+    pub successors_of_source : a.kind ≡ Source → successors_of f i ≡ pieces_of_kind f a Opin
+    successors_of_source e =
+        let none : (k : Kind) → ((b : Node) → edge_by Source k f a b ≡ false) → pieces_of_kind f a k ≡ [] = λ k. no_pieces a Source k e in
+        successors_by_kinds i a h
+        ∙ rw (none Source (λ b. refl), none Sink (λ b. refl), none Ipin (λ b. refl), none Chanx (λ b. refl), none Chany (λ b. refl))
+        (append-nil (pieces_of_kind f a Opin))
+
+    pub successors_of_sink : a.kind ≡ Sink → successors_of f i ≡ []
+    successors_of_sink e =
+        let none : (k : Kind) → ((b : Node) → edge_by Sink k f a b ≡ false) → pieces_of_kind f a k ≡ [] = λ k. no_pieces a Sink k e in
+        successors_by_kinds i a h
+        ∙ rw (none Source (λ b. refl), none Sink (λ b. refl), none Opin (λ b. refl), none Ipin (λ b. refl), none Chanx (λ b. refl), none Chany (λ b. refl)) refl
+
+    pub successors_of_opin : a.kind ≡ Opin → successors_of f i ≡ pieces_of_kind f a Chanx ++ pieces_of_kind f a Chany
+    successors_of_opin e =
+        let none : (k : Kind) → ((b : Node) → edge_by Opin k f a b ≡ false) → pieces_of_kind f a k ≡ [] = λ k. no_pieces a Opin k e in
+        successors_by_kinds i a h
+        ∙ rw (none Source (λ b. refl), none Sink (λ b. refl), none Opin (λ b. refl), none Ipin (λ b. refl), append-nil (pieces_of_kind f a Chany)) refl
+
+    pub successors_of_ipin : a.kind ≡ Ipin → successors_of f i ≡ pieces_of_kind f a Sink
+    successors_of_ipin e =
+        let none : (k : Kind) → ((b : Node) → edge_by Ipin k f a b ≡ false) → pieces_of_kind f a k ≡ [] = λ k. no_pieces a Ipin k e in
+        successors_by_kinds i a h
+        ∙ rw (none Source (λ b. refl), none Opin (λ b. refl), none Ipin (λ b. refl), none Chanx (λ b. refl), none Chany (λ b. refl))
+        (append-nil (pieces_of_kind f a Sink))
+
+    pub successors_of_chanx : a.kind ≡ Chanx → successors_of f i ≡ pieces_of_kind f a Ipin ++ (pieces_of_kind f a Chanx ++ pieces_of_kind f a Chany)
+    successors_of_chanx e =
+        let none : (k : Kind) → ((b : Node) → edge_by Chanx k f a b ≡ false) → pieces_of_kind f a k ≡ [] = λ k. no_pieces a Chanx k e in
+        successors_by_kinds i a h ∙ rw (none Source (λ b. refl), none Sink (λ b. refl), none Opin (λ b. refl), append-nil (pieces_of_kind f a Chany)) refl
+
+    pub successors_of_chany : a.kind ≡ Chany → successors_of f i ≡ pieces_of_kind f a Ipin ++ (pieces_of_kind f a Chanx ++ pieces_of_kind f a Chany)
+    successors_of_chany e =
+        let none : (k : Kind) → ((b : Node) → edge_by Chany k f a b ≡ false) → pieces_of_kind f a k ≡ [] = λ k. no_pieces a Chany k e in
+        successors_by_kinds i a h ∙ rw (none Source (λ b. refl), none Sink (λ b. refl), none Opin (λ b. refl), append-nil (pieces_of_kind f a Chany)) refl

@@ -1,0 +1,151 @@
+-- The wires and pins that a wire leads to, as numbers at even distances.
+use Rattle.std.proofs.Common.{◌≡◌, ℕ, ◌+◌, ◌-◌, ◌*◌, ◌<◌, ◌≤◌, ◌⊎◌, Bool, true, false, List, length, map, refl, sym, ap, ◌∙◌, arith}
+use Rattle.std.specs.Prelude.{◌==◌, if◌then◌else◌}
+use Rattle.std.specs.List.{list_any}
+use Rattle.std.proofs.lemmas.Bool.Decides.{nat_tests}
+use Rattle.std.proofs.lemmas.List.Sums.{length-filter, count_by-le-length}
+use Rattle.std.proofs.lemmas.List.FromFn.{length-range_with_len}
+use Rattle.arch_file.specs.declared.parts.Direction.TheVariants.{Input}
+use Rattle.arch_file.specs.declared.parts.Sides.{Sides}
+use Rattle.rr_graph.specs.declared.channel.Wire.{Wire}
+use Rattle.rr_graph.specs.declared.fanout.Taps.{Taps}
+use Rattle.rr_graph.specs.declared.parts.Kind.TheVariants.{Chanx, Chany, Ipin}
+use Rattle.rr_graph.specs.Fabric.{Fabric, IsFabric, numbers_below, is_between, is_block}
+use Rattle.rr_graph.specs.Wires.{begins, last_of}
+use Rattle.rr_graph.specs.Pins.{pins_of, tapped_tracks}
+use Rattle.rr_graph.specs.Picks.{picks}
+use Rattle.rr_graph.specs.Channels.{first_of}
+use Rattle.rr_graph.specs.Sides.{taps_on, tapping_pins, tapping_pads}
+use Rattle.rr_graph.specs.Starts.{kind_start, place_start}
+use Rattle.rr_graph.specs.Numbering.{columns_length, rows_length, block_numbers}
+use Rattle.rr_graph.specs.Tables.{starting_at, wires_before, wire_number, wire_at}
+use Rattle.rr_graph.specs.WireSuccessors.{wire_id, pins_beside}
+use Rattle.rr_graph.specs.Fanouts.{pins_of_row, pins_of_column, pins_at}
+use Rattle.rr_graph.proofs.Picks.{length-picks}
+use Rattle.rr_graph.proofs.TrackWires.{IsBeginning, begins_behind, first_of_itself, last_of-is}
+use Rattle.rr_graph.proofs.PlaceStarts.{terminal_start, few_numbers}
+use Rattle.rr_graph.proofs.NodeNumbers.{above_first, above_by_row, right_first, right_by_column}
+
+pub above_number : (f : Fabric) (q y t : ℕ) → y ≤ f.ny
+    → wire_id f Chanx q y t ≡ kind_start f Chanx + (f.ny * wires_before f f.nx q + wire_number f f.nx q t) + y * length (starting_at f f.nx q)
+above_number f q y t l = omega (arith, above_by_row f q y t l, above_first f q t)
+
+pub right_number : (f : Fabric) (x q t : ℕ) → x ≤ f.nx → wire_id f Chany x q t ≡ kind_start f Chany + wire_number f f.ny q t + x * wires_before f f.ny (f.ny + 1)
+right_number f x q t l = omega (arith, right_by_column f x q t l, right_first f q t)
+
+-- ---- the places of wires
+pub first_upto : (f : Fabric) (n t p : ℕ) → first_of f n t p ≤ p
+unfolding first_of
+first_upto f n t p = omega arith
+
+-- behind the end of a wire begins the next
+pub behind_first : (f : Fabric) (n t x : ℕ) → 1 ≤ x → x ≤ n → begins f n t x ≡ true → last_of f n t x < n → first_of f n t (last_of f n t x + 1) ≡ last_of f n t x + 1
+behind_first f n t x l m e less =
+    let here : IsBeginning f n t x = record { from = l; upto = m; begins_here = e } in
+    first_of_itself f n t (last_of f n t x + 1) (begins_behind f n t x here less)
+
+-- the end of a wire from the table
+pub wire_end : (f : Fabric) (n t x : ℕ) (w : Wire) → w ≡ wire_at f n x t → 1 ≤ x → x ≤ n → begins f n t x ≡ true → w.last ≡ last_of f n t x
+wire_end f n t x w e l m here = ap (λ v. v.last) e ∙ ap (last_of f n t) (first_of_itself f n t x (record { from = l; upto = m; begins_here = here }))
+
+pub end_within : (f : Fabric) (n t x : ℕ) → x ≤ n → (x ≤ last_of f n t x) × (last_of f n t x ≤ n)
+end_within f n t x l = let last = last_of-is f n t x l in (last.from, last.upto)
+
+-- ---- where the input pins of a place stand
+module _ (f : Fabric) where
+  abbrev pins_of_block : ℕ
+  pins_of_block = length (block_numbers f Ipin)
+
+  columns_from : (x : ℕ) → 1 ≤ x → columns_length f pins_of_block x ≡ f.ny * f.architecture.io_rat + (x - 1) * pins_of_column f
+  unfolding columns_length
+  columns_from x l = let some : (x == 0) ≡ false = grind (arith, nat_tests) in rw some refl
+
+  rows_inside : (x y z : ℕ) → is_between 1 f.nx x ≡ is_between 1 f.nx z → rows_length f pins_of_block x y ≡ rows_length f pins_of_block z y
+  unfolding rows_length
+  rows_inside x y z e = ap (λ b. if b then (if y == 0 then 0 else f.architecture.io_rat + (y - 1) * pins_of_block) else (y - 1) * f.architecture.io_rat) e
+
+  rows_from : (x y : ℕ) → 1 ≤ y → rows_length f pins_of_block x y ≡ (if is_between 1 f.nx x then f.architecture.io_rat else 0) + (y - 1) * pins_of_row f x
+  unfolding rows_length
+  rows_from x y l =
+      let some : (y == 0) ≡ false = grind (arith, nat_tests) in
+      rw some (chosen (is_between 1 f.nx x))
+    where
+      chosen : (b : Bool) →
+          (if b then f.architecture.io_rat + (y - 1) * pins_of_block else (y - 1) * f.architecture.io_rat)
+          ≡ (if b then f.architecture.io_rat else 0) + (y - 1) * (if b then pins_of_block else f.architecture.io_rat)
+      chosen true = refl
+      chosen false = omega arith
+
+  times_more : (a k m : ℕ) → (a + k) * m ≡ a * m + k * m
+  times_more a k m = omega arith
+
+  pub pins_by_column : (x y k : ℕ) → 1 ≤ x → x + k ≤ f.nx → y ≤ f.ny + 1 → place_start f Ipin (x + k) y ≡ place_start f Ipin x y + k * pins_of_column f
+  pins_by_column x y k l m n =
+      let further : x + k - 1 ≡ x - 1 + k = omega arith in
+      let inside : is_between 1 f.nx (x + k) ≡ is_between 1 f.nx x = grind (arith, nat_tests) in
+      omega (
+        arith,
+        terminal_start f Ipin refl (x + k) y (omega arith) n,
+        terminal_start f Ipin refl x y (omega arith) n,
+        columns_from (x + k) (omega arith),
+        columns_from x l,
+        ap (λ a. a * pins_of_column f) further,
+        times_more (x - 1) k (pins_of_column f),
+        rows_inside (x + k) y x inside,
+      )
+
+  pub pins_by_row : (x y k : ℕ) → x ≤ f.nx + 1 → 1 ≤ y → y + k ≤ f.ny + 1 → place_start f Ipin x (y + k) ≡ place_start f Ipin x y + k * pins_of_row f x
+  pins_by_row x y k l m n =
+      let further : y + k - 1 ≡ y - 1 + k = omega arith in
+      omega (
+        arith,
+        terminal_start f Ipin refl x (y + k) l n,
+        terminal_start f Ipin refl x y l (omega arith),
+        rows_from x (y + k) (omega arith),
+        rows_from x y m,
+        ap (λ a. a * pins_of_row f x) further,
+        times_more (y - 1) k (pins_of_row f x),
+      )
+
+  -- ---- which of them tap a wire
+  few_picked : {X : Type 0} (p : X → Bool) (xs : List X) → length (picks p 0 xs) ≤ length xs
+  few_picked p xs = omega (arith, length-picks p 0 xs, length-filter p xs, count_by-le-length p xs)
+
+  pub few_pins : IsFabric f → (side : Sides → Bool) (t : ℕ) → length (tapping_pins f side t) ≤ 64
+  unfolding tapping_pins block_numbers
+  few_pins within side t = omega (arith, few_picked (taps_on f side t) (pins_of f.architecture Input), few_numbers f Ipin within)
+
+  pub few_pads : IsFabric f → (t : ℕ) → length (tapping_pads f t) ≤ 64
+  unfolding tapping_pads
+  few_pads within t =
+      omega (
+        arith,
+        few_picked (λ p. list_any (λ s. s == t) (tapped_tracks f f.architecture.fc_pad p)) (numbers_below f.architecture.io_rat),
+        length-range_with_len 0 f.architecture.io_rat,
+        within.limits.few_pads,
+      )
+
+  module _ (side : Sides → Bool) (t : ℕ) (taps : Taps) where
+    here :
+        (b : Bool) → taps.places.now ≡ (if b then tapping_pins f side t else tapping_pads f t)
+        → (x y k : ℕ) → is_block f x y ≡ b → taps.start + k * taps.step ≡ place_start f Ipin x y → pins_at taps k ≡ pins_beside f side x y t
+    unfolding pins_beside
+    here b which x y k e start =
+        ap (λ s. map (λ j. s + j) taps.places.now) start
+        ∙ ap (map (λ j. place_start f Ipin x y + j)) (which ∙ ap (λ a. if a then tapping_pins f side t else tapping_pads f t) (sym e))
+
+    -- along a row
+    module _ (x y k : ℕ) (start : taps.start ≡ place_start f Ipin x y) (step : taps.step ≡ pins_of_column f) (from : 1 ≤ x) (upto : x + k ≤ f.nx) where
+      pub row_pins : taps.places.now ≡ tapping_pins f side t → 1 ≤ y → y ≤ f.ny → pins_at taps k ≡ pins_beside f side (x + k) y t
+      row_pins which l m = here true which (x + k) y k (grind (arith, nat_tests)) (omega (arith, start, ap (λ s. k * s) step, pins_by_column x y k from upto (omega arith)))
+
+      pub row_pads : taps.places.now ≡ tapping_pads f t → (y ≡ 0) ⊎ (y ≡ f.ny + 1) → pins_at taps k ≡ pins_beside f side (x + k) y t
+      row_pads which end = here false which (x + k) y k (grind (arith, nat_tests)) (omega (arith, start, ap (λ s. k * s) step, pins_by_column x y k from upto (omega arith)))
+
+    -- along a column
+    module _ (x y k : ℕ) (start : taps.start ≡ place_start f Ipin x y) (step : taps.step ≡ pins_of_row f x) (from : 1 ≤ y) (upto : y + k ≤ f.ny) where
+      pub column_pins : taps.places.now ≡ tapping_pins f side t → 1 ≤ x → x ≤ f.nx → pins_at taps k ≡ pins_beside f side x (y + k) t
+      column_pins which l m = here true which x (y + k) k (grind (arith, nat_tests)) (omega (arith, start, ap (λ s. k * s) step, pins_by_row x y k (omega arith) from (omega arith)))
+
+      pub column_pads : taps.places.now ≡ tapping_pads f t → (x ≡ 0) ⊎ (x ≡ f.nx + 1) → pins_at taps k ≡ pins_beside f side x (y + k) t
+      column_pads which end = here false which x (y + k) k (grind (arith, nat_tests)) (omega (arith, start, ap (λ s. k * s) step, pins_by_row x y k (omega arith) from (omega arith)))

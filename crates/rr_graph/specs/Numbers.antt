@@ -1,0 +1,37 @@
+-- What the counts and lists of a device's nodes hold.
+use Rattle.std.specs.Prelude.{◌≡◌}
+use Rattle.rr_graph.specs.declared.block.Block.{Block}
+use Rattle.rr_graph.specs.declared.channel.Channel.{Channel}
+use Rattle.rr_graph.specs.declared.sides.BlockSides.{BlockSides}
+use Rattle.rr_graph.specs.declared.starts.Starts.{Starts}
+use Rattle.rr_graph.specs.declared.parts.Kind.TheVariants.{Source, Sink, Opin, Ipin, Chanx, Chany}
+use Rattle.rr_graph.specs.Fabric.{Fabric}
+use Rattle.rr_graph.specs.Nodes.{node_count_of}
+use Rattle.rr_graph.specs.Starts.{kind_start}
+use Rattle.rr_graph.specs.Numbering.{block_numbers}
+use Rattle.rr_graph.specs.Tables.{IsChannel}
+use Rattle.rr_graph.specs.TappingTables.{IsSides}
+
+-- the numbers of a block's nodes
+pub record IsBlock (f : Fabric) (b : Block) : Type 0 where
+  pub sources : b.sources.items ≡ block_numbers f Source
+  pub sinks : b.sinks.items ≡ block_numbers f Sink
+  pub opins : b.opins.items ≡ block_numbers f Opin
+  pub ipins : b.ipins.items ≡ block_numbers f Ipin
+
+-- how many nodes stand before those of each kind
+pub record IsStarts (f : Fabric) (s : Starts) : Type 0 where
+  pub sink : s.sink ≡ kind_start f Sink
+  pub opin : s.opin ≡ kind_start f Opin
+  pub ipin : s.ipin ≡ kind_start f Ipin
+  pub chanx : s.chanx ≡ kind_start f Chanx
+  pub chany : s.chany ≡ kind_start f Chany
+  pub end : s.end ≡ node_count_of f
+
+-- the tables of a device
+pub record IsTabled (f : Fabric) (b : Block) (r c : Channel) (p : BlockSides) (s : Starts) : Type 0 where
+  pub block : IsBlock f b
+  pub rows : IsChannel f f.nx r
+  pub columns : IsChannel f f.ny c
+  pub sides : IsSides f p
+  pub starts : IsStarts f s

@@ -1,0 +1,405 @@
+//! The successors of a node, from its place by arithmetic.
+
+ghost use Rattle.std.specs.Prelude.{◌≡◌, ℕ, ◌+◌, ◌*◌, ◌<◌, ◌≤◌, ◌++◌, true, length, map};
+ghost use Rattle.std.specs.List.{range_with_len, flat_map};
+ghost use Rattle.smallvec.specs.SmallVec.{HasRoomFor};
+ghost use Rattle.rr_graph.specs.Fabric.{IsFabric};
+ghost use Rattle.rr_graph.specs.Pushes.{Pushes};
+ghost use Rattle.rr_graph.specs.NodeSuccessors.{node_successors, IsPlaced};
+ghost use Rattle.rr_graph.specs.Wires.{tracks_in, begins, steps_of, last_of, places_of};
+ghost use Rattle.rr_graph.specs.Channels.{first_of, meeting_of, beside_of};
+ghost use Rattle.rr_graph.specs.Starts.{place_start};
+ghost use Rattle.rr_graph.specs.Sides.{tapping_pins, tapping_pads};
+ghost use Rattle.rr_graph.specs.WireSuccessors.{wire_id, pins_beside};
+ghost use Rattle.rr_graph.specs.Fanouts.{numbers_of, runs_of, run_above, run_right, pins_of_row, pins_of_column, pins_at, row_list, column_list, row_wire_list, column_wire_list, IsSmallRun, IsSmallMeeting, IsSmallTaps, IsSmallRow, IsSmallColumn};
+
+use crate::device::Device;
+use crate::fanout::{ColumnFanout, Meeting, Pair, RowFanout, Run, Taps};
+use crate::parts::{Kind, Node};
+use smallvec::SmallVec;
+
+impl Device {
+    /// The wires of a track through place `x` above row `y` and the rows over it.
+    #[tactic(auto, using(crate::proofs::WireFanouts::above_number, crate::proofs::WireFanouts::first_upto))]
+    pub(crate) fn run_above(&self, track: u32, x: u32, y: u32) -> Run
+        requires place { (1 ≤ x) × (x ≤ self.now.nx) }
+        requires row { y ≤ self.now.ny }
+        requires track { track < tracks_in self.now.mode self.now.width }
+        ensures run { result ≡ run_above self.now track y (first_of self.now self.now.nx track x) }
+        ensures small { IsSmallRun result }
+    {
+        let wire = self.wire_above(track, x);
+        let place = u32::from(wire.first);
+        let step = self.above_step(place);
+        let row = self.ny() * self.above_before(place) + u32::from(wire.number);
+        Run {
+            first: self.kind_start(Kind::Chanx) + row + y * step,
+            step,
+        }
+    }
+
+    /// The wires of a track through place `y` right of column `x` and the columns behind it.
+    #[tactic(auto, using(crate::proofs::WireFanouts::right_number))]
+    pub(crate) fn run_right(&self, track: u32, x: u32, y: u32) -> Run
+        requires place { (1 ≤ y) × (y ≤ self.now.ny) }
+        requires column { x ≤ self.now.nx }
+        requires track { track < tracks_in self.now.mode self.now.width }
+        ensures run { result ≡ run_right self.now track x (first_of self.now self.now.ny track y) }
+        ensures small { IsSmallRun result }
+    {
+        let _limits = self.nx();
+        let step = self.right_step();
+        let number = u32::from(self.wire_right(track, y).number);
+        Run {
+            first: self.kind_start(Kind::Chany) + number + x * step,
+            step,
+        }
+    }
+
+    /// The wires above row `y` and the rows over it that touch the corners right of column `x`.
+    #[tactic(auto, unfolding(crate::specs::Channels::meeting_of))]
+    fn meeting_above(&self, track: u32, x: u32, y: u32) -> Meeting
+        requires column { x ≤ self.now.nx }
+        requires row { y ≤ self.now.ny }
+        requires track { track < tracks_in self.now.mode self.now.width }
+        ensures meeting { runs_of result ≡ map (run_above self.now track y) (meeting_of self.now self.now.nx track x) }
+        ensures small { IsSmallMeeting result }
+    {
+        let nx = self.nx();
+        if x == 0 {
+            return Meeting {
+                one: self.run_above(track, 1, y),
+                two: None,
+            };
+        }
+        let one = self.run_above(track, x, y);
+        if x >= nx || self.wire_above(track, x).first == self.wire_above(track, x + 1).first {
+            return Meeting { one, two: None };
+        }
+        let two = self.run_above(track, x + 1, y);
+        Meeting {
+            one,
+            two: Some(two),
+        }
+    }
+
+    /// The wires right of column `x` and the columns behind it that touch the corners above row `y`.
+    #[tactic(auto, unfolding(crate::specs::Channels::meeting_of))]
+    fn meeting_right(&self, track: u32, x: u32, y: u32) -> Meeting
+        requires column { x ≤ self.now.nx }
+        requires row { y ≤ self.now.ny }
+        requires track { track < tracks_in self.now.mode self.now.width }
+        ensures meeting { runs_of result ≡ map (run_right self.now track x) (meeting_of self.now self.now.ny track y) }
+        ensures small { IsSmallMeeting result }
+    {
+        let ny = self.ny();
+        if y == 0 {
+            return Meeting {
+                one: self.run_right(track, x, 1),
+                two: None,
+            };
+        }
+        let one = self.run_right(track, x, y);
+        if y >= ny || self.wire_right(track, y).first == self.wire_right(track, y + 1).first {
+            return Meeting { one, two: None };
+        }
+        let two = self.run_right(track, x, y + 1);
+        Meeting {
+            one,
+            two: Some(two),
+        }
+    }
+
+    /// The wire that ends just before the wire of a track that passes the places from `x` to `last` above row `y`, and the
+    /// one that begins just behind.
+    #[tactic(auto, using(crate::proofs::WireFanouts::behind_first), unfolding(crate::specs::Channels::beside_of))]
+    fn beside_above(&self, track: u32, x: u32, last: u32, y: u32) -> Pair
+        requires place { (1 ≤ x) × (x ≤ self.now.nx) }
+        requires row { y ≤ self.now.ny }
+        requires track { track < tracks_in self.now.mode self.now.width }
+        requires begins { begins self.now self.now.nx track x ≡ true }
+        requires last { last ≡ last_of self.now self.now.nx track x }
+        ensures { numbers_of result ≡ map (λ q. wire_id self.now Kind.Chanx q y track) (beside_of self.now self.now.nx track x last) }
+    {
+        let nx = self.nx();
+        Pair {
+            one: if x > 1 {
+                Some(self.run_above(track, x - 1, y).first)
+            } else {
+                None
+            },
+            two: if last < nx {
+                Some(self.run_above(track, last + 1, y).first)
+            } else {
+                None
+            },
+        }
+    }
+
+    /// The wire that ends just before the wire of a track that passes the places from `y` to `last` right of column `x`, and
+    /// the one that begins just behind.
+    #[tactic(auto, using(crate::proofs::WireFanouts::behind_first), unfolding(crate::specs::Channels::beside_of))]
+    fn beside_right(&self, track: u32, x: u32, y: u32, last: u32) -> Pair
+        requires place { (1 ≤ y) × (y ≤ self.now.ny) }
+        requires column { x ≤ self.now.nx }
+        requires track { track < tracks_in self.now.mode self.now.width }
+        requires begins { begins self.now self.now.ny track y ≡ true }
+        requires last { last ≡ last_of self.now self.now.ny track y }
+        ensures { numbers_of result ≡ map (λ q. wire_id self.now Kind.Chany x q track) (beside_of self.now self.now.ny track y last) }
+    {
+        let ny = self.ny();
+        Pair {
+            one: if y > 1 {
+                Some(self.run_right(track, x, y - 1).first)
+            } else {
+                None
+            },
+            two: if last < ny {
+                Some(self.run_right(track, x, last + 1).first)
+            } else {
+                None
+            },
+        }
+    }
+
+    /// The input pads of a place of the perimeter that tap a track.
+    #[tactic(auto, using(crate::proofs::TappingTables::places_of_track_are, crate::proofs::WireFanouts::few_pads))]
+    fn tapping_pads(&self, track: u32) -> &[u8]
+        requires { track < tracks_in self.now.mode self.now.width }
+        ensures pads { result.now ≡ tapping_pads self.now track }
+        ensures few { length result.now ≤ 64 }
+    {
+        self.sides.pads.of_track(track)
+    }
+
+    /// The places, among a block's input pins, of those that tap a track on this side.
+    #[tactic(auto, using(crate::proofs::TappingTables::places_of_track_are, crate::proofs::WireFanouts::few_pins))]
+    fn tapping_top(&self, track: u32) -> &[u8]
+        requires { track < tracks_in self.now.mode self.now.width }
+        ensures pins { result.now ≡ tapping_pins self.now (λ s. s.top) track }
+        ensures few { length result.now ≤ 64 }
+    {
+        self.sides.top.of_track(track)
+    }
+
+    /// The places, among a block's input pins, of those that tap a track on this side.
+    #[tactic(auto, using(crate::proofs::TappingTables::places_of_track_are, crate::proofs::WireFanouts::few_pins))]
+    fn tapping_bottom(&self, track: u32) -> &[u8]
+        requires { track < tracks_in self.now.mode self.now.width }
+        ensures pins { result.now ≡ tapping_pins self.now (λ s. s.bottom) track }
+        ensures few { length result.now ≤ 64 }
+    {
+        self.sides.bottom.of_track(track)
+    }
+
+    /// The places, among a block's input pins, of those that tap a track on this side.
+    #[tactic(auto, using(crate::proofs::TappingTables::places_of_track_are, crate::proofs::WireFanouts::few_pins))]
+    fn tapping_right(&self, track: u32) -> &[u8]
+        requires { track < tracks_in self.now.mode self.now.width }
+        ensures pins { result.now ≡ tapping_pins self.now (λ s. s.right) track }
+        ensures few { length result.now ≤ 64 }
+    {
+        self.sides.right.of_track(track)
+    }
+
+    /// The places, among a block's input pins, of those that tap a track on this side.
+    #[tactic(auto, using(crate::proofs::TappingTables::places_of_track_are, crate::proofs::WireFanouts::few_pins))]
+    fn tapping_left(&self, track: u32) -> &[u8]
+        requires { track < tracks_in self.now.mode self.now.width }
+        ensures pins { result.now ≡ tapping_pins self.now (λ s. s.left) track }
+        ensures few { length result.now ≤ 64 }
+    {
+        self.sides.left.of_track(track)
+    }
+
+    /// Those of a row's input pins that stand at `places`, from (x, y) on.
+    fn taps_in_row<'a>(&self, places: &'a [u8], x: u32, y: u32) -> Taps<'a>
+        requires few { length places.now ≤ 64 }
+        requires column { x ≤ self.now.nx + 1 }
+        requires row { y ≤ self.now.ny + 1 }
+        ensures places { result.places.now ≡ places.now }
+        ensures start { result.start ≡ place_start self.now Kind.Ipin x y }
+        ensures step { result.step ≡ pins_of_column self.now }
+        ensures small { IsSmallTaps result }
+    {
+        let pads = self.layout.arch.io_rat();
+        Taps {
+            places,
+            start: self.terminal_start(Kind::Ipin, x, y),
+            step: 2 * pads + self.ny() * self.number_count(Kind::Ipin),
+        }
+    }
+
+    /// Those of a column's input pins that stand at `places`, from (x, y) on.
+    fn taps_in_column<'a>(&self, places: &'a [u8], x: u32, y: u32) -> Taps<'a>
+        requires few { length places.now ≤ 64 }
+        requires column { x ≤ self.now.nx + 1 }
+        requires row { y ≤ self.now.ny + 1 }
+        ensures places { result.places.now ≡ places.now }
+        ensures start { result.start ≡ place_start self.now Kind.Ipin x y }
+        ensures step { result.step ≡ pins_of_row self.now x }
+        ensures small { IsSmallTaps result }
+    {
+        let step = if 1 <= x && x <= self.nx() {
+            self.number_count(Kind::Ipin)
+        } else {
+            self.layout.arch.io_rat()
+        };
+        Taps {
+            places,
+            start: self.terminal_start(Kind::Ipin, x, y),
+            step,
+        }
+    }
+
+    /// The pins that tap a track above row `y` from below, from place `x` on.
+    #[tactic(auto, using(crate::proofs::WireFanouts::row_pins, crate::proofs::WireFanouts::row_pads))]
+    fn taps_under(&self, track: u32, x: u32, y: u32) -> Taps<'_>
+        requires place { (1 ≤ x) × (x ≤ self.now.nx) × (y ≤ self.now.ny) }
+        requires track { track < tracks_in self.now.mode self.now.width }
+        ensures pins { (k : ℕ) → x + k ≤ self.now.nx → pins_at result k ≡ pins_beside self.now (λ s. s.top) (x + k) y track }
+        ensures small { IsSmallTaps result }
+    {
+        if y == 0 {
+            return self.taps_in_row(self.tapping_pads(track), x, y);
+        }
+        self.taps_in_row(self.tapping_top(track), x, y)
+    }
+
+    /// The pins that tap a track above row `y` from above, from place `x` on.
+    #[tactic(auto, using(crate::proofs::WireFanouts::row_pins, crate::proofs::WireFanouts::row_pads))]
+    fn taps_over(&self, track: u32, x: u32, y: u32) -> Taps<'_>
+        requires place { (1 ≤ x) × (x ≤ self.now.nx) × (y ≤ self.now.ny) }
+        requires track { track < tracks_in self.now.mode self.now.width }
+        ensures pins { (k : ℕ) → x + k ≤ self.now.nx → pins_at result k ≡ pins_beside self.now (λ s. s.bottom) (x + k) (y + 1) track }
+        ensures small { IsSmallTaps result }
+    {
+        if y == self.ny() {
+            return self.taps_in_row(self.tapping_pads(track), x, y + 1);
+        }
+        self.taps_in_row(self.tapping_bottom(track), x, y + 1)
+    }
+
+    /// The pins that tap a track right of column `x` from the left, from place `y` on.
+    #[tactic(auto, using(crate::proofs::WireFanouts::column_pins, crate::proofs::WireFanouts::column_pads))]
+    fn taps_before(&self, track: u32, x: u32, y: u32) -> Taps<'_>
+        requires place { (1 ≤ y) × (y ≤ self.now.ny) × (x ≤ self.now.nx) }
+        requires track { track < tracks_in self.now.mode self.now.width }
+        ensures pins { (k : ℕ) → y + k ≤ self.now.ny → pins_at result k ≡ pins_beside self.now (λ s. s.right) x (y + k) track }
+        ensures small { IsSmallTaps result }
+    {
+        if x == 0 {
+            return self.taps_in_column(self.tapping_pads(track), x, y);
+        }
+        self.taps_in_column(self.tapping_right(track), x, y)
+    }
+
+    /// The pins that tap a track right of column `x` from the right, from place `y` on.
+    #[tactic(auto, using(crate::proofs::WireFanouts::column_pins, crate::proofs::WireFanouts::column_pads))]
+    fn taps_behind(&self, track: u32, x: u32, y: u32) -> Taps<'_>
+        requires place { (1 ≤ y) × (y ≤ self.now.ny) × (x ≤ self.now.nx) }
+        requires track { track < tracks_in self.now.mode self.now.width }
+        ensures pins { (k : ℕ) → y + k ≤ self.now.ny → pins_at result k ≡ pins_beside self.now (λ s. s.left) (x + 1) (y + k) track }
+        ensures small { IsSmallTaps result }
+    {
+        if x == self.nx() {
+            return self.taps_in_column(self.tapping_pads(track), x + 1, y);
+        }
+        self.taps_in_column(self.tapping_left(track), x + 1, y)
+    }
+
+    /// Where the wire of a track that begins at place `x` above a row ends.
+    #[tactic(auto, using(crate::proofs::WireFanouts::wire_end, crate::proofs::WireFanouts::end_within))]
+    fn end_above(&self, track: u32, x: u32) -> u32
+        requires wire { (1 ≤ x) × (x ≤ self.now.nx) × (begins self.now self.now.nx track x ≡ true) }
+        requires track { track < tracks_in self.now.mode self.now.width }
+        ensures end { result ≡ last_of self.now self.now.nx track x }
+        ensures within { (x ≤ result) × (result ≤ self.now.nx) }
+        ensures limits { IsFabric self.now }
+    {
+        let _limits = self.nx();
+        u32::from(self.wire_above(track, x).last)
+    }
+
+    /// Where the wire of a track that begins at place `y` right of a column ends.
+    #[tactic(auto, using(crate::proofs::WireFanouts::wire_end, crate::proofs::WireFanouts::end_within))]
+    fn end_right(&self, track: u32, y: u32) -> u32
+        requires wire { (1 ≤ y) × (y ≤ self.now.ny) × (begins self.now self.now.ny track y ≡ true) }
+        requires track { track < tracks_in self.now.mode self.now.width }
+        ensures end { result ≡ last_of self.now self.now.ny track y }
+        ensures within { (y ≤ result) × (result ≤ self.now.ny) }
+        ensures limits { IsFabric self.now }
+    {
+        let _limits = self.ny();
+        u32::from(self.wire_right(track, y).last)
+    }
+
+    /// What the wire of a track leads to that begins at place `x` above row `y`.
+    pub(crate) fn row_fanout(&self, track: u32, x: u32, y: u32) -> RowFanout<'_>
+        requires wire { (1 ≤ x) × (x ≤ self.now.nx) × (begins self.now self.now.nx track x ≡ true) }
+        requires row { y ≤ self.now.ny }
+        requires track { track < tracks_in self.now.mode self.now.width }
+        ensures list { row_list result ≡ row_wire_list self.now x y track }
+        ensures small { IsSmallRow result }
+    {
+        let last = self.end_above(track, x);
+        RowFanout {
+            under: self.taps_under(track, x, y),
+            over: self.taps_over(track, x, y),
+            places: last - x + 1,
+            beside: self.beside_above(track, x, last, y),
+            crossing: self.meeting_right(track, x - 1, y),
+        }
+    }
+
+    /// What the wire of a track leads to that begins at place `y` right of column `x`.
+    pub(crate) fn column_fanout(&self, track: u32, x: u32, y: u32) -> ColumnFanout<'_>
+        requires wire { (1 ≤ y) × (y ≤ self.now.ny) × (begins self.now self.now.ny track y ≡ true) }
+        requires column { x ≤ self.now.nx }
+        requires track { track < tracks_in self.now.mode self.now.width }
+        ensures list { column_list result ≡ column_wire_list self.now x y track }
+        ensures small { IsSmallColumn result }
+    {
+        let last = self.end_right(track, y);
+        ColumnFanout {
+            before: self.taps_before(track, x, y),
+            behind: self.taps_behind(track, x, y),
+            places: last - y + 1,
+            crossing: self.meeting_above(track, x, y - 1),
+            beside: self.beside_right(track, x, y, last),
+        }
+    }
+
+    /// How many successors a node has.
+    #[tactic(auto)]
+    pub(crate) fn degree_of(&self, node: Node) -> u32
+        requires { IsPlaced self.now node }
+        ensures { result ≡ length (node_successors self.now node) }
+    {
+        match node.kind {
+            Kind::Source => self.count_pins_of_source(node),
+            Kind::Sink => 0,
+            Kind::Opin => self.count_wires_of_opin(node),
+            Kind::Ipin => self.count_sink_of_ipin(node),
+            Kind::Chanx => self.row_fanout(node.number, node.x, node.y).count(),
+            Kind::Chany => self.column_fanout(node.number, node.x, node.y).count(),
+        }
+    }
+
+    /// The successors of a node.
+    #[tactic(auto, using(crate::proofs::Pushes::pushed_none))]
+    pub(crate) fn push_successors(&self, list: &mut SmallVec<u32, 8>, node: Node)
+        requires room { HasRoomFor list.old (length (node_successors self.now node)) }
+        requires place { IsPlaced self.now node }
+        ensures { Pushes list.old (node_successors self.now node) list.new }
+    {
+        match node.kind {
+            Kind::Source => self.push_pins_of_source(list, node),
+            Kind::Sink => {}
+            Kind::Opin => self.push_wires_of_opin(list, node),
+            Kind::Ipin => self.push_sink_of_ipin(list, node),
+            Kind::Chanx => self.row_fanout(node.number, node.x, node.y).push(list),
+            Kind::Chany => self.column_fanout(node.number, node.x, node.y).push(list),
+        }
+    }
+}

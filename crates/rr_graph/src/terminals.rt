@@ -1,0 +1,164 @@
+//! The successors of sources and input pins, from their places by arithmetic.
+
+ghost use Rattle.std.specs.Prelude.{◌≡◌, ℕ, ◌+◌, ◌<◌, ◌≤◌, ◌==◌, false, true, length, slice_get};
+ghost use Rattle.smallvec.specs.SmallVec.{HasRoomFor};
+ghost use Rattle.rr_graph.specs.Fabric.{is_block};
+ghost use Rattle.rr_graph.specs.Pins.{has_class};
+ghost use Rattle.rr_graph.specs.Picks.{picks};
+ghost use Rattle.rr_graph.specs.Starts.{place_start};
+ghost use Rattle.rr_graph.specs.PinSuccessors.{source_successors, sink_of_pin, ipin_successors};
+ghost use Rattle.rr_graph.specs.Pushes.{Pushes};
+ghost use Rattle.rr_graph.specs.Terminals.{IsTerminal};
+
+use crate::device::Device;
+use crate::fanout::push_if;
+use crate::layout::Layout;
+use crate::parts::{Kind, Node};
+use crate::pins::has_class;
+use arch_file::Pin;
+use smallvec::SmallVec;
+
+impl Layout {
+    /// Those of the pins, of which the first has number `start`, that are of a class.
+    #[tactic(auto, using(crate::proofs::Pushes::pushed_next, crate::proofs::Pushes::room_next))]
+    fn push_class(&self, list: &mut SmallVec<u32, 8>, pins: &[u32], class: u32, start: u32)
+        requires room { HasRoomFor list.old (length (picks (λ p. has_class (slice_get self.now.architecture.pins p) class) start pins.now)) }
+        requires few { length pins.now ≤ 64 }
+        requires small { start < 16777216 }
+        ensures { Pushes list.old (picks (λ p. has_class (slice_get self.now.architecture.pins p) class) start pins.now) list.new }
+    {
+        for (place, pin) in pins.iter().enumerate() {
+            let is_of_class = has_class(self.pin(*pin), class);
+            push_if(list, is_of_class, start + place as u32);
+        }
+    }
+
+    /// How many pins are of a class.
+    #[tactic(auto, using(crate::proofs::Pushes::count_picked, crate::proofs::Pushes::count_passed))]
+    fn count_class(&self, pins: &[u32], class: u32) -> u32
+        requires { length pins.now ≤ 64 }
+        ensures { result ≡ length (picks (λ p. has_class (slice_get self.now.architecture.pins p) class) 0 pins.now) }
+    {
+        let mut count = 0;
+        for (_place, pin) in pins.iter().enumerate() {
+            if has_class(self.pin(*pin), class) {
+                count += 1;
+            }
+        }
+        count
+    }
+}
+
+/// Those of the classes, of which the first has number `start`, that are this one.
+#[tactic(auto, using(crate::proofs::Pushes::pushed_next, crate::proofs::Pushes::room_next))]
+fn push_equal(list: &mut SmallVec<u32, 8>, classes: &[u32], class: u32, start: u32)
+    requires room { HasRoomFor list.old (length (picks (λ c. c == class) start classes.now)) }
+    requires few { length classes.now ≤ 64 }
+    requires small { start < 16777216 }
+    ensures { Pushes list.old (picks (λ c. c == class) start classes.now) list.new }
+{
+    for (place, other) in classes.iter().enumerate() {
+        push_if(list, *other == class, start + place as u32);
+    }
+}
+
+/// How many of the classes are this one.
+#[tactic(auto, using(crate::proofs::Pushes::count_picked, crate::proofs::Pushes::count_passed))]
+fn count_equal(classes: &[u32], class: u32) -> u32
+    requires { length classes.now ≤ 64 }
+    ensures { result ≡ length (picks (λ c. c == class) 0 classes.now) }
+{
+    let mut count = 0;
+    for (_place, other) in classes.iter().enumerate() {
+        if *other == class {
+            count += 1;
+        }
+    }
+    count
+}
+
+impl Device {
+    /// The successors of a source at (x, y).
+    #[tactic(auto, using(crate::proofs::TerminalPlaces::source_of_block, crate::proofs::PlaceStarts::few_numbers), unfolding(crate::specs::PinSuccessors::source_successors))]
+    pub(crate) fn push_pins_of_source(&self, list: &mut SmallVec<u32, 8>, node: Node)
+        requires room { HasRoomFor list.old (length (source_successors self.now node)) }
+        requires place { IsTerminal self.now node.x node.y node.number }
+        ensures { Pushes list.old (source_successors self.now node) list.new }
+    {
+        let start = self.terminal_start(Kind::Opin, node.x, node.y);
+        if self.layout.is_block(node.x, node.y) {
+            self.layout
+                .push_class(list, self.numbers(Kind::Opin), node.number, start);
+        } else {
+            list.push_reserved(start + node.number);
+        }
+    }
+
+    /// How many successors a source has.
+    #[tactic(auto, using(crate::proofs::TerminalPlaces::source_of_block, crate::proofs::Pushes::count_shifted, crate::proofs::Pushes::few_picked, crate::proofs::PlaceStarts::few_numbers), unfolding(crate::specs::PinSuccessors::source_successors))]
+    pub(crate) fn count_pins_of_source(&self, node: Node) -> u32
+        ensures { result ≡ length (source_successors self.now node) }
+    {
+        if self.layout.is_block(node.x, node.y) {
+            self.layout
+                .count_class(self.numbers(Kind::Opin), node.number)
+        } else {
+            1
+        }
+    }
+
+    /// The sink of an input pin of a block whose first sink has number `start`.
+    #[tactic(auto, using(crate::proofs::TerminalPlaces::sink_of_class, crate::proofs::TerminalPlaces::no_sink_of_pin, crate::proofs::PlaceStarts::few_numbers))]
+    fn push_sink_of_pin(&self, list: &mut SmallVec<u32, 8>, pin: Option<Pin>, x: u32, y: u32)
+        requires room { HasRoomFor list.old (length (sink_of_pin self.now pin x y)) }
+        requires column { x ≤ self.now.nx + 1 }
+        requires row { y ≤ self.now.ny + 1 }
+        ensures { Pushes list.old (sink_of_pin self.now pin x y) list.new }
+    {
+        match pin {
+            None => {}
+            Some(pin) => {
+                let start = self.terminal_start(Kind::Sink, x, y);
+                push_equal(list, self.numbers(Kind::Sink), pin.class, start);
+            }
+        }
+    }
+
+    /// How many sinks an input pin of a block has.
+    #[tactic(auto, using(crate::proofs::TerminalPlaces::sink_of_class, crate::proofs::TerminalPlaces::no_sink_of_pin, crate::proofs::Pushes::count_shifted, crate::proofs::PlaceStarts::few_numbers))]
+    fn count_sink_of_pin(&self, pin: Option<Pin>) -> u32
+        ensures { (x y : ℕ) → result ≡ length (sink_of_pin self.now pin x y) }
+    {
+        match pin {
+            None => 0,
+            Some(pin) => count_equal(self.numbers(Kind::Sink), pin.class),
+        }
+    }
+
+    /// The successors of an input pin at (x, y).
+    #[tactic(auto, unfolding(crate::specs::PinSuccessors::ipin_successors))]
+    pub(crate) fn push_sink_of_ipin(&self, list: &mut SmallVec<u32, 8>, node: Node)
+        requires room { HasRoomFor list.old (length (ipin_successors self.now node)) }
+        requires place { IsTerminal self.now node.x node.y node.number }
+        ensures { Pushes list.old (ipin_successors self.now node) list.new }
+    {
+        if self.layout.is_block(node.x, node.y) {
+            self.push_sink_of_pin(list, self.layout.pin(node.number), node.x, node.y);
+        } else {
+            let start = self.terminal_start(Kind::Sink, node.x, node.y);
+            list.push_reserved(start + node.number);
+        }
+    }
+
+    /// How many successors an input pin has.
+    #[tactic(auto, unfolding(crate::specs::PinSuccessors::ipin_successors))]
+    pub(crate) fn count_sink_of_ipin(&self, node: Node) -> u32
+        ensures { result ≡ length (ipin_successors self.now node) }
+    {
+        if self.layout.is_block(node.x, node.y) {
+            self.count_sink_of_pin(self.layout.pin(node.number))
+        } else {
+            1
+        }
+    }
+}
