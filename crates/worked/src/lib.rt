@@ -2,4 +2,12 @@
 #![tactic(auto)]
 
 #[cfg(test)]
+mod comparisons;
+#[cfg(test)]
 mod devices;
+#[cfg(test)]
+mod plain;
+#[cfg(test)]
+mod plain_edges;
+#[cfg(test)]
+mod plain_wires;
