@@ -68,7 +68,7 @@ pub begins_by_first : (f : Fabric) (n p t : ℕ) → 1 ≤ p → p ≤ n → (fi
 begins_by_first f n p t l m = elim (cases_Bool (begins f n t p)) [
   | inl e ↦ eq-eqb (first_of f n t p) p (first_of_itself f n t p (record { from = l; upto = m; begins_here = e })) ∙ sym e
   | inr e ↦ false_from_ne_true (first_of f n t p == p) (λ same. let there = (first_begins f n t p l m).begins_here in
-    false≢true (sym e ∙ ap (begins f n t) (sym (eqb-true _ _ same)) ∙ there)) ∙ sym e
+      false≢true (sym e ∙ ap (begins f n t) (sym (eqb-true _ _ same)) ∙ there)) ∙ sym e
 ]
 
 -- ---- how many wires begin before a place

@@ -1,7 +1,7 @@
 -- How much a wire leads to.
-use Rattle.std.proofs.Common.{◌≡◌, ℕ, ◌+◌, ◌*◌, List, [], ◌∷◌, ◌++◌, length, map, Some, None, ap, ◌∙◌, arith, length-append}
+use Rattle.std.proofs.Common.{◌≡◌, ℕ, ◌+◌, ◌*◌, List, [], ◌∷◌, ◌++◌, length, map, None, ap, ◌∙◌, arith, length-append}
 use Rattle.std.specs.List.{flat_map}
-use Rattle.std.proofs.lemmas.List.{append-nil, length-map}
+use Rattle.std.proofs.lemmas.List.{length-map}
 use Rattle.std.proofs.lemmas.List.Concat.{flat_map_single}
 use Rattle.rr_graph.specs.declared.fanout.Run.{Run}
 use Rattle.rr_graph.specs.declared.fanout.Meeting.{Meeting}
@@ -17,16 +17,6 @@ use Rattle.rr_graph.proofs.Lengths.{length_even}
 pub by_place_one : (m : Meeting) (count : ℕ) → m.two ≡ None → by_place m count ≡ run_list count m.one
 by_place_one m count e =
     ap (λ o. flat_map (λ k. map (number_in k) (m.one ∷ of_option o)) (numbers_below count)) e ∙ flat_map_single (λ k. number_in k m.one) (numbers_below count)
-
-pub by_place_two : (m : Meeting) (count : ℕ) (two : Run) → m.two ≡ Some two → by_place m count ≡ flat_map (λ k. number_in k m.one ∷ number_in k two ∷ []) (numbers_below count)
-by_place_two m count two e = ap (λ o. flat_map (λ k. map (number_in k) (m.one ∷ of_option o)) (numbers_below count)) e
-
-pub by_run_one : (m : Meeting) (count : ℕ) → m.two ≡ None → by_run m count ≡ run_list count m.one
-by_run_one m count e = ap (λ o. flat_map (run_list count) (m.one ∷ of_option o)) e ∙ append-nil (run_list count m.one)
-
-pub by_run_two : (m : Meeting) (count : ℕ) (two : Run) → m.two ≡ Some two → by_run m count ≡ run_list count m.one ++ run_list count two
-by_run_two m count two e =
-    ap (λ o. flat_map (run_list count) (m.one ∷ of_option o)) e ∙ ap (λ ns. run_list count m.one ++ ns) (append-nil (run_list count two))
 
 by_place_length : (m : Meeting) (count : ℕ) → length (by_place m count) ≡ count * length (runs_of m)
 by_place_length m count = length_even (λ k. map (number_in k) (runs_of m)) (length (runs_of m)) count count (λ k _. length-map (runs_of m) (number_in k)) (omega arith)

@@ -48,8 +48,8 @@ kept_at q m t e l =
     let rest = filter q (range_with_len (0 + (t + 1)) (m - (t + 1))) in
     let whole : t + 1 + (m - (t + 1)) ≡ m = omega arith in
     let split : filter q (numbers_below m) ≡ low ++ (t ∷ rest) =
-        ap (λ n. filter q (numbers_below n)) (sym whole) ∙ ap (filter q) (range-append 0 (t + 1) (m - (t + 1)))
-        ∙ filter-append q (numbers_below (t + 1)) (range_with_len (0 + (t + 1)) (m - (t + 1))) ∙ ap (λ xs. xs ++ rest) (sym (kept_next q t e)) ∙ append_assoc low (t ∷ []) rest in
+    ap (λ n. filter q (numbers_below n)) (sym whole) ∙ ap (filter q) (range-append 0 (t + 1) (m - (t + 1)))
+    ∙ filter-append q (numbers_below (t + 1)) (range_with_len (0 + (t + 1)) (m - (t + 1))) ∙ ap (λ xs. xs ++ rest) (sym (kept_next q t e)) ∙ append_assoc low (t ∷ []) rest in
     let none : length low ≡ length low + 0 = omega arith in
     ap (λ xs. slice_get xs (length low)) split ∙ ap (slice_get (low ++ (t ∷ rest))) none ∙ slice_get-append_right low (t ∷ rest) 0
 
@@ -167,9 +167,9 @@ found_below : (xs : List ℕ) (j n : ℕ) → slice_get xs j ≡ Some n → posi
 found_below xs j n e = elim (cases_lt (position_or_len (λ m. m == n) xs) (length xs)) [
   | inl l ↦ l
   | inr past ↦
-    let within = slice_get_within xs j n e in
-    let fails = fails_before_first (λ m. m == n) xs j n (omega arith) in
-    absurd (false≢true (sym fails ∙ eq-eqb (get_or xs j n) n (get_or_from_slice_get xs j n n e)))
+      let within = slice_get_within xs j n e in
+      let fails = fails_before_first (λ m. m == n) xs j n (omega arith) in
+      absurd (false≢true (sym fails ∙ eq-eqb (get_or xs j n) n (get_or_from_slice_get xs j n n e)))
 ]
 
 not_found : (xs : List ℕ) (j n : ℕ) → position (λ m. m == n) xs ≡ None → slice_get xs j ≡ Some n → ⊥

@@ -1,6 +1,5 @@
 -- The successors of the node of a number.
-use Rattle.std.proofs.Common.{◌≡◌, ℕ, ◌+◌, ◌<◌, ◌≤◌, true, false, inl, inr, zero, suc, Bool, List, [], ◌∷◌, length, Option, Some, None, refl, sym, ap, ◌∙◌, subst, arith}
-use Rattle.std.specs.Prelude.{slice_get}
+use Rattle.std.proofs.Common.{◌≡◌, ℕ, ◌<◌, false, Bool, List, [], ◌∷◌, length, Some, None, refl, ap, arith}
 use Rattle.std.specs.List.{filter}
 use Rattle.std.proofs.lemmas.List.Sums.{length-filter, count_by-le-length}
 use Rattle.std.proofs.lemmas.List.FromFn.{length-range_with_len}
@@ -50,9 +49,9 @@ module _ (f : Fabric) (within : IsFabric f) (i : ℕ) (a : Node) (h : node_at f 
   node_placed = record {
     terminal = terminal_node f within i a h;
     row_wire = λ e.
-      (let d = row_wire_at f i a h e in
-      (record { first = let b = d.0 in b.from; last = let b = d.0 in b.upto; here = let b = d.0 in b.begins_here; within = d.2 }, d.1));
+        (let d = row_wire_at f i a h e in
+        (record { first = let b = d.0 in b.from; last = let b = d.0 in b.upto; here = let b = d.0 in b.begins_here; within = d.2 }, d.1));
     column_wire = λ e.
-      (let d = column_wire_at f i a h e in
-      (record { first = let b = d.0 in b.from; last = let b = d.0 in b.upto; here = let b = d.0 in b.begins_here; within = d.2 }, d.1));
+        (let d = column_wire_at f i a h e in
+        (record { first = let b = d.0 in b.from; last = let b = d.0 in b.upto; here = let b = d.0 in b.begins_here; within = d.2 }, d.1));
   }

@@ -196,8 +196,8 @@ some_right : (f : Fabric) (at : ℕ) → at < kind_length f Chany → 0 < wires_
 some_right f at l = elim (cases_lt 0 (wires_before f f.ny (f.ny + 1))) [
   | inl some ↦ some
   | inr none ↦
-    let empty : (f.nx + 1) * wires_before f f.ny (f.ny + 1) ≡ (f.nx + 1) * 0 = ap (λ n. (f.nx + 1) * n) (omega arith) in
-    absurd (omega (arith, l, right_count f, empty))
+      let empty : (f.nx + 1) * wires_before f f.ny (f.ny + 1) ≡ (f.nx + 1) * 0 = ap (λ n. (f.nx + 1) * n) (omega arith) in
+      absurd (omega (arith, l, right_count f, empty))
 ]
 
 -- what the look-up of a wire right of a column finds: step wires are in each column

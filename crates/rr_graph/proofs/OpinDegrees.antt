@@ -1,8 +1,8 @@
 -- How many wires an output pin taps, and on which sides.
-use Rattle.std.proofs.Common.{◌≡◌, ◌≢◌, ℕ, ◌+◌, ◌-◌, ◌*◌, ◌<◌, ◌≤◌, inl, inr, zero, suc, Bool, true, false, cond, List, [], ◌∷◌, ◌++◌, length, Option, Some, None, refl, sym, ap, ◌∙◌, arith, length-append}
+use Rattle.std.proofs.Common.{◌≡◌, ℕ, ◌+◌, ◌-◌, ◌*◌, ◌≤◌, inl, inr, zero, suc, Bool, true, false, List, [], ◌∷◌, ◌++◌, length, Option, Some, None, refl, sym, ap, ◌∙◌, arith, length-append}
 use Rattle.std.specs.Prelude.{◌==◌, ◌&&◌, if◌then◌else◌, slice_get}
 use Rattle.std.specs.List.{range_with_len, filter, flat_map}
-use Rattle.std.proofs.lemmas.Bool.{cases_Bool, eq-eqb, ne_eqb, eqb-true, eqb-false, cond_both}
+use Rattle.std.proofs.lemmas.Bool.{cases_Bool, eq-eqb, ne_eqb, eqb-true}
 use Rattle.std.proofs.lemmas.Bool.Decides.{nat_tests}
 use Rattle.std.proofs.lemmas.List.{append-nil}
 use Rattle.arch_file.specs.declared.parts.Pin.{Pin}
@@ -14,7 +14,7 @@ use Rattle.rr_graph.specs.Wires.{tracks_in}
 use Rattle.rr_graph.specs.Pins.{when}
 use Rattle.rr_graph.specs.Channels.{first_of}
 use Rattle.rr_graph.specs.WireSuccessors.{wire_id}
-use Rattle.rr_graph.specs.PinSuccessors.{taps_track, tapped_chanx, tapped_chany, tapped_row, tapped_rows, tapped_column, wires_of_pin, wires_of_pad, opin_successors}
+use Rattle.rr_graph.specs.PinSuccessors.{taps_track, tapped_chanx, tapped_row, tapped_rows, tapped_column, wires_of_pin, wires_of_pad, opin_successors}
 use Rattle.rr_graph.specs.Terminals.{IsTerminal, above_piece, right_piece, all_tracks, wires_on, AreSides, no_sides, sides_of_pin, sides_of_pad, opin_sides, opin_fc}
 use Rattle.rr_graph.proofs.Windows.{flat_map_next, flat_map_from, flat_map_agree, flat_map_empty, flat_map_one}
 use Rattle.rr_graph.proofs.ChannelTables.{count_next}
@@ -26,8 +26,14 @@ use Rattle.rr_graph.proofs.OpinWires.{above_by_track, right_by_track}
 length_both : {X : Type 0} (g h : ℕ → List X) (ns : List ℕ) → length (flat_map (λ n. g n ++ h n) ns) ≡ length (flat_map g ns) + length (flat_map h ns)
 length_both g h [] = omega arith
 length_both g h (n ∷ ns) =
-    omega (arith, length-append (g n ++ h n) (flat_map (λ n. g n ++ h n) ns), length-append (g n) (h n), length-append (g n) (flat_map g ns),
-      length-append (h n) (flat_map h ns), length_both g h ns)
+    omega (
+      arith,
+      length-append (g n ++ h n) (flat_map (λ n. g n ++ h n) ns),
+      length-append (g n) (h n),
+      length-append (g n) (flat_map g ns),
+      length-append (h n) (flat_map h ns),
+      length_both g h ns,
+    )
 
 when-length : (b : Bool) (n : ℕ) → length (when b n) ≡ (if b then 1 else 0)
 when-length true n = refl
@@ -53,8 +59,13 @@ module _ (f : Fabric) (n at : ℕ) (g : (first track : ℕ) → ℕ) (taps : ℕ
       let h = first_of-is f n m at from in
       ap (λ k. length (flat_map (λ first. flat_map (piece first) (numbers_below k)) (range_with_len 1 at))) e
       ∙ ap length (flat_map_agree _ (λ first. flat_map (piece first) (numbers_below m) ++ piece first m) 1 at (λ first _ _. flat_map_next (piece first) m))
-      ∙ omega (arith, length_both (λ first. flat_map (piece first) (numbers_below m)) (λ first. piece first m) (range_with_len 1 at), each_once m,
-        one_of (λ first. g first m) (taps m) (first_of f n m at) at h.from h.upto, count_next taps m)
+      ∙ omega (
+        arith,
+        length_both (λ first. flat_map (piece first) (numbers_below m)) (λ first. piece first m) (range_with_len 1 at),
+        each_once m,
+        one_of (λ first. g first m) (taps m) (first_of f n m at) at h.from h.upto,
+        count_next taps m,
+      )
       ∙ ap (λ k. length (filter taps (numbers_below k))) (sym e)
 
 module _ (f : Fabric) (fc pin : ℕ) where
@@ -92,12 +103,16 @@ module _ (f : Fabric) (fc pin : ℕ) where
       let tops : ℕ → List ℕ = λ first. if s.top then tapped_chanx f fc pin x y first else [] in
       let left : List ℕ = if s.left then tapped_column f fc pin (x - 1) y else [] in
       let right : List ℕ = if s.right then tapped_column f fc pin x y else [] in
-      omega (arith, length-append (flat_map (λ first. bottoms first ++ tops first) (range_with_len 1 x)) (left ++ right), length-append left right,
+      omega (
+        arith,
+        length-append (flat_map (λ first. bottoms first ++ tops first) (range_with_len 1 x)) (left ++ right),
+        length-append left right,
         length_both bottoms tops (range_with_len 1 x),
         side_length s.bottom (tapped_chanx f fc pin x (y - 1)) x (λ e. let d = h.bottom e in row_length x (y - 1) d.0 d.1),
         side_length s.top (tapped_chanx f fc pin x y) x (λ e. let d = h.top e in row_length x y d.0 d.1),
         if_length s.left (tapped_column f fc pin (x - 1) y) (λ e. let d = h.left e in column_length (x - 1) y d.1 d.2),
-        if_length s.right (tapped_column f fc pin x y) (λ e. let d = h.right e in column_length x y d.1 d.2))
+        if_length s.right (tapped_column f fc pin x y) (λ e. let d = h.right e in column_length x y d.1 d.2),
+      )
 
 -- ---- the sides of an output pin
 rows_none : (f : Fabric) (fc pin x y : ℕ) → tapped_rows f fc pin x y false false ≡ []
@@ -122,22 +137,22 @@ on_pad f pad x y h =
     let fc = f.architecture.fc_pad in
     let top : is_pad f x y ≡ true → (x == 0) ≡ false → (x == f.nx + 1) ≡ false → (y == 0) ≡ false → y ≡ f.ny + 1 = λ p a b c. grind (arith, nat_tests) in
     elim (cases_Bool (x == 0)) [
-  | inl left ↦ (let e = eqb-true x 0 left in rw left (ap (λ k. tapped_column f fc pad k y) (sym e) ∙ sym (ap (λ ns. ns ++ tapped_column f fc pad x y) (rows_none f fc pad x y))))
-  | inr inside ↦ elim (cases_Bool (x == f.nx + 1)) [
-    | inl right ↦
-        let e = eqb-true x (f.nx + 1) right in
-        let k : f.nx ≡ x - 1 = omega arith in
-        rw (inside, right) (ap (λ k. tapped_column f fc pad k y) k ∙ sym (ap (λ ns. ns ++ (tapped_column f fc pad (x - 1) y ++ [])) (rows_none f fc pad x y) ∙ append-nil _))
-    | inr between ↦ elim (cases_Bool (y == 0)) [
-      | inl low ↦
-          let e = eqb-true y 0 low in
-          rw (inside, between, low) (ap (λ k. tapped_row f fc pad x k) (sym e) ∙ sym (append-nil _ ∙ tapped_rows_top f fc pad x y))
-      | inr up ↦
-          let k : f.ny ≡ y - 1 = omega (arith, top h inside between up) in
-          rw (inside, between, up) (ap (λ k. tapped_row f fc pad x k) k ∙ sym (append-nil _ ∙ tapped_rows_bottom f fc pad x y))
+      | inl left ↦ (let e = eqb-true x 0 left in rw left (ap (λ k. tapped_column f fc pad k y) (sym e) ∙ sym (ap (λ ns. ns ++ tapped_column f fc pad x y) (rows_none f fc pad x y))))
+      | inr inside ↦ elim (cases_Bool (x == f.nx + 1)) [
+        | inl right ↦
+            let e = eqb-true x (f.nx + 1) right in
+            let k : f.nx ≡ x - 1 = omega arith in
+            rw (inside, right) (ap (λ k. tapped_column f fc pad k y) k ∙ sym (ap (λ ns. ns ++ (tapped_column f fc pad (x - 1) y ++ [])) (rows_none f fc pad x y) ∙ append-nil _))
+        | inr between ↦ elim (cases_Bool (y == 0)) [
+          | inl low ↦
+              let e = eqb-true y 0 low in
+              rw (inside, between, low) (ap (λ k. tapped_row f fc pad x k) (sym e) ∙ sym (append-nil _ ∙ tapped_rows_top f fc pad x y))
+          | inr up ↦
+              let k : f.ny ≡ y - 1 = omega (arith, top h inside between up) in
+              rw (inside, between, up) (ap (λ k. tapped_row f fc pad x k) k ∙ sym (append-nil _ ∙ tapped_rows_bottom f fc pad x y))
+        ]
+      ]
     ]
-  ]
-]
 
 pad_sides : (f : Fabric) (x y : ℕ) → is_pad f x y ≡ true → AreSides f x y (sides_of_pad f x y)
 pad_sides f x y h = elim (cases_Bool (x == 0)) [

@@ -1,7 +1,7 @@
 -- Numbers pushed one list after another.
 use Rattle.std.proofs.Common.{◌≡◌, ℕ, ◌+◌, ◌-◌, ◌<◌, ◌≤◌, Bool, true, false, cond, List, [], ◌∷◌, ◌++◌, length, map, take, drop, get_or, refl, sym, subst, ap, ◌∙◌, arith}
 use Rattle.std.specs.List.{range_with_len, flat_map}
-use Rattle.std.proofs.lemmas.List.{append-nil, append_assoc, length-append, take-append-drop, map_more, length-map, length-take}
+use Rattle.std.proofs.lemmas.List.{append-nil, append_assoc, length-append, take-append-drop, map_more}
 use Rattle.std.proofs.lemmas.List.Sums.{length-filter, count_by-le-length}
 use Rattle.std.proofs.lemmas.List.Concat.{flat_map-append}
 use Rattle.smallvec.specs.SmallVec.{SmallVec, HasRoomFor}
@@ -47,10 +47,6 @@ module _ {a b c : SmallVec ℕ} where
       record { items = both.items ∙ ap (λ ns. a.items ++ ns) (sym (flat_map_next g k)); capacity = both.capacity }
 
 module _ {a b : SmallVec ℕ} where
-  pub room_taken : (g : ℕ → ℕ) (xs : List ℕ) (i : ℕ) → Pushes a (map g (take i xs)) b → HasRoomFor a (length xs) → i < length xs → HasRoomFor b 1
-  room_taken g xs i h r l =
-      omega (arith, ap length h.items, length-append a.items (map g (take i xs)), length-map (take i xs) g, length-take i xs, h.capacity)
-
   pub room_more : (g : ℕ → List ℕ) (k n : ℕ) → Pushes a (flat_map g (numbers_below k)) b → HasRoomFor a (length (flat_map g (numbers_below n))) → k < n → HasRoomFor b (length (g k))
   room_more g k n h r l =
       let before = flat_map g (numbers_below k) in
@@ -80,7 +76,7 @@ module _ {a b : SmallVec ℕ} (g : ℕ → List ℕ) (s k : ℕ) (h : Pushes a (
       let whole : n ≡ k + (1 + (n - (k + 1))) = omega arith in
       let rest = flat_map g (range_with_len (s + k + 1) (n - (k + 1))) in
       let split = ap (λ i. flat_map g (range_with_len s i)) whole ∙ ap (flat_map g) (range-append s k (1 + (n - (k + 1)))) ∙ flat_map-append g (range_with_len s k) (range_with_len (s + k) (1 + (n - (k + 1))))
-        ∙ ap (λ ns. before ++ flat_map g ns) (range-append (s + k) 1 (n - (k + 1))) in
+      ∙ ap (λ ns. before ++ flat_map g ns) (range-append (s + k) 1 (n - (k + 1))) in
       omega (arith, ap length h.items, length-append a.items before, h.capacity, ap length split, length-append before (g (s + k) ++ rest), length-append (g (s + k)) rest)
 
 -- ---- one number at a time, and two
@@ -119,11 +115,19 @@ module _ {X : Type 0} (p : X → Bool) (xs : List X) (s i : ℕ) (d : X) {a b : 
   pub room_next : (n : ℕ) → HasRoomFor a (length (picks p s xs)) → HasRoomFor b (length (when t n))
   room_next n r =
       let rest = picks p (s + length (take (i + 1) xs)) (drop (i + 1) xs) in
-      omega (arith, ap length h.items, length-append a.items (picks p s (take i xs)), h.capacity,
-        ap (λ ys. length (picks p s ys)) (take-append-drop (i + 1) xs), ap length (picks-append p s (take (i + 1) xs) (drop (i + 1) xs)),
+      omega (
+        arith,
+        ap length h.items,
+        length-append a.items (picks p s (take i xs)),
+        h.capacity,
+        ap (λ ys. length (picks p s ys)) (take-append-drop (i + 1) xs),
+        ap length (picks-append p s (take (i + 1) xs) (drop (i + 1) xs)),
         length-append (picks p s (take (i + 1) xs)) rest,
-        ap length (picks_more p s xs i d l), length-append (picks p s (take i xs)) (when (p (get_or xs i d)) (s + i)),
-        ap (λ v. length (when v n)) e, same (p (get_or xs i d)))
+        ap length (picks_more p s xs i d l),
+        length-append (picks p s (take i xs)) (when (p (get_or xs i d)) (s + i)),
+        ap (λ v. length (when v n)) e,
+        same (p (get_or xs i d)),
+      )
     where
       same : (v : Bool) → length (when v n) ≡ length (when v (s + i))
       same true = refl

@@ -207,7 +207,8 @@ impl Device {
         requires { index < wires_before self.now self.now.nx (self.now.nx + 1) }
         ensures { slice_get (beginnings_of self.now self.now.nx) index ≡ Some result }
     {
-        self.layout.beginning_at(&self.rows, self.layout.nx(), index)
+        self.layout
+            .beginning_at(&self.rows, self.layout.nx(), index)
     }
 
     /// The wire of an index among those of a channel right of a column.

@@ -263,8 +263,7 @@ impl Device {
         match self.node(id) {
             None => Ok(()),
             Some(node) => {
-                list.reserve(self.degree_of(node) as usize)?;
-                self.push_successors(list, node);
+                self.fill(list, node)?;
                 Ok(())
             }
         }

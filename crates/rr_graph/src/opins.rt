@@ -34,13 +34,7 @@ fn sides_of_pin(pin: Option<Pin>) -> Sides
     };
     match pin {
         None => none,
-        Some(pin) => {
-            if pin.global {
-                none
-            } else {
-                pin.sides
-            }
-        }
+        Some(pin) => { if pin.global { none } else { pin.sides } }
     }
 }
 
@@ -49,10 +43,7 @@ fn count_sides(sides: Sides) -> u32
     ensures count { result ≡ (if sides.bottom then 1 else 0) + (if sides.top then 1 else 0) + (if sides.left then 1 else 0) + (if sides.right then 1 else 0) }
     ensures few { result ≤ 4 }
 {
-    u32::from(sides.bottom)
-        + u32::from(sides.top)
-        + u32::from(sides.left)
-        + u32::from(sides.right)
+    u32::from(sides.bottom) + u32::from(sides.top) + u32::from(sides.left) + u32::from(sides.right)
 }
 
 impl Layout {

@@ -1,6 +1,6 @@
 //! The successors of a node, from its place by arithmetic.
 
-ghost use Rattle.std.specs.Prelude.{◌≡◌, ℕ, ◌+◌, ◌*◌, ◌<◌, ◌≤◌, ◌++◌, true, length, map};
+ghost use Rattle.std.specs.Prelude.{◌≡◌, OnOk, OnErr, IsOk, ℕ, ◌+◌, ◌*◌, ◌<◌, ◌≤◌, ◌++◌, true, length, map};
 ghost use Rattle.std.specs.List.{range_with_len, flat_map};
 ghost use Rattle.smallvec.specs.SmallVec.{HasRoomFor};
 ghost use Rattle.rr_graph.specs.Fabric.{IsFabric};
@@ -17,6 +17,7 @@ use crate::device::Device;
 use crate::fanout::{ColumnFanout, Meeting, Pair, RowFanout, Run, Taps};
 use crate::parts::{Kind, Node};
 use smallvec::SmallVec;
+use std::alloc::AllocError;
 
 impl Device {
     /// The wires of a track through place `x` above row `y` and the rows over it.
@@ -401,5 +402,71 @@ impl Device {
             Kind::Chanx => self.row_fanout(node.number, node.x, node.y).push(list),
             Kind::Chany => self.column_fanout(node.number, node.x, node.y).push(list),
         }
+    }
+
+    /// Pushes what the wire of a track leads to that begins at place `x` above row `y`, if memory is found for all of it.
+    #[tactic(auto)]
+    fn fill_from_row(
+        &self,
+        list: &mut SmallVec<u32, 8>,
+        track: u32,
+        x: u32,
+        y: u32,
+    ) -> Result<(), AllocError>
+        requires wire { (1 ≤ x) × (x ≤ self.now.nx) × (begins self.now self.now.nx track x ≡ true) }
+        requires row { y ≤ self.now.ny }
+        requires track { track < tracks_in self.now.mode self.now.width }
+        ensures filled { OnOk result (list.new.items ≡ list.old.items ++ row_wire_list self.now x y track) }
+        ensures refused { OnErr result (list.new ≡ list.old) }
+        ensures room { HasRoomFor list.old (length (row_wire_list self.now x y track)) → IsOk result }
+        ensures kept { list.old.capacity ≤ list.new.capacity }
+    {
+        let fanout = self.row_fanout(track, x, y);
+        list.reserve(fanout.count() as usize)?;
+        fanout.push(list);
+        Ok(())
+    }
+
+    /// Pushes what the wire of a track leads to that begins at place `y` right of column `x`, if memory is found for all of it.
+    #[tactic(auto)]
+    fn fill_from_column(
+        &self,
+        list: &mut SmallVec<u32, 8>,
+        track: u32,
+        x: u32,
+        y: u32,
+    ) -> Result<(), AllocError>
+        requires wire { (1 ≤ y) × (y ≤ self.now.ny) × (begins self.now self.now.ny track y ≡ true) }
+        requires column { x ≤ self.now.nx }
+        requires track { track < tracks_in self.now.mode self.now.width }
+        ensures filled { OnOk result (list.new.items ≡ list.old.items ++ column_wire_list self.now x y track) }
+        ensures refused { OnErr result (list.new ≡ list.old) }
+        ensures room { HasRoomFor list.old (length (column_wire_list self.now x y track)) → IsOk result }
+        ensures kept { list.old.capacity ≤ list.new.capacity }
+    {
+        let fanout = self.column_fanout(track, x, y);
+        list.reserve(fanout.count() as usize)?;
+        fanout.push(list);
+        Ok(())
+    }
+
+    /// Pushes the successors of a node, if memory is found for all of them.
+    #[tactic(auto)]
+    pub(crate) fn fill(&self, list: &mut SmallVec<u32, 8>, node: Node) -> Result<(), AllocError>
+        requires { IsPlaced self.now node }
+        ensures filled { OnOk result (list.new.items ≡ list.old.items ++ node_successors self.now node) }
+        ensures refused { OnErr result (list.new ≡ list.old) }
+        ensures room { HasRoomFor list.old (length (node_successors self.now node)) → IsOk result }
+        ensures kept { list.old.capacity ≤ list.new.capacity }
+    {
+        match node.kind {
+            Kind::Chanx => self.fill_from_row(list, node.number, node.x, node.y)?,
+            Kind::Chany => self.fill_from_column(list, node.number, node.x, node.y)?,
+            _ => {
+                list.reserve(self.degree_of(node) as usize)?;
+                self.push_successors(list, node);
+            }
+        }
+        Ok(())
     }
 }

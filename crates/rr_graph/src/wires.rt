@@ -106,12 +106,8 @@ impl Layout {
         ensures { result ≡ runs_through self.now wire (kind, x, y) }
     {
         match (wire.kind, kind) {
-            (Kind::Chanx, Kind::Chanx) => {
-                wire.y == y && (wire.x <= x && x <= last)
-            }
-            (Kind::Chany, Kind::Chany) => {
-                wire.x == x && (wire.y <= y && y <= last)
-            }
+            (Kind::Chanx, Kind::Chanx) => { wire.y == y && (wire.x <= x && x <= last) }
+            (Kind::Chany, Kind::Chany) => { wire.x == x && (wire.y <= y && y <= last) }
             _ => false,
         }
     }

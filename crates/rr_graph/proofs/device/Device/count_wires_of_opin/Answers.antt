@@ -12,7 +12,7 @@ returns-clause-count c =
     let t = c.tapper_of_opin-tapper.result in
     let made = c.tapper_of_opin-tapper.ensures in
     let same = opin_wires f a c.requires ∙ ap (λ k. wires_on f k a.number a.x a.y (opin_sides f a)) (sym made.fc)
-      ∙ ap (λ k. wires_on f t.fc k a.x a.y (opin_sides f a)) (sym made.number) ∙ ap (λ v. wires_on f t.fc t.number a.x a.y v) (sym c.sides_of_opin-sides.ensures) in
+    ∙ ap (λ k. wires_on f t.fc k a.x a.y (opin_sides f a)) (sym made.number) ∙ ap (λ v. wires_on f t.fc t.number a.x a.y v) (sym c.sides_of_opin-sides.ensures) in
     let inside = subst (λ (v : Sides). AreSides f a.x a.y v) (sym c.sides_of_opin-sides.ensures) (opin_sides_are f a c.requires) in
     ap (λ n. n * c.count_sides.result) c.count_tapped.ensures.count ∙ ap (λ n. tapped f t.fc t.number * n) c.count_sides.ensures.count
     ∙ sym (ap length same ∙ wires_on-length f t.fc t.number a.x a.y s inside)

@@ -5,10 +5,10 @@ use Rattle.rr_graph.proofs.Graph.{successors_ascend}
 use Rattle.rr_graph.proofs.NodeSuccessors.{node_listed}
 use Rattle.rr_graph.proofs.device.Device.successors.Goals as goal
 
-pub returns-in_ok-reserve-in-Some-clause-ascending : goal.returns-in_ok-reserve-in-Some-clause-ascending
-returns-in_ok-reserve-in-Some-clause-ascending c =
+pub returns-in_ok-fill-in-Some-clause-ascending : goal.returns-in_ok-fill-in-Some-clause-ascending
+returns-in_ok-fill-in-Some-clause-ascending c =
     let f = c.args.self.now in
     let a = c.in-Some.node in
     let listed = node_listed f c.nx-limits.ensures.limits c.args.id a (sym c.in-Some.ensures.node) in
-    let items = c.push_successors.ensures.items ∙ ap (λ ns. ns ++ node_successors f a) (c.reserve.ensures.items ∙ c.clear.ensures.items) ∙ sym listed in
+    let items = c.in_ok-fill-in-Some.ensures.filled ∙ ap (λ ns. ns ++ node_successors f a) c.clear.ensures.items ∙ sym listed in
     subst IsStrictlyIncreasing (sym items) (successors_ascend f c.args.id)

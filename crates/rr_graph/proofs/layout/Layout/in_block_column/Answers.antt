@@ -20,9 +20,9 @@ returns c =
     let before : inner_rows_length f (length (block_numbers f k)) y + j ≡ c.args.rest = ap (λ n. inner_rows_length f n y + j) (sym c.count_at_block.ensures.count) ∙ c.inner_row_found-row.ensures.before in
     elim (cases_Bool (is_between 1 f.ny y)) [
       | inl inside ↦
-        let row = between 1 f.ny y inside in
-        found_at_block f k c.requires.terminal c.args.x y j c.inner_number-number.result c.args.rest column.0 column.1 row.0 row.1 (c.inner_number-number.ensures.block inside) before
+          let row = between 1 f.ny y inside in
+          found_at_block f k c.requires.terminal c.args.x y j c.inner_number-number.result c.args.rest column.0 column.1 row.0 row.1 (c.inner_number-number.ensures.block inside) before
       | inr out ↦
-        found_pad_of_row f k c.requires.terminal c.args.x y j c.args.rest column.0 column.1 c.inner_row_found-row.ensures.within out (c.inner_number-number.ensures.few out) before
-        ∙ ap (λ n. Some (node_of k c.args.x y n)) (sym (c.inner_number-number.ensures.pad out))
+          found_pad_of_row f k c.requires.terminal c.args.x y j c.args.rest column.0 column.1 c.inner_row_found-row.ensures.within out (c.inner_number-number.ensures.few out) before
+          ∙ ap (λ n. Some (node_of k c.args.x y n)) (sym (c.inner_number-number.ensures.pad out))
     ]
