@@ -15,7 +15,7 @@ use Rattle.rr_graph.specs.declared.parts.Kind.TheVariants.{Source, Sink, Opin, I
 use Rattle.rr_graph.specs.declared.parts.Node.{Node}
 use Rattle.rr_graph.specs.Fabric.{Fabric, IsFabric, numbers_below, is_between, is_block, is_pad}
 use Rattle.rr_graph.specs.Wires.{tracks_in, begins, last_of, last_by}
-use Rattle.rr_graph.specs.Nodes.{numbers_at, node_of, node_at, number_of, beginnings_at}
+use Rattle.rr_graph.specs.Nodes.{numbers_at, node_of, node_at, number_of}
 use Rattle.rr_graph.specs.Starts.{kind_start, place_start}
 use Rattle.rr_graph.specs.Numbering.{is_terminal, block_numbers}
 use Rattle.rr_graph.specs.Tables.{starting_at, wires_before, wire_number, wire_at}

@@ -1,6 +1,6 @@
 -- Which node has a number that a division has taken apart.
-use Rattle.std.proofs.Common.{◌≡◌, ℕ, ◌+◌, ◌-◌, ◌*◌, ◌/◌, ◌%◌, ◌<◌, ◌≤◌, true, false, inl, inr, List, [], length, map, get_or, Some, None, refl, sym, ap, ◌∙◌, subst, arith}
-use Rattle.std.specs.Prelude.{◌&&◌, nat_le, if◌then◌else◌, slice_get}
+use Rattle.std.proofs.Common.{◌≡◌, ℕ, ◌+◌, ◌-◌, ◌*◌, ◌/◌, ◌%◌, ◌<◌, ◌≤◌, true, false, inl, inr, [], length, map, get_or, Some, None, refl, sym, ap, ◌∙◌, subst, arith}
+use Rattle.std.specs.Prelude.{nat_le, if◌then◌else◌, slice_get}
 use Rattle.std.specs.List.{flat_map}
 use Rattle.std.specs.Option.{option_map}
 use Rattle.std.proofs.lemmas.Bool.{cases_Bool, cases_lt}
@@ -8,7 +8,7 @@ use Rattle.std.proofs.lemmas.Bool.Decides.{nat_tests}
 use Rattle.std.proofs.lemmas.Nat.{div-add-mod'}
 use Rattle.std.proofs.Math.Nat.{div-add-mod, mod-lt, mul-le-mul_left, div-lt_iff_lt-mul}
 use Rattle.std.proofs.lemmas.List.{length-map}
-use Rattle.std.proofs.lemmas.Option.{slice_get_past, slice_get_within, get_or_from_slice_get, slice_get-get_or, slice_get-map, none-some, same_Some}
+use Rattle.std.proofs.lemmas.Option.{slice_get_past, slice_get_within, slice_get-get_or, slice_get-map, none-some, same_Some}
 use Rattle.rr_graph.specs.declared.parts.Kind.{Kind}
 use Rattle.rr_graph.specs.declared.parts.Kind.TheVariants.{Chanx, Chany}
 use Rattle.rr_graph.specs.declared.channel.Beginning.{Beginning}
@@ -78,9 +78,6 @@ side_column_length f count x out = rw out refl
 
 -- ---- where wires begin
 module _ (f : Fabric) (n : ℕ) where
-  beginnings_at_place : ℕ → List Beginning
-  beginnings_at_place p = map (beginning_of p) (starting_at f n p)
-
   before_is : (p : ℕ) → length (flat_map (λ q. map (beginning_of q) (starting_at f n q)) (numbers_below p)) ≡ wires_before f n p
   unfolding wires_before
   before_is p = length_times (λ q. map (beginning_of q) (starting_at f n q)) (starting_at f n) 1 p (λ q. let e = length-map (starting_at f n q) (beginning_of q) in omega (arith, e)) ∙ omega arith

@@ -1,10 +1,10 @@
 -- The numbers from one on: the first that passes a test, one number more, and tests over them.
-use Rattle.std.proofs.Common.{◌≡◌, ℕ, ◌+◌, ◌-◌, ◌<◌, ◌≤◌, inl, inr, zero, suc, Bool, true, false, cond, List, [], ◌∷◌, ◌++◌, length, map, get_or, refl, sym, ap, ◌∙◌, arith, zero-add}
+use Rattle.std.proofs.Common.{◌≡◌, ℕ, ◌+◌, ◌<◌, ◌≤◌, zero, suc, Bool, true, false, cond, List, [], ◌∷◌, ◌++◌, length, map, get_or, refl, sym, ap, ◌∙◌, arith, zero-add}
 use Rattle.std.specs.List.{range_with_len, position_or_len, list_any, filter, flat_map, sum_by}
 use Rattle.std.proofs.lemmas.List.{append_assoc, append-nil, length-map, map-append, flat_map_more, length_push}
 use Rattle.std.proofs.lemmas.List.Elements.{filter-append}
 use Rattle.std.specs.Prelude.{◌||◌}
-use Rattle.std.proofs.lemmas.Bool.{or_from, or_left, or_right, cases_Bool}
+use Rattle.std.proofs.lemmas.Bool.{or_from, or_left, or_right}
 use Rattle.std.proofs.lemmas.List.Sums.{position_or_len_is, sum_by_push}
 use Rattle.std.proofs.lemmas.List.FromFn.{length-range_with_len, get_or-range_with_len, get_or-map-range_with_len}
 
@@ -98,23 +98,6 @@ count_kept p i e = ap length (sym (kept_next p i e)) ∙ length_push (filter p (
 
 pub count_skipped : (p : ℕ → Bool) (i : ℕ) → p i ≡ false → length (filter p (range_with_len 0 (i + 1))) ≡ length (filter p (range_with_len 0 i))
 count_skipped p i e = ap length (sym (skipped_next p i e))
-
-pub count_grows : (p : ℕ → Bool) (m k : ℕ) → length (filter p (range_with_len 0 m)) ≤ length (filter p (range_with_len 0 (m + k)))
-count_grows p m zero = let e : m ≡ m + 0 = omega arith in let f = ap (λ n. length (filter p (range_with_len 0 n))) e in omega (arith, f)
-count_grows p m (suc k) =
-    let e : m + suc k ≡ m + k + 1 = omega arith in
-    let f = ap (λ n. length (filter p (range_with_len 0 n))) e in
-    elim (cases_Bool (p (m + k))) [
-      | inl t ↦ omega (arith, f, count_grows p m k, count_kept p (m + k) t)
-      | inr t ↦ omega (arith, f, count_grows p m k, count_skipped p (m + k) t)
-    ]
-
--- what passes at i comes on top of what passes before
-pub count_less : (p : ℕ → Bool) (n i : ℕ) → i < n → p i ≡ true → length (filter p (range_with_len 0 i)) < length (filter p (range_with_len 0 n))
-count_less p n i l t =
-    let e : i + 1 + (n - (i + 1)) ≡ n = omega arith in
-    let f = ap (λ m. length (filter p (range_with_len 0 m))) e in
-    omega (arith, f, count_grows p (i + 1) (n - (i + 1)), count_kept p i t)
 
 pub sum_next : (g : ℕ → ℕ) (i : ℕ) → sum_by g (range_with_len 0 (i + 1)) ≡ sum_by g (range_with_len 0 i) + g i
 sum_next g i = ap (sum_by g) (below_next i) ∙ sum_by_push g (range_with_len 0 i) i

@@ -1,7 +1,7 @@
-use Rattle.std.proofs.Common.{ℕ, ◌<◌, ◌+◌, ◌≤◌, ◌≡◌, length, inl, inr, Some, true, false, ap, sym, ◌∙◌, arith}
+use Rattle.std.proofs.Common.{ℕ, ◌+◌, ◌≤◌, ◌≡◌, length, inl, inr, Some, true, ap, sym, ◌∙◌, arith}
 use Rattle.std.proofs.lemmas.Bool.{cases_Bool}
 use Rattle.std.proofs.lemmas.Bool.Decides.{nat_tests}
-use Rattle.rr_graph.specs.Fabric.{Fabric, is_between}
+use Rattle.rr_graph.specs.Fabric.{is_between}
 use Rattle.rr_graph.specs.Nodes.{node_of}
 use Rattle.rr_graph.specs.Numbering.{inner_rows_length, block_numbers}
 use Rattle.rr_graph.proofs.NodesFound.{found_at_block, found_pad_of_row}

@@ -1,4 +1,3 @@
-use Rattle.std.proofs.Common.{arith}
 use Rattle.rr_graph.proofs.NodesFound.{found_pad_of_column}
 use Rattle.rr_graph.proofs.layout.Layout.in_side_column.Goals as goal
 
