@@ -1,9 +1,9 @@
 -- The nodes by number, kind by kind and place by place, and the successors of a node among them.
-use Rattle.std.proofs.Common.{◌≡◌, ℕ, ◌+◌, ◌<◌, inl, inr, false, List, [], ◌∷◌, ◌++◌, length, Some, refl, sym, ap, ◌∙◌, subst, arith, length-append, append-nil}
+use Rattle.std.proofs.Common.{◌≡◌, ℕ, ◌+◌, ◌-◌, ◌<◌, ◌≤◌, inl, inr, false, List, [], ◌∷◌, ◌++◌, length, get_or, Some, refl, sym, ap, ◌∙◌, subst, arith, length-append, append-nil}
 use Rattle.std.specs.Prelude.{slice_get}
 use Rattle.std.specs.List.{flat_map, filter}
 use Rattle.std.specs.Option.{option_map}
-use Rattle.std.proofs.lemmas.Option.{none-some, slice_get-map}
+use Rattle.std.proofs.lemmas.Option.{none-some, slice_get-map, slice_get-get_or}
 use Rattle.std.proofs.lemmas.List.Concat.{flat_map-append}
 use Rattle.rr_graph.specs.declared.parts.Kind.{Kind}
 use Rattle.rr_graph.specs.declared.parts.Kind.TheVariants.{Source, Sink, Opin, Ipin, Chanx, Chany}
@@ -85,6 +85,24 @@ module _ (f : Fabric) where
     | inl here ↦ (k, i, here, omega (arith, s.0))
     | inr later ↦ (let r = kind_found (n + length (nodes_of_kind f k)) ks later.0 a s.1 later.1 in (r.0, r.1, r.2, omega (arith, r.3, later.2)))
   ]
+
+  kind_of_member : (k : Kind) (i : ℕ) (a : Node) → slice_get (nodes_of_kind f k) i ≡ Some a → k ≡ a.kind
+  kind_of_member k i a h =
+      let column = slice_get_from_flat_map (nodes_of_column f k) (f.nx + 2) i a h in
+      let place = slice_get_from_flat_map (nodes_at f k column.0) (f.ny + 2) column.1 a column.3 in
+      let number = slice_get_from_map (node_of k column.0 place.0) (numbers_at f k column.0 place.0) place.1 a place.3 in
+      ap (λ n. n.kind) number.2
+
+  -- the nodes from a kind's start on, as many as it has, are of that kind
+  pub kind_within :
+      (k : Kind) (i : ℕ) → kind_start f k ≤ i → i < kind_start f k + length (nodes_of_kind f k) → option_map (λ n. n.kind) (node_at f i) ≡ Some k
+  kind_within k i from within =
+      let rest = i - kind_start f k in
+      let nodes = nodes_of_kind f k in
+      let a = get_or nodes rest (node_of k 0 0 0) in
+      let here = slice_get-get_or nodes rest (node_of k 0 0 0) (omega (arith, from, within)) in
+      let e : i ≡ kind_start f k + rest = omega (arith, from) in
+      ap (λ j. option_map (λ n. n.kind) (node_at f j)) e ∙ ap (option_map (λ n. n.kind)) (kind_at k rest a here) ∙ ap Some (sym (kind_of_member k rest a here))
 
   -- the node is the j-th at the place that its fields name, and i is its number
   abbrev pub IsPlaced : ℕ → Node → Type 0

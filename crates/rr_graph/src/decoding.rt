@@ -1,6 +1,7 @@
-//! The node of a number, by arithmetic.
+//! The node of a number, and its kind alone, by arithmetic.
 
 ghost use Rattle.std.specs.Prelude.{◌≡◌, ◌+◌, ◌-◌, ◌*◌, ◌≤◌, ◌<◌, true, false, length, slice_get, Some};
+ghost use Rattle.std.specs.Option.{option_map};
 ghost use Rattle.rr_graph.specs.Numbering.{is_terminal, column_length, columns_length, inner_rows_length, inner_place_length, terminals_length, block_numbers};
 ghost use Rattle.rr_graph.specs.Fabric.{is_between};
 ghost use Rattle.rr_graph.specs.Nodes.{node_at, node_count_of};
@@ -301,5 +302,39 @@ impl Device {
             return self.terminal_of(Kind::Sink, id - sink);
         }
         self.terminal_of(Kind::Source, id)
+    }
+
+    /// The kind of the node of a number.
+    #[tactic(auto, using(crate::proofs::NodesFound::none_past))]
+    pub(crate) fn kind_of(&self, id: u32) -> Option<Kind>
+        ensures { result ≡ option_map (λ n. n.kind) (node_at self.now id) }
+    {
+        if id >= self.node_count() {
+            return None;
+        }
+        Some(self.kind_below(id))
+    }
+
+    /// The kind of the node of a number that one has.
+    fn kind_below(&self, id: u32) -> Kind
+        requires { id < node_count_of self.now }
+        ensures { option_map (λ n. n.kind) (node_at self.now id) ≡ Some result }
+    {
+        if id >= self.kind_start(Kind::Chany) {
+            return Kind::Chany;
+        }
+        if id >= self.kind_start(Kind::Chanx) {
+            return Kind::Chanx;
+        }
+        if id >= self.kind_start(Kind::Ipin) {
+            return Kind::Ipin;
+        }
+        if id >= self.kind_start(Kind::Opin) {
+            return Kind::Opin;
+        }
+        if id >= self.kind_start(Kind::Sink) {
+            return Kind::Sink;
+        }
+        Kind::Source
     }
 }

@@ -11,7 +11,7 @@ use crate::block::Block;
 use crate::channel::Channel;
 use crate::fault::DeviceFault;
 use crate::layout::Layout;
-use crate::parts::{Label, Mode, Node, Span};
+use crate::parts::{Kind, Label, Mode, Node, Span};
 use crate::sides::BlockSides;
 use crate::starts::Starts;
 use arch_file::Arch;
@@ -98,19 +98,8 @@ impl Device {
             return Err(DeviceFault::Width);
         }
         let layout = Layout::new(alloc, arch, nx, ny, width, mode)?;
-        let block = layout.block(alloc)?;
-        let rows = layout.channel(alloc, nx)?;
-        let columns = layout.channel(alloc, ny)?;
-        let sides = layout.sides(alloc)?;
-        let starts = layout.starts(&block, &rows, &columns);
-        Ok(Device {
-            layout,
-            block,
-            rows,
-            columns,
-            sides,
-            starts,
-        })
+        let device = Device::of_layout(alloc, layout)?;
+        Ok(device)
     }
 
     /// Columns of logic blocks.
@@ -167,6 +156,14 @@ impl Device {
     {
         let _ = &self.layout;
         self.node_of(id)
+    }
+
+    /// The kind of the node of a number, found without the node.
+    pub fn kind(&self, id: u32) -> Option<Kind>
+        ensures { result ≡ option_map (λ n. n.kind) (node_at self.now id) }
+    {
+        let _ = &self.layout;
+        self.kind_of(id)
     }
 
     /// What a node's number counts.

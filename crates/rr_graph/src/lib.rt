@@ -4,6 +4,7 @@
 
 mod block;
 mod channel;
+mod copies;
 mod decoding;
 mod device;
 mod edges;
