@@ -30,3 +30,5 @@ pub mod TerminalPlaces
 pub mod OpinWires
 pub mod OpinDegrees
 pub mod NodeSuccessors
+pub mod FirstFaults
+pub mod Problems

@@ -17,4 +17,5 @@ pub mod Numbers
 pub mod Pushes
 pub mod Fanouts
 pub mod Terminals
+pub mod Problems
 pub mod NodeSuccessors
