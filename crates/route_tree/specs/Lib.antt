@@ -1,0 +1,9 @@
+pub mod Paths
+pub mod Legality
+pub mod Faults
+pub mod Rows
+pub mod Usage
+pub mod Fits
+pub mod Ladder
+pub mod Marked
+pub mod Fields

@@ -1,0 +1,32 @@
+-- Which nodes the nets of a routing use, and how often (McMurchie and Ebeling 1995, "occupancy").
+use Rattle.std.specs.Prelude.{ℕ, ◌+◌, ◌-◌, ◌==◌, Bool, false, ◌||◌, if◌then◌else◌, List, [], ◌∷◌, Option, Some, None}
+use Rattle.rr_graph.specs.Fabric.{Fabric}
+use Rattle.rr_graph.specs.Nodes.{node_at, capacity_of}
+use Rattle.rr_graph.specs.declared.parts.Node.{Node}
+use Rattle.rr_graph.specs.Problems.{Net, RoutingProblem}
+use Rattle.route_tree.specs.Paths.{Pair, ends_of}
+use Rattle.route_tree.specs.Legality.{is_among}
+
+-- the node is the source, or the end of a pair
+unfoldable pub covers : (source : ℕ) → List Pair → ℕ → Bool
+covers source pairs a = source == a || is_among (ends_of pairs) a
+
+-- a net without a list covers nothing
+abbrev pub covers_by : Net → Option (List Pair) → ℕ → Bool
+covers_by n (Some pairs) a = covers n.source pairs a
+covers_by n None a = false
+
+-- how many nets cover a node: each net counts once, however often its pairs name the node
+abbrev pub use_of : List Net → List (Option (List Pair)) → ℕ → ℕ
+use_of [] lists a = 0
+use_of (n ∷ ns) [] a = 0
+use_of (n ∷ ns) (l ∷ ls) a = (if covers_by n l a then 1 else 0) + use_of ns ls a
+
+-- how many nets a node has room for; none for what is no node
+abbrev pub room_of : Fabric → Option Node → ℕ
+room_of f (Some n) = capacity_of f n
+room_of f None = 0
+
+-- by how many nets a node is used beyond its capacity
+unfoldable pub overuse_of : RoutingProblem → List (Option (List Pair)) → ℕ → ℕ
+overuse_of p lists a = use_of p.nets lists a - room_of p.device (node_at p.device a)
