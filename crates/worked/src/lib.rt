@@ -11,3 +11,7 @@ mod plain;
 mod plain_edges;
 #[cfg(test)]
 mod plain_wires;
+#[cfg(test)]
+mod problems;
+#[cfg(test)]
+mod trees;

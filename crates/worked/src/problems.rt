@@ -1,0 +1,161 @@
+//! Routing problems of one logic block: what is made of their parts, and what is refused.
+
+use crate::devices::{arch, node, ONE_BLOCK};
+use rr_graph::{Device, Kind, PartsFault, Problem, Terminals};
+use std::process::Abort;
+use std::test::Fail;
+
+/// The parts of a net.
+pub(crate) fn net(
+    rt: &impl AllocGlobal,
+    number: u32,
+    source: u32,
+    sinks: &[u32],
+) -> Result<Terminals, Fail> {
+    Ok(Terminals {
+        number,
+        source,
+        sinks: Vec::from_slice(rt.alloc(), sinks)?,
+    })
+}
+
+/// One block, with channels of one track: 41 nodes, of which 0 to 8 are sources and 9 to 17 sinks.
+pub(crate) fn one_block(rt: &impl AllocGlobal) -> Result<Device, Fail> {
+    Ok(Device::new(rt.alloc(), &arch(rt, ONE_BLOCK)?, 1, 1, 1)?)
+}
+
+/// Two nets of one block, from the pads on its left to its inputs.
+pub(crate) fn two_nets(rt: &impl AllocGlobal) -> Result<Problem, Fail> {
+    let mut nets = Vec::new(rt.alloc());
+    nets.push(net(rt, 0, 0, &[13])?)?;
+    nets.push(net(rt, 1, 1, &[13])?)?;
+    Ok(Problem::from_parts(one_block(rt)?, nets)?)
+}
+
+/// The fault of two nets.
+fn fault_of(
+    rt: &impl AllocGlobal,
+    first: Terminals,
+    second: Terminals,
+) -> Result<Option<PartsFault>, Fail> {
+    let mut nets = Vec::new(rt.alloc());
+    nets.push(first)?;
+    nets.push(second)?;
+    Ok(Problem::from_parts(one_block(rt)?, nets).err())
+}
+
+/// The fault of one net.
+fn fault_of_one(
+    rt: &impl AllocGlobal,
+    source: u32,
+    sinks: &[u32],
+) -> Result<Option<PartsFault>, Fail> {
+    let mut nets = Vec::new(rt.alloc());
+    nets.push(net(rt, 7, source, sinks)?)?;
+    Ok(Problem::from_parts(one_block(rt)?, nets).err())
+}
+
+#[test]
+fn looks_nets_up(rt: HostRuntime) -> Result<(), Fail> {
+    let problem = two_nets(&rt)?;
+    assert!(rt; problem.nets() == 2);
+    assert!(rt; problem.device().node_count() == 41);
+    assert!(rt; problem.number(0) == 0 && problem.number(1) == 1);
+    assert!(rt; problem.source(0) == 0 && problem.source(1) == 1);
+    assert!(rt; problem.sinks(0) == [13].as_slice() && problem.sinks(1) == [13].as_slice());
+    Ok(())
+}
+
+#[test]
+fn makes_a_problem_without_nets(rt: HostRuntime) -> Result<(), Fail> {
+    let problem = Problem::from_parts(one_block(&rt)?, Vec::new(rt.alloc()))?;
+    assert!(rt; problem.nets() == 0);
+    Ok(())
+}
+
+#[test]
+fn refuses_what_is_no_source(rt: HostRuntime) -> Result<(), Fail> {
+    assert!(rt; fault_of_one(&rt, 13, &[13])? == Some(PartsFault::BadSource(0)));
+    assert!(rt; fault_of_one(&rt, 18, &[13])? == Some(PartsFault::BadSource(0)));
+    assert!(rt; fault_of_one(&rt, 41, &[13])? == Some(PartsFault::BadSource(0)));
+    Ok(())
+}
+
+#[test]
+fn refuses_what_are_no_sinks(rt: HostRuntime) -> Result<(), Fail> {
+    assert!(rt; fault_of_one(&rt, 0, &[13, 13])? == Some(PartsFault::BadSinks(0)));
+    assert!(rt; fault_of_one(&rt, 0, &[14, 13])? == Some(PartsFault::BadSinks(0)));
+    assert!(rt; fault_of_one(&rt, 0, &[])? == Some(PartsFault::BadSinks(0)));
+    assert!(rt; fault_of_one(&rt, 0, &[8])? == Some(PartsFault::BadSinks(0)));
+    assert!(rt; fault_of_one(&rt, 0, &[13, 18])? == Some(PartsFault::BadSinks(0)));
+    assert!(rt; fault_of_one(&rt, 0, &[13, 41])? == Some(PartsFault::BadSinks(0)));
+    assert!(rt; fault_of_one(&rt, 0, &[9, 13, 17])?.is_none());
+    Ok(())
+}
+
+#[test]
+fn refuses_numbers_that_do_not_ascend(rt: HostRuntime) -> Result<(), Fail> {
+    let same = fault_of(&rt, net(&rt, 4, 0, &[13])?, net(&rt, 4, 1, &[13])?)?;
+    assert!(rt; same == Some(PartsFault::NotAscending(1)));
+    let falling = fault_of(&rt, net(&rt, 4, 0, &[13])?, net(&rt, 3, 1, &[13])?)?;
+    assert!(rt; falling == Some(PartsFault::NotAscending(1)));
+    let rising = fault_of(&rt, net(&rt, 4, 0, &[13])?, net(&rt, 9, 0, &[13])?)?;
+    assert!(rt; rising.is_none());
+    Ok(())
+}
+
+#[test]
+fn names_the_first_fault_of_the_first_faulty_net(rt: HostRuntime) -> Result<(), Fail> {
+    let earlier_net = fault_of(&rt, net(&rt, 4, 0, &[])?, net(&rt, 4, 1, &[13])?)?;
+    assert!(rt; earlier_net == Some(PartsFault::BadSinks(0)));
+    let earlier_fault = fault_of(&rt, net(&rt, 4, 0, &[13])?, net(&rt, 4, 13, &[])?)?;
+    assert!(rt; earlier_fault == Some(PartsFault::NotAscending(1)));
+    assert!(rt; fault_of_one(&rt, 13, &[])? == Some(PartsFault::BadSource(0)));
+    Ok(())
+}
+
+/// As many nets, all from one pad to one block.
+fn many(rt: &impl AllocGlobal, count: u32) -> Result<Result<Problem, PartsFault>, Fail> {
+    let mut nets = Vec::with_capacity(rt.alloc(), count as usize)?;
+    for number in 0..count {
+        nets.push(net(rt, number, 0, &[13])?)?;
+    }
+    Ok(Problem::from_parts(one_block(rt)?, nets))
+}
+
+#[test]
+fn takes_the_most_nets_and_not_one_more(rt: HostRuntime) -> Result<(), Fail> {
+    let most = many(&rt, 65535)?;
+    assert!(rt; most.is_ok_and(|problem| problem.nets() == 65535));
+    assert!(rt; many(&rt, 65536)?.err() == Some(PartsFault::TooMany));
+    Ok(())
+}
+
+#[test]
+fn tells_sources_and_sinks(rt: HostRuntime) -> Result<(), Fail> {
+    let device = one_block(&rt)?;
+    for id in 0..42 {
+        assert!(rt; device.is_source(id) == (id < 9), "node {id}");
+        assert!(rt; device.is_sink(id) == (id >= 9 && id < 18), "node {id}");
+    }
+    assert!(rt; device.id(node(Kind::Sink, 1, 1, 0)) == Some(13));
+    Ok(())
+}
+
+/// A copy, asked for again where memory was refused.
+// growths: 45
+#[test]
+fn copy_without_memory(rt: HostRuntime) -> Result<(), Fail> {
+    let problem = match two_nets(&rt) {
+        Ok(problem) => problem,
+        Err(_) => two_nets(&rt)?,
+    };
+    let copy = match problem.copy(rt.alloc()) {
+        Ok(copy) => copy,
+        Err(_) => problem.copy(rt.alloc())?,
+    };
+    assert!(rt; copy.nets() == 2);
+    assert!(rt; copy.sinks(1) == [13].as_slice());
+    assert!(rt; copy.device().node_count() == 41);
+    Ok(())
+}
