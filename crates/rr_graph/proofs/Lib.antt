@@ -18,6 +18,7 @@ pub mod Order
 pub mod Graph
 pub mod Lengths
 pub mod ChannelTables
+pub mod TrackOrder
 pub mod PlaceStarts
 pub mod NodeNumbers
 pub mod NodesFound
