@@ -296,14 +296,14 @@ impl Device {
         ensures number { result.number ≡ node.number }
         ensures tapper { IsTapper self.now result }
     {
-        let fc = if self.layout.is_block(node.x, node.y) {
-            self.layout.arch.fc_output()
+        let (fc, count) = if self.layout.is_block(node.x, node.y) {
+            (self.layout.arch.fc_output(), self.counts.output)
         } else {
-            self.layout.arch.fc_pad()
+            (self.layout.arch.fc_pad(), self.counts.pad)
         };
         Tapper {
             fc,
-            count: self.layout.tap_count(fc),
+            count,
             number: node.number,
         }
     }
