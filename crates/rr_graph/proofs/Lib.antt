@@ -19,6 +19,7 @@ pub mod Graph
 pub mod Lengths
 pub mod ChannelTables
 pub mod TrackOrder
+pub mod TracksTapped
 pub mod PlaceStarts
 pub mod NodeNumbers
 pub mod NodesFound

@@ -11,7 +11,7 @@ ghost use Rattle.rr_graph.specs.Terminals.{IsTapper, above_wire, right_wire, all
 
 use crate::device::Device;
 use crate::layout::Layout;
-use crate::parts::Node;
+use crate::parts::{Mode, Node};
 use arch_file::{Pin, Sides};
 use smallvec::SmallVec;
 
@@ -309,19 +309,17 @@ impl Device {
     }
 
     /// How many tracks the pin taps.
-    #[tactic(auto, using(crate::proofs::Ranges::count_kept, crate::proofs::Ranges::count_skipped))]
+    #[tactic(auto, using(crate::proofs::TracksTapped::tapped_detailed, crate::proofs::TracksTapped::tapped_global))]
     fn count_tapped(&self, tapper: Tapper) -> u32
         requires { IsTapper self.now tapper }
         ensures count { result ≡ length (filter (taps_track self.now tapper.fc tapper.number) (all_tracks self.now)) }
         ensures few { result ≤ 256 }
     {
-        let mut count = 0;
-        for track in 0..self.layout.tracks() {
-            if self.layout.taps_as(tapper, track) {
-                count += 1;
-            }
+        let _limits = self.nx();
+        match self.mode() {
+            Mode::Global => 1,
+            Mode::Detailed => tapper.count,
         }
-        count
     }
 
     /// The successors of an output pin.
