@@ -2,6 +2,7 @@
 use Rattle.std.proofs.Common.{◌≡◌, ◌≢◌, ℕ, ◌+◌, ◌*◌, ◌/◌, ◌%◌, ◌<◌, ◌≤◌, zero, suc, inl, inr, Bool, true, false, cond, List, [], ◌∷◌, length, map, refl, sym, ap, ◌∙◌, arith}
 use Rattle.std.specs.Prelude.{◌==◌, ◌||◌, if◌then◌else◌}
 use Rattle.std.specs.List.{list_any, filter}
+use Rattle.std.proofs.Math.Bool.{or-false}
 use Rattle.std.proofs.Math.Nat.{mul-le-mul_right, div-mul-le_self, le-div_iff_mul-le}
 use Rattle.std.proofs.lemmas.Bool.{cases_eq, eq-eqb, ne_eqb, eqb-true, false_from_ne_true, false≢true}
 use Rattle.std.proofs.lemmas.List.{map-append}
@@ -50,10 +51,6 @@ either_passes p q apart (t ∷ ts) = by_tests (p t) (q t) (apart t) (either_pass
     by_tests false true d rest = omega (arith, rest)
     by_tests false false d rest = rest
 
-or_false : (b : Bool) → (b || false) ≡ b
-or_false true = refl
-or_false false = refl
-
 module _ (g : ℕ → ℕ) (w : ℕ) where
   abbrev lands_on : (c t : ℕ) → Bool
   lands_on c t = list_any (λ k. k == t) (map g (numbers_below c))
@@ -61,7 +58,7 @@ module _ (g : ℕ → ℕ) (w : ℕ) where
   lands_next : (c t : ℕ) → lands_on (c + 1) t ≡ (lands_on c t || (g c == t))
   lands_next c t =
       ap (λ ns. list_any (λ k. k == t) (map g ns)) (below_next c) ∙ ap (list_any (λ k. k == t)) (map-append g (numbers_below c) (c ∷ []))
-      ∙ list_any-append (λ k. k == t) (map g (numbers_below c)) (g c ∷ []) ∙ ap (λ b. lands_on c t || b) (or_false (g c == t))
+      ∙ list_any-append (λ k. k == t) (map g (numbers_below c)) (g c ∷ []) ∙ ap (λ b. lands_on c t || b) (or-false (g c == t))
 
   -- places that are all different
   landing_count : (c : ℕ) → ((i j : ℕ) → i < j → j < c → g i ≢ g j) → ((i : ℕ) → i < c → g i < w) → length (filter (lands_on c) (numbers_below w)) ≡ c
