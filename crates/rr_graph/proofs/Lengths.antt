@@ -32,3 +32,16 @@ length_times g h k zero each = omega arith
 length_times g h k (suc n) each =
     let e : suc n ≡ n + 1 = omega arith in
     omega (arith, ap (λ i. length (flat_map g (range_with_len 0 i))) e, ap (λ i. k * length (flat_map h (range_with_len 0 i))) e, length_next g n, ap (λ i. k * i) (length_next h n), length_times g h k n each, each n)
+
+-- two pieces in turn
+pub length_both : {X : Type 0} (g h : ℕ → List X) (ns : List ℕ) → length (flat_map (λ n. g n ++ h n) ns) ≡ length (flat_map g ns) + length (flat_map h ns)
+length_both g h [] = omega arith
+length_both g h (n ∷ ns) =
+    omega (
+      arith,
+      length-append (g n ++ h n) (flat_map (λ n. g n ++ h n) ns),
+      length-append (g n) (h n),
+      length-append (g n) (flat_map g ns),
+      length-append (h n) (flat_map h ns),
+      length_both g h ns,
+    )

@@ -18,6 +18,8 @@ pub mod Order
 pub mod Graph
 pub mod Lengths
 pub mod ChannelTables
+pub mod TrackOrder
+pub mod TracksTapped
 pub mod PlaceStarts
 pub mod NodeNumbers
 pub mod NodesFound

@@ -1,72 +1,37 @@
 -- How many wires an output pin taps, and on which sides.
-use Rattle.std.proofs.Common.{◌≡◌, ℕ, ◌+◌, ◌-◌, ◌*◌, ◌≤◌, inl, inr, zero, suc, Bool, true, false, List, [], ◌∷◌, ◌++◌, length, Option, Some, None, refl, sym, ap, ◌∙◌, arith, length-append}
-use Rattle.std.specs.Prelude.{◌==◌, ◌&&◌, if◌then◌else◌, slice_get}
+use Rattle.std.proofs.Common.{◌≡◌, ℕ, ◌+◌, ◌-◌, ◌*◌, ◌≤◌, inl, inr, Bool, true, false, cond, List, [], ◌∷◌, ◌++◌, length, Option, Some, None, refl, sym, ap, ◌∙◌, arith, length-append}
+use Rattle.std.specs.Prelude.{◌==◌, if◌then◌else◌, slice_get}
 use Rattle.std.specs.List.{range_with_len, filter, flat_map}
-use Rattle.std.proofs.lemmas.Bool.{cases_Bool, eq-eqb, ne_eqb, eqb-true}
+use Rattle.std.proofs.lemmas.Bool.{cases_Bool, eqb-true}
 use Rattle.std.proofs.lemmas.Bool.Decides.{nat_tests}
 use Rattle.std.proofs.lemmas.List.{append-nil}
 use Rattle.arch_file.specs.declared.parts.Pin.{Pin}
 use Rattle.arch_file.specs.declared.parts.Sides.{Sides}
 use Rattle.rr_graph.specs.declared.parts.Kind.TheVariants.{Chanx, Chany}
 use Rattle.rr_graph.specs.declared.parts.Node.{Node}
-use Rattle.rr_graph.specs.Fabric.{Fabric, numbers_below, is_block, is_pad}
+use Rattle.rr_graph.specs.Fabric.{Fabric, is_block, is_pad}
 use Rattle.rr_graph.specs.Wires.{tracks_in}
 use Rattle.rr_graph.specs.Pins.{when}
 use Rattle.rr_graph.specs.Channels.{first_of}
 use Rattle.rr_graph.specs.WireSuccessors.{wire_id}
 use Rattle.rr_graph.specs.PinSuccessors.{taps_track, tapped_chanx, tapped_row, tapped_rows, tapped_column, wires_of_pin, wires_of_pad, opin_successors}
-use Rattle.rr_graph.specs.Terminals.{IsTerminal, above_piece, right_piece, all_tracks, wires_on, AreSides, no_sides, sides_of_pin, sides_of_pad, opin_sides, opin_fc}
-use Rattle.rr_graph.proofs.Windows.{flat_map_next, flat_map_from, flat_map_agree, flat_map_empty, flat_map_one}
-use Rattle.rr_graph.proofs.ChannelTables.{count_next}
-use Rattle.rr_graph.proofs.TrackWires.{first_of-is}
+use Rattle.rr_graph.specs.Terminals.{IsTerminal, above_wire, right_wire, all_tracks, wires_on, AreSides, no_sides, sides_of_pin, sides_of_pad, opin_sides, opin_fc}
+use Rattle.rr_graph.proofs.Lengths.{length_both}
+use Rattle.rr_graph.proofs.Windows.{flat_map_agree, flat_map_empty}
 use Rattle.rr_graph.proofs.OpinSuccessors.{tapped_rows_top, tapped_rows_bottom}
-use Rattle.rr_graph.proofs.OpinWires.{above_by_track, right_by_track}
+use Rattle.rr_graph.specs.Tables.{tracks_from}
+use Rattle.rr_graph.proofs.TrackOrder.{each_once}
+use Rattle.rr_graph.proofs.OpinWires.{above_by_track, right_by_track, rows_none}
 
 -- ---- each track that a pin taps has one wire through a place
-length_both : {X : Type 0} (g h : ℕ → List X) (ns : List ℕ) → length (flat_map (λ n. g n ++ h n) ns) ≡ length (flat_map g ns) + length (flat_map h ns)
-length_both g h [] = omega arith
-length_both g h (n ∷ ns) =
-    omega (
-      arith,
-      length-append (g n ++ h n) (flat_map (λ n. g n ++ h n) ns),
-      length-append (g n) (h n),
-      length-append (g n) (flat_map g ns),
-      length-append (h n) (flat_map h ns),
-      length_both g h ns,
-    )
-
-when-length : (b : Bool) (n : ℕ) → length (when b n) ≡ (if b then 1 else 0)
-when-length true n = refl
-when-length false n = refl
-
-one_of : (g : ℕ → ℕ) (b : Bool) (c n : ℕ) → 1 ≤ c → c ≤ n → length (flat_map (λ k. when (k == c && b) (g k)) (range_with_len 1 n)) ≡ (if b then 1 else 0)
-one_of g b c n l m =
-    let at : 1 + (c - 1) ≡ c = omega arith in
-    let piece : ℕ → List ℕ = λ k. when (k == c && b) (g k) in
-    ap length (sym (flat_map_from (λ k. piece (1 + k)) piece 1 n (λ k _. refl))
-    ∙ flat_map_one (λ k. piece (1 + k)) (c - 1) n (omega arith) (λ k _ other. ap (λ a. when (a && b) (g (1 + k))) (ne_eqb (1 + k) c (λ e. other (omega arith))))
-    ∙ ap piece at ∙ ap (λ a. when (a && b) (g c)) (eq-eqb c c refl))
-    ∙ when-length b (g c)
-
-module _ (f : Fabric) (n at : ℕ) (g : (first track : ℕ) → ℕ) (taps : ℕ → Bool) (from : 1 ≤ at) (upto : at ≤ n) where
-  abbrev piece : (first track : ℕ) → List ℕ
-  piece first t = when (first == first_of f n t at && taps t) (g first t)
-
-  each_once : (m : ℕ) → length (flat_map (λ first. flat_map (piece first) (numbers_below m)) (range_with_len 1 at)) ≡ length (filter taps (numbers_below m))
-  each_once zero = ap length (flat_map_empty (λ first. []) 1 at (λ k _ _. refl))
-  each_once (suc m) =
-      let e : suc m ≡ m + 1 = omega arith in
-      let h = first_of-is f n m at from in
-      ap (λ k. length (flat_map (λ first. flat_map (piece first) (numbers_below k)) (range_with_len 1 at))) e
-      ∙ ap length (flat_map_agree _ (λ first. flat_map (piece first) (numbers_below m) ++ piece first m) 1 at (λ first _ _. flat_map_next (piece first) m))
-      ∙ omega (
-        arith,
-        length_both (λ first. flat_map (piece first) (numbers_below m)) (λ first. piece first m) (range_with_len 1 at),
-        each_once m,
-        one_of (λ first. g first m) (taps m) (first_of f n m at) at h.from h.upto,
-        count_next taps m,
-      )
-      ∙ ap (λ k. length (filter taps (numbers_below k))) (sym e)
+when-joined : {X : Type 0} (p : ℕ → Bool) (g : ℕ → X) (ns : List ℕ) → length (flat_map (λ n. when (p n) (g n)) ns) ≡ length (filter p ns)
+when-joined p g [] = refl
+when-joined p g (n ∷ ns) = by_test (p n) (when-joined p g ns)
+  where
+    by_test : (b : Bool) → length (flat_map (λ n. when (p n) (g n)) ns) ≡ length (filter p ns)
+        → length (when b (g n) ++ flat_map (λ n. when (p n) (g n)) ns) ≡ length (cond b (n ∷ filter p ns) (filter p ns))
+    by_test true rest = omega (arith, rest)
+    by_test false rest = rest
 
 module _ (f : Fabric) (fc pin : ℕ) where
   abbrev pub tapped : ℕ
@@ -74,16 +39,18 @@ module _ (f : Fabric) (fc pin : ℕ) where
 
   row_length : (column row : ℕ) → 1 ≤ column → column ≤ f.nx → length (flat_map (tapped_chanx f fc pin column row) (range_with_len 1 column)) ≡ tapped
   row_length column row l m =
-      ap length (flat_map_agree _ (λ first. flat_map (above_piece f fc pin column row first) (all_tracks f)) 1 column (λ first a b.
+      ap length (flat_map_agree _ (λ first. flat_map (above_wire f fc pin column row) (tracks_from f f.nx column first)) 1 column (λ first a b.
       above_by_track f fc pin column row first a (omega arith) m))
-      ∙ each_once f f.nx column (λ first t. wire_id f Chanx first row t) (taps_track f fc pin) l m (tracks_in f.mode f.width)
+      ∙ each_once f f.nx column (above_wire f fc pin column row) l (tracks_in f.mode f.width)
+      ∙ when-joined (taps_track f fc pin) (λ t. wire_id f Chanx (first_of f f.nx t column) row t) (all_tracks f)
 
   column_length : (column row : ℕ) → 1 ≤ row → row ≤ f.ny → length (tapped_column f fc pin column row) ≡ tapped
   unfolding tapped_column
   column_length column row l m =
-      ap length (flat_map_agree _ (λ first. flat_map (right_piece f fc pin column row first) (all_tracks f)) 1 row (λ first a b.
+      ap length (flat_map_agree _ (λ first. flat_map (right_wire f fc pin column row) (tracks_from f f.ny row first)) 1 row (λ first a b.
       right_by_track f fc pin column row first a (omega arith) m))
-      ∙ each_once f f.ny row (λ first t. wire_id f Chany column first t) (taps_track f fc pin) l m (tracks_in f.mode f.width)
+      ∙ each_once f f.ny row (right_wire f fc pin column row) l (tracks_in f.mode f.width)
+      ∙ when-joined (taps_track f fc pin) (λ t. wire_id f Chany column (first_of f f.ny t row) t) (all_tracks f)
 
   side_length : (b : Bool) (xs : ℕ → List ℕ) (n : ℕ) → (b ≡ true → length (flat_map xs (range_with_len 1 n)) ≡ tapped)
       → length (flat_map (λ first. if b then xs first else []) (range_with_len 1 n)) ≡ (if b then 1 else 0) * tapped
@@ -115,10 +82,6 @@ module _ (f : Fabric) (fc pin : ℕ) where
       )
 
 -- ---- the sides of an output pin
-rows_none : (f : Fabric) (fc pin x y : ℕ) → tapped_rows f fc pin x y false false ≡ []
-unfolding tapped_rows
-rows_none f fc pin x y = flat_map_empty (λ first. []) 1 x (λ k _ _. refl)
-
 none_on : (f : Fabric) (fc pin x y : ℕ) → [] ≡ wires_on f fc pin x y no_sides
 none_on f fc pin x y = sym (append-nil _ ∙ rows_none f fc pin x y)
 

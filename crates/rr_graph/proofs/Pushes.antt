@@ -1,8 +1,9 @@
 -- Numbers pushed one list after another.
 use Rattle.std.proofs.Common.{◌≡◌, ℕ, ◌+◌, ◌-◌, ◌<◌, ◌≤◌, Bool, true, false, cond, List, [], ◌∷◌, ◌++◌, length, map, take, drop, get_or, refl, sym, subst, ap, ◌∙◌, arith}
 use Rattle.std.specs.List.{range_with_len, flat_map}
-use Rattle.std.proofs.lemmas.List.{append-nil, append_assoc, length-append, take-append-drop, map_more}
+use Rattle.std.proofs.lemmas.List.{append-nil, append_assoc, length-append, take-append-drop, take_more, map_more}
 use Rattle.std.proofs.lemmas.List.Sums.{length-filter, count_by-le-length}
+use Rattle.std.proofs.lemmas.List.Folds.{length-flat_map-take}
 use Rattle.std.proofs.lemmas.List.Concat.{flat_map-append}
 use Rattle.smallvec.specs.SmallVec.{SmallVec, HasRoomFor}
 use Rattle.rr_graph.specs.Fabric.{numbers_below}
@@ -61,6 +62,17 @@ module _ {a b : SmallVec ℕ} where
         length-append (g k ++ []) rest,
         ap length (append-nil (g k)),
       )
+
+-- ---- a loop over a list, of which each element gives a list
+module _ {X : Type 0} {a b : SmallVec ℕ} (g : X → List ℕ) (xs : List X) (i : ℕ) (d : X) (h : Pushes a (flat_map g (take i xs)) b) (l : i < length xs) where
+  pub pushed_each : {c : SmallVec ℕ} → Pushes b (g (get_or xs i d)) c → Pushes a (flat_map g (take (i + 1) xs)) c
+  pushed_each {c} m =
+      let x = get_or xs i d in
+      let next = ap (flat_map g) (take_more xs i d l) ∙ flat_map-append g (take i xs) (x ∷ []) ∙ ap (λ ns. flat_map g (take i xs) ++ ns) (append-nil (g x)) in
+      subst (λ ns. Pushes a ns c) (sym next) (pushed_then h m)
+
+  pub room_each : HasRoomFor a (length (flat_map g xs)) → HasRoomFor b (length (g (get_or xs i d)))
+  room_each r = omega (arith, ap length h.items, length-append a.items (flat_map g (take i xs)), h.capacity, length-flat_map-take g xs i d l)
 
 -- ---- a loop over numbers from s on
 module _ {a b : SmallVec ℕ} (g : ℕ → List ℕ) (s k : ℕ) (h : Pushes a (flat_map g (range_with_len s k)) b) where

@@ -15,7 +15,7 @@ remainder n w l = elim (cases_lt n w) [
 ]
 
 -- the steps from p on to a track, where the first track comes after the last
-abbrev steps : (w p t : ℕ) → ℕ
+abbrev pub steps : (w p t : ℕ) → ℕ
 steps w p t = (t + w - p % w) % w
 
 module _ (w p t : ℕ) (within : t < w) where
@@ -28,7 +28,7 @@ module _ (w p t : ℕ) (within : t < w) where
     | inr e ↦ inr (omega (arith, mod-add-mod p w s))
   ]
 
-  steps_unique : (s : ℕ) → s < w → (p + s) % w ≡ t → s ≡ steps w p t
+  pub steps_unique : (s : ℕ) → s < w → (p + s) % w ≡ t → s ≡ steps w p t
   steps_unique s l e = elim steps_are [
     | inl a ↦ elim (lands s l) [ inl b ↦ omega arith | inr b ↦ omega arith ]
     | inr a ↦ elim (lands s l) [ inl b ↦ omega arith | inr b ↦ omega arith ]
@@ -57,7 +57,7 @@ module _ (count w i : ℕ) (some : 0 < count) (wide : 0 < w) where
       let up = mul-le-mul_right {m = first_tap count w d} {n = i} w first_tap_below in
       div-eq_of_lt-le {k = d} count (omega (arith, lt-div-mul-add {a = d * count + w - 1} wide)) (omega (arith, up, lt-div-mul-add {a = i * w} some))
 
-  step_below : i < count → (i * w) / count < w
+  pub step_below : i < count → (i * w) / count < w
   step_below l = (div-lt_iff_lt-mul some).1 (omega (arith, mul-le-mul_right {m = i + 1} {n = count} w (omega arith)))
 
 module _ (count w p t : ℕ) (some : 0 < count) (wide : 0 < w) where

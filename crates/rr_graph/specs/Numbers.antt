@@ -2,10 +2,12 @@
 use Rattle.std.specs.Prelude.{◌≡◌}
 use Rattle.rr_graph.specs.declared.block.Block.{Block}
 use Rattle.rr_graph.specs.declared.channel.Channel.{Channel}
+use Rattle.rr_graph.specs.declared.pins.TapCounts.{TapCounts}
 use Rattle.rr_graph.specs.declared.sides.BlockSides.{BlockSides}
 use Rattle.rr_graph.specs.declared.starts.Starts.{Starts}
 use Rattle.rr_graph.specs.declared.parts.Kind.TheVariants.{Source, Sink, Opin, Ipin, Chanx, Chany}
 use Rattle.rr_graph.specs.Fabric.{Fabric}
+use Rattle.rr_graph.specs.Pins.{tap_count}
 use Rattle.rr_graph.specs.Nodes.{node_count_of}
 use Rattle.rr_graph.specs.Starts.{kind_start}
 use Rattle.rr_graph.specs.Numbering.{block_numbers}
@@ -28,10 +30,17 @@ pub record IsStarts (f : Fabric) (s : Starts) : Type 0 where
   pub chany : s.chany ≡ kind_start f Chany
   pub end : s.end ≡ node_count_of f
 
+-- how many tracks a pin of each kind taps
+pub record IsTapCounts (f : Fabric) (t : TapCounts) : Type 0 where
+  pub output : t.output ≡ tap_count f.architecture.fc_type f.architecture.fc_output f.width
+  pub input : t.input ≡ tap_count f.architecture.fc_type f.architecture.fc_input f.width
+  pub pad : t.pad ≡ tap_count f.architecture.fc_type f.architecture.fc_pad f.width
+
 -- the tables of a device
-pub record IsTabled (f : Fabric) (b : Block) (r c : Channel) (p : BlockSides) (s : Starts) : Type 0 where
+pub record IsTabled (f : Fabric) (b : Block) (r c : Channel) (p : BlockSides) (s : Starts) (t : TapCounts) : Type 0 where
   pub block : IsBlock f b
   pub rows : IsChannel f f.nx r
   pub columns : IsChannel f f.ny c
   pub sides : IsSides f p
   pub starts : IsStarts f s
+  pub counts : IsTapCounts f t

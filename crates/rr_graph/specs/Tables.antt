@@ -1,6 +1,6 @@
 -- What the tables of a device hold: the wires of its channels, counted and found by track and place.
-use Rattle.std.specs.Prelude.{◌≡◌, ℕ, ◌+◌, if◌then◌else◌, List, [], length, map}
-use Rattle.std.specs.List.{flat_map, filter}
+use Rattle.std.specs.Prelude.{◌≡◌, ℕ, ◌+◌, ◌-◌, ◌==◌, if◌then◌else◌, List, [], length, map}
+use Rattle.std.specs.List.{range_with_len, flat_map, filter}
 use Rattle.rr_graph.specs.declared.channel.Stagger.{Stagger}
 use Rattle.rr_graph.specs.declared.channel.Beginning.{Beginning}
 use Rattle.rr_graph.specs.declared.channel.Wire.{Wire}
@@ -42,8 +42,21 @@ wire_at f n place track =
 abbrev pub wires_at : Fabric → (n place : ℕ) → List Wire
 wires_at f n place = map (wire_at f n place) (numbers_below (tracks_in f.mode f.width))
 
+-- the tracks whose wires through a place begin at place first
+abbrev pub tracks_from : Fabric → (n place first : ℕ) → List ℕ
+tracks_from f n place first = filter (λ t. first_of f n t place == first) (numbers_below (tracks_in f.mode f.width))
+
+-- the tracks whose wires through a place begin at place first or behind it, in the order of where they do
+unfoldable pub tracks_since : Fabric → (n place first : ℕ) → List ℕ
+tracks_since f n place first = flat_map (tracks_from f n place) (range_with_len first (place + 1 - first))
+
+-- all tracks, in the order of where their wires through a place begin
+abbrev pub tracks_through : Fabric → (n place : ℕ) → List ℕ
+tracks_through f n place = tracks_since f n place 1
+
 -- the tables of a channel of n places
 pub record IsChannel (f : Fabric) (n : ℕ) (c : Channel) : Type 0 where
   pub before : c.before.items ≡ map (wires_before f n) (numbers_below (n + 2))
   pub beginnings : c.beginnings.items ≡ beginnings_of f n
   pub wires : c.wires.items ≡ flat_map (λ m. wires_at f n (m + 1)) (numbers_below n)
+  pub order : c.order.items ≡ flat_map (tracks_through f n) (numbers_below (n + 1))

@@ -1,5 +1,5 @@
 -- The places of sources, sinks and pins, and how an output pin reaches wires.
-use Rattle.std.specs.Prelude.{◌≡◌, ℕ, ◌+◌, ◌-◌, ◌≤◌, ◌<◌, ◌==◌, ◌&&◌, false, true, if◌then◌else◌, List, [], ◌++◌, slice_get, Option, Some, None}
+use Rattle.std.specs.Prelude.{◌≡◌, ℕ, ◌+◌, ◌-◌, ◌≤◌, ◌<◌, ◌==◌, false, true, if◌then◌else◌, List, [], ◌++◌, slice_get, Option, Some, None}
 use Rattle.arch_file.specs.declared.parts.Sides.{Sides}
 use Rattle.arch_file.specs.declared.parts.Pin.{Pin}
 use Rattle.rr_graph.specs.declared.parts.Node.{Node}
@@ -25,15 +25,13 @@ pub record IsTapper (f : Fabric) (t : Tapper) : Type 0 where
   pub some : 1 ≤ t.count
   pub few : t.count ≤ 256
 
--- a track's wire through a column, above a row, if it begins at place first and the pin taps the track
-abbrev pub above_piece : Fabric → (fc pin column row first track : ℕ) → List ℕ
-above_piece f fc pin column row first track =
-    when (first == first_of f f.nx track column && taps_track f fc pin track) (wire_id f Chanx first row track)
+-- a track's wire through a column, above a row, if the pin taps the track
+abbrev pub above_wire : Fabric → (fc pin column row track : ℕ) → List ℕ
+above_wire f fc pin column row track = when (taps_track f fc pin track) (wire_id f Chanx (first_of f f.nx track column) row track)
 
--- a track's wire through a row, right of a column, if it begins at place first and the pin taps the track
-abbrev pub right_piece : Fabric → (fc pin column row first track : ℕ) → List ℕ
-right_piece f fc pin column row first track =
-    when (first == first_of f f.ny track row && taps_track f fc pin track) (wire_id f Chany column first track)
+-- a track's wire through a row, right of a column, if the pin taps the track
+abbrev pub right_wire : Fabric → (fc pin column row track : ℕ) → List ℕ
+right_wire f fc pin column row track = when (taps_track f fc pin track) (wire_id f Chany column (first_of f f.ny track row) track)
 
 abbrev pub all_tracks : Fabric → List ℕ
 all_tracks f = numbers_below (tracks_in f.mode f.width)

@@ -45,6 +45,8 @@ pub(crate) struct Channel {
     pub(crate) beginnings: Vec<Beginning>,
     /// For each place the wires that run through it, by track.
     pub(crate) wires: Vec<Wire>,
+    /// For each place the tracks, in the order of where their wires through it begin.
+    pub(crate) order: Vec<u8>,
 }
 
 impl Layout {
@@ -326,10 +328,12 @@ impl Layout {
         let count = before.last().copied().unwrap_or(0);
         let beginnings = self.beginnings(alloc, &staggers, places, count as usize)?;
         let wires = self.wires(alloc, &staggers, places, &before)?;
+        let order = self.order(alloc, &wires, places)?;
         Ok(Channel {
             before,
             beginnings,
             wires,
+            order,
         })
     }
 
@@ -346,6 +350,17 @@ impl Layout {
         channel.before[place as usize]
     }
 
+    /// The wire of a track through a place, where those through each place of a channel of `places` places are given.
+    pub(crate) fn wire_among(&self, wires: &[Wire], places: u32, place: u32, track: u32) -> Wire
+        requires few { places ≤ 100 }
+        requires within { (1 ≤ place) × (place ≤ places) }
+        requires track { track < tracks_in self.now.mode self.now.width }
+        requires wires { wires.now ≡ flat_map (λ m. wires_at self.now places (m + 1)) (numbers_below places) }
+        ensures { result ≡ wire_at self.now places place track }
+    {
+        wires[((place - 1) * self.tracks() + track) as usize]
+    }
+
     /// The wire of a track through a place of a channel of `places` places.
     pub(crate) fn wire_at(&self, channel: &Channel, places: u32, place: u32, track: u32) -> Wire
         requires few { places ≤ 100 }
@@ -354,7 +369,6 @@ impl Layout {
         requires tables { IsChannel self.now places channel.now }
         ensures { result ≡ wire_at self.now places place track }
     {
-        let wires: &[Wire] = &channel.wires;
-        wires[((place - 1) * self.tracks() + track) as usize]
+        self.wire_among(&channel.wires, places, place, track)
     }
 }

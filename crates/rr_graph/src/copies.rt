@@ -25,6 +25,7 @@ impl Device {
         let columns = layout.channel(alloc, layout.ny())?;
         let sides = layout.sides(alloc)?;
         let starts = layout.starts(&block, &rows, &columns);
+        let counts = layout.tap_counts();
         Ok(Device {
             layout,
             block,
@@ -32,6 +33,7 @@ impl Device {
             columns,
             sides,
             starts,
+            counts,
         })
     }
 

@@ -12,6 +12,7 @@ use crate::channel::Channel;
 use crate::fault::DeviceFault;
 use crate::layout::Layout;
 use crate::parts::{Kind, Label, Mode, Node, Span};
+use crate::pins::TapCounts;
 use crate::sides::BlockSides;
 use crate::starts::Starts;
 use arch_file::Arch;
@@ -29,6 +30,7 @@ pub struct Device {
     pub(crate) columns: Channel,
     pub(crate) sides: BlockSides,
     pub(crate) starts: Starts,
+    pub(crate) counts: TapCounts,
 }
 
 impl Model for Device {
@@ -41,7 +43,7 @@ impl Model for Device {
 
     ghost view = { λ d. d.layout };
 
-    ghost invariant = { λ d. IsFabric d.layout × IsTabled d.layout d.block d.rows d.columns d.sides d.starts };
+    ghost invariant = { λ d. IsFabric d.layout × IsTabled d.layout d.block d.rows d.columns d.sides d.starts d.counts };
 }
 
 impl Device {
@@ -211,8 +213,9 @@ impl Device {
     {
         match (self.node(from), self.node(to)) {
             (Some(a), Some(b)) => {
-                self.layout
-                    .is_edge(a, self.last_of(from, a), b, self.last_of(to, b))
+                let a_last = self.last_of(from, a);
+                let b_last = self.last_of(to, b);
+                self.layout.is_edge(self.counts, a, a_last, b, b_last)
             }
             _ => false,
         }

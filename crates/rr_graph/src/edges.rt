@@ -4,9 +4,11 @@ ghost use Rattle.std.specs.Prelude.{◌≡◌, ◌==◌, ◌&&◌};
 ghost use Rattle.rr_graph.specs.Wires.{last_by};
 ghost use Rattle.rr_graph.specs.Channels.{is_next_to, passes_corner};
 ghost use Rattle.rr_graph.specs.Edges.{is_edge};
+ghost use Rattle.rr_graph.specs.Numbers.{IsTapCounts};
 
 use crate::layout::Layout;
 use crate::parts::{Kind, Node};
+use crate::pins::TapCounts;
 
 /// Whether two wires of one track of a channel are different and touch a common corner.
 fn is_next_to(first: u32, last: u32, other: u32, other_last: u32) -> bool
@@ -51,19 +53,27 @@ fn columns_join(a: Node, a_last: u32, b: Node, b_last: u32) -> bool
 }
 
 impl Layout {
-    /// Whether an edge leads from a to b, whose last places are given.
+    /// Whether an edge leads from a to b, whose last places are given, and how many tracks pins tap.
     #[tactic(auto, using(crate::proofs::JoinTests::rows_join, crate::proofs::JoinTests::row_and_column_join, crate::proofs::JoinTests::column_and_row_join, crate::proofs::JoinTests::columns_join), unfolding(crate::specs::Edges::is_edge))]
-    pub(crate) fn is_edge(&self, a: Node, a_last: u32, b: Node, b_last: u32) -> bool
+    pub(crate) fn is_edge(
+        &self,
+        counts: TapCounts,
+        a: Node,
+        a_last: u32,
+        b: Node,
+        b_last: u32,
+    ) -> bool
+        requires counts { IsTapCounts self.now counts }
         requires a_last { a_last ≡ last_by a.kind self.now a }
         requires b_last { b_last ≡ last_by b.kind self.now b }
         ensures { result ≡ is_edge self.now a b }
     {
         match (a.kind, b.kind) {
             (Kind::Source, Kind::Opin) => self.belongs(b, a),
-            (Kind::Opin, Kind::Chanx) => self.taps(a, b, b_last),
-            (Kind::Opin, Kind::Chany) => self.taps(a, b, b_last),
-            (Kind::Chanx, Kind::Ipin) => self.taps(b, a, a_last),
-            (Kind::Chany, Kind::Ipin) => self.taps(b, a, a_last),
+            (Kind::Opin, Kind::Chanx) => self.taps(counts, a, b, b_last),
+            (Kind::Opin, Kind::Chany) => self.taps(counts, a, b, b_last),
+            (Kind::Chanx, Kind::Ipin) => self.taps(counts, b, a, a_last),
+            (Kind::Chany, Kind::Ipin) => self.taps(counts, b, a, a_last),
             (Kind::Ipin, Kind::Sink) => self.belongs(a, b),
             (Kind::Chanx, Kind::Chanx) => rows_join(a, a_last, b, b_last),
             (Kind::Chanx, Kind::Chany) => row_and_column_join(a, a_last, b, b_last),

@@ -24,6 +24,7 @@ mod sides;
 mod starts;
 mod successors;
 mod terminals;
+mod tracks;
 mod wires;
 
 pub use device::Device;

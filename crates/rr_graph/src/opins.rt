@@ -1,16 +1,17 @@
 //! The successors of output pins, from their places by arithmetic.
 
-ghost use Rattle.std.specs.Prelude.{◌≡◌, ◌+◌, ◌<◌, ◌≤◌, ◌==◌, ◌&&◌, if◌then◌else◌, [], true, length};
+ghost use Rattle.std.specs.Prelude.{◌≡◌, ◌+◌, ◌<◌, ◌≤◌, ◌==◌, ◌&&◌, if◌then◌else◌, [], true, length, All};
 ghost use Rattle.std.specs.List.{filter, flat_map};
 ghost use Rattle.smallvec.specs.SmallVec.{HasRoomFor};
 ghost use Rattle.rr_graph.specs.Wires.{tracks_in};
 ghost use Rattle.rr_graph.specs.PinSuccessors.{taps_track, tapped_chanx, tapped_rows, tapped_column, opin_successors};
 ghost use Rattle.rr_graph.specs.Pushes.{Pushes};
-ghost use Rattle.rr_graph.specs.Terminals.{IsTapper, above_piece, right_piece, all_tracks, rows_piece, wires_on, AreSides, IsTerminal, sides_of_pin, sides_of_pad, opin_sides, opin_fc};
+ghost use Rattle.rr_graph.specs.Tables.{tracks_from, tracks_through};
+ghost use Rattle.rr_graph.specs.Terminals.{IsTapper, above_wire, right_wire, all_tracks, rows_piece, wires_on, AreSides, IsTerminal, sides_of_pin, sides_of_pad, opin_sides, opin_fc};
 
 use crate::device::Device;
 use crate::layout::Layout;
-use crate::parts::Node;
+use crate::parts::{Mode, Node};
 use arch_file::{Pin, Sides};
 use smallvec::SmallVec;
 
@@ -70,109 +71,75 @@ impl Layout {
     {
         self.taps_by_count(tapper.count, tapper.number, track)
     }
-
-    /// Whether it does, and two places are one.
-    fn taps_from_place(&self, tapper: Tapper, track: u32, first: u32, place: u32) -> bool
-        requires { IsTapper self.now tapper }
-        ensures { result ≡ (first == place && taps_track self.now tapper.fc tapper.number track) }
-    {
-        first == place && self.taps_as(tapper, track)
-    }
 }
 
 impl Device {
-    /// The track's wire through a column, above a row, if it begins at place `first` and the pin taps it.
-    #[tactic(auto, using(crate::proofs::OpinWires::place_is))]
+    /// The track's wire through a column, above a row, if the pin taps it.
     fn push_track_above(
         &self,
         list: &mut SmallVec<u32, 8>,
         tapper: Tapper,
         column: u32,
         row: u32,
-        first: u32,
         track: u32,
     )
-        requires room { HasRoomFor list.old (length (above_piece self.now tapper.fc tapper.number column row first track)) }
+        requires room { HasRoomFor list.old (length (above_wire self.now tapper.fc tapper.number column row track)) }
         requires tapper { IsTapper self.now tapper }
         requires column { (1 ≤ column) × (column ≤ self.now.nx) }
         requires row { row ≤ self.now.ny }
         requires track { track < tracks_in self.now.mode self.now.width }
-        ensures { Pushes list.old (above_piece self.now tapper.fc tapper.number column row first track) list.new }
+        ensures { Pushes list.old (above_wire self.now tapper.fc tapper.number column row track) list.new }
     {
-        let place = u32::from(self.wire_above(track, column).first);
-        if self.layout.taps_from_place(tapper, track, first, place) {
+        if self.layout.taps_as(tapper, track) {
             list.push_reserved(self.run_above(track, column, row).first);
         }
     }
 
-    /// The track's wire through a row, right of a column, if it begins at place `first` and the pin taps it.
-    #[tactic(auto, using(crate::proofs::OpinWires::place_is))]
+    /// The track's wire through a row, right of a column, if the pin taps it.
     fn push_track_right(
         &self,
         list: &mut SmallVec<u32, 8>,
         tapper: Tapper,
         column: u32,
         row: u32,
-        first: u32,
         track: u32,
     )
-        requires room { HasRoomFor list.old (length (right_piece self.now tapper.fc tapper.number column row first track)) }
+        requires room { HasRoomFor list.old (length (right_wire self.now tapper.fc tapper.number column row track)) }
         requires tapper { IsTapper self.now tapper }
         requires row { (1 ≤ row) × (row ≤ self.now.ny) }
         requires column { column ≤ self.now.nx }
         requires track { track < tracks_in self.now.mode self.now.width }
-        ensures { Pushes list.old (right_piece self.now tapper.fc tapper.number column row first track) list.new }
+        ensures { Pushes list.old (right_wire self.now tapper.fc tapper.number column row track) list.new }
     {
-        let place = u32::from(self.wire_right(track, row).first);
-        if self.layout.taps_from_place(tapper, track, first, place) {
+        if self.layout.taps_as(tapper, track) {
             list.push_reserved(self.run_right(track, column, row).first);
         }
     }
 
-    /// The wires through a column, above a row, that begin at place `first` and that the pin taps.
-    #[tactic(auto, using(crate::proofs::Pushes::pushed_more, crate::proofs::Pushes::room_more))]
+    /// The wires of the tracks through a column, above a row, that the pin taps.
+    #[tactic(auto, using(crate::proofs::Pushes::pushed_each, crate::proofs::Pushes::room_each))]
     fn push_above(
         &self,
         list: &mut SmallVec<u32, 8>,
         tapper: Tapper,
         column: u32,
         row: u32,
-        first: u32,
+        tracks: &[u8],
     )
-        requires room { HasRoomFor list.old (length (flat_map (above_piece self.now tapper.fc tapper.number column row first) (all_tracks self.now))) }
+        requires room { HasRoomFor list.old (length (flat_map (above_wire self.now tapper.fc tapper.number column row) tracks.now)) }
         requires tapper { IsTapper self.now tapper }
         requires column { (1 ≤ column) × (column ≤ self.now.nx) }
         requires row { row ≤ self.now.ny }
-        ensures { Pushes list.old (flat_map (above_piece self.now tapper.fc tapper.number column row first) (all_tracks self.now)) list.new }
+        requires tracks { All (λ t. t < tracks_in self.now.mode self.now.width) tracks.now }
+        ensures { Pushes list.old (flat_map (above_wire self.now tapper.fc tapper.number column row) tracks.now) list.new }
     {
-        for track in 0..self.layout.tracks() {
-            self.push_track_above(list, tapper, column, row, first, track);
+        for track in tracks {
+            self.push_track_above(list, tapper, column, row, u32::from(*track));
         }
     }
 
-    /// The wires through a row, right of a column, that begin at place `first` and that the pin taps.
-    #[tactic(auto, using(crate::proofs::Pushes::pushed_more, crate::proofs::Pushes::room_more))]
-    fn push_right(
-        &self,
-        list: &mut SmallVec<u32, 8>,
-        tapper: Tapper,
-        column: u32,
-        row: u32,
-        first: u32,
-    )
-        requires room { HasRoomFor list.old (length (flat_map (right_piece self.now tapper.fc tapper.number column row first) (all_tracks self.now))) }
-        requires tapper { IsTapper self.now tapper }
-        requires row { (1 ≤ row) × (row ≤ self.now.ny) }
-        requires column { column ≤ self.now.nx }
-        ensures { Pushes list.old (flat_map (right_piece self.now tapper.fc tapper.number column row first) (all_tracks self.now)) list.new }
-    {
-        for track in 0..self.layout.tracks() {
-            self.push_track_right(list, tapper, column, row, first, track);
-        }
-    }
-
-    /// Those above a row, if that row is asked for.
-    #[tactic(auto, using(crate::proofs::OpinWires::above_by_track, crate::proofs::Pushes::pushed_none))]
+    /// Those above a row, of tracks whose wires begin at place `first`, if that row is asked for.
+    #[tactic(auto, using(crate::proofs::OpinWires::above_by_track, crate::proofs::TrackOrder::from_small, crate::proofs::Pushes::pushed_none))]
     fn push_above_if(
         &self,
         list: &mut SmallVec<u32, 8>,
@@ -180,20 +147,22 @@ impl Device {
         column: u32,
         row: u32,
         first: u32,
+        tracks: &[u8],
         wanted: bool,
     )
         requires room { HasRoomFor list.old (length (if wanted then tapped_chanx self.now tapper.fc tapper.number column row first else [])) }
         requires tapper { IsTapper self.now tapper }
         requires places { (1 ≤ first) × (first ≤ column) }
         requires row { wanted ≡ true → (column ≤ self.now.nx) × (row ≤ self.now.ny) }
+        requires tracks { tracks.now ≡ tracks_from self.now self.now.nx column first }
         ensures { Pushes list.old (if wanted then tapped_chanx self.now tapper.fc tapper.number column row first else []) list.new }
     {
         if wanted {
-            self.push_above(list, tapper, column, row, first);
+            self.push_above(list, tapper, column, row, tracks);
         }
     }
 
-    /// Those that begin at place `first` above the row before and above the row.
+    /// Those above the row before and above the row.
     #[tactic(auto, using(crate::proofs::Pushes::pushed_then, crate::proofs::Pushes::room_first, crate::proofs::Pushes::room_then))]
     fn push_first_above(
         &self,
@@ -202,21 +171,48 @@ impl Device {
         column: u32,
         row: u32,
         first: u32,
+        tracks: &[u8],
         sides: Sides,
     )
         requires room { HasRoomFor list.old (length (rows_piece self.now tapper.fc tapper.number column row sides first)) }
         requires tapper { IsTapper self.now tapper }
         requires places { (1 ≤ first) × (first ≤ column) }
         requires sides { AreSides self.now column row sides }
+        requires tracks { tracks.now ≡ tracks_from self.now self.now.nx column first }
         ensures { Pushes list.old (rows_piece self.now tapper.fc tapper.number column row sides first) list.new }
     {
         let below = row.saturating_sub(1);
-        self.push_above_if(list, tapper, column, below, first, sides.bottom);
-        self.push_above_if(list, tapper, column, row, first, sides.top);
+        self.push_above_if(list, tapper, column, below, first, tracks, sides.bottom);
+        self.push_above_if(list, tapper, column, row, first, tracks, sides.top);
+    }
+
+    /// All those above the two rows, where there are wires through the column.
+    #[tactic(auto, using(crate::proofs::Pushes::pushed_further, crate::proofs::Pushes::room_further), unfolding(crate::specs::PinSuccessors::tapped_rows))]
+    fn push_rows_through(
+        &self,
+        list: &mut SmallVec<u32, 8>,
+        tapper: Tapper,
+        column: u32,
+        row: u32,
+        sides: Sides,
+    )
+        requires room { HasRoomFor list.old (length (tapped_rows self.now tapper.fc tapper.number column row sides.bottom sides.top)) }
+        requires tapper { IsTapper self.now tapper }
+        requires column { (1 ≤ column) × (column ≤ self.now.nx) }
+        requires sides { AreSides self.now column row sides }
+        ensures { Pushes list.old (tapped_rows self.now tapper.fc tapper.number column row sides.bottom sides.top) list.new }
+    {
+        let mut tracks = self.tracks_above(column);
+        for before in 0..column {
+            let first = 1 + before;
+            let (begun, rest) = self.split_tracks(tracks, column, first);
+            self.push_first_above(list, tapper, column, row, first, begun, sides);
+            tracks = rest;
+        }
     }
 
     /// All those above the two rows.
-    #[tactic(auto, using(crate::proofs::Pushes::pushed_further, crate::proofs::Pushes::room_further), unfolding(crate::specs::PinSuccessors::tapped_rows))]
+    #[tactic(auto, using(crate::proofs::OpinWires::rows_none, crate::proofs::Pushes::pushed_none))]
     fn push_rows(
         &self,
         list: &mut SmallVec<u32, 8>,
@@ -230,21 +226,22 @@ impl Device {
         requires sides { AreSides self.now column row sides }
         ensures { Pushes list.old (tapped_rows self.now tapper.fc tapper.number column row sides.bottom sides.top) list.new }
     {
-        for before in 0..column {
-            self.push_first_above(list, tapper, column, row, 1 + before, sides);
+        if sides.bottom || sides.top {
+            self.push_rows_through(list, tapper, column, row, sides);
         }
     }
 
     /// All those right of a column.
-    #[tactic(auto, using(crate::proofs::Pushes::pushed_further, crate::proofs::Pushes::room_further, crate::proofs::OpinWires::right_by_track), unfolding(crate::specs::PinSuccessors::tapped_column))]
+    #[tactic(auto, using(crate::proofs::Pushes::pushed_each, crate::proofs::Pushes::room_each, crate::proofs::OpinWires::column_by_track, crate::proofs::TrackOrder::through_some, crate::proofs::TrackOrder::since_small))]
     fn push_column(&self, list: &mut SmallVec<u32, 8>, tapper: Tapper, column: u32, row: u32)
         requires room { HasRoomFor list.old (length (tapped_column self.now tapper.fc tapper.number column row)) }
         requires tapper { IsTapper self.now tapper }
         requires place { (column ≤ self.now.nx) × (row ≤ self.now.ny) }
         ensures { Pushes list.old (tapped_column self.now tapper.fc tapper.number column row) list.new }
     {
-        for before in 0..row {
-            self.push_right(list, tapper, column, row, 1 + before);
+        let tracks = self.tracks_right(row);
+        for track in tracks {
+            self.push_track_right(list, tapper, column, row, u32::from(*track));
         }
     }
 
@@ -299,32 +296,30 @@ impl Device {
         ensures number { result.number ≡ node.number }
         ensures tapper { IsTapper self.now result }
     {
-        let fc = if self.layout.is_block(node.x, node.y) {
-            self.layout.arch.fc_output()
+        let (fc, count) = if self.layout.is_block(node.x, node.y) {
+            (self.layout.arch.fc_output(), self.counts.output)
         } else {
-            self.layout.arch.fc_pad()
+            (self.layout.arch.fc_pad(), self.counts.pad)
         };
         Tapper {
             fc,
-            count: self.layout.tap_count(fc),
+            count,
             number: node.number,
         }
     }
 
     /// How many tracks the pin taps.
-    #[tactic(auto, using(crate::proofs::Ranges::count_kept, crate::proofs::Ranges::count_skipped))]
+    #[tactic(auto, using(crate::proofs::TracksTapped::tapped_detailed, crate::proofs::TracksTapped::tapped_global))]
     fn count_tapped(&self, tapper: Tapper) -> u32
         requires { IsTapper self.now tapper }
         ensures count { result ≡ length (filter (taps_track self.now tapper.fc tapper.number) (all_tracks self.now)) }
         ensures few { result ≤ 256 }
     {
-        let mut count = 0;
-        for track in 0..self.layout.tracks() {
-            if self.layout.taps_as(tapper, track) {
-                count += 1;
-            }
+        let _limits = self.nx();
+        match self.mode() {
+            Mode::Global => 1,
+            Mode::Detailed => tapper.count,
         }
-        count
     }
 
     /// The successors of an output pin.

@@ -3,11 +3,23 @@
 ghost use Rattle.std.specs.Prelude.{◌≡◌, ℕ, ◌+◌, ◌*◌, ◌/◌, ◌%◌, ◌==◌, ◌≤◌, ◌<◌, slice_get};
 ghost use Rattle.std.specs.List.{list_any};
 ghost use Rattle.rr_graph.specs.Wires.{last_by, runs_through};
-ghost use Rattle.rr_graph.specs.Pins.{tap_count, tracks_by, tapped_tracks, fc_at, channels_of_pin, channel_of_pad, channels_beside, is_marked_global, has_class, taps, belongs};
+ghost use Rattle.rr_graph.specs.Pins.{tap_count, tracks_by, fc_at, channels_of_pin, channel_of_pad, channels_beside, is_marked_global, has_class, taps, belongs};
+ghost use Rattle.rr_graph.specs.Numbers.{IsTapCounts};
 
 use crate::layout::Layout;
 use crate::parts::{Kind, Mode, Node};
 use arch_file::{FcType, Pin};
+
+/// How many tracks of each channel a pin taps that has no dedicated network.
+#[derive(Clone, Copy, Debug)]
+pub(crate) struct TapCounts {
+    /// An output pin of a block.
+    pub(crate) output: u32,
+    /// An input pin of a block.
+    pub(crate) input: u32,
+    /// A pin of a pad.
+    pub(crate) pad: u32,
+}
 
 /// Whether the pin has a dedicated network.
 pub(crate) fn is_marked_global(pin: Option<Pin>) -> bool
@@ -81,25 +93,32 @@ impl Layout {
         }
     }
 
-    /// Whether pin `number` taps the track by `fc`.
-    #[tactic(auto, unfolding(crate::specs::Pins::tapped_tracks))]
-    fn taps_track(&self, fc: u64, number: u32, track: u32) -> bool
-        ensures { result ≡ list_any (λ t. t == track) (tapped_tracks self.now fc number) }
+    /// How many tracks a pin of each kind taps.
+    pub(crate) fn tap_counts(&self) -> TapCounts
+        ensures { IsTapCounts self.now result }
     {
-        self.taps_by_count(self.tap_count(fc), number, track)
+        TapCounts {
+            output: self.tap_count(self.arch.fc_output()),
+            input: self.tap_count(self.arch.fc_input()),
+            pad: self.tap_count(self.arch.fc_pad()),
+        }
     }
 
-    /// Fc of a node of kind Opin or Ipin.
-    fn fc_at(&self, pin: Node) -> u64
-        ensures { result ≡ fc_at self.now pin }
+    /// How many tracks a node of kind Opin or Ipin taps.
+    fn count_at(&self, counts: TapCounts, pin: Node) -> u32
+        requires { IsTapCounts self.now counts }
+        ensures count { result ≡ tap_count self.now.architecture.fc_type (fc_at self.now pin) self.now.width }
+        ensures some { 1 ≤ result }
+        ensures few { result ≤ 256 }
     {
+        let _limits = self.width();
         if self.is_block(pin.x, pin.y) {
             match pin.kind {
-                Kind::Opin => self.arch.fc_output(),
-                _ => self.arch.fc_input(),
+                Kind::Opin => counts.output,
+                _ => counts.input,
             }
         } else {
-            self.arch.fc_pad()
+            counts.pad
         }
     }
 
@@ -151,15 +170,16 @@ impl Layout {
     }
 
     /// Whether the pin, a node of kind Opin or Ipin, taps the wire; `last` is the wire's last place.
-    #[tactic(auto, unfolding(crate::specs::Pins::taps))]
-    pub(crate) fn taps(&self, pin: Node, wire: Node, last: u32) -> bool
-        requires { last ≡ last_by wire.kind self.now wire }
+    #[tactic(auto, unfolding(crate::specs::Pins::taps, crate::specs::Pins::tapped_tracks))]
+    pub(crate) fn taps(&self, counts: TapCounts, pin: Node, wire: Node, last: u32) -> bool
+        requires counts { IsTapCounts self.now counts }
+        requires last { last ≡ last_by wire.kind self.now wire }
         ensures { result ≡ taps self.now pin wire }
     {
         let is_global = self.is_block(pin.x, pin.y) && is_marked_global(self.pin(pin.number));
         !is_global
             && (self.is_beside(pin, wire, last)
-                && self.taps_track(self.fc_at(pin), pin.number, wire.number))
+                && self.taps_by_count(self.count_at(counts, pin), pin.number, wire.number))
     }
 
     /// Whether the pin is of the terminal, a node of kind Source or Sink.

@@ -1,24 +1,37 @@
-use Rattle.std.proofs.Common.{ℕ, ◌+◌, List, length, sym, subst, arith}
+use Rattle.std.proofs.Common.{◌≡◌, ◌≤◌, ℕ, List, length, sym, ap, ◌∙◌, subst, arith}
+use Rattle.std.specs.List.{flat_map}
+use Rattle.std.proofs.lemmas.List.{take_all}
 use Rattle.smallvec.specs.SmallVec.{HasRoomFor}
-use Rattle.rr_graph.specs.PinSuccessors.{tapped_chany, tapped_column}
+use Rattle.rr_graph.specs.Fabric.{Fabric}
+use Rattle.rr_graph.specs.PinSuccessors.{tapped_column}
+use Rattle.rr_graph.specs.Tables.{tracks_through}
 use Rattle.rr_graph.specs.Pushes.{Pushes}
-use Rattle.rr_graph.proofs.Pushes.{pushed_further, room_further}
-use Rattle.rr_graph.proofs.OpinWires.{right_by_track}
+use Rattle.rr_graph.specs.Terminals.{right_wire}
+use Rattle.rr_graph.proofs.Pushes.{room_each}
+use Rattle.rr_graph.proofs.OpinWires.{column_by_track}
+use Rattle.rr_graph.proofs.TrackOrder.{through_some}
 use Rattle.rr_graph.proofs.device.Device.push_column.Goals as goal
 
-pub push_right-requires-clause-room : goal.push_right-requires-clause-room
-unfolding tapped_column
-push_right-requires-clause-room c =
-    let f = c.args.self.now in
-    let pin = c.args.tapper in
-    let room = room_further (tapped_chany f pin.fc pin.number c.args.column c.args.row) 1 c.loop-before.before c.loop-before.invariant c.args.row c.requires.room c.loop-before-test.true in
-    let same = right_by_track f pin.fc pin.number c.args.column c.args.row (1 + c.loop-before.before) (omega arith) (omega (arith, c.loop-before-test.true)) c.requires.place.1 in
-    subst (λ (ns : List ℕ). HasRoomFor c.loop-before.list (length ns)) same room
+by_tracks : (f : Fabric) (fc pin column row : ℕ) (ts : List ℕ) → row ≤ f.ny → ts ≡ tracks_through f f.ny row → tapped_column f fc pin column row ≡ flat_map (right_wire f fc pin column row) ts
+by_tracks f fc pin column row ts l e = column_by_track f fc pin column row l ∙ ap (flat_map (right_wire f fc pin column row)) (sym e)
 
-pub loop-before-preserved : goal.loop-before-preserved
-loop-before-preserved c =
+pub push_track_right-requires-clause-room : goal.push_track_right-requires-clause-room
+push_track_right-requires-clause-room c =
     let f = c.args.self.now in
     let pin = c.args.tapper in
-    let same = right_by_track f pin.fc pin.number c.args.column c.args.row (1 + c.loop-before.before) (omega arith) (omega (arith, c.loop-before-test.true)) c.requires.place.1 in
-    pushed_further (tapped_chany f pin.fc pin.number c.args.column c.args.row) 1 c.loop-before.before c.loop-before.invariant
-    (subst (λ ns. Pushes c.loop-before.list ns c.push_right.new.list) (sym same) c.push_right.ensures)
+    let same = by_tracks f pin.fc pin.number c.args.column c.args.row c.tracks_right-tracks.result.now c.requires.place.1 c.tracks_right-tracks.ensures in
+    let room = subst (λ (ns : List ℕ). HasRoomFor c.args.list.now (length ns)) same c.requires.room in
+    rw c.from.ensures (room_each (right_wire f pin.fc pin.number c.args.column c.args.row) c.tracks_right-tracks.result.now c.loop-track.track-index 0 c.loop-track.invariant c.loop-track-test.true room)
+
+pub push_track_right-requires-clause-row : goal.push_track_right-requires-clause-row
+push_track_right-requires-clause-row c =
+    (through_some c.args.self.now c.args.self.now.ny c.args.row c.loop-track.track-index (omega (arith, c.loop-track-test.true, ap length c.tracks_right-tracks.ensures)), c.requires.place.1)
+
+pub returns : goal.returns
+returns c =
+    let f = c.args.self.now in
+    let pin = c.args.tapper in
+    let tracks = c.tracks_right-tracks.result.now in
+    let same = by_tracks f pin.fc pin.number c.args.column c.args.row tracks c.requires.place.1 c.tracks_right-tracks.ensures in
+    let all = ap (flat_map (right_wire f pin.fc pin.number c.args.column c.args.row)) (take_all c.loop-track.track-index tracks c.loop-track-test.false) in
+    subst (λ ns. Pushes c.args.list.now ns c.loop-track.list) (all ∙ sym same) c.loop-track.invariant

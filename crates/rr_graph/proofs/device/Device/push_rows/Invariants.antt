@@ -1,7 +1,0 @@
-use Rattle.std.specs.List.{range_with_len, flat_map}
-use Rattle.rr_graph.specs.Pushes.{Pushes}
-use Rattle.rr_graph.specs.Terminals.{rows_piece}
-use Rattle.rr_graph.proofs.device.Device.push_rows.Given as goal
-
-abbrev pub invariant-loop-before : goal.invariant-loop-before
-invariant-loop-before l = Pushes l.initial.list (flat_map (rows_piece l.self l.fn.tapper.fc l.fn.tapper.number l.column l.row l.fn.sides) (range_with_len 1 l.before)) l.list
