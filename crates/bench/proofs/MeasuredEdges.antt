@@ -14,7 +14,7 @@ use Rattle.rr_graph.specs.Edges.{successors_of, edge_between}
 use Rattle.bench.specs.declared.edges.Found.{Found}
 use Rattle.bench.specs.declared.edges.Pair.{Pair}
 use Rattle.bench.specs.LookUps.{check_sum}
-use Rattle.bench.specs.Turns.{number_at_turn}
+use Rattle.bench.specs.Turns.{number_at_turn, numbers_at_turns}
 use Rattle.bench.specs.Edges.{found_more, found_from, last_or_zero, pairs_from, pairs_at_turns, is_edge_pair}
 
 -- a sum in 64 bits over one number more
@@ -40,11 +40,11 @@ found_next f a i found le e =
     ∙ found_is _ _ _ _ _ _ (sym (sum_next (λ i. 1) a i le)) (sym (sum_next (λ i. length (successors_of f i)) a i le)) (sym (sum_next (λ i. last_or_zero (successors_of f i)) a i le))
 
 pub no_pairs : (f : Fabric) (count : ℕ) → [] ≡ pairs_at_turns f count 0
-unfolding pairs_at_turns
+unfolding pairs_at_turns numbers_at_turns
 no_pairs f count = refl
 
 pub pairs_next : (f : Fabric) (count turn : ℕ) → pairs_at_turns f count turn ++ pairs_from (number_at_turn count turn) (successors_of f (number_at_turn count turn)) ≡ pairs_at_turns f count (turn + 1)
-unfolding pairs_at_turns
+unfolding pairs_at_turns numbers_at_turns
 pairs_next f count turn =
     let from : ℕ → List Pair = λ i. pairs_from i (successors_of f i) in
     flat_map_more from [] (map (number_at_turn count) (range_with_len 0 turn)) (number_at_turn count turn)
@@ -62,5 +62,5 @@ edges_from f i =
     All-map (λ p. is_edge_pair f p ≡ true) pair (successors_of f i) (filter_passes (edge_between f i) (numbers_below (node_count_of f)))
 
 pub pairs_are_edges : (f : Fabric) (count turns : ℕ) → AllPass (is_edge_pair f) (pairs_at_turns f count turns)
-unfolding pairs_at_turns
+unfolding pairs_at_turns numbers_at_turns
 pairs_are_edges f count turns = joined_pass (is_edge_pair f) _ _ (edges_from f)

@@ -7,5 +7,5 @@ abbrev pub number_at_turn : (count turn : ℕ) → ℕ
 number_at_turn count turn = turn * 8388617 % count
 
 -- the numbers below `count` at the first turns
-abbrev pub numbers_at_turns : (count turns : ℕ) → List ℕ
+unfoldable pub numbers_at_turns : (count turns : ℕ) → List ℕ
 numbers_at_turns count turns = map (number_at_turn count) (numbers_below turns)

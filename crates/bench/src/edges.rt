@@ -1,9 +1,10 @@
 //! Measures the edges of a device: all successors of its wires, and single edges.
 
-ghost use Rattle.std.specs.Prelude.{◌≡◌, ◌+◌, ◌%◌, ◌^◌, ◌≤◌, ◌⊎◌, ◌++◌, true, length, All, count_by, find, unwrap_or, vec_len, IfOk, OnOk, ◌-◌};
+ghost use Rattle.std.specs.Prelude.{◌≡◌, ◌+◌, ◌%◌, ◌^◌, ◌≤◌, ◌⊎◌, ◌++◌, true, length, All, count_by, find, unwrap_or, vec_len, IfOk, IfErr, OnOk, ◌-◌};
 ghost use Rattle.std.specs.List.{range_with_len, AllPass};
 ghost use Rattle.rr_graph.specs.Fabric.{numbers_below};
 ghost use Rattle.rr_graph.specs.Nodes.{node_at, node_count_of};
+ghost use Rattle.bench.specs.Faults.{IsOutside};
 ghost use Rattle.bench.specs.Edges.{is_wire_at, first_wire, last_or_zero, found_more, found_from, pairs_from, pairs_at_turns, is_edge_pair};
 
 use crate::fault::BenchFault;
@@ -96,7 +97,9 @@ fn find_successors(
 pub fn measure_successors(
     rt: &(impl Clock + Eprint + AllocGlobal),
     device: &Device,
-) -> Result<(), BenchFault> {
+) -> Result<(), BenchFault>
+    ensures { IfErr result IsOutside }
+{
     let first = first_wire(device);
     let mut list = SmallVec::new(rt.alloc());
     let start = Instant::now(rt)?;
@@ -169,7 +172,9 @@ fn count_edges(device: &Device, pairs: &[Pair]) -> u64
 pub fn measure_edge(
     rt: &(impl Clock + Eprint + AllocGlobal),
     device: &Device,
-) -> Result<(), BenchFault> {
+) -> Result<(), BenchFault>
+    ensures { IfErr result IsOutside }
+{
     let count = device.node_count();
     if count == 0 {
         return Ok(());

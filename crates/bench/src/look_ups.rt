@@ -1,8 +1,9 @@
 //! Measures the look-ups of nodes by number and back.
 
-ghost use Rattle.std.specs.Prelude.{◌≡◌, IfOk};
+ghost use Rattle.std.specs.Prelude.{◌≡◌, IfOk, IfErr};
 ghost use Rattle.std.specs.List.{filter_map};
 ghost use Rattle.rr_graph.specs.Nodes.{node_at};
+ghost use Rattle.bench.specs.Faults.{IsIo, IsOutside};
 ghost use Rattle.bench.specs.LookUps.{sum_of_node, check_sum, sum_at, id_or_zero};
 
 use crate::fault::BenchFault;
@@ -77,11 +78,9 @@ fn sum_ids(device: &Device, nodes: &[Node]) -> u64
 }
 
 /// Measures `node` at the numbers.
-fn measure_node(
-    rt: &(impl Clock + Eprint),
-    device: &Device,
-    ids: &[u32],
-) -> Result<(), BenchFault> {
+fn measure_node(rt: &(impl Clock + Eprint), device: &Device, ids: &[u32]) -> Result<(), BenchFault>
+    ensures { IfErr result IsIo }
+{
     let start = Instant::now(rt)?;
     let sum = sum_nodes(device, ids);
     let time = start.elapsed(rt)?;
@@ -89,11 +88,9 @@ fn measure_node(
 }
 
 /// Measures `id` at the nodes.
-fn measure_id(
-    rt: &(impl Clock + Eprint),
-    device: &Device,
-    nodes: &[Node],
-) -> Result<(), BenchFault> {
+fn measure_id(rt: &(impl Clock + Eprint), device: &Device, nodes: &[Node]) -> Result<(), BenchFault>
+    ensures { IfErr result IsIo }
+{
     let start = Instant::now(rt)?;
     let sum = sum_ids(device, nodes);
     let time = start.elapsed(rt)?;
@@ -104,7 +101,9 @@ fn measure_id(
 pub fn measure_look_ups(
     rt: &(impl Clock + Eprint + AllocGlobal),
     device: &Device,
-) -> Result<(), BenchFault> {
+) -> Result<(), BenchFault>
+    ensures { IfErr result IsOutside }
+{
     let count = device.node_count();
     if count == 0 {
         return Ok(());

@@ -18,6 +18,7 @@ pub fn spread(turn: u32, count: u32) -> u32
 }
 
 /// The numbers below `count` at the first turns.
+#[tactic(auto, unfolding(crate::specs::Turns::numbers_at_turns))]
 pub fn spread_numbers(alloc: Global, turns: u32, count: u32) -> Result<Vec<u32>, AllocError>
     requires { 1 ≤ count }
     ensures { IfOk result (λ numbers. numbers.items ≡ numbers_at_turns count turns) }
