@@ -18,32 +18,40 @@ use Rattle.bench.specs.Turns.{number_at_turn, numbers_at_turns}
 use Rattle.bench.specs.Edges.{found_more, found_from, last_or_zero, pairs_from, pairs_at_turns, is_edge_pair}
 
 -- a sum in 64 bits over one number more
-sum_next : (g : ℕ → ℕ) (a i : ℕ) → a ≤ i → check_sum g (range_with_len a (i + 1 - a)) ≡ (check_sum g (range_with_len a (i - a)) + g i) % 2 ^ 64
+sum_next : (g : ℕ → ℕ) (a i : ℕ) → a ≤ i
+    → check_sum g (range_with_len a (i + 1 - a)) ≡ (check_sum g (range_with_len a (i - a)) + g i) % 2 ^ 64
 sum_next g a i le =
     let n : i + 1 - a ≡ i - a + 1 = omega arith in
     let at : a + (i - a) ≡ i = omega arith in
     ap (λ k. check_sum g (range_with_len a k)) n
-    ∙ ap (λ s. s % 2 ^ 64) (ap (sum_by g) (range_more a (i - a)) ∙ sum_by_push g (range_with_len a (i - a)) (a + (i - a)) ∙ ap (λ k. sum_by g (range_with_len a (i - a)) + g k) at)
+    ∙ ap (λ s. s % 2 ^ 64) (ap (sum_by g) (range_more a (i - a))
+    ∙ sum_by_push g (range_with_len a (i - a)) (a + (i - a))
+    ∙ ap (λ k. sum_by g (range_with_len a (i - a)) + g k) at)
     ∙ sym (mod-add-mod _ _ _)
 
-found_is : (w w' s s' t t' : ℕ) → w ≡ w' → s ≡ s' → t ≡ t' → let made : ℕ → ℕ → ℕ → Found = λ w s t. record { wires = w; successors = s; sum = t } in made w s t ≡ made w' s' t'
+found_is : (w w' s s' t t' : ℕ) → w ≡ w' → s ≡ s' → t ≡ t'
+    → let made : ℕ → ℕ → ℕ → Found = λ w s t. record { wires = w; successors = s; sum = t } in made w s t ≡ made w' s' t'
 found_is w w' s s' t t' d e f = rw d (rw e (rw f refl))
 
 pub found_none : (f : Fabric) (a : ℕ) → record { wires = 0; successors = 0; sum = 0 } ≡ found_from f (range_with_len a (a - a))
 unfolding found_from
 found_none f a = let none : a - a ≡ 0 = omega arith in rw none refl
 
-pub found_next : (f : Fabric) (a i : ℕ) (found : Found) → a ≤ i → found ≡ found_from f (range_with_len a (i - a)) → found_more found (successors_of f i) ≡ found_from f (range_with_len a (i + 1 - a))
+pub found_next : (f : Fabric) (a i : ℕ) (found : Found) → a ≤ i → found ≡ found_from f (range_with_len a (i - a))
+    → found_more found (successors_of f i) ≡ found_from f (range_with_len a (i + 1 - a))
 unfolding found_from
 found_next f a i found le e =
     ap (λ s. found_more s (successors_of f i)) e
-    ∙ found_is _ _ _ _ _ _ (sym (sum_next (λ i. 1) a i le)) (sym (sum_next (λ i. length (successors_of f i)) a i le)) (sym (sum_next (λ i. last_or_zero (successors_of f i)) a i le))
+    ∙ found_is _ _ _ _ _ _ (sym (sum_next (λ i. 1) a i le))
+    (sym (sum_next (λ i. length (successors_of f i)) a i le))
+    (sym (sum_next (λ i. last_or_zero (successors_of f i)) a i le))
 
 pub no_pairs : (f : Fabric) (count : ℕ) → [] ≡ pairs_at_turns f count 0
 unfolding pairs_at_turns numbers_at_turns
 no_pairs f count = refl
 
-pub pairs_next : (f : Fabric) (count turn : ℕ) → pairs_at_turns f count turn ++ pairs_from (number_at_turn count turn) (successors_of f (number_at_turn count turn)) ≡ pairs_at_turns f count (turn + 1)
+pub pairs_next : (f : Fabric) (count turn : ℕ)
+    → pairs_at_turns f count turn ++ pairs_from (number_at_turn count turn) (successors_of f (number_at_turn count turn)) ≡ pairs_at_turns f count (turn + 1)
 unfolding pairs_at_turns numbers_at_turns
 pairs_next f count turn =
     let from : ℕ → List Pair = λ i. pairs_from i (successors_of f i) in

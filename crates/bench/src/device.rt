@@ -2,7 +2,7 @@
 
 ghost use Rattle.std.specs.Prelude.{◌≡◌, ◌≤◌, IfOk, IfErr};
 ghost use Rattle.arch_file.specs.Reads.{ReadsBytes};
-ghost use Rattle.bench.specs.Faults.{IsIo, IsAtWidth};
+ghost use Rattle.bench.specs.Faults.{IsIo, IsFaultOf};
 
 use crate::edges::{measure_edge, measure_successors};
 use crate::fault::BenchFault;
@@ -29,7 +29,7 @@ fn make_device(
     ensures size { IfOk result (λ d. (d.nx ≡ nx) × (d.ny ≡ ny) × (d.width ≡ width)) }
     ensures mode { IfOk result (λ d. d.mode ≡ Mode.Detailed) }
     ensures architecture { IfOk result (λ d. ReadsBytes SMALL_ARCH.now d.architecture) }
-    ensures refused { IfErr result (IsAtWidth width) }
+    ensures refused { IfErr result (IsFaultOf SMALL_ARCH.now width) }
 {
     let arch = parse(rt.alloc(), SMALL_ARCH.as_bytes())?;
     let start = Instant::now(rt)?;
@@ -58,7 +58,7 @@ pub fn measure_device(
 ) -> Result<(), BenchFault>
     requires columns { (1 ≤ nx) × (nx ≤ 100) }
     requires rows { (1 ≤ ny) × (ny ≤ 100) }
-    ensures { IfErr result (IsAtWidth width) }
+    ensures { IfErr result (IsFaultOf SMALL_ARCH.now width) }
 {
     eprintln!(rt; "device {nx} x {ny}, W {width}")?;
     let device = make_device(rt, nx, ny, width)?;

@@ -72,14 +72,15 @@ impl Found {
     }
 }
 
-#[tactic(auto, using(crate::proofs::MeasuredEdges::found_none, crate::proofs::MeasuredEdges::found_next))]
 /// The successors of all wires from the first on, in one list that is used again.
+#[tactic(auto, using(crate::proofs::MeasuredEdges::found_none, crate::proofs::MeasuredEdges::found_next))]
 fn find_successors(
     device: &Device,
     first: u32,
     list: &mut SmallVec<u32, 8>,
 ) -> Result<Found, AllocError>
-    ensures { IfOk result (λ found. found ≡ found_from device.now (range_with_len first (node_count_of device.now - first))) }
+    ensures { IfOk result
+        (λ found. found ≡ found_from device.now (range_with_len first (node_count_of device.now - first))) }
 {
     let mut found = Found {
         wires: 0,
@@ -132,12 +133,13 @@ fn push_pairs(pairs: &mut Vec<Pair>, from: u32, list: &[u32]) -> Result<(), Allo
     Ok(())
 }
 
-#[tactic(auto, using(crate::proofs::MeasuredEdges::no_pairs, crate::proofs::MeasuredEdges::pairs_next, crate::proofs::MeasuredEdges::pairs_are_edges))]
 /// The edges from nodes of spread numbers, until there are enough.
+#[tactic(auto, using(crate::proofs::MeasuredEdges::no_pairs, crate::proofs::MeasuredEdges::pairs_next, crate::proofs::MeasuredEdges::pairs_are_edges))]
 fn spread_edges(alloc: Global, device: &Device, count: u32) -> Result<Vec<Pair>, AllocError>
     requires { 1 ≤ count }
     ensures edges { IfOk result (λ pairs. AllPass (is_edge_pair device.now) pairs.items) }
-    ensures enough { IfOk result (λ pairs. (1000000 ≤ vec_len pairs) ⊎ (pairs.items ≡ pairs_at_turns device.now count count)) }
+    ensures enough { IfOk result
+        (λ pairs. (1000000 ≤ vec_len pairs) ⊎ (pairs.items ≡ pairs_at_turns device.now count count)) }
 {
     let mut pairs = Vec::new(alloc);
     let mut list = SmallVec::new(alloc);
