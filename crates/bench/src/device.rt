@@ -1,13 +1,15 @@
 //! Measures a device.
 
-ghost use Rattle.std.specs.Prelude.{◌≤◌};
+ghost use Rattle.std.specs.Prelude.{◌≡◌, ◌≤◌, IfOk, IfErr};
+ghost use Rattle.arch_file.specs.Reads.{ReadsBytes};
+ghost use Rattle.bench.specs.Faults.{IsIo, IsFaultOf};
 
 use crate::edges::{measure_edge, measure_successors};
 use crate::fault::BenchFault;
 use crate::figure::print_once;
 use crate::look_ups::measure_look_ups;
 use arch_file::parse;
-use rr_graph::Device;
+use rr_graph::{Device, Mode};
 use std::rt::Clock;
 use std::time::Instant;
 
@@ -24,6 +26,10 @@ fn make_device(
 ) -> Result<Device, BenchFault>
     requires columns { (1 ≤ nx) × (nx ≤ 100) }
     requires rows { (1 ≤ ny) × (ny ≤ 100) }
+    ensures size { IfOk result (λ d. (d.nx ≡ nx) × (d.ny ≡ ny) × (d.width ≡ width)) }
+    ensures mode { IfOk result (λ d. d.mode ≡ Mode.Detailed) }
+    ensures architecture { IfOk result (λ d. ReadsBytes SMALL_ARCH.now d.architecture) }
+    ensures refused { IfErr result (IsFaultOf SMALL_ARCH.now width) }
 {
     let arch = parse(rt.alloc(), SMALL_ARCH.as_bytes())?;
     let start = Instant::now(rt)?;
@@ -34,7 +40,9 @@ fn make_device(
 }
 
 /// Measures the count of the edges.
-fn measure_edge_count(rt: &(impl Clock + Eprint), device: &Device) -> Result<(), BenchFault> {
+fn measure_edge_count(rt: &(impl Clock + Eprint), device: &Device) -> Result<(), BenchFault>
+    ensures { IfErr result IsIo }
+{
     let start = Instant::now(rt)?;
     let edges = device.edge_count();
     let time = start.elapsed(rt)?;
@@ -50,6 +58,7 @@ pub fn measure_device(
 ) -> Result<(), BenchFault>
     requires columns { (1 ≤ nx) × (nx ≤ 100) }
     requires rows { (1 ≤ ny) × (ny ≤ 100) }
+    ensures { IfErr result (IsFaultOf SMALL_ARCH.now width) }
 {
     eprintln!(rt; "device {nx} x {ny}, W {width}")?;
     let device = make_device(rt, nx, ny, width)?;

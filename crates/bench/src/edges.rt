@@ -1,6 +1,11 @@
 //! Measures the edges of a device: all successors of its wires, and single edges.
 
-ghost use Rattle.std.specs.Prelude.{◌≤◌};
+ghost use Rattle.std.specs.Prelude.{◌≡◌, ◌+◌, ◌%◌, ◌^◌, ◌≤◌, ◌⊎◌, ◌++◌, true, length, All, count_by, find, unwrap_or, vec_len, IfOk, IfErr, OnOk, ◌-◌};
+ghost use Rattle.std.specs.List.{range_with_len, AllPass};
+ghost use Rattle.rr_graph.specs.Fabric.{numbers_below};
+ghost use Rattle.rr_graph.specs.Nodes.{node_at, node_count_of};
+ghost use Rattle.bench.specs.Faults.{IsOutside};
+ghost use Rattle.bench.specs.Edges.{is_wire_at, first_wire, last_or_zero, found_more, found_from, pairs_from, pairs_at_turns, is_edge_pair};
 
 use crate::fault::BenchFault;
 use crate::figure::print_each;
@@ -15,21 +20,38 @@ use std::time::Instant;
 const MOST_PAIRS: usize = 1_000_000;
 
 /// Whether the node of a number is a wire.
-fn is_wire(device: &Device, id: u32) -> bool {
+#[tactic(auto, unfolding(crate::specs::Edges::is_wire_at))]
+fn is_wire(device: &Device, id: u32) -> bool
+    ensures { result ≡ is_wire_at device.now id }
+{
     match device.node(id) {
         None => false,
         Some(node) => matches!(node.kind, Kind::Chanx | Kind::Chany),
     }
 }
 
-/// The number of the first wire. All later nodes are wires too.
-fn first_wire(device: &Device) -> u32 {
-    for id in 0..device.node_count() {
-        if is_wire(device, id) {
-            return id;
-        }
+/// The number of the first wire, if there is one.
+fn find_wire(device: &Device) -> Option<u32>
+    ensures { result ≡ find (is_wire_at device.now) (numbers_below (node_count_of device.now)) }
+{
+    (0..device.node_count()).find(|id| is_wire(device, *id))
+}
+
+/// The number of the first wire, the count of the nodes where there is none. All later nodes are wires too.
+fn first_wire(device: &Device) -> u32
+    ensures { result ≡ first_wire device.now }
+{
+    find_wire(device).unwrap_or(device.node_count())
+}
+
+/// The last of the numbers, 0 where there are none.
+fn last_or_zero(list: &[u32]) -> u64
+    ensures { result ≡ last_or_zero list.now }
+{
+    match list.last() {
+        None => 0,
+        Some(last) => u64::from(*last),
     }
-    device.node_count()
 }
 
 /// What was found from all wires.
@@ -41,21 +63,25 @@ struct Found {
 }
 
 impl Found {
-    fn add(&mut self, list: &[u32]) {
+    fn add(&mut self, list: &[u32])
+        ensures { self.new ≡ found_more self.old list.now }
+    {
         self.wires = self.wires.wrapping_add(1);
         self.successors = self.successors.wrapping_add(list.len() as u64);
-        if let Some(last) = list.last() {
-            self.sum = self.sum.wrapping_add(u64::from(*last));
-        }
+        self.sum = self.sum.wrapping_add(last_or_zero(list));
     }
 }
 
 /// The successors of all wires from the first on, in one list that is used again.
+#[tactic(auto, using(crate::proofs::MeasuredEdges::found_none, crate::proofs::MeasuredEdges::found_next))]
 fn find_successors(
     device: &Device,
     first: u32,
     list: &mut SmallVec<u32, 8>,
-) -> Result<Found, AllocError> {
+) -> Result<Found, AllocError>
+    ensures { IfOk result
+        (λ found. found ≡ found_from device.now (range_with_len first (node_count_of device.now - first))) }
+{
     let mut found = Found {
         wires: 0,
         successors: 0,
@@ -72,7 +98,9 @@ fn find_successors(
 pub fn measure_successors(
     rt: &(impl Clock + Eprint + AllocGlobal),
     device: &Device,
-) -> Result<(), BenchFault> {
+) -> Result<(), BenchFault>
+    ensures { IfErr result IsOutside }
+{
     let first = first_wire(device);
     let mut list = SmallVec::new(rt.alloc());
     let start = Instant::now(rt)?;
@@ -96,7 +124,9 @@ struct Pair {
     to: u32,
 }
 
-fn push_pairs(pairs: &mut Vec<Pair>, from: u32, list: &[u32]) -> Result<(), AllocError> {
+fn push_pairs(pairs: &mut Vec<Pair>, from: u32, list: &[u32]) -> Result<(), AllocError>
+    ensures { OnOk result (pairs.new.items ≡ pairs.old.items ++ pairs_from from list.now) }
+{
     for to in list {
         pairs.push(Pair { from, to: *to })?;
     }
@@ -104,8 +134,12 @@ fn push_pairs(pairs: &mut Vec<Pair>, from: u32, list: &[u32]) -> Result<(), Allo
 }
 
 /// The edges from nodes of spread numbers, until there are enough.
+#[tactic(auto, using(crate::proofs::MeasuredEdges::no_pairs, crate::proofs::MeasuredEdges::pairs_next, crate::proofs::MeasuredEdges::pairs_are_edges))]
 fn spread_edges(alloc: Global, device: &Device, count: u32) -> Result<Vec<Pair>, AllocError>
     requires { 1 ≤ count }
+    ensures edges { IfOk result (λ pairs. AllPass (is_edge_pair device.now) pairs.items) }
+    ensures enough { IfOk result
+        (λ pairs. (1000000 ≤ vec_len pairs) ⊎ (pairs.items ≡ pairs_at_turns device.now count count)) }
 {
     let mut pairs = Vec::new(alloc);
     let mut list = SmallVec::new(alloc);
@@ -120,22 +154,29 @@ fn spread_edges(alloc: Global, device: &Device, count: u32) -> Result<Vec<Pair>,
     Ok(pairs)
 }
 
+/// Whether the pair has an edge.
+#[tactic(auto, unfolding(crate::specs::Edges::is_edge_pair))]
+fn is_edge(device: &Device, pair: Pair) -> bool
+    ensures { result ≡ is_edge_pair device.now pair }
+{
+    device.edge(pair.from, pair.to)
+}
+
 /// How many of the pairs have an edge.
-fn count_edges(device: &Device, pairs: &[Pair]) -> u64 {
-    let mut count = 0u64;
-    for pair in pairs {
-        if device.edge(pair.from, pair.to) {
-            count = count.wrapping_add(1);
-        }
-    }
-    count
+fn count_edges(device: &Device, pairs: &[Pair]) -> u64
+    ensures { result ≡ count_by (is_edge_pair device.now) pairs.now }
+{
+    let edges = pairs.iter().filter(|pair| is_edge(device, **pair));
+    edges.count() as u64
 }
 
 /// Measures `edge` at pairs that have one.
 pub fn measure_edge(
     rt: &(impl Clock + Eprint + AllocGlobal),
     device: &Device,
-) -> Result<(), BenchFault> {
+) -> Result<(), BenchFault>
+    ensures { IfErr result IsOutside }
+{
     let count = device.node_count();
     if count == 0 {
         return Ok(());

@@ -1,5 +1,8 @@
 //! Why a measurement ends early.
 
+ghost use Rattle.std.specs.Prelude.{◌≡◌};
+ghost use Rattle.bench.specs.declared.fault.BenchFault.TheVariants.{Arch, Device, Io, Memory};
+
 use arch_file::ArchFault;
 use rr_graph::DeviceFault;
 use std::alloc::AllocError;
@@ -9,11 +12,43 @@ use thiserror::Error;
 #[derive(Debug, Drop, Error)]
 pub enum BenchFault {
     #[error("the architecture: {0}")]
-    Arch(#[from] ArchFault),
+    Arch(ArchFault),
     #[error("the device: {0}")]
-    Device(#[from] DeviceFault),
+    Device(DeviceFault),
     #[error("{0}")]
-    Io(#[from] io::Error),
+    Io(io::Error),
     #[error("out of memory")]
-    Memory(#[from(alloc)] AllocError),
+    Memory(AllocError),
+}
+
+impl From<ArchFault> for BenchFault {
+    ghost from_gives = { λ given fault. fault ≡ Arch given };
+
+    fn from(given: ArchFault) -> BenchFault {
+        BenchFault::Arch(given)
+    }
+}
+
+impl From<DeviceFault> for BenchFault {
+    ghost from_gives = { λ given fault. fault ≡ Device given };
+
+    fn from(given: DeviceFault) -> BenchFault {
+        BenchFault::Device(given)
+    }
+}
+
+impl From<io::Error> for BenchFault {
+    ghost from_gives = { λ given fault. fault ≡ Io given };
+
+    fn from(given: io::Error) -> BenchFault {
+        BenchFault::Io(given)
+    }
+}
+
+impl From<AllocError> for BenchFault {
+    ghost from_gives = { λ given fault. fault ≡ Memory given };
+
+    fn from(given: AllocError) -> BenchFault {
+        BenchFault::Memory(given)
+    }
 }

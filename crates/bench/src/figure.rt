@@ -1,5 +1,9 @@
 //! The lines that tell of a measurement, on standard error.
 
+ghost use Rattle.std.specs.Prelude.{◌≡◌, ◌*◌, ◌/◌, max, IfErr};
+ghost use Rattle.std.specs.Duration.{as_nanos};
+ghost use Rattle.bench.specs.Faults.{IsIo};
+
 use crate::fault::BenchFault;
 use std::fmt;
 use std::time::Duration;
@@ -16,11 +20,17 @@ impl fmt::Display for Thousandths {
     }
 }
 
-fn milliseconds(time: Duration) -> Thousandths {
+/// The milliseconds of a time.
+fn milliseconds(time: Duration) -> Thousandths
+    ensures { result ≡ record { 0 = as_nanos time / 1000 } }
+{
     Thousandths(time.as_nanos() / 1000)
 }
 
-fn nanoseconds_each(time: Duration, count: u64) -> Thousandths {
+/// The nanoseconds of one of `count` equal parts of a time, of all of it where there is none.
+fn nanoseconds_each(time: Duration, count: u64) -> Thousandths
+    ensures { result ≡ record { 0 = as_nanos time * 1000 / max count 1 } }
+{
     Thousandths(time.as_nanos() * 1000 / u128::from(count.max(1)))
 }
 
@@ -31,7 +41,9 @@ pub fn print_once(
     time: Duration,
     count: u64,
     things: &str,
-) -> Result<(), BenchFault> {
+) -> Result<(), BenchFault>
+    ensures { IfErr result IsIo }
+{
     let time = milliseconds(time);
     eprintln!(rt; "{name}: {time} ms, {count} {things}")?;
     Ok(())
@@ -45,7 +57,9 @@ pub fn print_each(
     count: u64,
     thing: &str,
     sum: u64,
-) -> Result<(), BenchFault> {
+) -> Result<(), BenchFault>
+    ensures { IfErr result IsIo }
+{
     let each = nanoseconds_each(time, count);
     let time = milliseconds(time);
     eprintln!(rt; "{name}: {each} ns a {thing}, {count} in {time} ms, check sum {sum}")?;

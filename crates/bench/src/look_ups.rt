@@ -1,5 +1,11 @@
 //! Measures the look-ups of nodes by number and back.
 
+ghost use Rattle.std.specs.Prelude.{◌≡◌, IfOk, IfErr};
+ghost use Rattle.std.specs.List.{filter_map};
+ghost use Rattle.rr_graph.specs.Nodes.{node_at};
+ghost use Rattle.bench.specs.Faults.{IsIo, IsOutside};
+ghost use Rattle.bench.specs.LookUps.{sum_of_node, check_sum, sum_at, id_or_zero};
+
 use crate::fault::BenchFault;
 use crate::figure::print_each;
 use crate::spread::spread_numbers;
@@ -12,49 +18,69 @@ use std::time::Instant;
 const LOOK_UPS: u32 = 1_000_000;
 
 /// A number that depends on a node's place and number.
-fn sum_of(node: Node) -> u64 {
+fn sum_of(node: Node) -> u64
+    ensures { result ≡ sum_of_node node }
+{
     u64::from(node.x) + u64::from(node.y) + u64::from(node.number)
 }
 
+/// The sum of the node of a number, 0 where there is none.
+#[tactic(auto, unfolding(crate::specs::LookUps::sum_at))]
+fn sum_at(device: &Device, id: u32) -> u64
+    ensures { result ≡ sum_at device.now id }
+{
+    match device.node(id) {
+        None => 0,
+        Some(node) => sum_of(node),
+    }
+}
+
+/// The number of a node, 0 for what is no node.
+#[tactic(auto, unfolding(crate::specs::LookUps::id_or_zero))]
+fn id_or_zero(device: &Device, node: Node) -> u64
+    ensures { result ≡ id_or_zero device.now node }
+{
+    match device.id(node) {
+        None => 0,
+        Some(id) => u64::from(id),
+    }
+}
+
 /// The nodes of the numbers, added up.
-fn sum_nodes(device: &Device, ids: &[u32]) -> u64 {
+#[tactic(auto, using(crate::proofs::Sums::sum_more))]
+fn sum_nodes(device: &Device, ids: &[u32]) -> u64
+    ensures { result ≡ check_sum (sum_at device.now) ids.now }
+{
     let mut sum = 0u64;
     for id in ids {
-        if let Some(node) = device.node(*id) {
-            sum = sum.wrapping_add(sum_of(node));
-        }
+        sum = sum.wrapping_add(sum_at(device, *id));
     }
     sum
 }
 
 /// The nodes of the numbers.
-fn nodes_of(alloc: Global, device: &Device, ids: &[u32]) -> Result<Vec<Node>, AllocError> {
-    let mut nodes = Vec::new(alloc);
-    for id in ids {
-        if let Some(node) = device.node(*id) {
-            nodes.push(node)?;
-        }
-    }
-    Ok(nodes)
+fn nodes_of(alloc: Global, device: &Device, ids: &[u32]) -> Result<Vec<Node>, AllocError>
+    ensures { IfOk result (λ nodes. nodes.items ≡ filter_map (node_at device.now) ids.now) }
+{
+    ids.iter().filter_map(|id| device.node(*id)).collect(alloc)
 }
 
 /// The numbers of the nodes, added up.
-fn sum_ids(device: &Device, nodes: &[Node]) -> u64 {
+#[tactic(auto, using(crate::proofs::Sums::sum_more))]
+fn sum_ids(device: &Device, nodes: &[Node]) -> u64
+    ensures { result ≡ check_sum (id_or_zero device.now) nodes.now }
+{
     let mut sum = 0u64;
     for node in nodes {
-        if let Some(id) = device.id(*node) {
-            sum = sum.wrapping_add(u64::from(id));
-        }
+        sum = sum.wrapping_add(id_or_zero(device, *node));
     }
     sum
 }
 
 /// Measures `node` at the numbers.
-fn measure_node(
-    rt: &(impl Clock + Eprint),
-    device: &Device,
-    ids: &[u32],
-) -> Result<(), BenchFault> {
+fn measure_node(rt: &(impl Clock + Eprint), device: &Device, ids: &[u32]) -> Result<(), BenchFault>
+    ensures { IfErr result IsIo }
+{
     let start = Instant::now(rt)?;
     let sum = sum_nodes(device, ids);
     let time = start.elapsed(rt)?;
@@ -62,11 +88,9 @@ fn measure_node(
 }
 
 /// Measures `id` at the nodes.
-fn measure_id(
-    rt: &(impl Clock + Eprint),
-    device: &Device,
-    nodes: &[Node],
-) -> Result<(), BenchFault> {
+fn measure_id(rt: &(impl Clock + Eprint), device: &Device, nodes: &[Node]) -> Result<(), BenchFault>
+    ensures { IfErr result IsIo }
+{
     let start = Instant::now(rt)?;
     let sum = sum_ids(device, nodes);
     let time = start.elapsed(rt)?;
@@ -77,7 +101,9 @@ fn measure_id(
 pub fn measure_look_ups(
     rt: &(impl Clock + Eprint + AllocGlobal),
     device: &Device,
-) -> Result<(), BenchFault> {
+) -> Result<(), BenchFault>
+    ensures { IfErr result IsOutside }
+{
     let count = device.node_count();
     if count == 0 {
         return Ok(());

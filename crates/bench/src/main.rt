@@ -1,6 +1,9 @@
 //! `bench`: measures the libraries of the router. Without words it does nothing; a word says what is measured.
 #![tactic(auto)]
 
+ghost use Rattle.std.specs.Prelude.{◌≡◌, ◌≤◌, ◌↔◌, None, map, string_bytes};
+ghost use Rattle.bench.specs.Sizes.{size_of_words};
+
 mod device;
 mod edges;
 mod fault;
@@ -27,7 +30,9 @@ fn main(rt: HostRuntime) -> ExitCode {
 }
 
 /// Measures what the command line names, and answers the exit status.
-fn run(rt: &(impl Runtime + AllocGlobal)) -> u8 {
+fn run(rt: &(impl Runtime + AllocGlobal)) -> u8
+    ensures { result ≤ 2 }
+{
     let words = match words(rt) {
         Ok(words) => words,
         Err(error) => return failed(rt, BenchFault::Io(error)),
@@ -47,19 +52,26 @@ fn words(rt: &(impl Runtime + AllocGlobal)) -> io::Result<Vec<String>> {
 }
 
 /// Says what the words may be.
-fn usage(rt: &impl Runtime) -> u8 {
+fn usage(rt: &impl Runtime) -> u8
+    ensures { result ≡ BAD_WORDS }
+{
     let _ = eprintln!(rt; "usage: bench [device [NX NY W]]");
     BAD_WORDS
 }
 
 /// Says why a measurement ended early.
-fn failed(rt: &impl Runtime, fault: BenchFault) -> u8 {
+fn failed(rt: &impl Runtime, fault: BenchFault) -> u8
+    ensures { result ≡ ENDED_EARLY }
+{
     let _ = eprintln!(rt; "error: {fault}");
     ENDED_EARLY
 }
 
 /// The word `device`: measures the device of the size that is given.
-fn run_device(rt: &(impl Runtime + AllocGlobal), given: &[String]) -> u8 {
+fn run_device(rt: &(impl Runtime + AllocGlobal), given: &[String]) -> u8
+    ensures status { result ≤ 2 }
+    ensures bad_words { (result ≡ BAD_WORDS) ↔ (size_of_words (map string_bytes given.now) ≡ None) }
+{
     let Some(size) = size_of_words(given) else {
         return usage(rt);
     };

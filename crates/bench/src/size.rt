@@ -1,7 +1,7 @@
 //! The size of a device, by the words of the command line.
 
-ghost use Rattle.std.specs.Prelude.{◌≡◌, ◌≤◌, ◌⊎◌, [], IfSome, None, Some};
-ghost use Rattle.bench.specs.Sizes.{number_within};
+ghost use Rattle.std.specs.Prelude.{◌≡◌, ◌≤◌, IfSome, map, string_bytes};
+ghost use Rattle.bench.specs.Sizes.{number_within, size_of, size_of_words};
 
 use vpr_text::number;
 
@@ -34,10 +34,10 @@ fn number_within(word: &str, most: u32) -> Option<u32>
 
 /// The size of three words, None where one is out of its range.
 fn size_of(nx: &str, ny: &str, width: &str) -> Option<Size>
-    ensures columns { IfSome result (λ s. (1 ≤ s.nx) × (s.nx ≤ 100) × (number_within 100 nx.now ≡ Some s.nx)) }
-    ensures rows { IfSome result (λ s. (1 ≤ s.ny) × (s.ny ≤ 100) × (number_within 100 ny.now ≡ Some s.ny)) }
-    ensures tracks { IfSome result (λ s. (1 ≤ s.width) × (s.width ≤ 256) × (number_within 256 width.now ≡ Some s.width)) }
-    ensures refused { result ≡ None → (number_within 100 nx.now ≡ None) ⊎ (number_within 100 ny.now ≡ None) ⊎ (number_within 256 width.now ≡ None) }
+    ensures size { result ≡ size_of nx.now ny.now width.now }
+    ensures columns { IfSome result (λ s. (1 ≤ s.nx) × (s.nx ≤ 100)) }
+    ensures rows { IfSome result (λ s. (1 ≤ s.ny) × (s.ny ≤ 100)) }
+    ensures tracks { IfSome result (λ s. (1 ≤ s.width) × (s.width ≤ 256)) }
 {
     Some(Size {
         nx: number_within(nx, MOST_BLOCKS)?,
@@ -48,10 +48,10 @@ fn size_of(nx: &str, ny: &str, width: &str) -> Option<Size>
 
 /// The size that is given, the greatest where none is. None for words that give no size of a device.
 pub fn size_of_words(words: &[String]) -> Option<Size>
+    ensures size { result ≡ size_of_words (map string_bytes words.now) }
     ensures columns { IfSome result (λ s. (1 ≤ s.nx) × (s.nx ≤ 100)) }
     ensures rows { IfSome result (λ s. (1 ≤ s.ny) × (s.ny ≤ 100)) }
     ensures tracks { IfSome result (λ s. (1 ≤ s.width) × (s.width ≤ 256)) }
-    ensures greatest { words.now ≡ [] → result ≡ Some (record { nx = 100; ny = 100; width = 256 }) }
 {
     match words {
         [] => Some(Size {

@@ -47,6 +47,11 @@ abbrev pub fc_on : Side → Fabric → ℕ
 fc_on Pad f = f.architecture.fc_pad
 fc_on _ f = f.architecture.fc_input
 
+-- the places, among the input pins of a block or the pads of a place, of those that tap a track on a side
+abbrev pub tapping_on : Side → Fabric → (track : ℕ) → List ℕ
+tapping_on Pad f track = tapping_pads f track
+tapping_on side f track = tapping_pins f (on_side side) track
+
 -- an input pin on a side, or a pad, taps a track
 abbrev pub taps_from : Side → Fabric → (track pin : ℕ) → Bool
 taps_from Pad f track pin = list_any (λ t. t == track) (tapped_tracks f f.architecture.fc_pad pin)

@@ -172,10 +172,7 @@ impl Device {
     pub fn label(&self, id: u32) -> Option<Label>
         ensures { result ≡ option_map (label_of self.now) (node_at self.now id) }
     {
-        match self.node(id) {
-            None => None,
-            Some(node) => Some(self.layout.label_of(node)),
-        }
+        self.node(id).map(|node| self.layout.label_of(node))
     }
 
     /// The number of a node: how many nodes stand before it. None for what is no node.
@@ -190,10 +187,7 @@ impl Device {
     pub fn capacity(&self, id: u32) -> Option<u32>
         ensures { result ≡ option_map (capacity_of self.now) (node_at self.now id) }
     {
-        match self.node(id) {
-            None => None,
-            Some(node) => Some(self.layout.capacity_of(node)),
-        }
+        self.node(id).map(|node| self.layout.capacity_of(node))
     }
 
     /// The first and the last place of a node; only those of a wire may differ.

@@ -6,7 +6,7 @@ ghost use Rattle.rr_graph.specs.Wires.{tracks_in};
 ghost use Rattle.rr_graph.specs.Pins.{tap_count};
 ghost use Rattle.rr_graph.specs.Picks.{picks};
 ghost use Rattle.rr_graph.specs.Sides.{has_side};
-ghost use Rattle.rr_graph.specs.TappingTables.{on_side, fc_on, taps_from, IsTapping, IsSides, HoldsTrack, places_of_track};
+ghost use Rattle.rr_graph.specs.TappingTables.{on_side, fc_on, taps_from, tapping_on, IsTapping, IsSides, HoldsTrack, places_of_track};
 
 use crate::layout::Layout;
 use crate::pins::is_marked_global;
@@ -15,7 +15,7 @@ use std::alloc::{AllocError, Global};
 
 /// Where input pins are reached: on a side of a block, or at a pad.
 #[derive(Clone, Copy)]
-enum Side {
+pub(crate) enum Side {
     Top,
     Bottom,
     Right,
@@ -151,6 +151,24 @@ impl Layout {
         }
         starts.push(places.len() as u16)?;
         Ok(Tapping { starts, places })
+    }
+
+    /// The places, among a block's input pins or the pads of a place, of those that tap a track on a side.
+    #[tactic(auto, using(crate::proofs::TappingTables::places_of_track_are, crate::proofs::WireFanouts::few_pins, crate::proofs::WireFanouts::few_pads))]
+    pub(crate) fn tapping_on<'a>(&self, sides: &'a BlockSides, side: Side, track: u32) -> &'a [u8]
+        requires sides { IsSides self.now sides.now }
+        requires track { track < tracks_in self.now.mode self.now.width }
+        ensures places { result.now ≡ tapping_on side self.now track }
+        ensures few { length result.now ≤ 64 }
+    {
+        let _limits = self.nx();
+        match side {
+            Side::Top => sides.top.of_track(track),
+            Side::Bottom => sides.bottom.of_track(track),
+            Side::Right => sides.right.of_track(track),
+            Side::Left => sides.left.of_track(track),
+            Side::Pad => sides.pads.of_track(track),
+        }
     }
 
     /// The pads of a place of the perimeter.

@@ -9,13 +9,14 @@ ghost use Rattle.rr_graph.specs.NodeSuccessors.{node_successors, IsPlaced};
 ghost use Rattle.rr_graph.specs.Wires.{tracks_in, begins, steps_of, last_of, places_of};
 ghost use Rattle.rr_graph.specs.Channels.{first_of, meeting_of, beside_of};
 ghost use Rattle.rr_graph.specs.Starts.{place_start};
-ghost use Rattle.rr_graph.specs.Sides.{tapping_pins, tapping_pads};
+ghost use Rattle.rr_graph.specs.TappingTables.{tapping_on};
 ghost use Rattle.rr_graph.specs.WireSuccessors.{wire_id, pins_beside};
 ghost use Rattle.rr_graph.specs.Fanouts.{numbers_of, runs_of, run_above, run_right, pins_of_row, pins_of_column, pins_at, row_list, column_list, row_wire_list, column_wire_list, IsSmallRun, IsSmallMeeting, IsSmallTaps, IsSmallRow, IsSmallColumn};
 
 use crate::device::Device;
 use crate::fanout::{ColumnFanout, Meeting, Pair, RowFanout, Run, Taps};
 use crate::parts::{Kind, Node};
+use crate::sides::Side;
 use smallvec::SmallVec;
 use std::alloc::AllocError;
 
@@ -163,54 +164,13 @@ impl Device {
         }
     }
 
-    /// The input pads of a place of the perimeter that tap a track.
-    #[tactic(auto, using(crate::proofs::TappingTables::places_of_track_are, crate::proofs::WireFanouts::few_pads))]
-    fn tapping_pads(&self, track: u32) -> &[u8]
+    /// The places, among a block's input pins or the pads of a place, of those that tap a track on a side.
+    fn tapping(&self, side: Side, track: u32) -> &[u8]
         requires { track < tracks_in self.now.mode self.now.width }
-        ensures pads { result.now ≡ tapping_pads self.now track }
+        ensures places { result.now ≡ tapping_on side self.now track }
         ensures few { length result.now ≤ 64 }
     {
-        self.sides.pads.of_track(track)
-    }
-
-    /// The places, among a block's input pins, of those that tap a track on this side.
-    #[tactic(auto, using(crate::proofs::TappingTables::places_of_track_are, crate::proofs::WireFanouts::few_pins))]
-    fn tapping_top(&self, track: u32) -> &[u8]
-        requires { track < tracks_in self.now.mode self.now.width }
-        ensures pins { result.now ≡ tapping_pins self.now (λ s. s.top) track }
-        ensures few { length result.now ≤ 64 }
-    {
-        self.sides.top.of_track(track)
-    }
-
-    /// The places, among a block's input pins, of those that tap a track on this side.
-    #[tactic(auto, using(crate::proofs::TappingTables::places_of_track_are, crate::proofs::WireFanouts::few_pins))]
-    fn tapping_bottom(&self, track: u32) -> &[u8]
-        requires { track < tracks_in self.now.mode self.now.width }
-        ensures pins { result.now ≡ tapping_pins self.now (λ s. s.bottom) track }
-        ensures few { length result.now ≤ 64 }
-    {
-        self.sides.bottom.of_track(track)
-    }
-
-    /// The places, among a block's input pins, of those that tap a track on this side.
-    #[tactic(auto, using(crate::proofs::TappingTables::places_of_track_are, crate::proofs::WireFanouts::few_pins))]
-    fn tapping_right(&self, track: u32) -> &[u8]
-        requires { track < tracks_in self.now.mode self.now.width }
-        ensures pins { result.now ≡ tapping_pins self.now (λ s. s.right) track }
-        ensures few { length result.now ≤ 64 }
-    {
-        self.sides.right.of_track(track)
-    }
-
-    /// The places, among a block's input pins, of those that tap a track on this side.
-    #[tactic(auto, using(crate::proofs::TappingTables::places_of_track_are, crate::proofs::WireFanouts::few_pins))]
-    fn tapping_left(&self, track: u32) -> &[u8]
-        requires { track < tracks_in self.now.mode self.now.width }
-        ensures pins { result.now ≡ tapping_pins self.now (λ s. s.left) track }
-        ensures few { length result.now ≤ 64 }
-    {
-        self.sides.left.of_track(track)
+        self.layout.tapping_on(&self.sides, side, track)
     }
 
     /// Those of a row's input pins that stand at `places`, from (x, y) on.
@@ -262,9 +222,9 @@ impl Device {
         ensures small { IsSmallTaps result }
     {
         if y == 0 {
-            return self.taps_in_row(self.tapping_pads(track), x, y);
+            return self.taps_in_row(self.tapping(Side::Pad, track), x, y);
         }
-        self.taps_in_row(self.tapping_top(track), x, y)
+        self.taps_in_row(self.tapping(Side::Top, track), x, y)
     }
 
     /// The pins that tap a track above row `y` from above, from place `x` on.
@@ -276,9 +236,9 @@ impl Device {
         ensures small { IsSmallTaps result }
     {
         if y == self.ny() {
-            return self.taps_in_row(self.tapping_pads(track), x, y + 1);
+            return self.taps_in_row(self.tapping(Side::Pad, track), x, y + 1);
         }
-        self.taps_in_row(self.tapping_bottom(track), x, y + 1)
+        self.taps_in_row(self.tapping(Side::Bottom, track), x, y + 1)
     }
 
     /// The pins that tap a track right of column `x` from the left, from place `y` on.
@@ -290,9 +250,9 @@ impl Device {
         ensures small { IsSmallTaps result }
     {
         if x == 0 {
-            return self.taps_in_column(self.tapping_pads(track), x, y);
+            return self.taps_in_column(self.tapping(Side::Pad, track), x, y);
         }
-        self.taps_in_column(self.tapping_right(track), x, y)
+        self.taps_in_column(self.tapping(Side::Right, track), x, y)
     }
 
     /// The pins that tap a track right of column `x` from the right, from place `y` on.
@@ -304,9 +264,9 @@ impl Device {
         ensures small { IsSmallTaps result }
     {
         if x == self.nx() {
-            return self.taps_in_column(self.tapping_pads(track), x + 1, y);
+            return self.taps_in_column(self.tapping(Side::Pad, track), x + 1, y);
         }
-        self.taps_in_column(self.tapping_left(track), x + 1, y)
+        self.taps_in_column(self.tapping(Side::Left, track), x + 1, y)
     }
 
     /// Where the wire of a track that begins at place `x` above a row ends.

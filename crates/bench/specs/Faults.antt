@@ -1,0 +1,23 @@
+-- Why a measurement ends early.
+use Rattle.std.specs.Prelude.{◌≡◌, ℕ, ◌<◌, ◌⊎◌, List}
+use Rattle.arch_file.specs.Reading.{Fails, arch_of}
+use Rattle.rr_graph.specs.declared.fault.DeviceFault.TheVariants.{Width}
+use Rattle.bench.specs.declared.fault.BenchFault.{BenchFault}
+use Rattle.bench.specs.declared.fault.BenchFault.TheVariants.{Arch, Device, Io, Memory}
+
+-- the clock or standard error failed
+abbrev pub IsIo : BenchFault → Type 0
+IsIo (Io e) = Unit {0}
+IsIo _ = ⊥
+
+-- the clock or standard error failed, or memory ran out: the device is as it should be
+abbrev pub IsOutside : BenchFault → Type 0
+IsOutside (Io e) = Unit {0}
+IsOutside (Memory e) = Unit {0}
+IsOutside _ = ⊥
+
+-- an architecture is refused only if its text has that fault, memory aside, and a width only if no device has it
+abbrev pub IsFaultOf : (text : List ℕ) → (width : ℕ) → BenchFault → Type 0
+IsFaultOf text width (Arch fault) = Fails fault (arch_of text)
+IsFaultOf text width (Device Width) = (width ≡ 0) ⊎ (256 < width)
+IsFaultOf text width _ = Unit {0}
