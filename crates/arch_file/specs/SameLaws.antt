@@ -1,8 +1,8 @@
 -- Two architectures are one exactly where the test says so; the test is an equivalence.
-use Rattle.std.proofs.Common.{◌≡◌, Bool, true, false, List, ◌&&◌, sym, ap, ◌∙◌, refl, subst}
+use Rattle.std.proofs.Common.{◌≡◌, Bool, true, sym, ap, refl, subst}
 use Rattle.std.specs.Bool.{Decides}
 use Rattle.std.specs.Cmp.{IsEquivalence, IsPartialEquivalence, partial_equiv_from_equiv, unsigned_Decides, booleans_Decides}
-use Rattle.std.specs.Cmp.Lexicographic.{pointwise, pointwise_decides}
+use Rattle.std.specs.Cmp.Lexicographic.{pointwise_decides}
 use Rattle.std.proofs.lemmas.Bool.{false≢true}
 use Rattle.std.proofs.lemmas.Bool.Decides.{Decides-and, Decides-like, same_from_decides}
 use Rattle.arch_file.specs.declared.parts.Sides.{Sides}
@@ -39,6 +39,7 @@ direction_decides = decides_from_tests same_direction same told
     same : (a : Direction) → same_direction a a ≡ true
     same Input = refl
     same Output = refl
+
     told : (a b : Direction) → same_direction a b ≡ true → a ≡ b
     told Input Input e = refl
     told Input Output e = absurd (false≢true e)
@@ -51,6 +52,7 @@ fc_type_decides = decides_from_tests same_fc_type same told
     same : (a : FcType) → same_fc_type a a ≡ true
     same Absolute = refl
     same Fractional = refl
+
     told : (a b : FcType) → same_fc_type a b ≡ true → a ≡ b
     told Absolute Absolute e = refl
     told Absolute Fractional e = absurd (false≢true e)
@@ -63,6 +65,7 @@ length_decides = decides_from_tests same_length same told
     same : (a : SegmentLength) → same_length a a ≡ true
     same (Places n) = (unsigned_Decides n n).1 refl
     same Longline = refl
+
     told : (a b : SegmentLength) → same_length a b ≡ true → a ≡ b
     told (Places m) (Places n) e = ap Places ((unsigned_Decides m n).0 e)
     told (Places m) Longline e = absurd (false≢true e)
@@ -119,8 +122,13 @@ module _ (a b : Architecture) where
         segments = h.1.1.1.0 i;
         switches = h.1.1.1.1 i;
       })
-      (λ e. (ap (λ s. s.io_rat) e, (ap (λ s. s.pins) e,
-      ((ap (λ s. s.fc_type) e, (ap (λ s. s.fc_output) e, (ap (λ s. s.fc_input) e, ap (λ s. s.fc_pad) e))), (ap (λ s. s.segments) e, ap (λ s. s.switches) e)))))
+      (λ e. (
+        ap (λ s. s.io_rat) e,
+        (
+          ap (λ s. s.pins) e,
+          ((ap (λ s. s.fc_type) e, (ap (λ s. s.fc_output) e, (ap (λ s. s.fc_input) e, ap (λ s. s.fc_pad) e))), (ap (λ s. s.segments) e, ap (λ s. s.switches) e)),
+        ),
+      ))
       (Decides-and _ _ (unsigned_Decides a.io_rat b.io_rat)
       (Decides-and _ _ (pointwise_decides pin_decides a.pins b.pins)
       (Decides-and _ _ fc_decides
