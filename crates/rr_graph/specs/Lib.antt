@@ -18,3 +18,5 @@ pub mod Pushes
 pub mod Fanouts
 pub mod Terminals
 pub mod NodeSuccessors
+pub mod Same
+pub mod SameLaws

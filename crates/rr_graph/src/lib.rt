@@ -17,6 +17,7 @@ mod numbering;
 mod opins;
 mod parts;
 mod pins;
+mod same;
 mod sides;
 mod starts;
 mod successors;
