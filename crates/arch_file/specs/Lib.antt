@@ -12,3 +12,5 @@ pub mod SwitchLine
 pub mod Judge
 pub mod Reading
 pub mod Reads
+pub mod Same
+pub mod SameLaws

@@ -10,6 +10,7 @@ mod pairs;
 mod parts;
 mod pins;
 mod reading;
+mod same;
 mod segments;
 mod switches;
 mod values;

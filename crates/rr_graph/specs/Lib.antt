@@ -19,3 +19,5 @@ pub mod Fanouts
 pub mod Terminals
 pub mod Problems
 pub mod NodeSuccessors
+pub mod Same
+pub mod SameLaws

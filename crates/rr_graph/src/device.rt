@@ -164,7 +164,6 @@ impl Device {
     pub fn kind(&self, id: u32) -> Option<Kind>
         ensures { result ≡ option_map (λ n. n.kind) (node_at self.now id) }
     {
-        let _ = &self.layout;
         self.kind_of(id)
     }
 

@@ -20,6 +20,7 @@ mod parts;
 mod parts_fault;
 mod pins;
 mod problem;
+mod same;
 mod sides;
 mod starts;
 mod successors;

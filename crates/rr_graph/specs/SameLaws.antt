@@ -1,0 +1,41 @@
+-- Two devices are one exactly where the test says so, and the test is an equivalence.
+use Rattle.std.proofs.Common.{◌≡◌, true, refl, ap}
+use Rattle.std.specs.Bool.{Decides}
+use Rattle.std.specs.Cmp.{IsEquivalence, IsPartialEquivalence, partial_equiv_from_equiv, unsigned_Decides}
+use Rattle.std.proofs.lemmas.Bool.{false≢true}
+use Rattle.std.proofs.lemmas.Bool.Decides.{Decides-and, Decides-like}
+use Rattle.arch_file.specs.SameLaws.{decides_from_tests, equivalence_from_decides, same_architecture}
+use Rattle.rr_graph.specs.declared.parts.Mode.{Mode}
+use Rattle.rr_graph.specs.declared.parts.Mode.TheVariants.{Detailed, Global}
+use Rattle.rr_graph.specs.Fabric.{Fabric}
+use Rattle.rr_graph.specs.Same.{same_mode, is_same_device}
+
+mode_decides : (a b : Mode) → Decides (same_mode a b) (a ≡ b)
+mode_decides = decides_from_tests same_mode same told
+  where
+    same : (a : Mode) → same_mode a a ≡ true
+    same Detailed = refl
+    same Global = refl
+
+    told : (a b : Mode) → same_mode a b ≡ true → a ≡ b
+    told Detailed Detailed e = refl
+    told Detailed Global e = absurd (false≢true e)
+    told Global Detailed e = absurd (false≢true e)
+    told Global Global e = refl
+
+-- the test is true exactly where the two are one
+pub same_device : (a b : Fabric) → Decides (is_same_device a b) (a ≡ b)
+unfolding is_same_device
+same_device a b =
+    Decides-like (is_same_device a b) (λ h. λ i. record { architecture = h.1.1.1.1 i; nx = h.0 i; ny = h.1.0 i; width = h.1.1.0 i; mode = h.1.1.1.0 i })
+    (λ e. (ap (λ f. f.nx) e, (ap (λ f. f.ny) e, (ap (λ f. f.width) e, (ap (λ f. f.mode) e, ap (λ f. f.architecture) e)))))
+    (Decides-and _ _ (unsigned_Decides a.nx b.nx)
+    (Decides-and _ _ (unsigned_Decides a.ny b.ny)
+    (Decides-and _ _ (unsigned_Decides a.width b.width)
+    (Decides-and _ _ (mode_decides a.mode b.mode) (same_architecture a.architecture b.architecture)))))
+
+pub same_device_equivalence : IsEquivalence is_same_device
+same_device_equivalence = equivalence_from_decides is_same_device same_device
+
+pub same_device_symmetric : IsPartialEquivalence is_same_device
+same_device_symmetric = partial_equiv_from_equiv same_device_equivalence
