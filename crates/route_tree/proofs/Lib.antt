@@ -5,4 +5,11 @@ pub mod RowTests
 pub mod DeadEnds
 pub mod Bounds
 pub mod Grown
+pub mod Members
+pub mod Ways
+pub mod Joined
+pub mod Listings
+pub mod Clauses
+pub mod FirstTests
 pub mod Lawful
+pub mod LegalLists

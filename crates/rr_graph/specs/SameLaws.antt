@@ -1,14 +1,16 @@
--- Two devices are one exactly where the test says so, and the test is an equivalence.
+-- Two devices, nets or problems are one exactly where the test says so, and the test is an equivalence.
 use Rattle.std.proofs.Common.{◌≡◌, true, refl, ap}
 use Rattle.std.specs.Bool.{Decides}
 use Rattle.std.specs.Cmp.{IsEquivalence, IsPartialEquivalence, partial_equiv_from_equiv, unsigned_Decides}
+use Rattle.std.specs.Cmp.Lexicographic.{pointwise_decides}
 use Rattle.std.proofs.lemmas.Bool.{false≢true}
 use Rattle.std.proofs.lemmas.Bool.Decides.{Decides-and, Decides-like}
 use Rattle.arch_file.specs.SameLaws.{decides_from_tests, equivalence_from_decides, same_architecture}
 use Rattle.rr_graph.specs.declared.parts.Mode.{Mode}
 use Rattle.rr_graph.specs.declared.parts.Mode.TheVariants.{Detailed, Global}
 use Rattle.rr_graph.specs.Fabric.{Fabric}
-use Rattle.rr_graph.specs.Same.{same_mode, is_same_device}
+use Rattle.rr_graph.specs.Problems.{Net, RoutingProblem}
+use Rattle.rr_graph.specs.Same.{same_mode, is_same_device, is_same_net, is_same_problem}
 
 mode_decides : (a b : Mode) → Decides (same_mode a b) (a ≡ b)
 mode_decides = decides_from_tests same_mode same told
@@ -39,3 +41,30 @@ same_device_equivalence = equivalence_from_decides is_same_device same_device
 
 pub same_device_symmetric : IsPartialEquivalence is_same_device
 same_device_symmetric = partial_equiv_from_equiv same_device_equivalence
+
+pub same_net : (a b : Net) → Decides (is_same_net a b) (a ≡ b)
+unfolding is_same_net
+same_net a b =
+    Decides-like (is_same_net a b) (λ h. λ i. record { number = h.0 i; source = h.1.0 i; sinks = h.1.1 i })
+    (λ e. (ap (λ n. n.number) e, (ap (λ n. n.source) e, ap (λ n. n.sinks) e)))
+    (Decides-and _ _ (unsigned_Decides a.number b.number)
+    (Decides-and _ _ (unsigned_Decides a.source b.source) (pointwise_decides unsigned_Decides a.sinks b.sinks)))
+
+pub same_net_equivalence : IsEquivalence is_same_net
+same_net_equivalence = equivalence_from_decides is_same_net same_net
+
+pub same_net_symmetric : IsPartialEquivalence is_same_net
+same_net_symmetric = partial_equiv_from_equiv same_net_equivalence
+
+pub same_problem : (a b : RoutingProblem) → Decides (is_same_problem a b) (a ≡ b)
+unfolding is_same_problem
+same_problem a b =
+    Decides-like (is_same_problem a b) (λ h. λ i. record { device = h.0 i; nets = h.1 i })
+    (λ e. (ap (λ p. p.device) e, ap (λ p. p.nets) e))
+    (Decides-and _ _ (same_device a.device b.device) (pointwise_decides same_net a.nets b.nets))
+
+pub same_problem_equivalence : IsEquivalence is_same_problem
+same_problem_equivalence = equivalence_from_decides is_same_problem same_problem
+
+pub same_problem_symmetric : IsPartialEquivalence is_same_problem
+same_problem_symmetric = partial_equiv_from_equiv same_problem_equivalence

@@ -1,0 +1,111 @@
+-- Grown pairs are listed exactly where no pair breaks off.
+use Rattle.std.proofs.Common.{◌≡◌, ℕ, ◌+◌, ◌-◌, ◌<◌, ◌==◌, zero, suc, Bool, true, false, not, ◌&&◌, ◌||◌, List, [], ◌∷◌, length, get_or, inl, inr, refl, sym, ap, ap₂, ◌∙◌, arith, add-one}
+use Rattle.std.specs.Prelude.{take}
+use Rattle.std.specs.List.{list_any, range_with_len}
+use Rattle.std.proofs.lemmas.Bool.{and_parts, not-false, or_cases, or_left, or_right}
+use Rattle.std.proofs.lemmas.Bool.Decides.{nat_tests}
+use Rattle.rr_graph.specs.Fabric.{Fabric}
+use Rattle.rr_graph.specs.Problems.{Net, is_sink}
+use Rattle.route_tree.specs.Paths.{Pair, ends_of}
+use Rattle.route_tree.specs.Legality.{is_among, may_begin, is_listed_behind, is_listed}
+use Rattle.route_tree.specs.Faults.{begins_elsewhere}
+use Rattle.route_tree.specs.Ladder.{IsGrown, breaks_at, breaks_off}
+
+any_later : (test shifted : ℕ → Bool) → ((k : ℕ) → test (k + 1) ≡ shifted k) → (a m : ℕ) → list_any test (range_with_len (a + 1) m) ≡ list_any shifted (range_with_len a m)
+any_later test shifted same a zero = refl
+any_later test shifted same a (suc m) = ap₂ (λ b c. b || c) (same a) (any_later test shifted same (a + 1) m)
+
+same_test : (a b : ℕ) → (a == b) ≡ (b == a)
+same_test a b = grind (arith, nat_tests)
+
+swapped : (s x e r : Bool) → (s || (e || (x || r))) ≡ (s || ((x || e) || r))
+swapped true x e r = refl
+swapped false true true r = refl
+swapped false true false r = refl
+swapped false false e r = refl
+
+allowed : (s a : Bool) → (s || (a || false)) ≡ true → (s || a) ≡ true
+allowed true a e = refl
+allowed false true e = refl
+allowed false false e = e
+
+widened : (s a : Bool) → (s || a) ≡ true → (s || (a || false)) ≡ true
+widened true a e = refl
+widened false true e = refl
+widened false false e = e
+
+joint : (x t c : Bool) → ((x || (t && true)) && not c) ≡ not (not (x || t) || c)
+joint true t c = refl
+joint false true c = refl
+joint false false c = refl
+
+module _ (f : Fabric) where
+  -- the first of these pairs breaks off from end e, or a later one from the end before it
+  abbrev breaks_behind : (e : ℕ) → List Pair → Bool
+  breaks_behind e [] = false
+  breaks_behind e (p ∷ ps) = not (p.0 == e || is_sink f e) || breaks_behind p.1 ps
+
+  breaks_later : (p q : Pair) (ps : List Pair) (k : ℕ) → breaks_at f (p ∷ q ∷ ps) (k + 1) ≡ breaks_at f (q ∷ ps) k
+  breaks_later p q ps k = simp add-one
+
+  breaks_first : (p : Pair) (ps : List Pair) → list_any (breaks_at f (p ∷ ps)) (range_with_len 0 (length ps)) ≡ breaks_behind p.1 ps
+  breaks_first p [] = refl
+  breaks_first p (q ∷ qs) =
+      ap (λ b. not (q.0 == p.1 || is_sink f p.1) || b)
+      (any_later (breaks_at f (p ∷ q ∷ qs)) (breaks_at f (q ∷ qs)) (breaks_later p q qs) 0 (length qs) ∙ breaks_first q qs)
+
+  -- a node is the source, one of the earlier ends, or an end of these pairs
+  abbrev begins_behind : (source : ℕ) (earlier : List ℕ) → List Pair → ℕ → Bool
+  begins_behind source earlier ps a = source == a || (is_among earlier a || is_among (ends_of ps) a)
+
+  -- behind pairs with these ends each pair begins at the source or at an end
+  abbrev GrowsBehind : (source : ℕ) (earlier : List ℕ) → List Pair → Type 0
+  GrowsBehind source earlier ps =
+      (k : ℕ) → k < length ps → begins_behind source earlier (take k ps) (get_or ps k (0, 0)).0 ≡ true
+
+  grows_on : (source : ℕ) (earlier : List ℕ) (p : Pair) (ps : List Pair) →
+      GrowsBehind source earlier (p ∷ ps) → GrowsBehind source (p.1 ∷ earlier) ps
+  grows_on source earlier p ps grows k l =
+      let a = (get_or ps k (0, 0)).0 in
+      sym (swapped (source == a) (p.1 == a) (is_among earlier a) (is_among (ends_of (take k ps)) a)) ∙ grows (suc k) (omega arith)
+
+  listed_behind : (source e : ℕ) (earlier : List ℕ) (ps : List Pair) → GrowsBehind source (e ∷ earlier) ps →
+      is_listed_behind f source (e ∷ earlier) ps ≡ not (breaks_behind e ps)
+  listed_behind source e earlier [] grows = refl
+  listed_behind source e earlier (p ∷ ps) grows =
+      ap₂ (λ u v. (e == p.0 || (is_sink f e && u)) && v)
+      (allowed (source == p.0) (is_among (e ∷ earlier) p.0) (grows 0 (omega arith)))
+      (listed_behind source p.1 (e ∷ earlier) ps (grows_on source (e ∷ earlier) p ps grows))
+      ∙ joint (e == p.0) (is_sink f e) (breaks_behind p.1 ps)
+      ∙ ap (λ b. not (not (b || is_sink f e) || breaks_behind p.1 ps)) (same_test e p.0)
+
+  pub listed : (n : Net) (pairs : List Pair) → begins_elsewhere n.source pairs ≡ false → IsGrown n.source pairs →
+      is_listed f n pairs ≡ not (breaks_off f pairs)
+  unfolding is_listed
+  listed n [] first grown = refl
+  listed n (p ∷ ps) first grown =
+      let all : suc (length ps) - 1 ≡ length ps = omega arith in
+      ap₂ (λ u v. u && v) (not-false (p.0 == n.source) first) (listed_behind n.source p.1 [] ps (grows_on n.source [] p ps grown))
+      ∙ ap not (sym (ap (λ m. list_any (breaks_at f (p ∷ ps)) (range_with_len 0 m)) all ∙ breaks_first p ps))
+
+  -- ---- listed pairs grow
+  may_begin_behind : (source : ℕ) (earlier : List ℕ) (a : ℕ) → may_begin f source earlier a ≡ true → begins_behind source earlier [] a ≡ true
+  may_begin_behind source [] a h = or_left (source == a) false (same_test source a ∙ h)
+  may_begin_behind source (e ∷ es) a h = elim (or_cases (e == a) (is_sink f e && (source == a || is_among (e ∷ es) a)) h) [
+    | inl this ↦ or_right (source == a) (is_among (e ∷ es) a || false) (or_left (is_among (e ∷ es) a) false (or_left (e == a) (is_among es a) this))
+    | inr behind ↦ widened (source == a) (is_among (e ∷ es) a) (and_parts (is_sink f e) (source == a || is_among (e ∷ es) a) behind).1
+  ]
+
+  grows_listed : (source : ℕ) (earlier : List ℕ) (ps : List Pair) → is_listed_behind f source earlier ps ≡ true → GrowsBehind source earlier ps
+  grows_listed source earlier [] h k l = absurd (omega arith)
+  grows_listed source earlier (p ∷ ps) h zero l =
+      may_begin_behind source earlier p.0 (and_parts (may_begin f source earlier p.0) (is_listed_behind f source (p.1 ∷ earlier) ps) h).0
+  grows_listed source earlier (p ∷ ps) h (suc k) l =
+      let a = (get_or ps k (0, 0)).0 in
+      let later = (and_parts (may_begin f source earlier p.0) (is_listed_behind f source (p.1 ∷ earlier) ps) h).1 in
+      swapped (source == a) (p.1 == a) (is_among earlier a) (is_among (ends_of (take k ps)) a)
+      ∙ grows_listed source (p.1 ∷ earlier) ps later k (omega arith)
+
+  pub grown_listed : (n : Net) (pairs : List Pair) → is_listed f n pairs ≡ true → IsGrown n.source pairs
+  unfolding is_listed
+  grown_listed n pairs h = grows_listed n.source [] pairs h
