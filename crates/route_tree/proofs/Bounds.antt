@@ -33,24 +33,24 @@ module _ (f : Fabric) where
   from_node : (a b : ℕ) → edge_between f a b ≡ true → a < node_count_of f
   unfolding edge_between
   from_node a b e = elim (cases_lt a (node_count_of f)) [
-      inl l ↦ l
+    | inl l ↦ l
     | inr g ↦ absurd (false≢true (sym (ap (λ x. edge_between_nodes f x (node_at f b)) (no_node a g)) ∙ e))
-    ]
+  ]
 
   to_node : (a b : ℕ) → edge_between f a b ≡ true → b < node_count_of f
   unfolding edge_between
   to_node a b e = elim (cases_lt b (node_count_of f)) [
-      inl l ↦ l
+    | inl l ↦ l
     | inr g ↦ absurd (false≢true (sym (ap (edge_between_nodes f (node_at f a)) (no_node b g) ∙ no_edge_to (node_at f a)) ∙ e))
-    ]
+  ]
 
   -- what is a sink is a node
   sink_node : (s : ℕ) → is_sink f s ≡ true → s < node_count_of f
   unfolding is_sink
   sink_node s e = elim (cases_lt s (node_count_of f)) [
-      inl l ↦ l
+    | inl l ↦ l
     | inr g ↦ absurd (false≢true (sym (ap (any_node is_sink_kind) (no_node s g)) ∙ e))
-    ]
+  ]
 
   no_both : (k : Kind) → is_source_kind k ≡ true → is_sink_kind k ≡ true → ⊥
   no_both Source a b = false≢true b
@@ -68,9 +68,9 @@ module _ (f : Fabric) where
   apart : (source s : ℕ) → is_source f source ≡ true → is_sink f s ≡ true → (s == source) ≡ false
   unfolding is_source is_sink
   apart source s a b = elim (cases_Bool (s == source)) [
-      inl e ↦ absurd (no_node_both (node_at f source) a (subst (λ k. any_node is_sink_kind (node_at f k) ≡ true) (eqb-true s source e) b))
+    | inl e ↦ absurd (no_node_both (node_at f source) a (subst (λ k. any_node is_sink_kind (node_at f k) ≡ true) (eqb-true s source e) b))
     | inr e ↦ e
-    ]
+  ]
 
   edge_of : (pairs : List Pair) → lacks_switch f pairs ≡ false → (k : ℕ) → k < length pairs → edge_between f (get_or pairs k (0, 0)).0 (get_or pairs k (0, 0)).1 ≡ true
   edge_of pairs h k l = not_not (edge_between f (get_or pairs k (0, 0)).0 (get_or pairs k (0, 0)).1) (none_at (λ p. not (edge_between f p.0 p.1)) pairs (0, 0) h k l)

@@ -30,11 +30,11 @@ module _ (rows : List Row) (r : Row) where
         some = omega (arith, some, length_push rows r);
         root = ap (λ x. x.parent) (old_row 0 some) ∙ t.root;
         earlier = λ i low high. elim (cases_lt i (length rows)) [
-          inl old ↦ (let e = t.earlier i low old in let same = ap (λ x. x.parent) (old_row i old) in omega (arith, e, same))
-        | inr new ↦
-          let at : i ≡ length rows = omega (arith, high, new, length_push rows r) in
-          let same : (get_or (rows ++ r ∷ []) i no_row).parent ≡ r.parent = ap (λ k. (get_or (rows ++ r ∷ []) k no_row).parent) at ∙ ap (λ x. x.parent) new_row in
-          omega (arith, l, same, at)
+          | inl old ↦ (let e = t.earlier i low old in let same = ap (λ x. x.parent) (old_row i old) in omega (arith, e, same))
+          | inr new ↦
+              let at : i ≡ length rows = omega (arith, high, new, length_push rows r) in
+              let same : (get_or (rows ++ r ∷ []) i no_row).parent ≡ r.parent = ap (λ k. (get_or (rows ++ r ∷ []) k no_row).parent) at ∙ ap (λ x. x.parent) new_row in
+              omega (arith, l, same, at)
         ];
       }
 
@@ -54,7 +54,7 @@ module _ (rows : List Row) (r : Row) where
       ap (map (pair_of (rows ++ r ∷ []))) (drop_one rows (r ∷ []) t.some)
       ∙ map-append (pair_of (rows ++ r ∷ [])) (drop 1 rows) (r ∷ [])
       ∙ ap₂ (λ ps p. ps ++ p ∷ []) (same_mapped (pair_of (rows ++ r ∷ [])) (pair_of rows) (drop 1 rows) (old_pair t))
-        (ap (λ x. (x.node, r.node)) (old_row r.parent l))
+      (ap (λ x. (x.node, r.node)) (old_row r.parent l))
 
 link : (rows : List Row) (row n : ℕ) (ns : List ℕ) → (rows ++ record { node = n; parent = row } ∷ []) ++ chain (length (rows ++ record { node = n; parent = row } ∷ [])) (length rows) ns ≡ rows ++ chain (length rows) row (n ∷ ns)
 link rows row n ns =

@@ -19,13 +19,13 @@ alive_marks flags sinks pairs i l m below a =
     let later = list_any (λ q. q.0 == a) (drop (i + 1) pairs) in
     let all : list_any (λ q. q.0 == a) (drop i pairs) ≡ (p.0 == a || later) = ap (list_any (λ q. q.0 == a)) (drop_more pairs i (0, 0) l) in
     elim (cases_Bool (p.0 == a)) [
-      inl this ↦
-      let e = eqb-true p.0 a this in
-      subst (λ k. get_or (set flags p.0 true) k false ≡ true) e (get_or-set_same flags p.0 true false below)
-      ∙ sym (or_right (is_among sinks a) (list_any (λ q. q.0 == a) (drop i pairs)) (all ∙ or_left (p.0 == a) later this))
-    | inr other ↦
-      get_or-set_other flags p.0 a true false (λ e. absurd (false≢true (sym other ∙ eq-eqb p.0 a (sym e)))) ∙ m a
-      ∙ ap (λ b. is_among sinks a || b) (sym (all ∙ ap (λ b. b || later) other))
+      | inl this ↦
+          let e = eqb-true p.0 a this in
+          subst (λ k. get_or (set flags p.0 true) k false ≡ true) e (get_or-set_same flags p.0 true false below)
+          ∙ sym (or_right (is_among sinks a) (list_any (λ q. q.0 == a) (drop i pairs)) (all ∙ or_left (p.0 == a) later this))
+      | inr other ↦
+          get_or-set_other flags p.0 a true false (λ e. absurd (false≢true (sym other ∙ eq-eqb p.0 a (sym e)))) ∙ m a
+          ∙ ap (λ b. is_among sinks a || b) (sym (all ∙ ap (λ b. b || later) other))
     ]
 
 -- an end that is marked is no dead end

@@ -33,10 +33,13 @@ grown rows source t e k l = from_parent (get_or rows (k + 1) no_row).parent refl
   where
     pairs : List Pair
     pairs = pairs_of rows
+
     first : node_in rows 0 ≡ source
     first = eqb-true (node_in rows 0) source (not_not (node_in rows 0 == source) (or_parts (nat_lt (length rows) 2) (not (node_in rows 0 == source)) (sym (begins rows source t) ∙ e)).1)
+
     begin : (get_or pairs k (0, 0)).0 ≡ node_in rows (get_or rows (k + 1) no_row).parent
     begin = ap (λ p. p.0) (pair_at rows k t l)
+
     from_parent : (r : ℕ) → (get_or rows (k + 1) no_row).parent ≡ r → is_among (source ∷ ends_of (take k pairs)) (get_or pairs k (0, 0)).0 ≡ true
     from_parent zero p =
         let at : source ≡ (get_or pairs k (0, 0)).0 = sym (begin ∙ ap (node_in rows) p ∙ first) in
@@ -47,7 +50,7 @@ grown rows source t e k l = from_parent (get_or rows (k + 1) no_row).parent refl
         let before : j < k = omega (arith, early, p) in
         let next : suc j ≡ j + 1 = omega arith in
         let at : (get_or pairs j (0, 0)).1 ≡ (get_or pairs k (0, 0)).0 =
-          ap (λ p. p.1) (pair_at rows j t (omega (arith, before, l))) ∙ sym (begin ∙ ap (node_in rows) (p ∙ next)) in
+        ap (λ p. p.1) (pair_at rows j t (omega (arith, before, l))) ∙ sym (begin ∙ ap (node_in rows) (p ∙ next)) in
         or_right (source == (get_or pairs k (0, 0)).0) (is_among (ends_of (take k pairs)) (get_or pairs k (0, 0)).0)
         (subst (λ a. is_among (ends_of (take k pairs)) a ≡ true) at (end_among pairs k j (omega (arith, l)) before))
 

@@ -34,9 +34,9 @@ module _ {X : Type 0} (p : X → Bool) (xs : List X) (d : X) where
 -- where no element passes a test each fails it
 pub none_at : {X : Type 0} (p : X → Bool) (xs : List X) (d : X) → list_any p xs ≡ false → (k : ℕ) → k < length xs → p (get_or xs k d) ≡ false
 none_at p xs d h k l = elim (cases_Bool (p (get_or xs k d))) [
-    inl t ↦ absurd (false≢true (sym h ∙ one_passes p xs d k l t))
+  | inl t ↦ absurd (false≢true (sym h ∙ one_passes p xs d k l t))
   | inr t ↦ t
-  ]
+]
 
 pub begins : (rows : List Row) (source : ℕ) → IsTree rows → begins_elsewhere source (pairs_of rows) ≡ (nat_lt (length rows) 2 || not (node_in rows 0 == source))
 unfolding pairs_of
@@ -56,9 +56,9 @@ same_any p q same (x ∷ xs) = ap₂ (λ a b. a || b) (same x) (same_any p q sam
 more_twice : (xs ys : List ℕ) → has_twice xs ≡ true → has_twice (xs ++ ys) ≡ true
 more_twice [] ys h = absurd (false≢true h)
 more_twice (x ∷ xs) ys h = elim (cases_Bool (is_among xs x)) [
-    inl again ↦ or_left (is_among (xs ++ ys) x) (has_twice (xs ++ ys)) (list_any-append (λ z. z == x) xs ys ∙ or_left (is_among xs x) (is_among ys x) again)
+  | inl again ↦ or_left (is_among (xs ++ ys) x) (has_twice (xs ++ ys)) (list_any-append (λ z. z == x) xs ys ∙ or_left (is_among xs x) (is_among ys x) again)
   | inr once ↦ or_right (is_among (xs ++ ys) x) (has_twice (xs ++ ys)) (more_twice xs ys (sym (ap (λ b. b || has_twice xs) once) ∙ h))
-  ]
+]
 
 moved : (a h b e : Bool) → ((a || (e || false)) || (h || b)) ≡ ((a || h) || (e || b))
 moved true h b e = refl
@@ -69,9 +69,9 @@ moved false false b false = refl
 
 same_test : (x y : ℕ) → (x == y) ≡ (y == x)
 same_test x y = elim (cases_Bool (x == y)) [
-    inl e ↦ e ∙ sym (eq-eqb y x (sym (eqb-true x y e)))
+  | inl e ↦ e ∙ sym (eq-eqb y x (sym (eqb-true x y e)))
   | inr e ↦ elim (cases_Bool (y == x)) [ inl k ↦ absurd (false≢true (sym e ∙ eq-eqb x y (sym (eqb-true y x k)))) | inr k ↦ e ∙ sym k ]
-  ]
+]
 
 -- one more number stands twice where it is among those before
 next_twice : (xs : List ℕ) (y : ℕ) → has_twice (xs ++ y ∷ []) ≡ (has_twice xs || is_among xs y)
@@ -117,7 +117,7 @@ pub count_next : (p : Pair → Bool) (pairs : List Pair) (i : ℕ) → i < lengt
 count_next p pairs i l = elim (cases_Bool (p (get_or pairs i (0, 0)))) [
   | inl t ↦ rw t (count_by_more_yes p pairs i (0, 0) l t)
   | inr t ↦ (let e = count_by_more_no p pairs i (0, 0) l t in rw t (omega (arith, e)))
-  ]
+]
 
 pub or_parts : (a b : Bool) → (a || b) ≡ false → (a ≡ false) × (b ≡ false)
 or_parts true b e = absurd (false≢true (sym e))

@@ -14,7 +14,7 @@ use crate::passes::{
     begins_elsewhere, breaks_off, has_dead_end, has_foreign_sink, lacks_switch, leaves_twice,
     misses_sink, reaches_twice,
 };
-use crate::stamps::{mark_only, Stamps};
+use crate::stamps::{Stamps, mark_only};
 use crate::tree::{Row, Tree};
 use rr_graph::{Device, Problem};
 

@@ -12,5 +12,5 @@ mod tree;
 pub use check::check_tree;
 pub use fault::TreeFault;
 pub use marks::Marks;
-pub use routing::{fits, Pairs, Routing};
+pub use routing::{Pairs, Routing, fits};
 pub use tree::Tree;

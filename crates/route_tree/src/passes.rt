@@ -12,7 +12,7 @@ ghost use Rattle.route_tree.specs.Ladder.{has_dead_end, breaks_at, breaks_off};
 ghost use Rattle.route_tree.specs.Marked.{IsMarked, nodes_of};
 
 use crate::stamps::Stamps;
-use crate::tree::{count_pairs, pair_at, Row};
+use crate::tree::{Row, count_pairs, pair_at};
 use rr_graph::Device;
 
 /// Whether there is no pair, or the first one begins elsewhere than at the source.
@@ -137,12 +137,19 @@ fn is_foreign(device: &Device, stamps: &Stamps, node: u32) -> bool
 fn has_foreign_row(device: &Device, rows: &[Row], stamps: &Stamps) -> bool
     ensures { result ≡ list_any (λ r. is_sink device.now r.node && not (get_or stamps.now r.node false)) (drop 1 rows.now) }
 {
-    rows.iter().skip(1).any(|row| is_foreign(device, stamps, row.node))
+    rows.iter()
+        .skip(1)
+        .any(|row| is_foreign(device, stamps, row.node))
 }
 
 /// Whether a pair ends in a sink that is not among those given, which are marked.
 #[tactic(auto, using(crate::proofs::RowTests::foreign))]
-pub(crate) fn has_foreign_sink(device: &Device, rows: &[Row], sinks: &[u32], stamps: &Stamps) -> bool
+pub(crate) fn has_foreign_sink(
+    device: &Device,
+    rows: &[Row],
+    sinks: &[u32],
+    stamps: &Stamps,
+) -> bool
     requires { IsMarked stamps.now sinks.now }
     ensures { result ≡ has_foreign_sink device.now sinks.now (pairs_of rows.now) }
 {

@@ -70,5 +70,6 @@ fn are_all_nodes(device: &Device, lists: &[Option<Pairs>]) -> bool
 pub fn fits(problem: &Problem, routing: &Routing) -> bool
     ensures { result ≡ fits_problem problem.now routing.now }
 {
-    routing.lists.len() == problem.nets() as usize && are_all_nodes(problem.device(), &routing.lists)
+    routing.lists.len() == problem.nets() as usize
+        && are_all_nodes(problem.device(), &routing.lists)
 }

@@ -165,7 +165,11 @@ fn push_chain(rows: &mut Vec<Row>, row: usize, nodes: &[u32])
     let mut parent = row;
     for node in nodes {
         let next = rows.len();
-        rows.push(Row { node: *node, parent }).unwrap();
+        rows.push(Row {
+            node: *node,
+            parent,
+        })
+        .unwrap();
         parent = next;
     }
 }

@@ -328,7 +328,7 @@ fn global_devices_have_wide_wires(rt: HostRuntime) -> Result<(), Fail> {
 }
 
 /// An architecture and its device, asked for again where memory was refused.
-fn device_again(rt: &(impl Abort + AllocGlobal), width: u32) -> Result<Device, Fail> {
+pub(crate) fn device_again(rt: &(impl Abort + AllocGlobal), width: u32) -> Result<Device, Fail> {
     let arch = match arch_file::parse(rt.alloc(), ONE_BLOCK.as_bytes()) {
         Ok(arch) => arch,
         Err(_) => arch_file::parse(rt.alloc(), ONE_BLOCK.as_bytes())?,

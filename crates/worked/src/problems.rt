@@ -1,7 +1,8 @@
 //! Routing problems of one logic block: what is made of their parts, and what is refused.
 
-use crate::devices::{arch, node, ONE_BLOCK};
+use crate::devices::{ONE_BLOCK, arch, device_again, node};
 use rr_graph::{Device, Kind, PartsFault, Problem, Terminals};
+use std::alloc::{AllocError, Global};
 use std::process::Abort;
 use std::test::Fail;
 
@@ -24,12 +25,32 @@ pub(crate) fn one_block(rt: &impl AllocGlobal) -> Result<Device, Fail> {
     Ok(Device::new(rt.alloc(), &arch(rt, ONE_BLOCK)?, 1, 1, 1)?)
 }
 
+/// From the pads on the block's left to its inputs.
+fn two_parts(alloc: Global) -> Result<Vec<Terminals>, AllocError> {
+    let mut nets = Vec::new(alloc);
+    for number in 0..2 {
+        nets.push(Terminals {
+            number,
+            source: number,
+            sinks: Vec::from_slice(alloc, &[13])?,
+        })?;
+    }
+    Ok(nets)
+}
+
 /// Two nets of one block, from the pads on its left to its inputs.
 pub(crate) fn two_nets(rt: &impl AllocGlobal) -> Result<Problem, Fail> {
-    let mut nets = Vec::new(rt.alloc());
-    nets.push(net(rt, 0, 0, &[13])?)?;
-    nets.push(net(rt, 1, 1, &[13])?)?;
-    Ok(Problem::from_parts(one_block(rt)?, nets)?)
+    Ok(Problem::from_parts(one_block(rt)?, two_parts(rt.alloc())?)?)
+}
+
+/// The same, asked for again where memory was refused.
+pub(crate) fn two_nets_again(rt: &(impl Abort + AllocGlobal)) -> Result<Problem, Fail> {
+    let device = device_again(rt, 1)?;
+    let nets = match two_parts(rt.alloc()) {
+        Ok(nets) => nets,
+        Err(_) => two_parts(rt.alloc())?,
+    };
+    Ok(Problem::from_parts(device, nets)?)
 }
 
 /// The fault of two nets.
@@ -63,6 +84,18 @@ fn looks_nets_up(rt: HostRuntime) -> Result<(), Fail> {
     assert!(rt; problem.number(0) == 0 && problem.number(1) == 1);
     assert!(rt; problem.source(0) == 0 && problem.source(1) == 1);
     assert!(rt; problem.sinks(0) == [13].as_slice() && problem.sinks(1) == [13].as_slice());
+    Ok(())
+}
+
+#[test]
+fn tells_problems_apart(rt: HostRuntime) -> Result<(), Fail> {
+    let problem = two_nets(&rt)?;
+    assert!(rt; problem == two_nets(&rt)?);
+    let mut nets = Vec::new(rt.alloc());
+    nets.push(net(&rt, 0, 0, &[13])?)?;
+    nets.push(net(&rt, 2, 1, &[13])?)?;
+    assert!(rt; problem != Problem::from_parts(one_block(&rt)?, nets)?);
+    assert!(rt; problem != Problem::from_parts(one_block(&rt)?, Vec::new(rt.alloc()))?);
     Ok(())
 }
 
@@ -115,19 +148,20 @@ fn names_the_first_fault_of_the_first_faulty_net(rt: HostRuntime) -> Result<(), 
 }
 
 /// As many nets, all from one pad to one block.
-fn many(rt: &impl AllocGlobal, count: u32) -> Result<Result<Problem, PartsFault>, Fail> {
+fn many(rt: &impl AllocGlobal, count: u32) -> Result<Vec<Terminals>, Fail> {
     let mut nets = Vec::with_capacity(rt.alloc(), count as usize)?;
     for number in 0..count {
         nets.push(net(rt, number, 0, &[13])?)?;
     }
-    Ok(Problem::from_parts(one_block(rt)?, nets))
+    Ok(nets)
 }
 
 #[test]
 fn takes_the_most_nets_and_not_one_more(rt: HostRuntime) -> Result<(), Fail> {
-    let most = many(&rt, 65535)?;
-    assert!(rt; most.is_ok_and(|problem| problem.nets() == 65535));
-    assert!(rt; many(&rt, 65536)?.err() == Some(PartsFault::TooMany));
+    let most = Problem::from_parts(one_block(&rt)?, many(&rt, 65535)?)?;
+    assert!(rt; most.nets() == 65535);
+    let more = Problem::from_parts(one_block(&rt)?, many(&rt, 65536)?);
+    assert!(rt; more.err() == Some(PartsFault::TooMany));
     Ok(())
 }
 
@@ -146,15 +180,12 @@ fn tells_sources_and_sinks(rt: HostRuntime) -> Result<(), Fail> {
 // growths: 45
 #[test]
 fn copy_without_memory(rt: HostRuntime) -> Result<(), Fail> {
-    let problem = match two_nets(&rt) {
-        Ok(problem) => problem,
-        Err(_) => two_nets(&rt)?,
-    };
+    let problem = two_nets_again(&rt)?;
     let copy = match problem.copy(rt.alloc()) {
         Ok(copy) => copy,
         Err(_) => problem.copy(rt.alloc())?,
     };
-    assert!(rt; copy.nets() == 2);
+    assert!(rt; copy == problem);
     assert!(rt; copy.sinks(1) == [13].as_slice());
     assert!(rt; copy.device().node_count() == 41);
     Ok(())

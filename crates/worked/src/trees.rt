@@ -1,8 +1,8 @@
 //! Trees of one small problem, and of one with two sinks: which are legal, and why others are not.
 
-use crate::devices::{arch, node, CLOCKED, ONE_BLOCK};
-use crate::problems::{net, one_block, two_nets};
-use route_tree::{check_tree, fits, Marks, Pairs, Routing, Tree, TreeFault};
+use crate::devices::{CLOCKED, ONE_BLOCK, arch, node};
+use crate::problems::{net, one_block, two_nets, two_nets_again};
+use route_tree::{Marks, Pairs, Routing, Tree, TreeFault, check_tree, fits};
 use rr_graph::{Device, Kind, Problem};
 use std::process::Abort;
 use std::test::Fail;
@@ -70,11 +70,12 @@ fn names_the_fault_of_a_path(rt: HostRuntime) -> Result<(), Fail> {
     Ok(())
 }
 
-/// A stub that ends in a wire met before, and a jump with a stub.
+/// A stub beside a wire that is met again, a jump with a stub, and a wrong source with a jump.
 #[test]
 fn names_the_lower_of_two_faults(rt: HostRuntime) -> Result<(), Fail> {
     let problem = two_nets(&rt)?;
-    let stub_and_again = with_branch(&rt, &[38, 37])?;
+    let mut stub_and_again = with_branch(&rt, &[38])?;
+    stub_and_again.attach(2, &[37])?;
     assert!(rt; fault_of(&rt, &problem, 0, &stub_and_again)? == Some(TreeFault::NodeTwice));
     let jump_and_stub = chain(&rt, 0, &[18, 37, 39])?;
     assert!(rt; fault_of(&rt, &problem, 0, &jump_and_stub)? == Some(TreeFault::NoSwitch));
@@ -238,7 +239,9 @@ fn tells_a_routing_of_another_problem(rt: HostRuntime) -> Result<(), Fail> {
     assert!(rt; fits(&problem, &routing_of(&rt, &[(0, 18), (18, 40)])?));
     assert!(rt; !fits(&problem, &routing_of(&rt, &[(0, 18), (18, 41)])?));
     assert!(rt; !fits(&problem, &routing_of(&rt, &[(41, 18)])?));
-    let none = Routing { lists: Vec::new(rt.alloc()) };
+    let none = Routing {
+        lists: Vec::new(rt.alloc()),
+    };
     assert!(rt; !fits(&problem, &none));
     let empty = Problem::from_parts(one_block(&rt)?, Vec::new(rt.alloc()))?;
     assert!(rt; fits(&empty, &none));
@@ -271,10 +274,7 @@ fn attach_without_memory(rt: HostRuntime) -> Result<(), Fail> {
 // growths: 45
 #[test]
 fn marks_without_memory(rt: HostRuntime) -> Result<(), Fail> {
-    let problem = match two_nets(&rt) {
-        Ok(problem) => problem,
-        Err(_) => two_nets(&rt)?,
-    };
+    let problem = two_nets_again(&rt)?;
     let marks = match Marks::new(rt.alloc(), &problem) {
         Ok(marks) => marks,
         Err(_) => Marks::new(rt.alloc(), &problem)?,

@@ -29,8 +29,9 @@ loop-behind-preserved c =
     let none = subst (λ k. has_dead_end sinks (drop k pairs) ≡ false) next c.loop-behind.invariant.1 in
     let bound = begins_below c.args.rows.now (length c.args.stamps.now) i c.requires.tree c.requires.below within in
     let below : (get_or pairs i (0, 0)).0 < length flags = omega (arith, bound, c.loop-behind.invariant.2) in
-    let marked = ap (λ p. get_or flags p.1 false) (sym pair) ∙ sym c.if-not-is_marked.ensures in
-    (subst (λ k. AreBehind c.mark.new.self sinks (drop k pairs)) (sym here)
-    (subst (λ s. AreBehind s sinks (drop i pairs)) (sym (c.mark.ensures ∙ ap (λ p. set flags p.0 true) pair)) (alive_marks flags sinks pairs i within behind below)),
-    subst (λ k. has_dead_end sinks (drop k pairs) ≡ false) (sym here) (alive flags sinks pairs i within behind none marked),
-    ap length c.mark.ensures ∙ length-set flags c.pair_at-pair.result.0 true ∙ c.loop-behind.invariant.2)
+    let marked = ap (λ p. get_or flags p.1 false) (sym pair) ∙ sym c.if-not-is_marked.ensures in (
+      subst (λ k. AreBehind c.mark.new.self sinks (drop k pairs)) (sym here)
+          (subst (λ s. AreBehind s sinks (drop i pairs)) (sym (c.mark.ensures ∙ ap (λ p. set flags p.0 true) pair)) (alive_marks flags sinks pairs i within behind below)),
+      subst (λ k. has_dead_end sinks (drop k pairs) ≡ false) (sym here) (alive flags sinks pairs i within behind none marked),
+      ap length c.mark.ensures ∙ length-set flags c.pair_at-pair.result.0 true ∙ c.loop-behind.invariant.2,
+    )

@@ -14,7 +14,8 @@ loop-row-preserved c =
     let kept = c.loop-row.invariant.2 in
     let size = ap length c.clear.ensures ∙ length-replicate (length c.args.stamps.now) false in
     let row = c.requires i no_row within in
-    let below : (get_or rows i no_row).node < length flags = omega (arith, row, kept, size) in
-    (subst (λ s. IsMarked s (nodes_of (take (i + 1) rows))) (sym c.mark.ensures) (next_marked rows flags i within c.loop-row.invariant.0 below),
-    met_once rows flags i within c.loop-row.invariant.0 c.loop-row.invariant.1 (sym c.if-is_marked.ensures),
-    ap length c.mark.ensures ∙ length-set flags (get_or rows i no_row).node true ∙ kept)
+    let below : (get_or rows i no_row).node < length flags = omega (arith, row, kept, size) in (
+      subst (λ s. IsMarked s (nodes_of (take (i + 1) rows))) (sym c.mark.ensures) (next_marked rows flags i within c.loop-row.invariant.0 below),
+      met_once rows flags i within c.loop-row.invariant.0 c.loop-row.invariant.1 (sym c.if-is_marked.ensures),
+      ap length c.mark.ensures ∙ length-set flags (get_or rows i no_row).node true ∙ kept,
+    )
