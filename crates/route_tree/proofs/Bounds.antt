@@ -1,7 +1,7 @@
 -- What a tree of switches and a net of a problem name are nodes.
 use Rattle.std.proofs.Common.{◌≡◌, ℕ, ◌+◌, ◌<◌, ◌≤◌, ◌==◌, zero, suc, inl, inr, Bool, true, false, not, ◌||◌, nat_lt, List, [], ◌∷◌, length, get_or, All, Option, Some, None, refl, sym, ap, ap₂, ◌∙◌, subst, arith}
 use Rattle.std.specs.List.{list_any}
-use Rattle.std.proofs.lemmas.Bool.{cases_lt, cases_Bool, false≢true, eqb-true, or_from}
+use Rattle.std.proofs.lemmas.Bool.{cases_lt, cases_Bool, false≢true, eqb-true, or_parts, not-false}
 use Rattle.std.proofs.lemmas.Option.{slice_get_past}
 use Rattle.std.proofs.lemmas.Bool.Decides.{nat_tests}
 use Rattle.std.proofs.lemmas.List.Elements.{All-get_or, All-from_get_or}
@@ -18,7 +18,7 @@ use Rattle.route_tree.specs.Paths.{Pair, ends_of}
 use Rattle.route_tree.specs.Legality.{is_among}
 use Rattle.route_tree.specs.Rows.{no_row, node_in, pairs_of, IsTree}
 use Rattle.route_tree.specs.Faults.{begins_elsewhere, lacks_switch}
-use Rattle.route_tree.proofs.RowTests.{none_at, begins, or_parts, not_not}
+use Rattle.route_tree.proofs.RowTests.{none_at, begins}
 use Rattle.route_tree.proofs.Trees.{length_pairs, pair_at}
 
 module _ (f : Fabric) where
@@ -73,7 +73,7 @@ module _ (f : Fabric) where
   ]
 
   edge_of : (pairs : List Pair) → lacks_switch f pairs ≡ false → (k : ℕ) → k < length pairs → edge_between f (get_or pairs k (0, 0)).0 (get_or pairs k (0, 0)).1 ≡ true
-  edge_of pairs h k l = not_not (edge_between f (get_or pairs k (0, 0)).0 (get_or pairs k (0, 0)).1) (none_at (λ p. not (edge_between f p.0 p.1)) pairs (0, 0) h k l)
+  edge_of pairs h k l = not-false (edge_between f (get_or pairs k (0, 0)).0 (get_or pairs k (0, 0)).1) (none_at (λ p. not (edge_between f p.0 p.1)) pairs (0, 0) h k l)
 
 module _ (f : Fabric) (rows : List Row) (source : ℕ) (t : IsTree rows) (e : begins_elsewhere source (pairs_of rows) ≡ false) (h : lacks_switch f (pairs_of rows) ≡ false) where
   two : 2 ≤ length rows

@@ -2,9 +2,10 @@
 use Rattle.std.proofs.Common.{◌≡◌, ℕ, ◌+◌, ◌<◌, ◌≤◌, ◌==◌, ◌↔◌, zero, suc, inl, inr, Bool, true, false, not, nat_lt, nat_le, if◌then◌else◌, ◌||◌, List, [], ◌∷◌, length, take, get_or, Option, Some, None, Ok, Err, IsOk, refl, sym, ap, ap₂, ◌∙◌, subst, arith}
 use Rattle.std.specs.List.{list_any}
 use Rattle.std.specs.Result.{result_err}
-use Rattle.std.proofs.lemmas.Bool.{or_left, or_right, eq-eqb, eqb-true, false≢true}
+use Rattle.std.proofs.lemmas.Bool.{or_left, or_right, or_parts, not-false, eq-eqb, eqb-true, false≢true}
 use Rattle.std.proofs.lemmas.Bool.Decides.{nat_tests}
 use Rattle.std.proofs.lemmas.List.{length-map, get_or-map, get_or-take, length-take-le}
+use Rattle.std.proofs.lemmas.List.Folds.{list_any_at}
 use Rattle.rr_graph.specs.Fabric.{Fabric}
 use Rattle.rr_graph.specs.Problems.{RoutingProblem, net_in}
 use Rattle.route_tree.specs.declared.fault.TreeFault.{TreeFault}
@@ -17,7 +18,7 @@ use Rattle.route_tree.specs.Rows.{no_row, node_in, pair_of, pairs_of, IsTree}
 use Rattle.route_tree.specs.Faults.{begins_elsewhere}
 use Rattle.route_tree.specs.Ladder.{IsGrown, net_fault_of, fault_of, or_ok}
 use Rattle.route_tree.proofs.Trees.{length_pairs, pair_at}
-use Rattle.route_tree.proofs.RowTests.{one_passes, begins, or_parts, not_not}
+use Rattle.route_tree.proofs.RowTests.{begins}
 
 -- an end of the first pairs is among their ends
 end_among : (pairs : List Pair) (k j : ℕ) → k ≤ length pairs → j < k → is_among (ends_of (take k pairs)) (get_or pairs j (0, 0)).1 ≡ true
@@ -26,7 +27,7 @@ end_among pairs k j within l =
     let end = (get_or pairs j (0, 0)).1 in
     let few : length (take k pairs) ≡ k = length-take-le k pairs within in
     let at : get_or ends j 0 ≡ end = get_or-map (λ (p : Pair). p.1) (take k pairs) j (0, 0) 0 (omega (arith, few)) ∙ ap (λ p. p.1) (get_or-take k pairs j (0, 0) l) in
-    one_passes (λ x. x == end) ends 0 j (omega (arith, few, length-map (take k pairs) (λ (p : Pair). p.1))) (eq-eqb (get_or ends j 0) end at)
+    list_any_at (λ x. x == end) ends j 0 (omega (arith, few, length-map (take k pairs) (λ (p : Pair). p.1))) (eq-eqb (get_or ends j 0) end at)
 
 pub grown : (rows : List Row) (source : ℕ) → IsTree rows → begins_elsewhere source (pairs_of rows) ≡ false → IsGrown source (pairs_of rows)
 grown rows source t e k l = from_parent (get_or rows (k + 1) no_row).parent refl
@@ -35,7 +36,7 @@ grown rows source t e k l = from_parent (get_or rows (k + 1) no_row).parent refl
     pairs = pairs_of rows
 
     first : node_in rows 0 ≡ source
-    first = eqb-true (node_in rows 0) source (not_not (node_in rows 0 == source) (or_parts (nat_lt (length rows) 2) (not (node_in rows 0 == source)) (sym (begins rows source t) ∙ e)).1)
+    first = eqb-true (node_in rows 0) source (not-false (node_in rows 0 == source) (or_parts (nat_lt (length rows) 2) (not (node_in rows 0 == source)) (sym (begins rows source t) ∙ e)).1)
 
     begin : (get_or pairs k (0, 0)).0 ≡ node_in rows (get_or rows (k + 1) no_row).parent
     begin = ap (λ p. p.0) (pair_at rows k t l)

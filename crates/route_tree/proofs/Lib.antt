@@ -13,3 +13,4 @@ pub mod Clauses
 pub mod FirstTests
 pub mod Lawful
 pub mod LegalLists
+pub mod Examples

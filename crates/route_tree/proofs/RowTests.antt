@@ -1,12 +1,12 @@
 -- Passes over the rows of a tree.
 use Rattle.std.proofs.Common.{◌≡◌, ℕ, ◌+◌, ◌<◌, ◌≤◌, ◌==◌, zero, suc, inl, inr, Bool, true, false, not, count_by, if◌then◌else◌, nat_lt, ◌&&◌, ◌||◌, List, [], ◌∷◌, ◌++◌, length, map, take, drop, get_or, set, All, refl, sym, ap, ap₂, ◌∙◌, subst, arith}
 use Rattle.std.specs.List.{list_any}
-use Rattle.std.proofs.lemmas.Bool.{or_left, or_right, or_from, cases_Bool, false≢true, eq-eqb, eqb-true}
+use Rattle.std.proofs.lemmas.Bool.{or_left, or_right, or_from, cases_Bool, false≢true, eq-eqb, eqb-true, or_parts, not-false}
 use Rattle.std.proofs.lemmas.Bool.Decides.{nat_tests}
 use Rattle.std.proofs.lemmas.List.{length-map, get_or-map, map-append, take_more, take-append-drop}
 use Rattle.std.proofs.lemmas.List.Sums.{count_by_more_yes, count_by_more_no}
 use Rattle.std.proofs.lemmas.List.Elements.{All-from_get_or}
-use Rattle.std.proofs.lemmas.List.Folds.{list_any-append, list_any_none}
+use Rattle.std.proofs.lemmas.List.Folds.{list_any-append, list_any_none, list_any_at}
 use Rattle.route_tree.proofs.Marking.{one_more_marked}
 use Rattle.route_tree.specs.declared.tree.Row.{Row}
 use Rattle.route_tree.specs.Paths.{Pair, ends_of}
@@ -22,19 +22,10 @@ module _ {X : Type 0} (p : X → Bool) (xs : List X) (d : X) where
   pub none_passes : ((k : ℕ) → k < length xs → p (get_or xs k d) ≡ false) → list_any p xs ≡ false
   none_passes h = list_any_none p xs (All-from_get_or (λ x. p x ≡ false) xs d h)
 
-  -- an element does
-  pub one_passes : (k : ℕ) → k < length xs → p (get_or xs k d) ≡ true → list_any p xs ≡ true
-  one_passes k l e = at xs k l e
-    where
-      at : (ys : List X) (i : ℕ) → i < length ys → p (get_or ys i d) ≡ true → list_any p ys ≡ true
-      at [] i l e = absurd (omega arith)
-      at (y ∷ ys) zero l e = or_left (p y) (list_any p ys) e
-      at (y ∷ ys) (suc i) l e = or_right (p y) (list_any p ys) (at ys i (omega arith) e)
-
 -- where no element passes a test each fails it
 pub none_at : {X : Type 0} (p : X → Bool) (xs : List X) (d : X) → list_any p xs ≡ false → (k : ℕ) → k < length xs → p (get_or xs k d) ≡ false
 none_at p xs d h k l = elim (cases_Bool (p (get_or xs k d))) [
-  | inl t ↦ absurd (false≢true (sym h ∙ one_passes p xs d k l t))
+  | inl t ↦ absurd (false≢true (sym h ∙ list_any_at p xs k d l t))
   | inr t ↦ t
 ]
 
@@ -119,14 +110,6 @@ count_next p pairs i l = elim (cases_Bool (p (get_or pairs i (0, 0)))) [
   | inr t ↦ (let e = count_by_more_no p pairs i (0, 0) l t in rw t (omega (arith, e)))
 ]
 
-pub or_parts : (a b : Bool) → (a || b) ≡ false → (a ≡ false) × (b ≡ false)
-or_parts true b e = absurd (false≢true (sym e))
-or_parts false b e = (refl, e)
-
-pub not_not : (b : Bool) → not b ≡ false → b ≡ true
-not_not true e = refl
-not_not false e = sym e
-
 ends_of_rows : (f : Row → Pair) → ((r : Row) → (f r).1 ≡ r.node) → (rows : List Row) → nodes_of rows ≡ ends_of (map f rows)
 ends_of_rows f same [] = refl
 ends_of_rows f same (r ∷ rs) = ap₂ (λ x xs. x ∷ xs) (sym (same r)) (ends_of_rows f same rs)
@@ -137,7 +120,7 @@ unfolding pairs_of
 nodes_are [] source t e = let l = t.some in absurd (omega (arith, l))
 nodes_are (r ∷ rs) source t e =
     let parts = or_parts (nat_lt (length (r ∷ rs)) 2) (not (r.node == source)) (sym (begins (r ∷ rs) source t) ∙ e) in
-    ap₂ (λ x xs. x ∷ xs) (eqb-true r.node source (not_not (r.node == source) parts.1)) (ends_of_rows (pair_of (r ∷ rs)) (λ x. refl) rs)
+    ap₂ (λ x xs. x ∷ xs) (eqb-true r.node source (not-false (r.node == source) parts.1)) (ends_of_rows (pair_of (r ∷ rs)) (λ x. refl) rs)
 
 -- at a sink that is not the source no pair ends, exactly where it is not marked
 pub missing : (rows : List Row) (source : ℕ) (sinks : List ℕ) (flags : List Bool) → IsMarked flags (source ∷ ends_of (pairs_of rows)) → is_among sinks source ≡ false → list_any (λ s. not (get_or flags s false)) sinks ≡ misses_sink sinks (pairs_of rows)

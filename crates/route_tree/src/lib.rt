@@ -14,3 +14,6 @@ pub use fault::TreeFault;
 pub use marks::Marks;
 pub use routing::{Pairs, Routing, fits};
 pub use tree::Tree;
+
+#[cfg(test)]
+mod tests;

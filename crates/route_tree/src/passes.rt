@@ -32,7 +32,7 @@ fn is_no_switch(device: &Device, pair: (u32, u32)) -> bool
 }
 
 /// Whether a pair is no edge of the device.
-#[tactic(auto, using(crate::proofs::RowTests::none_passes, crate::proofs::RowTests::one_passes))]
+#[tactic(auto, using(crate::proofs::RowTests::none_passes))]
 pub(crate) fn lacks_switch(device: &Device, rows: &[Row]) -> bool
     requires { IsTree rows.now }
     ensures { result ≡ lacks_switch device.now (pairs_of rows.now) }
