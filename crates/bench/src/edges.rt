@@ -1,9 +1,9 @@
 //! Measures the edges of a device: all successors of its wires, and single edges.
 
-ghost use Rattle.std.specs.Prelude.{◌≡◌, ◌+◌, ◌%◌, ◌^◌, ◌≤◌, ◌⊎◌, ◌++◌, true, length, All, count_by, find, unwrap_or, vec_len, IfOk, IfErr, OnOk, ◌-◌};
+ghost use Rattle.std.specs.Prelude.{◌≡◌, ◌-◌, ◌≤◌, ◌⊎◌, ◌++◌, count_by, find, vec_len, IfOk, IfErr, OnOk};
 ghost use Rattle.std.specs.List.{range_with_len, AllPass};
 ghost use Rattle.rr_graph.specs.Fabric.{numbers_below};
-ghost use Rattle.rr_graph.specs.Nodes.{node_at, node_count_of};
+ghost use Rattle.rr_graph.specs.Nodes.{node_count_of};
 ghost use Rattle.bench.specs.Faults.{IsOutside};
 ghost use Rattle.bench.specs.Edges.{is_wire_at, first_wire, last_or_zero, found_more, found_from, pairs_from, pairs_at_turns, is_edge_pair};
 

@@ -13,10 +13,16 @@ use std::time::Duration;
 struct Thousandths(u128);
 
 impl fmt::Display for Thousandths {
+    ghost use Rattle.std.specs.Prelude.{Some};
+    ghost use Rattle.bench.specs.Figures.{thousandths_text};
+
+    ghost output = { λ t. Some (thousandths_text t.0) };
+
     fn fmt<W: fmt::Write>(&self, f: &mut fmt::Formatter<W>) -> fmt::Result {
-        let whole = self.0 / 1000;
-        let part = self.0 % 1000;
-        write!(f, "{whole}.{part:03}")
+        let Thousandths(count) = *self;
+        let whole = count / 1000;
+        let (tenths, hundredths, thousandths) = (count / 100 % 10, count / 10 % 10, count % 10);
+        write!(f, "{whole}.{tenths}{hundredths}{thousandths}")
     }
 }
 
