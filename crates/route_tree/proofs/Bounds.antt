@@ -1,6 +1,5 @@
 -- What a tree of switches and a net of a problem name are nodes.
-use Rattle.std.proofs.Common.{◌≡◌, ℕ, ◌+◌, ◌<◌, ◌≤◌, ◌==◌, zero, suc, inl, inr, Bool, true, false, not, ◌||◌, nat_lt, List, [], ◌∷◌, length, get_or, All, Option, Some, None, refl, sym, ap, ap₂, ◌∙◌, subst, arith}
-use Rattle.std.specs.List.{list_any}
+use Rattle.std.proofs.Common.{◌≡◌, ℕ, ◌+◌, ◌<◌, ◌≤◌, ◌==◌, zero, suc, inl, inr, true, false, not, nat_lt, List, length, get_or, All, Option, Some, None, refl, sym, ap, ◌∙◌, subst, arith}
 use Rattle.std.proofs.lemmas.Bool.{cases_lt, cases_Bool, false≢true, eqb-true, or_parts, not-false}
 use Rattle.std.proofs.lemmas.Option.{slice_get_past}
 use Rattle.std.proofs.lemmas.Bool.Decides.{nat_tests}
@@ -12,9 +11,9 @@ use Rattle.rr_graph.specs.declared.parts.Node.{Node}
 use Rattle.rr_graph.specs.Fabric.{Fabric}
 use Rattle.rr_graph.specs.Nodes.{node_count_of, nodes_of, node_at}
 use Rattle.rr_graph.specs.Edges.{edge_between, edge_between_nodes}
-use Rattle.rr_graph.specs.Problems.{Net, RoutingProblem, IsNet, IsProblem, net_in, no_net, is_sink, is_source, any_node, is_sink_kind, is_source_kind}
+use Rattle.rr_graph.specs.Problems.{RoutingProblem, IsNet, IsProblem, net_in, no_net, is_sink, is_source, any_node, is_sink_kind, is_source_kind}
 use Rattle.route_tree.specs.declared.tree.Row.{Row}
-use Rattle.route_tree.specs.Paths.{Pair, ends_of}
+use Rattle.route_tree.specs.Paths.{Pair}
 use Rattle.route_tree.specs.Legality.{is_among}
 use Rattle.route_tree.specs.Rows.{no_row, node_in, pairs_of, IsTree}
 use Rattle.route_tree.specs.Faults.{begins_elsewhere, lacks_switch}

@@ -1,12 +1,11 @@
 -- From the last pair of a tree to the first: what is marked are the sinks and the beginnings of the pairs behind.
-use Rattle.std.proofs.Common.{◌≡◌, ℕ, ◌+◌, ◌-◌, ◌<◌, ◌≤◌, ◌==◌, zero, suc, inl, inr, Bool, true, false, not, ◌||◌, List, [], ◌∷◌, ◌++◌, length, map, take, drop, get_or, set, All, refl, sym, ap, ap₂, ◌∙◌, subst, arith}
+use Rattle.std.proofs.Common.{◌≡◌, ℕ, ◌+◌, ◌<◌, ◌==◌, zero, suc, inl, inr, Bool, true, false, not, ◌||◌, List, [], ◌∷◌, length, drop, get_or, set, sym, ap, ◌∙◌, subst}
 use Rattle.std.specs.List.{list_any}
 use Rattle.std.proofs.lemmas.Bool.{or_left, or_right, or_from, cases_Bool, false≢true, eq-eqb, eqb-true}
 use Rattle.std.proofs.lemmas.List.{drop_more, get_or-set_same, get_or-set_other}
 use Rattle.route_tree.specs.Paths.{Pair}
 use Rattle.route_tree.specs.Legality.{is_among}
 use Rattle.route_tree.specs.Ladder.{has_dead_end}
-use Rattle.route_tree.specs.Marked.{IsMarked}
 
 -- just the sinks are marked, and where these pairs begin
 abbrev pub AreBehind : List Bool → List ℕ → List Pair → Type 0

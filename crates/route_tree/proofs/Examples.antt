@@ -1,9 +1,7 @@
 -- Small trees and routings whose answers compute: a source 0, and sinks 8 and 9.
-use Rattle.std.proofs.Common.{◌≡◌, ℕ, Bool, true, false, List, [], ◌∷◌, Option, Some, None, refl}
+use Rattle.std.proofs.Common.{◌≡◌, true, false, List, [], ◌∷◌, Some, None, refl}
 use Rattle.rr_graph.specs.Problems.{Net}
-use Rattle.route_tree.specs.declared.tree.Row.{Row}
-use Rattle.route_tree.specs.Paths.{Pair, Path}
-use Rattle.route_tree.specs.Legality.{has_twice}
+use Rattle.route_tree.specs.Paths.{Pair}
 use Rattle.route_tree.specs.Faults.{begins_elsewhere, reaches_twice, leaves_twice, misses_sink}
 use Rattle.route_tree.specs.Ladder.{has_dead_end}
 use Rattle.route_tree.specs.Rows.{pairs_of, chain, pairs_along}

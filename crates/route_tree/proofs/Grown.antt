@@ -1,6 +1,5 @@
 -- The pairs of a tree grow from its first node, and the answers of the ladder.
-use Rattle.std.proofs.Common.{◌≡◌, ℕ, ◌+◌, ◌<◌, ◌≤◌, ◌==◌, ◌↔◌, zero, suc, inl, inr, Bool, true, false, not, nat_lt, nat_le, if◌then◌else◌, ◌||◌, List, [], ◌∷◌, length, take, get_or, Option, Some, None, Ok, Err, IsOk, refl, sym, ap, ap₂, ◌∙◌, subst, arith}
-use Rattle.std.specs.List.{list_any}
+use Rattle.std.proofs.Common.{◌≡◌, ℕ, ◌+◌, ◌<◌, ◌≤◌, ◌==◌, ◌↔◌, zero, suc, true, false, not, nat_lt, nat_le, if◌then◌else◌, List, ◌∷◌, length, take, get_or, Option, Some, None, Err, IsOk, refl, sym, ap, ap₂, ◌∙◌, subst, arith}
 use Rattle.std.specs.Result.{result_err}
 use Rattle.std.proofs.lemmas.Bool.{or_left, or_right, or_parts, not-false, eq-eqb, eqb-true, false≢true}
 use Rattle.std.proofs.lemmas.Bool.Decides.{nat_tests}
@@ -14,7 +13,7 @@ use Rattle.std.proofs.lemmas.Option.{none-some}
 use Rattle.route_tree.specs.declared.tree.Row.{Row}
 use Rattle.route_tree.specs.Paths.{Pair, ends_of}
 use Rattle.route_tree.specs.Legality.{is_among}
-use Rattle.route_tree.specs.Rows.{no_row, node_in, pair_of, pairs_of, IsTree}
+use Rattle.route_tree.specs.Rows.{no_row, node_in, pairs_of, IsTree}
 use Rattle.route_tree.specs.Faults.{begins_elsewhere}
 use Rattle.route_tree.specs.Ladder.{IsGrown, net_fault_of, fault_of, or_ok}
 use Rattle.route_tree.proofs.Trees.{length_pairs, pair_at}

@@ -1,5 +1,5 @@
 -- Marks by stamps, as a list of which numbers are marked.
-use Rattle.std.proofs.Common.{◌≡◌, ℕ, ◌+◌, ◌<◌, ◌≤◌, ◌==◌, zero, suc, Bool, true, false, List, [], ◌∷◌, ◌++◌, length, map, get_or, replicate, set, ◌||◌, All, inl, inr, subst, refl, sym, ap, ap₂, ◌∙◌, arith}
+use Rattle.std.proofs.Common.{◌≡◌, ℕ, ◌<◌, ◌≤◌, ◌==◌, zero, suc, Bool, true, false, List, [], ◌∷◌, ◌++◌, length, map, get_or, replicate, set, ◌||◌, All, inl, inr, subst, refl, sym, ap, ◌∙◌, arith}
 use Rattle.route_tree.specs.Legality.{is_among}
 use Rattle.route_tree.specs.Marked.{IsMarked}
 use Rattle.std.proofs.lemmas.Bool.{eq-eqb, eqb-true, cases_Bool, false≢true}

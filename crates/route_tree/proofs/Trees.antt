@@ -1,12 +1,12 @@
 -- Rows and the pairs that they are.
-use Rattle.std.proofs.Common.{◌≡◌, ℕ, ◌+◌, ◌<◌, ◌≤◌, ◌==◌, zero, suc, Bool, true, false, ◌||◌, List, [], ◌∷◌, ◌++◌, length, map, get_or, All, refl, sym, ap, ap₂, ◌∙◌, arith}
+use Rattle.std.proofs.Common.{◌≡◌, ℕ, ◌+◌, ◌<◌, ◌==◌, ◌||◌, List, [], ◌∷◌, length, map, get_or, All, refl, sym, ap, ap₂, ◌∙◌, arith}
 use Rattle.std.specs.Prelude.{drop}
 use Rattle.std.specs.List.{list_any}
 use Rattle.std.proofs.lemmas.List.{length-map, length-drop, get_or-drop, get_or-map}
 use Rattle.route_tree.specs.Paths.{Pair, ends_of}
 use Rattle.route_tree.specs.Legality.{is_among}
 use Rattle.route_tree.specs.declared.tree.Row.{Row}
-use Rattle.route_tree.specs.Rows.{no_row, node_in, pair_of, pairs_of, chain, pairs_along, IsTree}
+use Rattle.route_tree.specs.Rows.{no_row, node_in, pair_of, pairs_of, IsTree}
 use Rattle.route_tree.specs.Usage.{covers}
 
 pub length_pairs : (rows : List Row) → IsTree rows → length (pairs_of rows) + 1 ≡ length rows

@@ -1,6 +1,5 @@
 -- What the fields of trees, marks and routings stand for.
 use Rattle.std.specs.Prelude.{ℕ, ◌==◌, Bool, List, length, map, Option}
-use Rattle.std.specs.Option.{option_map}
 use Rattle.route_tree.specs.Paths.{Pair}
 use Rattle.route_tree.specs.declared.tree.Row.{Row}
 use Rattle.route_tree.specs.declared.tree.Tree.TheInside as tree

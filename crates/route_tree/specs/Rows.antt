@@ -1,9 +1,8 @@
 -- A tree as its rows: each row is a node and the row of the node before it.
-use Rattle.std.specs.Prelude.{◌≡◌, ℕ, ◌+◌, ◌≤◌, ◌<◌, ◌==◌, Bool, ◌||◌, List, [], ◌∷◌, length, map, get_or}
+use Rattle.std.specs.Prelude.{◌≡◌, ℕ, ◌+◌, ◌≤◌, ◌<◌, List, [], ◌∷◌, length, map, get_or}
 use Rattle.std.specs.Prelude.{drop}
 use Rattle.route_tree.specs.declared.tree.Row.{Row}
-use Rattle.route_tree.specs.Paths.{Pair, ends_of}
-use Rattle.route_tree.specs.Legality.{is_among}
+use Rattle.route_tree.specs.Paths.{Pair}
 
 abbrev pub no_row : Row
 no_row = record { node = 0; parent = 0 }

@@ -1,4 +1,4 @@
-use Rattle.std.proofs.Common.{rules, ◌≡◌, ◌↔◌, ◌∙◌, IsOk, Err, ap, subst, sym}
+use Rattle.std.proofs.Common.{◌∙◌, IsOk, ap, subst, sym}
 use Rattle.rr_graph.specs.Problems.{net_in}
 use Rattle.route_tree.specs.Rows.{pairs_of, IsTree}
 use Rattle.route_tree.specs.Ladder.{fault_of, or_ok}

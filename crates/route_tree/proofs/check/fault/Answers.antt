@@ -1,4 +1,4 @@
-use Rattle.std.proofs.Common.{rules, ◌≡◌, ◌∙◌, length, arith}
+use Rattle.std.proofs.Common.{◌∙◌, arith}
 use Rattle.route_tree.specs.Rows.{pairs_of}
 use Rattle.route_tree.proofs.Grown.{there}
 use Rattle.route_tree.proofs.check.fault.Goals as goal

@@ -1,4 +1,4 @@
-use Rattle.std.proofs.Common.{rules, ◌≡◌, ◌-◌, ◌<◌, length, sym, arith}
+use Rattle.std.proofs.Common.{◌-◌, length, sym, arith}
 use Rattle.rr_graph.proofs.Ranges.{none_below, some_below}
 use Rattle.route_tree.specs.Rows.{pairs_of}
 use Rattle.route_tree.specs.Ladder.{breaks_at}

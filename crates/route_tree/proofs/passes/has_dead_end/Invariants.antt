@@ -1,4 +1,4 @@
-use Rattle.std.proofs.Common.{◌≡◌, ◌≤◌, ◌-◌, false, length, drop}
+use Rattle.std.proofs.Common.{◌≡◌, ◌-◌, false, length, drop}
 use Rattle.route_tree.specs.Rows.{pairs_of}
 use Rattle.route_tree.specs.Ladder.{has_dead_end}
 use Rattle.route_tree.proofs.DeadEnds.{AreBehind}

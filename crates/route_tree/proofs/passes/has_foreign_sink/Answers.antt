@@ -1,4 +1,4 @@
-use Rattle.std.proofs.Common.{rules, ◌≡◌, ◌∙◌}
+use Rattle.std.proofs.Common.{◌∙◌}
 use Rattle.route_tree.proofs.RowTests.{foreign}
 use Rattle.route_tree.proofs.passes.has_foreign_sink.Goals as goal
 

@@ -1,4 +1,4 @@
-use Rattle.std.proofs.Common.{rules, ◌≡◌, ◌<◌, ◌+◌, false, length, get_or, take, sym, subst, ap, true, arith, ◌∙◌}
+use Rattle.std.proofs.Common.{◌<◌, ◌+◌, false, length, get_or, take, sym, subst, ap, true, arith, ◌∙◌}
 use Rattle.std.proofs.lemmas.List.{length-replicate, length-set}
 use Rattle.route_tree.specs.Rows.{no_row}
 use Rattle.route_tree.specs.Marked.{IsMarked, nodes_of}

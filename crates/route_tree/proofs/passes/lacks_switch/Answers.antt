@@ -1,4 +1,4 @@
-use Rattle.std.proofs.Common.{rules, ◌≡◌, ◌<◌, not, length, sym, subst, arith}
+use Rattle.std.proofs.Common.{not, sym, arith}
 use Rattle.rr_graph.specs.Edges.{edge_between}
 use Rattle.route_tree.specs.Rows.{pairs_of}
 use Rattle.route_tree.proofs.RowTests.{none_passes}

@@ -1,4 +1,4 @@
-use Rattle.std.proofs.Common.{rules, ◌≡◌, ◌∙◌}
+use Rattle.std.proofs.Common.{◌∙◌}
 use Rattle.route_tree.proofs.RowTests.{missing}
 use Rattle.route_tree.proofs.passes.misses_sink.Goals as goal
 

@@ -1,4 +1,4 @@
-use Rattle.std.proofs.Common.{rules, ◌≡◌, ◌∙◌}
+use Rattle.std.proofs.Common.{◌∙◌}
 use Rattle.route_tree.proofs.Trees.{covers_rows}
 use Rattle.route_tree.proofs.tree.covers_node.Goals as goal
 

@@ -1,4 +1,4 @@
-use Rattle.std.proofs.Common.{rules, ◌≡◌, ◌==◌, length, replicate, false, sym, ap, ◌∙◌}
+use Rattle.std.proofs.Common.{◌==◌, length, replicate, false, sym, ap, ◌∙◌}
 use Rattle.std.proofs.lemmas.List.{length-map}
 use Rattle.route_tree.proofs.Marking.{cleared}
 use Rattle.route_tree.proofs.stamps.Stamps.clear.Goals as goal

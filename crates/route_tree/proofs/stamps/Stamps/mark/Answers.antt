@@ -1,4 +1,4 @@
-use Rattle.std.proofs.Common.{rules, ◌≡◌, set, true, sym, ap, ◌∙◌}
+use Rattle.std.proofs.Common.{set, true, ap, ◌∙◌}
 use Rattle.route_tree.proofs.Marking.{marked}
 use Rattle.route_tree.proofs.stamps.Stamps.mark.Goals as goal
 
