@@ -28,6 +28,7 @@ fn compare_node(rt: &impl Abort, device: &Device, plan: Plan<'_>, item: Item, id
     let node = item.node;
     check(rt, device, device.node(id) == Some(node), "node", id);
     check(rt, device, device.id(node) == Some(id), "id", id);
+    check(rt, device, device.kind(id) == Some(node.kind), "kind", id);
     let label = plan.label(node);
     check(rt, device, device.label(id) == Some(label), "label", id);
     let capacity = plan.capacity(node);
@@ -53,6 +54,7 @@ fn compare_nodes(rt: &impl Abort, device: &Device, plan: Plan<'_>, items: &[Item
 /// There is no node of this number.
 fn compare_absent(rt: &impl Abort, device: &Device, id: u32) {
     check(rt, device, device.node(id).is_none(), "no node", id);
+    check(rt, device, device.kind(id).is_none(), "no kind", id);
     check(rt, device, device.label(id).is_none(), "no label", id);
     check(rt, device, device.capacity(id).is_none(), "no capacity", id);
     check(rt, device, device.span(id).is_none(), "no span", id);

@@ -38,6 +38,7 @@ pub(crate) fn node(kind: Kind, x: u32, y: u32, number: u32) -> Node {
 fn check_node(rt: &impl Abort, device: &Device, id: u32, node: Node, label: Label, capacity: u32) {
     assert!(rt; device.node(id) == Some(node), "node {id}");
     assert!(rt; device.id(node) == Some(id), "id {id}");
+    assert!(rt; device.kind(id) == Some(node.kind), "kind {id}");
     assert!(rt; device.label(id) == Some(label), "label {id}");
     assert!(rt; device.capacity(id) == Some(capacity), "capacity {id}");
 }
@@ -141,6 +142,7 @@ fn joins_one_block(rt: HostRuntime) -> Result<(), Fail> {
 fn finds_no_node_past_the_last(rt: HostRuntime) -> Result<(), Fail> {
     let device = Device::new(rt.alloc(), &arch(&rt, ONE_BLOCK)?, 1, 1, 1)?;
     assert!(rt; device.node(41).is_none());
+    assert!(rt; device.kind(41).is_none());
     assert!(rt; device.label(41).is_none());
     assert!(rt; device.capacity(41).is_none());
     assert!(rt; device.span(41).is_none());

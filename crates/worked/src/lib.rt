@@ -4,6 +4,8 @@
 #[cfg(test)]
 mod comparisons;
 #[cfg(test)]
+mod copies;
+#[cfg(test)]
 mod devices;
 #[cfg(test)]
 mod plain;
