@@ -1,8 +1,8 @@
 -- Parts without a fault are a problem.
-use Rattle.std.proofs.Common.{◌≡◌, ◌≢◌, ℕ, ◌+◌, ◌-◌, ◌<◌, ◌≤◌, zero, suc, Bool, true, false, not, ◌&&◌, nat_lt, nat_le, if◌then◌else◌, List, length, map, get_or, slice_index, All, Option, Some, None, refl, sym, ap, ap₂, ◌∙◌, subst, arith, zero-add}
+use Rattle.std.proofs.Common.{◌≡◌, ℕ, ◌+◌, ◌-◌, ◌<◌, Bool, true, false, not, ◌&&◌, nat_lt, if◌then◌else◌, List, length, map, get_or, Option, Some, None, refl, sym, ◌∙◌, subst, arith, zero-add}
 use Rattle.std.specs.List.{list_all}
 use Rattle.std.specs.List.Sorted.{IsStrictlyIncreasing}
-use Rattle.std.proofs.lemmas.Bool.{and_parts, leb-true, ltb-true}
+use Rattle.std.proofs.lemmas.Bool.{and_parts, ltb-true}
 use Rattle.std.proofs.lemmas.Bool.Decides.{nat_tests}
 use Rattle.std.proofs.lemmas.List.{length-map, get_or-map}
 use Rattle.std.proofs.lemmas.List.Elements.{All-get_or, All-from_get_or}
@@ -12,7 +12,7 @@ use Rattle.rr_graph.specs.declared.parts_fault.PartsFault.{PartsFault}
 use Rattle.rr_graph.specs.declared.parts_fault.PartsFault.TheVariants.{TooMany}
 use Rattle.std.proofs.lemmas.Option.{none-some}
 use Rattle.rr_graph.specs.Fabric.{Fabric, numbers_below}
-use Rattle.rr_graph.specs.Problems.{Net, IsNet, IsProblem, no_net, net_in, is_source, is_sink, rises_at, ascends, are_sinks, is_out_of_order, net_fault, first_some, parts_fault}
+use Rattle.rr_graph.specs.Problems.{Net, IsNet, IsProblem, no_net, net_in, is_source, is_sink, rises_at, ascends, are_sinks, is_out_of_order, net_fault, parts_fault}
 use Rattle.rr_graph.proofs.FirstFaults.{none_at}
 
 first_test : (a : Bool) (x : PartsFault) (y : Option PartsFault) → None ≡ (if a then Some x else y) → (a ≡ false) × (y ≡ None)

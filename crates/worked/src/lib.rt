@@ -16,4 +16,6 @@ mod plain_wires;
 #[cfg(test)]
 mod problems;
 #[cfg(test)]
+mod tree_shapes;
+#[cfg(test)]
 mod trees;

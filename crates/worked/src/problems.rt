@@ -87,16 +87,36 @@ fn looks_nets_up(rt: HostRuntime) -> Result<(), Fail> {
     Ok(())
 }
 
+/// A problem of one block whose nets lead from these sources to the block.
+fn from_sources(rt: &impl AllocGlobal, sources: &[u32]) -> Result<Problem, Fail> {
+    let mut nets = Vec::new(rt.alloc());
+    for source in sources {
+        nets.push(net(rt, *source, *source, &[13])?)?;
+    }
+    Ok(Problem::from_parts(one_block(rt)?, nets)?)
+}
+
+fn expect_same(
+    rt: &(impl Abort + AllocGlobal),
+    problem: &Problem,
+    sources: &[u32],
+    want: bool,
+) -> Result<(), Fail> {
+    let other = from_sources(rt, sources)?;
+    assert!(rt; (*problem == other) == want);
+    Ok(())
+}
+
+fn expect_all_same(rt: &(impl Abort + AllocGlobal), problem: &Problem) -> Result<(), Fail> {
+    expect_same(rt, problem, &[0, 1], true)?;
+    expect_same(rt, problem, &[0, 2], false)?;
+    expect_same(rt, problem, &[0], false)?;
+    expect_same(rt, problem, &[0, 1, 2], false)
+}
+
 #[test]
 fn tells_problems_apart(rt: HostRuntime) -> Result<(), Fail> {
-    let problem = two_nets(&rt)?;
-    assert!(rt; problem == two_nets(&rt)?);
-    let mut nets = Vec::new(rt.alloc());
-    nets.push(net(&rt, 0, 0, &[13])?)?;
-    nets.push(net(&rt, 2, 1, &[13])?)?;
-    assert!(rt; problem != Problem::from_parts(one_block(&rt)?, nets)?);
-    assert!(rt; problem != Problem::from_parts(one_block(&rt)?, Vec::new(rt.alloc()))?);
-    Ok(())
+    expect_all_same(&rt, &two_nets(&rt)?)
 }
 
 #[test]
@@ -157,9 +177,14 @@ fn many(rt: &impl AllocGlobal, count: u32) -> Result<Vec<Terminals>, Fail> {
 }
 
 #[test]
-fn takes_the_most_nets_and_not_one_more(rt: HostRuntime) -> Result<(), Fail> {
+fn takes_the_most_nets(rt: HostRuntime) -> Result<(), Fail> {
     let most = Problem::from_parts(one_block(&rt)?, many(&rt, 65535)?)?;
     assert!(rt; most.nets() == 65535);
+    Ok(())
+}
+
+#[test]
+fn refuses_one_net_more(rt: HostRuntime) -> Result<(), Fail> {
     let more = Problem::from_parts(one_block(&rt)?, many(&rt, 65536)?);
     assert!(rt; more.err() == Some(PartsFault::TooMany));
     Ok(())
@@ -177,16 +202,19 @@ fn tells_sources_and_sinks(rt: HostRuntime) -> Result<(), Fail> {
 }
 
 /// A copy, asked for again where memory was refused.
-// growths: 45
-#[test]
-fn copy_without_memory(rt: HostRuntime) -> Result<(), Fail> {
-    let problem = two_nets_again(&rt)?;
+fn copy_again(rt: &(impl Abort + AllocGlobal), problem: &Problem) -> Result<(), Fail> {
     let copy = match problem.copy(rt.alloc()) {
         Ok(copy) => copy,
         Err(_) => problem.copy(rt.alloc())?,
     };
-    assert!(rt; copy == problem);
+    assert!(rt; copy == *problem && copy.nets() == 2);
     assert!(rt; copy.sinks(1) == [13].as_slice());
     assert!(rt; copy.device().node_count() == 41);
     Ok(())
+}
+
+// growths: 61
+#[test]
+fn copy_without_memory(rt: HostRuntime) -> Result<(), Fail> {
+    copy_again(&rt, &two_nets_again(&rt)?)
 }

@@ -1,250 +1,260 @@
-//! Trees of one small problem, and of one with two sinks: which are legal, and why others are not.
+//! Trees of one small problem: which are legal, and why others are not.
 
-use crate::devices::{CLOCKED, ONE_BLOCK, arch, node};
-use crate::problems::{net, one_block, two_nets, two_nets_again};
-use route_tree::{Marks, Pairs, Routing, Tree, TreeFault, check_tree, fits};
-use rr_graph::{Device, Kind, Problem};
+use crate::problems::{two_nets, two_nets_again};
+use route_tree::{Marks, Tree, TreeFault, check_tree};
+use rr_graph::Problem;
+use std::alloc::AllocError;
 use std::process::Abort;
 use std::test::Fail;
 
+/// Checks a tree with marks of its own.
+pub(crate) fn expect(
+    rt: &(impl Abort + AllocGlobal),
+    problem: &Problem,
+    net: u32,
+    tree: &Tree,
+    want: Result<(), TreeFault>,
+) -> Result<(), Fail> {
+    let mut marks = Marks::new(rt.alloc(), problem)?;
+    assert!(rt; check_tree(problem, net, tree, &mut marks) == want);
+    Ok(())
+}
+
+/// Hangs a chain on a row that is there.
+pub(crate) fn hang(
+    rt: &impl Abort,
+    tree: &mut Tree,
+    row: usize,
+    nodes: &[u32],
+) -> Result<(), AllocError> {
+    assert!(rt; row < tree.rows());
+    tree.attach(row, nodes)
+}
+
+/// A pair that is there.
+fn pair(rt: &impl Abort, tree: &Tree, index: usize) -> (u32, u32) {
+    assert!(rt; index < tree.pairs());
+    tree.pair(index)
+}
+
 /// A tree of one chain.
-fn chain(rt: &impl AllocGlobal, start: u32, nodes: &[u32]) -> Result<Tree, Fail> {
+pub(crate) fn chain(rt: &impl AllocGlobal, start: u32, nodes: &[u32]) -> Result<Tree, Fail> {
     let mut tree = Tree::start(rt.alloc(), start)?;
     tree.attach(0, nodes)?;
     Ok(tree)
 }
 
+/// A chain for the first net.
+fn expect_chain(
+    rt: &(impl Abort + AllocGlobal),
+    problem: &Problem,
+    start: u32,
+    nodes: &[u32],
+    want: Result<(), TreeFault>,
+) -> Result<(), Fail> {
+    expect(rt, problem, 0, &chain(rt, start, nodes)?, want)
+}
+
 /// The tree of the first net, with a chain that hangs on its wire.
-fn with_branch(rt: &impl AllocGlobal, nodes: &[u32]) -> Result<Tree, Fail> {
-    let mut tree = chain(rt, 0, &[18, 39, 37, 31, 13])?.copy(rt.alloc())?;
-    tree.attach(2, nodes)?;
+fn with_branch(rt: &(impl Abort + AllocGlobal), nodes: &[u32]) -> Result<Tree, Fail> {
+    let mut tree = chain(rt, 0, &[18, 39, 37, 31, 13])?;
+    hang(rt, &mut tree, 2, nodes)?;
     Ok(tree)
 }
 
-/// What a check says with marks of its own.
-fn fault_of(
-    rt: &impl AllocGlobal,
+fn expect_branch(
+    rt: &(impl Abort + AllocGlobal),
     problem: &Problem,
-    net: u32,
-    tree: &Tree,
-) -> Result<Option<TreeFault>, Fail> {
-    let mut marks = Marks::new(rt.alloc(), problem)?;
-    Ok(check_tree(problem, net, tree, &mut marks).err())
+    nodes: &[u32],
+    want: TreeFault,
+) -> Result<(), Fail> {
+    expect(rt, problem, 0, &with_branch(rt, nodes)?, Err(want))
 }
 
 #[test]
 fn accepts_a_path_to_the_block(rt: HostRuntime) -> Result<(), Fail> {
-    let problem = two_nets(&rt)?;
+    expect_chain(&rt, &two_nets(&rt)?, 0, &[18, 39, 37, 31, 13], Ok(()))
+}
+
+#[test]
+fn accepts_a_path_of_the_other_net(rt: HostRuntime) -> Result<(), Fail> {
+    let tree = chain(&rt, 1, &[19, 39, 38, 32, 13])?;
+    expect(&rt, &two_nets(&rt)?, 1, &tree, Ok(()))
+}
+
+#[test]
+fn refuses_a_net_that_is_not_there(rt: HostRuntime) -> Result<(), Fail> {
     let tree = chain(&rt, 0, &[18, 39, 37, 31, 13])?;
-    assert!(rt; fault_of(&rt, &problem, 0, &tree)?.is_none());
-    let other = chain(&rt, 1, &[19, 39, 38, 32, 13])?;
-    assert!(rt; fault_of(&rt, &problem, 1, &other)?.is_none());
-    Ok(())
+    expect(&rt, &two_nets(&rt)?, 2, &tree, Err(TreeFault::NoNet))
 }
 
 #[test]
-fn names_the_fault_of_a_branch(rt: HostRuntime) -> Result<(), Fail> {
-    let problem = two_nets(&rt)?;
-    let again = with_branch(&rt, &[37])?;
-    assert!(rt; fault_of(&rt, &problem, 0, &again)? == Some(TreeFault::NodeTwice));
-    let stub = with_branch(&rt, &[38])?;
-    assert!(rt; fault_of(&rt, &problem, 0, &stub)? == Some(TreeFault::Dangling));
-    let foreign = with_branch(&rt, &[27, 9])?;
-    assert!(rt; fault_of(&rt, &problem, 0, &foreign)? == Some(TreeFault::ForeignSink));
-    Ok(())
+fn refuses_a_node_met_again(rt: HostRuntime) -> Result<(), Fail> {
+    expect_branch(&rt, &two_nets(&rt)?, &[37], TreeFault::NodeTwice)
 }
 
 #[test]
-fn names_the_fault_of_a_path(rt: HostRuntime) -> Result<(), Fail> {
-    let problem = two_nets(&rt)?;
-    let alone = Tree::start(rt.alloc(), 0)?;
-    assert!(rt; fault_of(&rt, &problem, 0, &alone)? == Some(TreeFault::WrongSource));
-    let elsewhere = chain(&rt, 1, &[19, 39, 37, 31, 13])?;
-    assert!(rt; fault_of(&rt, &problem, 0, &elsewhere)? == Some(TreeFault::WrongSource));
-    let jump = chain(&rt, 0, &[18, 37, 31, 13])?;
-    assert!(rt; fault_of(&rt, &problem, 0, &jump)? == Some(TreeFault::NoSwitch));
-    let past = chain(&rt, 0, &[18, 41])?;
-    assert!(rt; fault_of(&rt, &problem, 0, &past)? == Some(TreeFault::NoSwitch));
-    let tree = chain(&rt, 0, &[18, 39, 37, 31, 13])?;
-    assert!(rt; fault_of(&rt, &problem, 2, &tree)? == Some(TreeFault::NoNet));
-    Ok(())
+fn refuses_a_stub(rt: HostRuntime) -> Result<(), Fail> {
+    expect_branch(&rt, &two_nets(&rt)?, &[38], TreeFault::Dangling)
 }
 
-/// A stub beside a wire that is met again, a jump with a stub, and a wrong source with a jump.
 #[test]
-fn names_the_lower_of_two_faults(rt: HostRuntime) -> Result<(), Fail> {
-    let problem = two_nets(&rt)?;
-    let mut stub_and_again = with_branch(&rt, &[38])?;
-    stub_and_again.attach(2, &[37])?;
-    assert!(rt; fault_of(&rt, &problem, 0, &stub_and_again)? == Some(TreeFault::NodeTwice));
-    let jump_and_stub = chain(&rt, 0, &[18, 37, 39])?;
-    assert!(rt; fault_of(&rt, &problem, 0, &jump_and_stub)? == Some(TreeFault::NoSwitch));
-    let stub = chain(&rt, 0, &[18, 39, 37])?;
-    assert!(rt; fault_of(&rt, &problem, 0, &stub)? == Some(TreeFault::Dangling));
-    let elsewhere = chain(&rt, 13, &[18, 37])?;
-    assert!(rt; fault_of(&rt, &problem, 0, &elsewhere)? == Some(TreeFault::WrongSource));
-    assert!(rt; fault_of(&rt, &problem, 9, &elsewhere)? == Some(TreeFault::NoNet));
+fn refuses_a_sink_of_no_net(rt: HostRuntime) -> Result<(), Fail> {
+    expect_branch(&rt, &two_nets(&rt)?, &[27, 9], TreeFault::ForeignSink)
+}
+
+#[test]
+fn refuses_a_tree_of_one_node(rt: HostRuntime) -> Result<(), Fail> {
+    expect_chain(&rt, &two_nets(&rt)?, 0, &[], Err(TreeFault::WrongSource))
+}
+
+#[test]
+fn refuses_the_path_of_another_source(rt: HostRuntime) -> Result<(), Fail> {
+    let nodes = [19, 39, 37, 31, 13];
+    expect_chain(&rt, &two_nets(&rt)?, 1, &nodes, Err(TreeFault::WrongSource))
+}
+
+#[test]
+fn refuses_a_path_that_jumps(rt: HostRuntime) -> Result<(), Fail> {
+    let nodes = [18, 37, 31, 13];
+    expect_chain(&rt, &two_nets(&rt)?, 0, &nodes, Err(TreeFault::NoSwitch))
+}
+
+#[test]
+fn refuses_a_path_past_the_last_node(rt: HostRuntime) -> Result<(), Fail> {
+    expect_chain(&rt, &two_nets(&rt)?, 0, &[18, 41], Err(TreeFault::NoSwitch))
+}
+
+/// A stub beside a wire that is met again.
+#[test]
+fn names_a_node_twice_before_a_stub(rt: HostRuntime) -> Result<(), Fail> {
+    let mut tree = with_branch(&rt, &[38])?;
+    hang(&rt, &mut tree, 2, &[37])?;
+    expect(&rt, &two_nets(&rt)?, 0, &tree, Err(TreeFault::NodeTwice))
+}
+
+/// A jump to a stub.
+#[test]
+fn names_a_jump_before_a_stub(rt: HostRuntime) -> Result<(), Fail> {
+    let nodes = [18, 37, 39];
+    expect_chain(&rt, &two_nets(&rt)?, 0, &nodes, Err(TreeFault::NoSwitch))
+}
+
+/// A stub that misses the sink.
+#[test]
+fn names_a_stub_before_a_missing_sink(rt: HostRuntime) -> Result<(), Fail> {
+    let nodes = [18, 39, 37];
+    expect_chain(&rt, &two_nets(&rt)?, 0, &nodes, Err(TreeFault::Dangling))
+}
+
+/// A wrong source with a jump, for a net that is there and for one that isn't.
+#[test]
+fn names_a_wrong_source_before_a_jump(rt: HostRuntime) -> Result<(), Fail> {
+    expect_chain(
+        &rt,
+        &two_nets(&rt)?,
+        13,
+        &[18, 37],
+        Err(TreeFault::WrongSource),
+    )
+}
+
+#[test]
+fn names_no_net_before_all(rt: HostRuntime) -> Result<(), Fail> {
+    let tree = chain(&rt, 13, &[18, 37])?;
+    expect(&rt, &two_nets(&rt)?, 9, &tree, Err(TreeFault::NoNet))
+}
+
+/// Checks a tree with marks that fit, and looks at them afterwards.
+fn expect_with(
+    rt: &impl Abort,
+    problem: &Problem,
+    net: u32,
+    tree: &Tree,
+    marks: &mut Marks,
+    want: Result<(), TreeFault>,
+) {
+    assert!(rt; marks.fits(problem));
+    assert!(rt; check_tree(problem, net, tree, marks) == want);
+    assert!(rt; marks.fits(problem));
+}
+
+/// Checks a legal tree and others with the same marks, in turn.
+fn check_in_turn(
+    rt: &impl Abort,
+    problem: &Problem,
+    legal: &Tree,
+    again: &Tree,
+    stub: &Tree,
+    marks: &mut Marks,
+) {
+    for _ in 0..3 {
+        expect_with(rt, problem, 0, legal, marks, Ok(()));
+        expect_with(rt, problem, 0, again, marks, Err(TreeFault::NodeTwice));
+        expect_with(rt, problem, 0, stub, marks, Err(TreeFault::Dangling));
+        expect_with(rt, problem, 5, stub, marks, Err(TreeFault::NoNet));
+    }
+}
+
+fn answer_in_turn(rt: &(impl Abort + AllocGlobal), problem: &Problem) -> Result<(), Fail> {
+    let legal = chain(rt, 0, &[18, 39, 37, 31, 13])?;
+    let again = with_branch(rt, &[37])?;
+    let stub = with_branch(rt, &[38])?;
+    let mut marks = Marks::new(rt.alloc(), problem)?;
+    check_in_turn(rt, problem, &legal, &again, &stub, &mut marks);
     Ok(())
 }
 
-/// Many checks with the same marks, after all kinds of answers.
 #[test]
 fn answers_alike_with_old_marks(rt: HostRuntime) -> Result<(), Fail> {
-    let problem = two_nets(&rt)?;
-    let mut marks = Marks::new(rt.alloc(), &problem)?;
-    assert!(rt; marks.fits(&problem));
-    let legal = chain(&rt, 0, &[18, 39, 37, 31, 13])?;
-    let again = with_branch(&rt, &[37])?;
-    let stub = with_branch(&rt, &[38])?;
-    for _ in 0..3 {
-        assert!(rt; check_tree(&problem, 0, &legal, &mut marks).is_ok());
-        assert!(rt; check_tree(&problem, 0, &again, &mut marks) == Err(TreeFault::NodeTwice));
-        assert!(rt; check_tree(&problem, 0, &stub, &mut marks) == Err(TreeFault::Dangling));
-        assert!(rt; check_tree(&problem, 5, &stub, &mut marks) == Err(TreeFault::NoNet));
-        assert!(rt; marks.fits(&problem));
-    }
-    Ok(())
+    answer_in_turn(&rt, &two_nets(&rt)?)
 }
 
-#[test]
-fn tells_marks_of_another_device(rt: HostRuntime) -> Result<(), Fail> {
-    let problem = two_nets(&rt)?;
-    let wider = Device::new(rt.alloc(), &arch(&rt, ONE_BLOCK)?, 1, 1, 2)?;
-    let other = Problem::from_parts(wider, Vec::new(rt.alloc()))?;
-    let marks = Marks::new(rt.alloc(), &other)?;
-    assert!(rt; marks.fits(&other));
-    assert!(rt; !marks.fits(&problem));
-    Ok(())
-}
-
-/// The number of a node that there is.
-fn id(rt: &impl Abort, device: &Device, kind: Kind, x: u32, y: u32, number: u32) -> u32 {
-    device.id(node(kind, x, y, number)).expect(rt, "a node")
-}
-
-/// The first path of the net with two sinks: to the block on the right.
-fn to_the_block(rt: &impl Abort, device: &Device) -> [u32; 5] {
-    [
-        id(rt, device, Kind::Opin, 1, 2, 4),
-        id(rt, device, Kind::Chanx, 1, 1, 1),
-        id(rt, device, Kind::Chanx, 2, 1, 1),
-        id(rt, device, Kind::Ipin, 2, 2, 0),
-        id(rt, device, Kind::Sink, 2, 2, 0),
-    ]
-}
-
-/// The second, from its first wire up to a pad.
-fn to_the_pad(rt: &impl Abort, device: &Device) -> [u32; 5] {
-    [
-        id(rt, device, Kind::Chany, 1, 2, 1),
-        id(rt, device, Kind::Chanx, 2, 2, 1),
-        id(rt, device, Kind::Chanx, 1, 2, 1),
-        id(rt, device, Kind::Ipin, 1, 3, 1),
-        id(rt, device, Kind::Sink, 1, 3, 1),
-    ]
-}
-
-/// One net of four blocks, from the block at (1, 2) to that at (2, 2) and a pad above.
-fn two_sinks(rt: &(impl Abort + AllocGlobal)) -> Result<Problem, Fail> {
-    let device = Device::new(rt.alloc(), &arch(rt, CLOCKED)?, 2, 2, 2)?;
-    let source = id(rt, &device, Kind::Source, 1, 2, 1);
-    let pad = id(rt, &device, Kind::Sink, 1, 3, 1);
-    let block = id(rt, &device, Kind::Sink, 2, 2, 0);
-    let sinks = [pad.min(block), pad.max(block)];
-    let mut nets = Vec::new(rt.alloc());
-    nets.push(net(rt, 5, source, &sinks)?)?;
-    Ok(Problem::from_parts(device, nets)?)
-}
-
-#[test]
-fn wants_both_sinks(rt: HostRuntime) -> Result<(), Fail> {
-    let problem = two_sinks(&rt)?;
-    let mut tree = Tree::start(rt.alloc(), problem.source(0))?;
-    tree.attach(0, &to_the_block(&rt, problem.device()))?;
-    assert!(rt; fault_of(&rt, &problem, 0, &tree)? == Some(TreeFault::MissingSink));
-    tree.attach(2, &to_the_pad(&rt, problem.device()))?;
-    assert!(rt; fault_of(&rt, &problem, 0, &tree)?.is_none());
-    Ok(())
-}
-
-/// Both paths, but the second one's first wire before the first path ends.
-#[test]
-fn wants_path_by_path(rt: HostRuntime) -> Result<(), Fail> {
-    let problem = two_sinks(&rt)?;
-    let first = to_the_block(&rt, problem.device());
-    let second = to_the_pad(&rt, problem.device());
-    let mut tree = Tree::start(rt.alloc(), problem.source(0))?;
-    tree.attach(0, &first[..2])?;
-    tree.attach(2, &second[..1])?;
-    tree.attach(2, &first[2..])?;
-    tree.attach(3, &second[1..])?;
-    assert!(rt; fault_of(&rt, &problem, 0, &tree)? == Some(TreeFault::Order));
-    Ok(())
-}
-
-/// A block with two outputs of one class.
-const TWO_OUTPUTS: &str =
-    "io_rat 2\nchan_width_io 1\nchan_width_x uniform 1\nchan_width_y uniform 1\ninpin class: 0 bottom\ninpin class: 0 top\noutpin class: 1 right\noutpin class: 1 right\nswitch_block_type subset\nFc_type fractional\nFc_output 1\nFc_input 1\nFc_pad 1\nsegment frequency: 1 length: 1 wire_switch: 0 opin_switch: 0 Frac_cb: 1. Frac_sb: 1. Rmetal: 0 Cmetal: 81e-15\nswitch 0 buffered: yes R: 0 Cin: 0 Cout: 0 Tdel: 0\n";
-
-#[test]
-fn refuses_a_second_output(rt: HostRuntime) -> Result<(), Fail> {
-    let device = Device::new(rt.alloc(), &arch(&rt, TWO_OUTPUTS)?, 1, 1, 1)?;
-    let source = id(&rt, &device, Kind::Source, 1, 1, 1);
-    let sink = id(&rt, &device, Kind::Sink, 2, 1, 0);
-    let path = [
-        id(&rt, &device, Kind::Opin, 1, 1, 2),
-        id(&rt, &device, Kind::Chany, 1, 1, 0),
-        id(&rt, &device, Kind::Ipin, 2, 1, 0),
-        sink,
-    ];
-    let other = id(&rt, &device, Kind::Opin, 1, 1, 3);
-    let mut nets = Vec::new(rt.alloc());
-    nets.push(net(&rt, 1, source, &[sink])?)?;
-    let problem = Problem::from_parts(device, nets)?;
-    let mut tree = chain(&rt, source, &path)?;
-    assert!(rt; fault_of(&rt, &problem, 0, &tree)?.is_none());
-    tree.attach(0, &[other])?;
-    assert!(rt; fault_of(&rt, &problem, 0, &tree)? == Some(TreeFault::SecondOutput));
-    Ok(())
+fn expect_pair(rt: &impl Abort, tree: &Tree, index: usize, want: (u32, u32)) {
+    assert!(rt; pair(rt, tree, index) == want, "pair {index}");
 }
 
 #[test]
 fn looks_rows_up(rt: HostRuntime) -> Result<(), Fail> {
-    let mut tree = Tree::start(rt.alloc(), 5)?;
-    assert!(rt; tree.rows() == 1 && tree.pairs() == 0);
-    assert!(rt; tree.node(0) == 5 && tree.covers(5) && !tree.covers(0));
-    tree.attach(0, &[7, 9])?;
-    tree.attach(1, &[4])?;
-    tree.attach(3, &[])?;
+    let mut tree = chain(&rt, 5, &[7, 9])?;
+    hang(&rt, &mut tree, 1, &[4])?;
+    hang(&rt, &mut tree, 3, &[])?;
     assert!(rt; tree.rows() == 4 && tree.pairs() == 3);
-    assert!(rt; tree.node(3) == 4);
-    assert!(rt; tree.pair(0) == (5, 7) && tree.pair(1) == (7, 9) && tree.pair(2) == (7, 4));
-    assert!(rt; tree.covers(4) && tree.covers(9) && !tree.covers(6));
+    assert!(rt; tree.node(0) == 5 && tree.node(3) == 4);
+    expect_pair(&rt, &tree, 0, (5, 7));
+    expect_pair(&rt, &tree, 1, (7, 9));
+    expect_pair(&rt, &tree, 2, (7, 4));
+    assert!(rt; tree.covers(5) && tree.covers(4) && tree.covers(9) && !tree.covers(6));
     Ok(())
 }
 
-/// A routing of one list.
-fn routing_of(rt: &impl AllocGlobal, pairs: &[(u32, u32)]) -> Result<Routing, Fail> {
-    let mut lists = Vec::new(rt.alloc());
-    lists.push(Some(Pairs {
-        items: Vec::from_slice(rt.alloc(), pairs)?,
-    }))?;
-    lists.push(None)?;
-    Ok(Routing { lists })
+#[test]
+fn starts_with_one_row(rt: HostRuntime) -> Result<(), Fail> {
+    let tree = Tree::start(rt.alloc(), 5)?;
+    assert!(rt; tree.rows() == 1 && tree.pairs() == 0);
+    assert!(rt; tree.node(0) == 5 && tree.covers(5) && !tree.covers(0));
+    Ok(())
 }
 
-#[test]
-fn tells_a_routing_of_another_problem(rt: HostRuntime) -> Result<(), Fail> {
-    let problem = two_nets(&rt)?;
-    assert!(rt; fits(&problem, &routing_of(&rt, &[(0, 18), (18, 40)])?));
-    assert!(rt; !fits(&problem, &routing_of(&rt, &[(0, 18), (18, 41)])?));
-    assert!(rt; !fits(&problem, &routing_of(&rt, &[(41, 18)])?));
-    let none = Routing {
-        lists: Vec::new(rt.alloc()),
+/// Hangs a path on the start, again where memory was refused.
+fn attach_again(rt: &impl Abort, tree: &mut Tree) -> Result<(), Fail> {
+    if hang(rt, tree, 0, &[18, 39, 37, 31, 13]).is_err() {
+        assert!(rt; tree.rows() == 1 && tree.node(0) == 0);
+        hang(rt, tree, 0, &[18, 39, 37, 31, 13])?;
+    }
+    assert!(rt; hang(rt, tree, 5, &[]).is_ok());
+    assert!(rt; tree.rows() == 6);
+    expect_pair(rt, tree, 4, (31, 13));
+    Ok(())
+}
+
+fn copy_again(rt: &(impl Abort + AllocGlobal), tree: &Tree) -> Result<(), Fail> {
+    let copy = match tree.copy(rt.alloc()) {
+        Ok(copy) => copy,
+        Err(_) => tree.copy(rt.alloc())?,
     };
-    assert!(rt; !fits(&problem, &none));
-    let empty = Problem::from_parts(one_block(&rt)?, Vec::new(rt.alloc()))?;
-    assert!(rt; fits(&empty, &none));
+    assert!(rt; copy.rows() == 6);
+    expect_pair(rt, &copy, 4, (31, 13));
     Ok(())
 }
 
@@ -256,29 +266,22 @@ fn attach_without_memory(rt: HostRuntime) -> Result<(), Fail> {
         Ok(tree) => tree,
         Err(_) => Tree::start(rt.alloc(), 0)?,
     };
-    if tree.attach(0, &[18, 39, 37, 31, 13]).is_err() {
-        assert!(rt; tree.rows() == 1 && tree.node(0) == 0);
-        tree.attach(0, &[18, 39, 37, 31, 13])?;
-    }
-    assert!(rt; tree.attach(5, &[]).is_ok());
-    assert!(rt; tree.rows() == 6 && tree.pair(4) == (31, 13));
-    let copy = match tree.copy(rt.alloc()) {
-        Ok(copy) => copy,
-        Err(_) => tree.copy(rt.alloc())?,
+    attach_again(&rt, &mut tree)?;
+    copy_again(&rt, &tree)
+}
+
+fn marks_again(rt: &(impl Abort + AllocGlobal), problem: &Problem) -> Result<(), Fail> {
+    let marks = match Marks::new(rt.alloc(), problem) {
+        Ok(marks) => marks,
+        Err(_) => Marks::new(rt.alloc(), problem)?,
     };
-    assert!(rt; copy.rows() == 6 && copy.pair(4) == (31, 13));
+    assert!(rt; marks.fits(problem));
     Ok(())
 }
 
 /// Marks that find no memory are asked for again.
-// growths: 45
+// growths: 47
 #[test]
 fn marks_without_memory(rt: HostRuntime) -> Result<(), Fail> {
-    let problem = two_nets_again(&rt)?;
-    let marks = match Marks::new(rt.alloc(), &problem) {
-        Ok(marks) => marks,
-        Err(_) => Marks::new(rt.alloc(), &problem)?,
-    };
-    assert!(rt; marks.fits(&problem));
-    Ok(())
+    marks_again(&rt, &two_nets_again(&rt)?)
 }

@@ -1,4 +1,4 @@
-use Rattle.std.proofs.Common.{rules, ◌≡◌, ◌-◌, length, sym, arith}
+use Rattle.std.proofs.Common.{◌-◌, length, sym, arith}
 use Rattle.rr_graph.specs.Problems.{ascends, rises_at}
 use Rattle.rr_graph.proofs.FirstFaults.{one_below}
 use Rattle.rr_graph.proofs.problem.ascends.Goals as goal

@@ -1,4 +1,4 @@
-use Rattle.std.proofs.Common.{rules, ◌≡◌, length, sym, arith, ◌∙◌}
+use Rattle.std.proofs.Common.{length, sym, arith, ◌∙◌}
 use Rattle.rr_graph.specs.Problems.{net_fault}
 use Rattle.rr_graph.proofs.FirstFaults.{first_below}
 use Rattle.rr_graph.proofs.problem.first_net_fault.Goals as goal
