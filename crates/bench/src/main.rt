@@ -4,6 +4,7 @@
 ghost use Rattle.std.specs.Prelude.{◌≡◌, ◌≤◌, ◌↔◌, None, map, string_bytes};
 ghost use Rattle.bench.specs.Sizes.{size_of_words};
 
+mod archs;
 mod device;
 mod edges;
 mod fault;
@@ -12,6 +13,7 @@ mod look_ups;
 mod size;
 mod spread;
 
+use archs::{LONG_ARCH, SMALL_ARCH};
 use device::measure_device;
 use fault::BenchFault;
 use size::size_of_words;
@@ -40,7 +42,8 @@ fn run(rt: &(impl Runtime + AllocGlobal)) -> u8
     match words.as_slice() {
         [] | [_] => 0,
         [_, word, given @ ..] => match word.as_str() {
-            "device" => run_device(rt, given),
+            "device" => run_device(rt, SMALL_ARCH, given),
+            "long" => run_device(rt, LONG_ARCH, given),
             _ => usage(rt),
         },
     }
@@ -55,7 +58,7 @@ fn words(rt: &(impl Runtime + AllocGlobal)) -> io::Result<Vec<String>> {
 fn usage(rt: &impl Runtime) -> u8
     ensures { result ≡ BAD_WORDS }
 {
-    let _ = eprintln!(rt; "usage: bench [device [NX NY W]]");
+    let _ = eprintln!(rt; "usage: bench [device|long [NX NY W]]");
     BAD_WORDS
 }
 
@@ -67,15 +70,15 @@ fn failed(rt: &impl Runtime, fault: BenchFault) -> u8
     ENDED_EARLY
 }
 
-/// The word `device`: measures the device of the size that is given.
-fn run_device(rt: &(impl Runtime + AllocGlobal), given: &[String]) -> u8
+/// Measures the device of an architecture's text and of the size that is given.
+fn run_device(rt: &(impl Runtime + AllocGlobal), text: &str, given: &[String]) -> u8
     ensures status { result ≤ 2 }
     ensures bad_words { (result ≡ BAD_WORDS) ↔ (size_of_words (map string_bytes given.now) ≡ None) }
 {
     let Some(size) = size_of_words(given) else {
         return usage(rt);
     };
-    match measure_device(rt, size.nx, size.ny, size.width) {
+    match measure_device(rt, text, size.nx, size.ny, size.width) {
         Ok(()) => 0,
         Err(fault) => failed(rt, fault),
     }
