@@ -1,0 +1,10 @@
+pub mod Names
+pub mod Kept
+pub mod Netlist
+pub mod Lines
+pub mod Judge
+pub mod Seen
+pub mod Blocks
+pub mod Connections
+pub mod WholeFile
+pub mod Reading

@@ -1,0 +1,105 @@
+-- A netlist file as a list of lines, read line by line: what is read, or the first fault (VPR and T-VPack manual 4.30; the
+-- faults and their order are this project's profile).
+use Rattle.std.specs.Prelude.{◌≡◌, ℕ, Bool, if◌then◌else◌, List, [], ◌∷◌, ◌++◌, length, map, filter, find, Option, None, Some, unwrap_or, is_some, slice_index_or, Result, Ok, Err}
+use Rattle.std.specs.Option.{option_map}
+use Rattle.vpr_text.specs.Words.{Line}
+use Rattle.vpr_text.specs.Text.{lines_of}
+use Rattle.vpr_text.specs.declared.fault.TextFault.{TextFault}
+use Rattle.arch_file.specs.declared.parts.Pin.{Pin}
+use Rattle.net_file.specs.declared.connection.Connection.{Connection}
+use Rattle.net_file.specs.declared.fault.LineFault.{LineFault}
+use Rattle.net_file.specs.declared.fault.LineFault.TheVariants.{BadLine, PinCount, DoubleName, TooMany}
+use Rattle.net_file.specs.declared.fault.NetFault.{NetFault}
+use Rattle.net_file.specs.declared.fault.NetFault.TheVariants as net
+use Rattle.net_file.specs.declared.parts.Terminal.{Terminal}
+use Rattle.net_file.specs.Blocks.{numbers_below, pinlists, block_at}
+use Rattle.net_file.specs.Connections.{connections, on_net, is_sink}
+use Rattle.net_file.specs.Judge.{fault_behind}
+use Rattle.net_file.specs.Lines.{net_names, global_names, opened}
+use Rattle.net_file.specs.Netlist.{Netlist, Block, Net}
+use Rattle.net_file.specs.WholeFile.{is_global_net, whole_fault}
+
+-- the fault of a netlist whose line n has this one
+abbrev pub at_line : LineFault → ℕ → NetFault
+at_line BadLine n = net.BadLine n
+at_line PinCount n = net.PinCount n
+at_line DoubleName n = net.DoubleName n
+at_line TooMany n = net.TooMany n
+
+abbrev pub or_else : Option LineFault → ℕ → Option NetFault → Option NetFault
+or_else (Some fault) n rest = Some (at_line fault n)
+or_else None n rest = rest
+
+-- the fault of the first faulty line, behind those before it; at the end no element waits for its pinlist
+unfoldable pub line_fault_from : ℕ → List Line → List Line → Option NetFault
+line_fault_from pins before [] = if is_some (opened before) then Some (net.BadLine 0) else None
+line_fault_from pins before (l ∷ ls) = or_else (fault_behind pins before l) l.number (line_fault_from pins (before ++ l ∷ []) ls)
+
+-- the net whose name and connections these are
+unfoldable pub net_from : List ℕ → Bool → List Connection → Net
+net_from name global on =
+    record {
+      name = name;
+      global = global;
+      driver = unwrap_or (option_map (λ c. c.terminal) (find (λ c. c.drives) on)) (record { block = 0; class = None });
+      sinks = map (λ c. c.terminal) (filter is_sink on);
+    }
+
+unfoldable pub net_at : List (List ℕ) → List (List ℕ) → List Connection → ℕ → Net
+net_at nets globals connections n = net_from (slice_index_or nets n []) (is_global_net nets globals n) (on_net n connections)
+
+-- the netlist of lines with these nets, globals and connections
+unfoldable pub netlist_from : List Line → List (List ℕ) → List (List ℕ) → List Connection → Netlist
+netlist_from lines nets globals connections =
+    record {
+      blocks = map (block_at nets lines) (pinlists lines);
+      nets = map (net_at nets globals connections) (numbers_below (length nets));
+    }
+
+-- the netlist, or the fault that was found
+abbrev pub unless_faulty : {X : Type 0} → Option NetFault → Result X NetFault → Result X NetFault
+unless_faulty (Some fault) rest = Err fault
+unless_faulty None rest = rest
+
+-- lines without a faulty one: the fault of the least faulty net, else the netlist
+unfoldable pub completed : List Pin → List Line → Result Netlist NetFault
+completed pins lines =
+    unless_faulty
+    (whole_fault (net_names lines) (global_names lines) (connections pins (net_names lines) lines))
+    (Ok (netlist_from lines (net_names lines) (global_names lines) (connections pins (net_names lines) lines)))
+
+-- lines as a netlist: the fault of the first faulty line comes first
+unfoldable pub reading : List Pin → List Line → Result Netlist NetFault
+reading pins lines = unless_faulty (line_fault_from (length pins) [] lines) (completed pins lines)
+
+infixl 10 ◌>>=◌
+abbrev pub ◌>>=◌ : {A B : Type 0} → Result A NetFault → (A → Result B NetFault) → Result B NetFault
+(Ok x) >>= f = f x
+(Err e) >>= f = Err e
+
+-- the fault of a text is that of the netlist
+abbrev pub text_of : Result (List Line) TextFault → Result (List Line) NetFault
+text_of (Ok lines) = Ok lines
+text_of (Err fault) = Err (net.Text fault)
+
+-- bytes as a netlist, for an architecture with these pins
+unfoldable pub netlist_of : List Pin → List ℕ → Result Netlist NetFault
+netlist_of pins bytes = text_of (lines_of bytes) >>= reading pins
+
+-- the fault is the one that reading gives, unless memory ran out
+abbrev pub Fails : {Y : Type 0} → NetFault → Result Y NetFault → Type 0
+Fails net.Memory given = Unit {0}
+Fails (net.Text f) given = given ≡ Err (net.Text f)
+Fails (net.BadLine n) given = given ≡ Err (net.BadLine n)
+Fails (net.PinCount n) given = given ≡ Err (net.PinCount n)
+Fails (net.DoubleName n) given = given ≡ Err (net.DoubleName n)
+Fails (net.NoDriver n) given = given ≡ Err (net.NoDriver n)
+Fails (net.TwoDrivers n) given = given ≡ Err (net.TwoDrivers n)
+Fails (net.DoubleSink n) given = given ≡ Err (net.DoubleSink n)
+Fails (net.GlobalPin n) given = given ≡ Err (net.GlobalPin n)
+Fails (net.TooMany n) given = given ≡ Err (net.TooMany n)
+
+-- what a call returned, seen by view, is what reading gives, unless memory ran out
+abbrev pub Gives : {X Y : Type 0} → (X → Y) → Result X NetFault → Result Y NetFault → Type 0
+Gives view (Ok x) given = given ≡ Ok (view x)
+Gives view (Err e) given = Fails e given

@@ -1,0 +1,49 @@
+-- What the lines of a netlist have to fulfil together, net by net (VPR and T-VPack manual 4.30; the order of the faults is
+-- this project's profile).
+use Rattle.std.specs.Prelude.{ℕ, Bool, not, ◌&&◌, ◌==◌, nat_lt, if◌then◌else◌, List, [], length, map, filter, find, Option, None, Some, unwrap_or, fold, slice_get, slice_index_or}
+use Rattle.std.specs.Option.{option_map, option_map_or, option_or}
+use Rattle.std.specs.List.{list_any, count_by}
+use Rattle.net_file.specs.declared.connection.Connection.{Connection}
+use Rattle.net_file.specs.declared.fault.NetFault.{NetFault}
+use Rattle.net_file.specs.declared.fault.NetFault.TheVariants.{NoDriver, TwoDrivers, DoubleSink, GlobalPin}
+use Rattle.net_file.specs.Blocks.{numbers_below}
+use Rattle.net_file.specs.Connections.{on_net, is_sink}
+use Rattle.net_file.specs.Names.{is_among}
+
+-- how many pins drive the net
+abbrev pub driver_count : List Connection → ℕ
+driver_count connections = count_by (λ c. c.drives) connections
+
+-- a net that isn't global and has a sink is routed
+abbrev pub is_routed : Bool → List Connection → Bool
+is_routed global connections = not global && list_any is_sink connections
+
+-- two pins of one input class of a block are on the net
+abbrev pub has_double_sink : List Connection → Bool
+has_double_sink connections = list_any (λ c. is_sink c && c.repeated) connections
+
+-- a pin marked global is on the net
+abbrev pub has_global_pin : List Connection → Bool
+has_global_pin connections = list_any (λ c. c.marked) connections
+
+-- the line of the net's first pinlist
+abbrev pub line_of : List Connection → ℕ
+line_of connections = option_map_or (λ c. c.line) (slice_get connections 0) 0
+
+-- the first of the faults that a net with these connections has, in this order
+unfoldable pub net_fault : Bool → List Connection → Option NetFault
+net_fault global connections =
+    if driver_count connections == 0 then Some (NoDriver (line_of connections))
+    else (if nat_lt 1 (driver_count connections) then Some (TwoDrivers (line_of connections))
+    else (if is_routed global connections && has_double_sink connections then Some (DoubleSink (line_of connections))
+    else (if is_routed global connections && has_global_pin connections then Some (GlobalPin (line_of connections))
+    else None)))
+
+-- net n is global
+unfoldable pub is_global_net : List (List ℕ) → List (List ℕ) → ℕ → Bool
+is_global_net nets globals n = is_among globals (slice_index_or nets n [])
+
+-- the fault of the least faulty net
+unfoldable pub whole_fault : List (List ℕ) → List (List ℕ) → List Connection → Option NetFault
+whole_fault nets globals connections =
+    fold (λ found n. option_or found (net_fault (is_global_net nets globals n) (on_net n connections))) None (numbers_below (length nets))

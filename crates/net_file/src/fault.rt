@@ -1,0 +1,84 @@
+//! Why a netlist could not be read.
+
+ghost use Rattle.std.specs.Prelude.{◌≡◌};
+ghost use Rattle.net_file.specs.declared.fault.NetFault.TheVariants.{Memory};
+ghost use Rattle.net_file.specs.Reading.{at_line};
+
+use std::alloc::{AllocError, AllocFailed};
+use thiserror::Error;
+use vpr_text::TextFault;
+
+/// What is wrong with a netlist. A line is the number of the faulty logical line: that of its first physical line, counted
+/// from 1; 0 is the end of the file. The faults of nets carry the line of the net's first pinlist.
+#[derive(Clone, Copy, Debug, PartialEq, Eq, Error)]
+pub enum NetFault {
+    /// The text has no lines.
+    #[error("{0}")]
+    Text(TextFault),
+    /// The line is none that can stand there; at line 0, an element has no pinlist.
+    #[error("line {0} can't stand there")]
+    BadLine(u32),
+    /// A pinlist has another number of names than its block has pins.
+    #[error("line {0} has another number of nets than the block has pins")]
+    PinCount(u32),
+    /// A block before has the same name.
+    #[error("line {0} names a block that is there")]
+    DoubleName(u32),
+    /// Nothing drives the net.
+    #[error("a net first named on line {0} has no driver")]
+    NoDriver(u32),
+    /// Two pins drive the net.
+    #[error("a net first named on line {0} has two drivers")]
+    TwoDrivers(u32),
+    /// Two pins of one input class of a block are on the net.
+    #[error("a net first named on line {0} is twice on a class of one block")]
+    DoubleSink(u32),
+    /// The net has to be routed to a pin that is marked `global`.
+    #[error("a net first named on line {0} isn't global and is on a global pin")]
+    GlobalPin(u32),
+    /// There are more than 20,000 blocks or 65,535 nets.
+    #[error("line {0} has too many")]
+    TooMany(u32),
+    /// Memory ran out.
+    #[error("memory ran out")]
+    Memory,
+}
+
+impl From<AllocError> for NetFault {
+    ghost from_gives = { λ _ e. e ≡ Memory };
+
+    fn from(_e: AllocError) -> NetFault {
+        NetFault::Memory
+    }
+}
+
+impl<T: Drop> From<AllocFailed<T>> for NetFault {
+    ghost from_gives = { λ _ e. e ≡ Memory };
+
+    fn from(_e: AllocFailed<T>) -> NetFault {
+        NetFault::Memory
+    }
+}
+
+/// What is wrong with one line.
+#[derive(Clone, Copy, Debug, PartialEq, Eq)]
+pub(crate) enum LineFault {
+    BadLine,
+    PinCount,
+    DoubleName,
+    TooMany,
+}
+
+impl LineFault {
+    /// The fault of a netlist whose line `line` has this one.
+    pub(crate) fn at(self, line: u32) -> NetFault
+        ensures { result ≡ at_line self line }
+    {
+        match self {
+            LineFault::BadLine => NetFault::BadLine(line),
+            LineFault::PinCount => NetFault::PinCount(line),
+            LineFault::DoubleName => NetFault::DoubleName(line),
+            LineFault::TooMany => NetFault::TooMany(line),
+        }
+    }
+}

@@ -1,0 +1,14 @@
+//! The netlist of T-VPack 4.30: its blocks, the nets that connect them, and what drives each net.
+#![tactic(auto)]
+
+mod block;
+mod connection;
+mod fault;
+mod names;
+mod parts;
+mod seen;
+mod words;
+
+pub use block::Block;
+pub use fault::NetFault;
+pub use parts::{BlockKind, Terminal};
