@@ -1,2 +1,3 @@
 pub mod Numbered
 pub mod Drops
+pub mod Judging

@@ -50,9 +50,9 @@ net_names_on words = if is_pinlist words then filter (λ word. not (is_open word
 abbrev pub global_names_on : List (List ℕ) → List (List ℕ)
 global_names_on words = if is_global words then drop 1 words else []
 
--- the names of the blocks that lines have
+-- the names of the blocks that lines have, each once
 unfoldable pub block_names : List Line → List (List ℕ)
-block_names lines = flat_map (λ l. block_name_on l.words) lines
+block_names lines = distinct (flat_map (λ l. block_name_on l.words) lines)
 
 -- the nets that lines name in pinlists, each once, in the order of first appearance
 unfoldable pub net_names : List Line → List (List ℕ)

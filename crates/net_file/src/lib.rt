@@ -4,6 +4,7 @@
 mod block;
 mod connection;
 mod fault;
+mod judge;
 mod names;
 mod parts;
 mod seen;

@@ -3,7 +3,7 @@
 ghost use Rattle.std.specs.Prelude.{◌≡◌, ◌++◌, ◌∷◌, [], OnOk, not, filter};
 ghost use Rattle.net_file.specs.Lines.{is_open, net_names_on, global_names_on, block_name_on};
 ghost use Rattle.net_file.specs.Names.{with_names};
-ghost use Rattle.net_file.specs.Seen.{IsSeen, Notes};
+ghost use Rattle.net_file.specs.Seen.{IsSeen, latest_after, Notes};
 
 use crate::names::Names;
 use crate::parts::BlockKind;
@@ -52,4 +52,72 @@ fn add_nets<'a>(names: &mut Names<'a>, words: Words<'_, 'a>) -> Result<(), Alloc
         add_net(names, word)?;
     }
     Ok(())
+}
+
+/// Adds the name of the block, if the line is an element.
+fn note_block<'a>(names: &mut Names<'a>, words: &Words<'_, 'a>) -> Result<(), AllocError>
+    ensures { OnOk result (names.new ≡ with_names names.old (block_name_on words.now)) }
+{
+    if words.is_element() {
+        names.add(words.name())?;
+    }
+    Ok(())
+}
+
+/// Adds the nets of the line, if it is a pinlist.
+fn note_nets<'a>(names: &mut Names<'a>, words: &Words<'_, 'a>) -> Result<(), AllocError>
+    ensures { OnOk result (names.new ≡ with_names names.old (net_names_on words.now)) }
+{
+    if words.is_pinlist() {
+        add_nets(names, words.rest(1))?;
+    }
+    Ok(())
+}
+
+/// Adds the names of the line, if it makes nets global.
+fn note_globals<'a>(names: &mut Names<'a>, words: &Words<'_, 'a>) -> Result<(), AllocError>
+    ensures { OnOk result (names.new ≡ with_names names.old (global_names_on words.now)) }
+{
+    if words.is_global() {
+        add_words(names, words.rest(1))?;
+    }
+    Ok(())
+}
+
+/// The kind of the last block, behind this line.
+fn latest_after(latest: Option<BlockKind>, words: &Words) -> Option<BlockKind>
+    ensures { result ≡ latest_after latest words.now }
+{
+    if words.is_element() {
+        words.kind()
+    } else {
+        latest
+    }
+}
+
+impl<'a> Seen<'a> {
+    /// What no lines say.
+    pub(crate) fn new(alloc: Global) -> Seen<'a>
+        ensures { IsSeen [] result }
+    {
+        Seen {
+            opened: None,
+            latest: None,
+            blocks: Names::new(alloc),
+            nets: Names::new(alloc),
+            globals: Names::new(alloc),
+        }
+    }
+
+    /// Adds a line.
+    pub(crate) fn note(&mut self, words: &Words<'_, 'a>) -> Result<(), AllocError>
+        ensures { OnOk result (Notes self.old self.new words.now) }
+    {
+        note_block(&mut self.blocks, words)?;
+        note_nets(&mut self.nets, words)?;
+        note_globals(&mut self.globals, words)?;
+        self.latest = latest_after(self.latest, words);
+        self.opened = words.kind();
+        Ok(())
+    }
 }
