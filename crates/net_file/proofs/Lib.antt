@@ -1,3 +1,4 @@
 pub mod Numbered
 pub mod Drops
 pub mod Judging
+pub mod Ranges

@@ -1,7 +1,7 @@
 -- The blocks that accepted lines describe, each by an element and the pinlist behind it (VPR and T-VPack manual 4.30).
 use Rattle.std.specs.Prelude.{ℕ, ◌-◌, Bool, if◌then◌else◌, List, length, drop, map, filter, Option, None, unwrap_or}
 use Rattle.std.specs.List.{range_with_len}
-use Rattle.vpr_text.specs.Words.{Line, words_at}
+use Rattle.vpr_text.specs.Words.{Line, words_at, number_at}
 use Rattle.net_file.specs.declared.parts.BlockKind.TheVariants.{InputPad}
 use Rattle.net_file.specs.Lines.{kind_at, name_in, is_pinlist, is_open}
 use Rattle.net_file.specs.Names.{number_among}
@@ -31,3 +31,10 @@ pinlists lines = filter (λ i. is_pinlist (words_at lines i)) (numbers_below (le
 -- the block whose pinlist is line i: its element is the line before
 unfoldable pub block_at : List (List ℕ) → List Line → ℕ → Block
 block_at nets lines i = block_of nets (words_at lines (i - 1)) (words_at lines i)
+
+-- the blocks of the lines, for nets with these names, and the numbers of the lines of their pinlists
+unfoldable pub blocks_of : List (List ℕ) → List Line → List Block
+blocks_of nets lines = map (block_at nets lines) (pinlists lines)
+
+unfoldable pub pinlist_numbers : List Line → List ℕ
+pinlist_numbers lines = map (number_at lines) (pinlists lines)

@@ -1,8 +1,7 @@
 -- The connections of nets and pins (VPR and T-VPack manual 4.30).
-use Rattle.std.specs.Prelude.{ℕ, Bool, true, false, not, ◌&&◌, ◌==◌, nat_eq, List, length, filter, Option, None, Some, unwrap_or, slice_get, slice_index}
+use Rattle.std.specs.Prelude.{ℕ, Bool, true, false, not, ◌&&◌, ◌==◌, nat_eq, List, [], length, map, filter, Option, None, Some, unwrap_or, slice_get, slice_index, slice_index_or}
 use Rattle.std.specs.Option.{option_map, option_map_or, option_eq}
 use Rattle.std.specs.List.{filter_map, flat_map, list_any}
-use Rattle.vpr_text.specs.Words.{Line, number_at}
 use Rattle.arch_file.specs.declared.parts.Pin.{Pin}
 use Rattle.arch_file.specs.declared.parts.Direction.{Direction}
 use Rattle.arch_file.specs.declared.parts.Direction.TheVariants.{Input, Output}
@@ -11,7 +10,7 @@ use Rattle.net_file.specs.declared.connection.Role.{Role}
 use Rattle.net_file.specs.declared.parts.BlockKind.{BlockKind}
 use Rattle.net_file.specs.declared.parts.BlockKind.TheVariants.{InputPad, OutputPad, LogicBlock}
 use Rattle.net_file.specs.declared.parts.Terminal.{Terminal}
-use Rattle.net_file.specs.Blocks.{numbers_below, pinlists, block_at}
+use Rattle.net_file.specs.Blocks.{numbers_below}
 use Rattle.net_file.specs.Netlist.{Block}
 
 abbrev pub is_output : Direction → Bool
@@ -63,18 +62,23 @@ connection_at pins line b block p =
 unfoldable pub connections_of : List Pin → ℕ → ℕ → Block → List Connection
 connections_of pins line b block = filter_map (connection_at pins line b block) (numbers_below (length block.nets))
 
--- the connections of the first blocks, block by block: block number b has the pinlist at places[b]
-unfoldable pub connections_below : List Pin → List (List ℕ) → List Line → List ℕ → List Connection
-connections_below pins nets lines places =
-    flat_map (λ b. connections_of pins (number_at lines (slice_index places b)) b (block_at nets lines (slice_index places b))) (numbers_below (length places))
+-- what stands past the last block
+abbrev pub no_block : Block
+no_block = record { kind = InputPad; name = []; nets = [] }
 
--- all connections
-unfoldable pub connections : List Pin → List (List ℕ) → List Line → List Connection
-connections pins nets lines = connections_below pins nets lines (pinlists lines)
+-- all connections, block by block; the lines of the pinlists have these numbers
+unfoldable pub connections : List Pin → List ℕ → List Block → List Connection
+connections pins numbers blocks =
+    flat_map (λ b. connections_of pins (slice_index numbers b) b (slice_index_or blocks b no_block)) (numbers_below (length blocks))
 
 -- the connections of net n
-unfoldable pub on_net : ℕ → List Connection → List Connection
-on_net n connections = filter (λ c. c.net == n) connections
+unfoldable pub on_net : List Connection → ℕ → List Connection
+on_net connections n = filter (λ c. c.net == n) connections
 
+-- the connections of each net, for this many nets
+unfoldable pub by_net : List Connection → ℕ → List (List Connection)
+by_net connections count = map (on_net connections) (numbers_below count)
+
+-- a pin that takes the net's signal
 abbrev pub is_sink : Connection → Bool
 is_sink c = not c.drives

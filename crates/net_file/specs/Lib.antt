@@ -6,5 +6,6 @@ pub mod Judge
 pub mod Seen
 pub mod Blocks
 pub mod Connections
+pub mod Rows
 pub mod WholeFile
 pub mod Reading

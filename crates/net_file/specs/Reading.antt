@@ -12,8 +12,8 @@ use Rattle.net_file.specs.declared.fault.LineFault.TheVariants.{BadLine, PinCoun
 use Rattle.net_file.specs.declared.fault.NetFault.{NetFault}
 use Rattle.net_file.specs.declared.fault.NetFault.TheVariants as net
 use Rattle.net_file.specs.declared.parts.Terminal.{Terminal}
-use Rattle.net_file.specs.Blocks.{numbers_below, pinlists, block_at}
-use Rattle.net_file.specs.Connections.{connections, on_net, is_sink}
+use Rattle.net_file.specs.Blocks.{numbers_below, blocks_of, pinlist_numbers}
+use Rattle.net_file.specs.Connections.{connections, by_net, is_sink}
 use Rattle.net_file.specs.Judge.{fault_behind}
 use Rattle.net_file.specs.Lines.{net_names, global_names, opened}
 use Rattle.net_file.specs.Netlist.{Netlist, Block, Net}
@@ -35,42 +35,42 @@ unfoldable pub line_fault_from : ℕ → List Line → List Line → Option NetF
 line_fault_from pins before [] = if is_some (opened before) then Some (net.BadLine 0) else None
 line_fault_from pins before (l ∷ ls) = or_else (fault_behind pins before l) l.number (line_fault_from pins (before ++ l ∷ []) ls)
 
+-- what drives the net with these connections, and what takes its signal
+abbrev pub driver_of : List Connection → Terminal
+driver_of row = unwrap_or (option_map (λ c. c.terminal) (find (λ c. c.drives) row)) (record { block = 0; class = None })
+
+abbrev pub sinks_of : List Connection → List Terminal
+sinks_of row = map (λ c. c.terminal) (filter is_sink row)
+
 -- the net whose name and connections these are
 unfoldable pub net_from : List ℕ → Bool → List Connection → Net
-net_from name global on =
-    record {
-      name = name;
-      global = global;
-      driver = unwrap_or (option_map (λ c. c.terminal) (find (λ c. c.drives) on)) (record { block = 0; class = None });
-      sinks = map (λ c. c.terminal) (filter is_sink on);
-    }
+net_from name global row = record { name = name; global = global; driver = driver_of row; sinks = sinks_of row }
 
-unfoldable pub net_at : List (List ℕ) → List (List ℕ) → List Connection → ℕ → Net
-net_at nets globals connections n = net_from (slice_index_or nets n []) (is_global_net nets globals n) (on_net n connections)
+-- net n
+unfoldable pub net_at : List (List ℕ) → List (List ℕ) → List (List Connection) → ℕ → Net
+net_at nets globals rows n = net_from (slice_index_or nets n []) (is_global_net nets globals n) (slice_index_or rows n [])
 
--- the netlist of lines with these nets, globals and connections
-unfoldable pub netlist_from : List Line → List (List ℕ) → List (List ℕ) → List Connection → Netlist
-netlist_from lines nets globals connections =
-    record {
-      blocks = map (block_at nets lines) (pinlists lines);
-      nets = map (net_at nets globals connections) (numbers_below (length nets));
-    }
+unfoldable pub nets_of : List (List ℕ) → List (List ℕ) → List (List Connection) → List Net
+nets_of nets globals rows = map (net_at nets globals rows) (numbers_below (length nets))
 
 -- the netlist, or the fault that was found
 abbrev pub unless_faulty : {X : Type 0} → Option NetFault → Result X NetFault → Result X NetFault
 unless_faulty (Some fault) rest = Err fault
 unless_faulty None rest = rest
 
--- lines without a faulty one: the fault of the least faulty net, else the netlist
-unfoldable pub completed : List Pin → List Line → Result Netlist NetFault
-completed pins lines =
-    unless_faulty
-    (whole_fault (net_names lines) (global_names lines) (connections pins (net_names lines) lines))
-    (Ok (netlist_from lines (net_names lines) (global_names lines) (connections pins (net_names lines) lines)))
+-- the connections of each net of the lines
+unfoldable pub rows_of : List Pin → List (List ℕ) → List Line → List (List Connection)
+rows_of pins nets lines = by_net (connections pins (pinlist_numbers lines) (blocks_of nets lines)) (length nets)
+
+-- blocks and nets with these connections: the fault of the least faulty net, else the netlist
+unfoldable pub completed : List (List ℕ) → List (List ℕ) → List Block → List (List Connection) → Result Netlist NetFault
+completed nets globals blocks rows = unless_faulty (whole_fault nets globals rows) (Ok (record { blocks = blocks; nets = nets_of nets globals rows }))
 
 -- lines as a netlist: the fault of the first faulty line comes first
 unfoldable pub reading : List Pin → List Line → Result Netlist NetFault
-reading pins lines = unless_faulty (line_fault_from (length pins) [] lines) (completed pins lines)
+reading pins lines =
+    unless_faulty (line_fault_from (length pins) [] lines)
+    (completed (net_names lines) (global_names lines) (blocks_of (net_names lines) lines) (rows_of pins (net_names lines) lines))
 
 infixl 10 ◌>>=◌
 abbrev pub ◌>>=◌ : {A B : Type 0} → Result A NetFault → (A → Result B NetFault) → Result B NetFault

@@ -41,3 +41,14 @@ fault_after pins seen words =
 pub record Judges (pins : ℕ) (old new : Seen) (words : List (List ℕ)) (fault : Option LineFault) : Type 0 where
   pub is : fault ≡ fault_after pins old words
   pub added : fault ≡ None → Notes old new words
+
+-- what these lines say
+abbrev pub seen_of : List Line → Seen
+seen_of before =
+    record {
+      opened = lines.opened before;
+      latest = lines.latest before;
+      blocks = block_names before;
+      nets = net_names before;
+      globals = global_names before;
+    }

@@ -7,7 +7,7 @@ use Rattle.net_file.specs.declared.connection.Connection.{Connection}
 use Rattle.net_file.specs.declared.fault.NetFault.{NetFault}
 use Rattle.net_file.specs.declared.fault.NetFault.TheVariants.{NoDriver, TwoDrivers, DoubleSink, GlobalPin}
 use Rattle.net_file.specs.Blocks.{numbers_below}
-use Rattle.net_file.specs.Connections.{on_net, is_sink}
+use Rattle.net_file.specs.Connections.{is_sink}
 use Rattle.net_file.specs.Names.{is_among}
 
 -- how many pins drive the net
@@ -40,10 +40,10 @@ net_fault global connections =
     else None)))
 
 -- net n is global
-unfoldable pub is_global_net : List (List ℕ) → List (List ℕ) → ℕ → Bool
+abbrev pub is_global_net : List (List ℕ) → List (List ℕ) → ℕ → Bool
 is_global_net nets globals n = is_among globals (slice_index_or nets n [])
 
--- the fault of the least faulty net
-unfoldable pub whole_fault : List (List ℕ) → List (List ℕ) → List Connection → Option NetFault
-whole_fault nets globals connections =
-    fold (λ found n. option_or found (net_fault (is_global_net nets globals n) (on_net n connections))) None (numbers_below (length nets))
+-- the fault of the least faulty net; rows has the connections of each net
+unfoldable pub whole_fault : List (List ℕ) → List (List ℕ) → List (List Connection) → Option NetFault
+whole_fault nets globals rows =
+    fold (λ found n. option_or found (net_fault (is_global_net nets globals n) (slice_index_or rows n []))) None (numbers_below (length nets))

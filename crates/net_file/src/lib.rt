@@ -2,14 +2,18 @@
 #![tactic(auto)]
 
 mod block;
+mod blocks;
 mod connection;
 mod fault;
 mod judge;
 mod names;
+mod net;
 mod parts;
+mod rows;
 mod seen;
 mod words;
 
 pub use block::Block;
 pub use fault::NetFault;
+pub use net::Net;
 pub use parts::{BlockKind, Terminal};

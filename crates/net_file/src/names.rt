@@ -1,6 +1,6 @@
 //! Names by number: each name once, in the order of first appearance.
 
-ghost use Rattle.std.specs.Prelude.{◌≡◌, [], OnOk, length};
+ghost use Rattle.std.specs.Prelude.{◌≡◌, [], OnOk, length, slice_index_or};
 ghost use Rattle.net_file.specs.Names.{number_among, is_among, with_name};
 
 use std::alloc::{AllocError, Global};
@@ -42,6 +42,16 @@ impl<'a> Names<'a> {
         ensures { result ≡ length self.now }
     {
         self.list.len()
+    }
+
+    /// Name number `n`; one of no bytes past the last name.
+    pub(crate) fn name(&self, n: usize) -> &'a [u8]
+        ensures { result.now ≡ slice_index_or self.now n [] }
+    {
+        match self.list.get(n) {
+            Some(name) => *name,
+            None => &[],
+        }
     }
 
     /// The number of a name, if it is one of them.
