@@ -2,3 +2,5 @@ pub mod Numbered
 pub mod Drops
 pub mod Judging
 pub mod Ranges
+pub mod Filing
+pub mod Steps

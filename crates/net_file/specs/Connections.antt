@@ -66,10 +66,13 @@ connections_of pins line b block = filter_map (connection_at pins line b block) 
 abbrev pub no_block : Block
 no_block = record { kind = InputPad; name = []; nets = [] }
 
--- all connections, block by block; the lines of the pinlists have these numbers
+-- the connections of block number b; the lines of the pinlists have these numbers
+abbrev pub connections_at : List Pin → List ℕ → List Block → ℕ → List Connection
+connections_at pins numbers blocks b = connections_of pins (slice_index numbers b) b (slice_index_or blocks b no_block)
+
+-- all connections, block by block
 unfoldable pub connections : List Pin → List ℕ → List Block → List Connection
-connections pins numbers blocks =
-    flat_map (λ b. connections_of pins (slice_index numbers b) b (slice_index_or blocks b no_block)) (numbers_below (length blocks))
+connections pins numbers blocks = flat_map (connections_at pins numbers blocks) (numbers_below (length blocks))
 
 -- the connections of net n
 unfoldable pub on_net : List Connection → ℕ → List Connection

@@ -14,9 +14,13 @@ use Rattle.net_file.specs.Names.{is_among}
 abbrev pub driver_count : List Connection → ℕ
 driver_count connections = count_by (λ c. c.drives) connections
 
+-- a pin takes the net's signal
+abbrev pub has_sink : List Connection → Bool
+has_sink connections = list_any is_sink connections
+
 -- a net that isn't global and has a sink is routed
 abbrev pub is_routed : Bool → List Connection → Bool
-is_routed global connections = not global && list_any is_sink connections
+is_routed global connections = not global && has_sink connections
 
 -- two pins of one input class of a block are on the net
 abbrev pub has_double_sink : List Connection → Bool
@@ -43,7 +47,10 @@ net_fault global connections =
 abbrev pub is_global_net : List (List ℕ) → List (List ℕ) → ℕ → Bool
 is_global_net nets globals n = is_among globals (slice_index_or nets n [])
 
--- the fault of the least faulty net; rows has the connections of each net
+-- the first fault of net n; rows has the connections of each net
+abbrev pub fault_at : List (List ℕ) → List (List ℕ) → List (List Connection) → ℕ → Option NetFault
+fault_at nets globals rows n = net_fault (is_global_net nets globals n) (slice_index_or rows n [])
+
+-- the first fault of the least faulty net
 unfoldable pub whole_fault : List (List ℕ) → List (List ℕ) → List (List Connection) → Option NetFault
-whole_fault nets globals rows =
-    fold (λ found n. option_or found (net_fault (is_global_net nets globals n) (slice_index_or rows n []))) None (numbers_below (length nets))
+whole_fault nets globals rows = fold (λ found n. option_or found (fault_at nets globals rows n)) None (numbers_below (length nets))

@@ -8,12 +8,17 @@ mod fault;
 mod judge;
 mod names;
 mod net;
+mod netlist;
 mod parts;
+mod reading;
 mod rows;
 mod seen;
+mod whole_file;
 mod words;
 
 pub use block::Block;
 pub use fault::NetFault;
 pub use net::Net;
+pub use netlist::Netlist;
 pub use parts::{BlockKind, Terminal};
+pub use reading::parse;

@@ -1,16 +1,19 @@
 //! The connections of each net.
 
-ghost use Rattle.std.specs.Prelude.{◌≡◌, [], IfOk, OnOk, length, slice_index_or};
-ghost use Rattle.net_file.specs.Rows.{IsFiled, Files, FilesAll};
+ghost use Rattle.std.specs.Prelude.{◌≡◌, ℕ, ◌<◌, [], ◌∷◌, ◌++◌, IfOk, OnOk, length, slice_index_or};
+ghost use Rattle.net_file.specs.Connections.{connections_at, connections, by_net};
+ghost use Rattle.net_file.specs.Rows.{Files, FilesAll};
 
-use crate::connection::Connection;
+use crate::block::Block;
+use crate::connection::{Connection, connections_of};
+use arch_file::Pin;
 use std::alloc::{AllocError, Global};
 use std::marker::Model;
 
 /// The connections of one net, in the order of the blocks and their pins.
 #[derive(Drop)]
 pub(crate) struct Row {
-    pub(crate) connections: Vec<Connection>,
+    connections: Vec<Connection>,
 }
 
 impl Model for Row {
@@ -23,6 +26,22 @@ impl Model for Row {
 }
 
 impl Row {
+    /// No connections.
+    fn new(alloc: Global) -> Row
+        ensures { result ≡ [] }
+    {
+        Row {
+            connections: Vec::new(alloc),
+        }
+    }
+
+    fn add(&mut self, connection: Connection) -> Result<(), AllocError>
+        ensures { OnOk result (self.new ≡ self.old ++ connection ∷ []) }
+    {
+        self.connections.push(connection)?;
+        Ok(())
+    }
+
     pub(crate) fn connections(&self) -> &[Connection]
         ensures { result.now ≡ self.now }
     {
@@ -43,13 +62,11 @@ pub(crate) fn row_of(rows: &[Row], n: usize) -> &[Connection]
 /// Rows without a connection.
 fn empty_rows(alloc: Global, count: usize) -> Result<Vec<Row>, AllocError>
     ensures count { IfOk result (λ v. length v.items ≡ count) }
-    ensures empty { IfOk result (λ v. IsFiled [] v.items) }
+    ensures empty { IfOk result (λ v. (n : ℕ) → slice_index_or v.items n [] ≡ []) }
 {
     let mut rows = Vec::new(alloc);
     for _ in 0..count {
-        rows.push(Row {
-            connections: Vec::new(alloc),
-        })?;
+        rows.push(Row::new(alloc))?;
     }
     Ok(rows)
 }
@@ -59,7 +76,53 @@ fn file(rows: &mut [Row], connection: Connection) -> Result<(), AllocError>
     ensures { OnOk result (Files rows.old rows.new connection) }
 {
     if connection.net < rows.len() {
-        rows[connection.net].connections.push(connection)?;
+        rows[connection.net].add(connection)?;
     }
     Ok(())
+}
+
+/// Adds the connections, each to the row of its net.
+fn file_all(rows: &mut [Row], connections: &[Connection]) -> Result<(), AllocError>
+    ensures { OnOk result (FilesAll rows.old rows.new connections.now) }
+{
+    for connection in connections {
+        file(rows, *connection)?;
+    }
+    Ok(())
+}
+
+/// The connections of block number `b`; the lines of the pinlists have these numbers.
+fn connections_at(
+    alloc: Global,
+    pins: &[Pin],
+    numbers: &[u32],
+    blocks: &[Block],
+    b: usize,
+) -> Result<Vec<Connection>, AllocError>
+    requires { b < length blocks.now }
+    ensures { IfOk result (λ v. v.items ≡ connections_at pins.now numbers.now blocks.now b) }
+{
+    let number = match numbers.get(b) {
+        Some(number) => *number,
+        None => 0,
+    };
+    connections_of(alloc, pins, number, b, &blocks[b])
+}
+
+/// The connections of each net, for this many nets.
+pub(crate) fn by_net(
+    alloc: Global,
+    pins: &[Pin],
+    numbers: &[u32],
+    blocks: &[Block],
+    count: usize,
+) -> Result<Vec<Row>, AllocError>
+    ensures { IfOk result (λ v. v.items ≡ by_net (connections pins.now numbers.now blocks.now) count) }
+{
+    let mut rows = empty_rows(alloc, count)?;
+    for b in 0..blocks.len() {
+        let connections = connections_at(alloc, pins, numbers, blocks, b)?;
+        file_all(&mut rows, &connections)?;
+    }
+    Ok(rows)
 }

@@ -1,0 +1,120 @@
+//! The reader of a netlist file.
+
+ghost use Rattle.std.specs.Prelude.{◌≡◌, [], IfOk, Ok, length};
+ghost use Rattle.net_file.specs.Blocks.{blocks_of, pinlist_numbers};
+ghost use Rattle.net_file.specs.Seen.{seen_of};
+ghost use Rattle.net_file.specs.Lines.{net_names, global_names};
+ghost use Rattle.net_file.specs.Reading.{Gives, unless_faulty, line_fault_from, completed, rows_of, reading, netlist_of};
+
+use crate::block::Block;
+use crate::blocks::{blocks_at, line_numbers, pinlists};
+use crate::fault::NetFault;
+use crate::judge::judge;
+use crate::names::Names;
+use crate::net::nets_of;
+use crate::netlist::Netlist;
+use crate::rows::{Row, by_net};
+use crate::seen::Seen;
+use crate::whole_file::whole_fault;
+use crate::words::Words;
+use arch_file::{Arch, Pin};
+use std::alloc::{AllocError, Global};
+use vpr_text::{Lines, TextFault, lines};
+
+/// What the lines say, judged line by line; a logic block has `pins` pins.
+fn seen_in<'a>(alloc: Global, pins: usize, lines: &Lines<'a>) -> Result<Seen<'a>, NetFault>
+    ensures { Gives (λ s. s) result (unless_faulty (line_fault_from pins [] lines.now) (Ok (seen_of lines.now))) }
+{
+    let mut seen = Seen::new(alloc);
+    for i in 0..lines.len() {
+        let words = Words::new(lines, i);
+        let fault = judge(&mut seen, pins, &words)?;
+        if let Some(fault) = fault {
+            return Err(fault.at(lines.at(i)));
+        }
+    }
+    if seen.opened.is_some() {
+        return Err(NetFault::BadLine(0));
+    }
+    Ok(seen)
+}
+
+/// The blocks of the lines.
+#[tactic(auto, unfolding(crate::specs::Blocks::blocks_of))]
+fn blocks_of<'a>(
+    alloc: Global,
+    nets: &Names<'a>,
+    lines: &Lines<'a>,
+) -> Result<Vec<Block<'a>>, AllocError>
+    ensures { IfOk result (λ v. v.items ≡ blocks_of nets.now lines.now) }
+{
+    let places = pinlists(alloc, lines)?;
+    blocks_at(alloc, nets, lines, &places)
+}
+
+/// The numbers of the lines that are pinlists.
+#[tactic(auto, unfolding(crate::specs::Blocks::pinlist_numbers))]
+fn pinlist_numbers(alloc: Global, lines: &Lines) -> Result<Vec<u32>, AllocError>
+    ensures { IfOk result (λ v. v.items ≡ pinlist_numbers lines.now) }
+{
+    let places = pinlists(alloc, lines)?;
+    line_numbers(alloc, lines, &places)
+}
+
+/// The netlist of blocks and nets with these connections.
+#[tactic(auto, unfolding(crate::specs::Reading::completed))]
+fn completed<'a>(
+    alloc: Global,
+    nets: &Names<'a>,
+    globals: &Names<'a>,
+    blocks: Vec<Block<'a>>,
+    rows: &[Row],
+) -> Result<Netlist<'a>, NetFault>
+    ensures { Gives (λ n. n) result (completed nets.now globals.now blocks.entry.items rows.now) }
+{
+    if let Some(fault) = whole_fault(nets, globals, rows) {
+        return Err(fault);
+    }
+    let nets = nets_of(alloc, nets, globals, rows)?;
+    Ok(Netlist { blocks, nets })
+}
+
+/// Lines as a netlist.
+#[tactic(auto, unfolding(crate::specs::Reading::reading, crate::specs::Reading::rows_of))]
+fn read<'a>(alloc: Global, pins: &[Pin], lines: &Lines<'a>) -> Result<Netlist<'a>, NetFault>
+    ensures { Gives (λ n. n) result (reading pins.now lines.now) }
+{
+    let seen = seen_in(alloc, pins.len(), lines)?;
+    let blocks = blocks_of(alloc, &seen.nets, lines)?;
+    let numbers = pinlist_numbers(alloc, lines)?;
+    let rows = by_net(alloc, pins, &numbers, &blocks, seen.nets.len())?;
+    completed(alloc, &seen.nets, &seen.globals, blocks, &rows)
+}
+
+/// Bytes as a netlist.
+#[tactic(auto, unfolding(crate::specs::Reading::netlist_of))]
+fn netlist_in<'a>(
+    alloc: Global,
+    source: &'a [u8],
+    pins: &[Pin],
+) -> Result<Netlist<'a>, NetFault>
+    ensures { Gives (λ n. n) result (netlist_of pins.now source.now) }
+{
+    match lines(alloc, source) {
+        Ok(lines) => read(alloc, pins, &lines),
+        Err(TextFault::Memory) => Err(NetFault::Memory),
+        Err(fault) => Err(NetFault::Text(fault)),
+    }
+}
+
+/// The netlist that a file's bytes describe, by "The Netlist File Format" of the VPR and T-VPack manual 4.30 and the limits of
+/// this project's profile: at most 20,000 blocks and 65,535 nets. A logic block has the pins of `arch`.
+///
+/// A fault of the text comes first, then that of the first faulty line, then that of the least faulty net. Of the faults of
+/// one line or net it is the first in the order of `NetFault`.
+pub fn parse<'a>(alloc: Global, source: &'a [u8], arch: &Arch) -> Result<Netlist<'a>, NetFault>
+    // Which netlist or fault it is.
+    ensures exact { Gives (λ n. n) result (netlist_of arch.now.pins source.now) }
+{
+    netlist_in(alloc, source, arch.pins())
+}
