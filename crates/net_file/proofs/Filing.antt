@@ -22,11 +22,10 @@ push_default (x ∷ xs) d (suc n) = push_default xs d n
 pub none_more : (rows now : List (List Connection)) (count : ℕ) → now ≡ rows ++ [] ∷ []
     → (length rows ≡ count) × ((n : ℕ) → get_or rows n [] ≡ [])
     → (length now ≡ count + 1) × ((n : ℕ) → get_or now n [] ≡ [])
-none_more rows now count more h =
-    (
-      ap length more ∙ length-append rows ([] ∷ []) ∙ ap (λ n. n + 1) h.0,
-      λ n. ap (λ xs. get_or xs n []) more ∙ push_default rows [] n ∙ h.1 n,
-    )
+none_more rows now count more h = (
+  ap length more ∙ length-append rows ([] ∷ []) ∙ ap (λ n. n + 1) h.0,
+  λ n. ap (λ xs. get_or xs n []) more ∙ push_default rows [] n ∙ h.1 n,
+)
 
 -- ---- a connection more
 
@@ -62,17 +61,21 @@ filed_here before old c n false e within filed lt =
 filed_by : (before : List Connection) (old new : List (List Connection)) (c : Connection) (b : Bool) → ltb c.net (length old) ≡ b → new ≡ cond b (set old c.net (get_or old c.net [] ++ c ∷ [])) old
     → (length new ≡ length old) × (IsFiled before old → IsFiled (before ++ c ∷ []) new)
 filed_by before old new c true test is =
-    let count : length new ≡ length old = ap length is ∙ length-set old c.net (get_or old c.net [] ++ c ∷ []) in
-    (count, λ filed. λ n lt.
-      let within : n < length old = subst (λ k. n < k) count lt in
-      ap (λ rows. get_or rows n []) is ∙ filed_here before old c n (eqb c.net n) refl (ltb-true c.net (length old) test) filed within)
+    let count : length new ≡ length old = ap length is ∙ length-set old c.net (get_or old c.net [] ++ c ∷ []) in (
+      count,
+      λ filed. λ n lt.
+          let within : n < length old = subst (λ k. n < k) count lt in
+          ap (λ rows. get_or rows n []) is ∙ filed_here before old c n (eqb c.net n) refl (ltb-true c.net (length old) test) filed within,
+    )
 filed_by before old new c false test is =
-    let count : length new ≡ length old = ap length is in
-    (count, λ filed. λ n lt.
-      let within : n < length old = subst (λ k. n < k) count lt in
-      let past : length old ≤ c.net = ltb-false c.net (length old) test in
-      let apart : n ≢ c.net = λ h. absurd (omega (arith, past, within, h)) in
-      ap (λ rows. get_or rows n []) is ∙ filed n within ∙ sym (on_other before c n (apart_from c.net n apart)))
+    let count : length new ≡ length old = ap length is in (
+      count,
+      λ filed. λ n lt.
+          let within : n < length old = subst (λ k. n < k) count lt in
+          let past : length old ≤ c.net = ltb-false c.net (length old) test in
+          let apart : n ≢ c.net = λ h. absurd (omega (arith, past, within, h)) in
+          ap (λ rows. get_or rows n []) is ∙ filed n within ∙ sym (on_other before c n (apart_from c.net n apart)),
+    )
 
 pub files_more : (old mid new : List (List Connection)) (added : List Connection) (c : Connection) → FilesAll old mid added → Files mid new c → FilesAll old new (added ++ c ∷ [])
 files_more old mid new added c all one =

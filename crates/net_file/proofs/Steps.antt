@@ -42,8 +42,7 @@ module _ (pins : ℕ) (ls : List Line) where
       → IsSeen (take (i + 1) ls) new × (first_from (i + 1) ≡ line_fault_from pins [] ls)
   stepped i old new words fault lt here judges none h =
       let same : Judges pins old new (words_at ls i) fault = subst (λ w. Judges pins old new w fault) here judges in
-      let no_fault : fault_of i ≡ None = sym (judged i old new words fault here h.0 judges) ∙ none in
-      (
+      let no_fault : fault_of i ≡ None = sym (judged i old new words fault here h.0 judges) ∙ none in (
         subst (λ front. IsSeen front new) (sym (take_next ls i no_line lt)) (seen_more (take i ls) (get_or ls i no_line) old new h.0 (same.added none)),
         ap (λ f. or_else f (number_at ls i) (first_from (i + 1))) (sym no_fault) ∙ sym (opens i lt) ∙ h.1,
       )
@@ -57,8 +56,7 @@ module _ (pins : ℕ) (ls : List Line) where
   ended i seen b past h last =
       let all : IsSeen ls seen = subst (λ front. IsSeen front seen) (take_all i ls past) h.0 in
       let end : first_from i ≡ cond (is_some (lines.opened (take i ls))) (Some (net.BadLine 0)) None = ap (line_fault_from pins (take i ls)) (drop_all i ls past) in
-      let waits : is_some (lines.opened (take i ls)) ≡ b = ap is_some (sym h.0.opened) ∙ last in
-      (
+      let waits : is_some (lines.opened (take i ls)) ≡ b = ap is_some (sym h.0.opened) ∙ last in (
         sym h.1 ∙ end ∙ ap (λ t. cond t (Some (net.BadLine 0)) None) waits,
         λ k. record { opened = all.opened k; latest = all.latest k; blocks = all.blocks k; nets = all.nets k; globals = all.globals k },
       )

@@ -93,7 +93,13 @@ fn is_repeated(pins: &[Pin], block: &Block, p: usize) -> bool
 
 /// How pin `p` of block number `number` is connected, if it is.
 #[tactic(auto, unfolding(crate::specs::Connections::connection_at))]
-fn connection_at(pins: &[Pin], line: u32, number: usize, block: &Block, p: usize) -> Option<Connection>
+fn connection_at(
+    pins: &[Pin],
+    line: u32,
+    number: usize,
+    block: &Block,
+    p: usize,
+) -> Option<Connection>
     ensures { result ≡ connection_at pins.now line number block.now p }
 {
     let net = block.net(p)?;

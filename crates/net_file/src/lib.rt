@@ -22,3 +22,6 @@ pub use net::Net;
 pub use netlist::Netlist;
 pub use parts::{BlockKind, Terminal};
 pub use reading::parse;
+
+#[cfg(test)]
+mod tests;

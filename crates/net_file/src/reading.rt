@@ -93,11 +93,7 @@ fn read<'a>(alloc: Global, pins: &[Pin], lines: &Lines<'a>) -> Result<Netlist<'a
 
 /// Bytes as a netlist.
 #[tactic(auto, unfolding(crate::specs::Reading::netlist_of))]
-fn netlist_in<'a>(
-    alloc: Global,
-    source: &'a [u8],
-    pins: &[Pin],
-) -> Result<Netlist<'a>, NetFault>
+fn netlist_in<'a>(alloc: Global, source: &'a [u8], pins: &[Pin]) -> Result<Netlist<'a>, NetFault>
     ensures { Gives (λ n. n) result (netlist_of pins.now source.now) }
 {
     match lines(alloc, source) {

@@ -78,12 +78,7 @@ fn net_fault(global: bool, row: &[Connection]) -> Option<NetFault>
 }
 
 /// The first fault of net `n`.
-fn fault_at<'a>(
-    nets: &Names<'a>,
-    globals: &Names<'a>,
-    rows: &[Row],
-    n: usize,
-) -> Option<NetFault>
+fn fault_at<'a>(nets: &Names<'a>, globals: &Names<'a>, rows: &[Row], n: usize) -> Option<NetFault>
     ensures { result ≡ fault_at nets.now globals.now rows.now n }
 {
     net_fault(is_global_net(nets, globals, n), row_of(rows, n))
