@@ -4,3 +4,4 @@ pub mod Judging
 pub mod Ranges
 pub mod Filing
 pub mod Steps
+pub mod Related

@@ -9,3 +9,4 @@ pub mod Connections
 pub mod Rows
 pub mod WholeFile
 pub mod Reading
+pub mod Reads

@@ -2,8 +2,9 @@
 
 ghost use Rattle.std.specs.Prelude.{◌≡◌, [], IfOk, Ok, length};
 ghost use Rattle.net_file.specs.Blocks.{blocks_of, pinlist_numbers};
+ghost use Rattle.net_file.specs.Netlist as netlist;
+ghost use Rattle.net_file.specs.Reads.{ReadsBytes};
 ghost use Rattle.net_file.specs.Seen.{seen_of};
-ghost use Rattle.net_file.specs.Lines.{net_names, global_names};
 ghost use Rattle.net_file.specs.Reading.{Gives, unless_faulty, line_fault_from, completed, rows_of, reading, netlist_of};
 
 use crate::block::Block;
@@ -109,7 +110,11 @@ fn netlist_in<'a>(alloc: Global, source: &'a [u8], pins: &[Pin]) -> Result<Netli
 /// A fault of the text comes first, then that of the first faulty line, then that of the least faulty net. Of the faults of
 /// one line or net it is the first in the order of `NetFault`.
 pub fn parse<'a>(alloc: Global, source: &'a [u8], arch: &Arch) -> Result<Netlist<'a>, NetFault>
-    // Which netlist or fault it is.
+    // What is read is the netlist of the text.
+    ensures found { IfOk result (λ n. ReadsBytes arch.now.pins source.now n) }
+    // A text has no other netlist, and one that has a netlist is read, unless memory runs out.
+    ensures only { (n : netlist.Netlist) → ReadsBytes arch.now.pins source.now n → Gives (λ m. m) result (Ok n) }
+    // Which fault it is.
     ensures exact { Gives (λ n. n) result (netlist_of arch.now.pins source.now) }
 {
     netlist_in(alloc, source, arch.pins())
