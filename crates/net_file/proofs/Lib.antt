@@ -5,3 +5,4 @@ pub mod Ranges
 pub mod Filing
 pub mod Steps
 pub mod Related
+pub mod Examples

@@ -1,8 +1,8 @@
 -- Names and their numbers.
-use Rattle.std.proofs.Common.{◌≡◌, ℕ, zero, suc, ◌+◌, ◌<◌, ◌≤◌, Bool, true, false, cond, ◌||◌, List, [], ◌∷◌, ◌++◌, length, map, Option, Some, None, refl, sym, ap, subst, ◌∙◌, arith, Bor}
+use Rattle.std.proofs.Common.{◌≡◌, ℕ, ◌+◌, Bool, true, false, cond, ◌||◌, List, [], ◌∷◌, ◌++◌, length, Option, Some, refl, sym, ap, subst, ◌∙◌, arith, Bor}
 use Rattle.std.specs.Prelude.{is_some}
-use Rattle.std.specs.Bool.{Decides, one_answer}
-use Rattle.std.specs.BTreeMap.{BTreeMap, get_by, UpdatesBy}
+use Rattle.std.specs.Bool.{one_answer}
+use Rattle.std.specs.BTreeMap.{BTreeMap, UpdatesBy}
 use Rattle.std.specs.Cmp.Lexicographic.{slice_cmp}
 use Rattle.std.specs.List.{list_any, position_from}
 use Rattle.std.specs.Ordering.{nat_cmp}

@@ -1,5 +1,5 @@
 -- Reading is the relation between a text and its netlist: each gives the other.
-use Rattle.std.proofs.Common.{◌≡◌, ℕ, zero, suc, ◌+◌, ◌<◌, ◌≤◌, Bool, true, false, cond, List, [], ◌∷◌, ◌++◌, length, fold, Option, Some, None, Result, Ok, Err, ◌⊎◌, inl, inr, refl, sym, ap, subst, ◌∙◌, add-one, arith, eq-or-lt_of_le}
+use Rattle.std.proofs.Common.{◌≡◌, ℕ, zero, suc, ◌<◌, ◌≤◌, cond, List, [], ◌∷◌, ◌++◌, length, fold, Option, Some, None, Result, Ok, Err, inl, inr, refl, sym, ap, ◌∙◌, add-one, arith, eq-or-lt_of_le}
 use Rattle.std.specs.Prelude.{IfOk, is_some}
 use Rattle.std.specs.List.{range_with_len}
 use Rattle.std.specs.Option.{option_or}
@@ -11,11 +11,10 @@ use Rattle.arch_file.specs.declared.parts.Pin.{Pin}
 use Rattle.net_file.specs.declared.fault.LineFault.{LineFault}
 use Rattle.net_file.specs.declared.fault.NetFault.{NetFault}
 use Rattle.net_file.specs.declared.parts.BlockKind.{BlockKind}
-use Rattle.net_file.specs.Blocks.{blocks_of}
 use Rattle.net_file.specs.Judge.{fault_behind}
 use Rattle.net_file.specs.Lines.{net_names, global_names, opened}
 use Rattle.net_file.specs.Netlist.{Netlist}
-use Rattle.net_file.specs.Reading.{◌>>=◌, Gives, or_else, line_fault_from, unless_faulty, nets_of, rows_of, completed, reading, text_of, netlist_of}
+use Rattle.net_file.specs.Reading.{◌>>=◌, Gives, or_else, line_fault_from, unless_faulty, rows_of, completed, reading, text_of, netlist_of}
 use Rattle.net_file.specs.Reads.{AreAccepted, ReadsNet, ReadsBytes}
 use Rattle.net_file.specs.WholeFile.{fault_at, whole_fault}
 use Rattle.net_file.proofs.Ranges.{fold_next}

@@ -1,5 +1,5 @@
 -- Reading line by line, as the loop does.
-use Rattle.std.proofs.Common.{◌≡◌, ℕ, ◌+◌, ◌<◌, ◌≤◌, Bool, true, false, cond, List, [], ◌∷◌, ◌++◌, length, get_or, take, drop, Option, Some, None, Result, Ok, Err, refl, sym, ap, subst, ◌∙◌, add-one}
+use Rattle.std.proofs.Common.{◌≡◌, ℕ, ◌+◌, ◌<◌, ◌≤◌, Bool, cond, List, [], ◌∷◌, length, get_or, take, drop, Option, Some, None, Result, Err, sym, ap, subst, ◌∙◌, add-one}
 use Rattle.std.specs.Prelude.{is_some}
 use Rattle.std.proofs.Math.Seq.{drop-cons}
 use Rattle.std.proofs.lemmas.List.{drop_all, take_all}
@@ -11,7 +11,7 @@ use Rattle.net_file.specs.declared.fault.NetFault.TheVariants as net
 use Rattle.net_file.specs.declared.seen.Seen.{Seen}
 use Rattle.net_file.specs.Judge.{fault_behind}
 use Rattle.net_file.specs.Lines as lines
-use Rattle.net_file.specs.Reading.{at_line, or_else, line_fault_from, unless_faulty, Fails}
+use Rattle.net_file.specs.Reading.{at_line, or_else, line_fault_from, Fails}
 use Rattle.net_file.specs.Seen.{IsSeen, Judges, seen_of}
 use Rattle.net_file.proofs.Judging.{fault_is, seen_more}
 use Rattle.net_file.proofs.Ranges.{take_next}

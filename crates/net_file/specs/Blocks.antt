@@ -1,5 +1,5 @@
 -- The blocks that accepted lines describe, each by an element and the pinlist behind it (VPR and T-VPack manual 4.30).
-use Rattle.std.specs.Prelude.{ℕ, ◌-◌, Bool, if◌then◌else◌, List, length, drop, map, filter, Option, None, unwrap_or}
+use Rattle.std.specs.Prelude.{ℕ, ◌-◌, if◌then◌else◌, List, length, drop, map, filter, Option, None, unwrap_or}
 use Rattle.std.specs.List.{range_with_len}
 use Rattle.vpr_text.specs.Words.{Line, words_at, number_at}
 use Rattle.net_file.specs.declared.parts.BlockKind.TheVariants.{InputPad}

@@ -9,7 +9,6 @@ use Rattle.net_file.specs.declared.connection.Connection.{Connection}
 use Rattle.net_file.specs.declared.connection.Role.{Role}
 use Rattle.net_file.specs.declared.parts.BlockKind.{BlockKind}
 use Rattle.net_file.specs.declared.parts.BlockKind.TheVariants.{InputPad, OutputPad, LogicBlock}
-use Rattle.net_file.specs.declared.parts.Terminal.{Terminal}
 use Rattle.net_file.specs.Blocks.{numbers_below}
 use Rattle.net_file.specs.Netlist.{Block}
 

@@ -1,6 +1,6 @@
 -- What the lines of a netlist are (VPR and T-VPack manual 4.30). Words are counted from 0.
-use Rattle.std.specs.Prelude.{ℕ, ◌-◌, Bool, false, not, ◌&&◌, nat_le, ◌==◌, if◌then◌else◌, List, [], ◌∷◌, length, drop, filter, Option, None, Some, option_and_then, unwrap_or, is_some, slice_get, codes, fold}
-use Rattle.std.specs.List.{filter_map, flat_map}
+use Rattle.std.specs.Prelude.{ℕ, Bool, not, if◌then◌else◌, List, [], ◌∷◌, drop, filter, Option, None, Some, option_and_then, unwrap_or, is_some, slice_get, codes, fold}
+use Rattle.std.specs.List.{flat_map}
 use Rattle.vpr_text.specs.Words.{Line}
 use Rattle.arch_file.specs.Keyword.{is_text}
 use Rattle.arch_file.specs.Word.{is_at}

@@ -1,6 +1,6 @@
-use Rattle.std.proofs.Common.{◌≡◌, ◌<◌, ◌≤◌, [], length, Some, None, Ok, Err, true, false, refl, sym, ap, subst, ◌∙◌, arith}
+use Rattle.std.proofs.Common.{◌<◌, ◌≤◌, length, Ok, true, false, sym, ap, ◌∙◌, arith}
 use Rattle.vpr_text.specs.Words.{number_at}
-use Rattle.net_file.specs.Reading.{line_fault_from, unless_faulty, Fails}
+use Rattle.net_file.specs.Reading.{unless_faulty}
 use Rattle.net_file.specs.Seen.{seen_of}
 use Rattle.net_file.proofs.Steps.{judged, stepped, refused, ended, fails_at}
 use Rattle.net_file.proofs.reading.seen_in.Goals as goal

@@ -1,4 +1,4 @@
-use Rattle.std.proofs.Common.{◌≡◌, length, flat_map, refl, sym, ap, subst, ◌∙◌, arith}
+use Rattle.std.proofs.Common.{◌≡◌, length, flat_map, subst, ◌∙◌, arith}
 use Rattle.std.specs.List.{range_with_len}
 use Rattle.net_file.specs.Connections.{connections_at, connections}
 use Rattle.net_file.specs.Rows.{IsFiled}

@@ -1,5 +1,4 @@
-use Rattle.std.proofs.Common.{◌+◌, ◌∷◌, [], take, get_or, subst, sym, ◌∙◌, ap, arith}
-use Rattle.std.proofs.Math.Seq.{take-suc}
+use Rattle.std.proofs.Common.{take, subst, sym}
 use Rattle.net_file.specs.Rows.{FilesAll}
 use Rattle.net_file.proofs.Filing.{files_more}
 use Rattle.net_file.proofs.Ranges.{take_next}
