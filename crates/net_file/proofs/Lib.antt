@@ -5,4 +5,5 @@ pub mod Ranges
 pub mod Filing
 pub mod Steps
 pub mod Related
+pub mod Limits
 pub mod Examples

@@ -29,7 +29,7 @@ no_element : (o : Option BlockKind) (fault : NetFault) → cond (is_some o) (Som
 no_element None fault e = refl
 no_element (Some kind) fault e = absurd cc
 
-accepted : (pins : ℕ) (before ls : List Line) → line_fault_from pins before ls ≡ None → AreAccepted pins before ls × (opened (before ++ ls) ≡ None)
+pub accepted : (pins : ℕ) (before ls : List Line) → line_fault_from pins before ls ≡ None → AreAccepted pins before ls × (opened (before ++ ls) ≡ None)
 unfolding line_fault_from
 accepted pins before [] e = (tt, ap opened (append-nil before) ∙ no_element (opened before) _ e)
 accepted pins before (l ∷ ls) e =
