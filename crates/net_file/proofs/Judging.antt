@@ -54,7 +54,7 @@ judged_late pins old new words b e notes limit =
 
 -- ---- a line more
 
-words_more : (words_on : List (List ℕ) → List (List ℕ)) (before : List Line) (l : Line)
+pub words_more : (words_on : List (List ℕ) → List (List ℕ)) (before : List Line) (l : Line)
     → distinct (flat_map (λ k. words_on k.words) (before ++ l ∷ [])) ≡ with_names (distinct (flat_map (λ k. words_on k.words) before)) (words_on l.words)
 words_more words_on before l =
     ap distinct (flat_map-append (λ k. words_on k.words) before (l ∷ []) ∙ ap (λ ws. flat_map (λ k. words_on k.words) before ++ ws) (append-nil (words_on l.words)))

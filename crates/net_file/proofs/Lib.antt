@@ -6,4 +6,5 @@ pub mod Filing
 pub mod Steps
 pub mod Related
 pub mod Limits
+pub mod BlockCount
 pub mod Examples
