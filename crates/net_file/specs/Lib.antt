@@ -1,6 +1,7 @@
 pub mod Names
 pub mod Kept
 pub mod Netlist
+pub mod Fields
 pub mod Lines
 pub mod Judge
 pub mod Seen

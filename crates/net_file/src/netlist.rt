@@ -1,6 +1,7 @@
 //! A netlist and its look-ups.
 
 ghost use Rattle.std.specs.Prelude.{◌≡◌};
+ghost use Rattle.net_file.specs.Netlist.{IsWithinLimits};
 
 use crate::block::Block;
 use crate::net::Net;
@@ -15,23 +16,29 @@ pub struct Netlist<'a> {
 
 impl<'a> Model for Netlist<'a> {
     ghost use Rattle.net_file.specs.Netlist as netlist;
+    ghost use Rattle.net_file.specs.Netlist.{IsWithinLimits};
+    ghost use Rattle.net_file.specs.Fields.{netlist_in};
 
     ghost Value = { netlist.Netlist };
 
-    ghost view = { λ n. record { blocks = n.blocks.items; nets = n.nets.items } };
+    ghost view = { netlist_in };
+
+    ghost invariant = { λ n. IsWithinLimits (netlist_in n) };
 }
 
 impl<'a> Netlist<'a> {
     /// The blocks, in the order of their elements.
     pub fn blocks(&self) -> &[Block<'a>]
-        ensures { result.now ≡ self.now.blocks }
+        ensures entry { result.now ≡ self.now.blocks }
+        ensures limits { IsWithinLimits self.now }
     {
         self.blocks.as_slice()
     }
 
     /// The nets, in the order in which pinlists first name them.
     pub fn nets(&self) -> &[Net<'a>]
-        ensures { result.now ≡ self.now.nets }
+        ensures entry { result.now ≡ self.now.nets }
+        ensures limits { IsWithinLimits self.now }
     {
         self.nets.as_slice()
     }

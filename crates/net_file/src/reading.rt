@@ -1,6 +1,6 @@
 //! The reader of a netlist file.
 
-ghost use Rattle.std.specs.Prelude.{◌≡◌, [], IfOk, Ok, length};
+ghost use Rattle.std.specs.Prelude.{◌≡◌, ◌≤◌, [], IfOk, Ok, length};
 ghost use Rattle.net_file.specs.Blocks.{blocks_of, pinlist_numbers};
 ghost use Rattle.net_file.specs.Netlist as netlist;
 ghost use Rattle.net_file.specs.Reads.{ReadsBytes};
@@ -71,6 +71,8 @@ fn completed<'a>(
     blocks: Vec<Block<'a>>,
     rows: &[Row],
 ) -> Result<Netlist<'a>, NetFault>
+    requires few_blocks { length blocks.items ≤ 20000 }
+    requires few_nets { length nets.now ≤ 65535 }
     ensures { Gives (λ n. n) result (completed nets.now globals.now blocks.entry.items rows.now) }
 {
     if let Some(fault) = whole_fault(nets, globals, rows) {
