@@ -1,8 +1,7 @@
 -- What accepted lines keep: the limit of blocks.
-use Rattle.std.proofs.Common.{◌≡◌, ℕ, suc, ◌+◌, ◌≤◌, Bool, true, false, cond, eqb, ◌||◌, ◌&&◌, not, List, [], ◌∷◌, ◌++◌, length, filter, flat_map, Option, Some, None, refl, sym, ap, subst, ◌∙◌, arith, length-append}
+use Rattle.std.proofs.Common.{◌≡◌, ℕ, suc, ◌+◌, ◌≤◌, Bool, true, false, cond, ◌||◌, not, List, [], ◌∷◌, ◌++◌, length, filter, Option, None, refl, sym, ap, subst, ◌∙◌, arith, length-append}
 use Rattle.std.specs.Prelude.{is_some, codes}
-use Rattle.std.specs.List.{count_by, range_with_len}
-use Rattle.std.specs.Str.{bytes_eq}
+use Rattle.std.specs.List.{range_with_len}
 use Rattle.std.proofs.Math.Seq.{get_or-append_seam}
 use Rattle.std.proofs.lemmas.Bool.{ltb-false}
 use Rattle.std.proofs.lemmas.List.{append-nil, append_assoc}
@@ -13,7 +12,7 @@ use Rattle.vpr_text.specs.Words.{Line, no_line, words_at}
 use Rattle.arch_file.specs.Keyword.{is_text}
 use Rattle.net_file.specs.declared.parts.BlockKind.{BlockKind}
 use Rattle.net_file.specs.Judge.{first_fault, stands, is_bad_line, is_bad_count, is_double, are_too_many, fault_behind}
-use Rattle.net_file.specs.Lines.{kind_of, kind_at, is_element, is_pinlist, name_in, block_name_on, block_names, net_names, opened, latest}
+use Rattle.net_file.specs.Lines.{kind_of, kind_at, is_element, is_pinlist, name_in, block_name_on, block_names, opened, latest}
 use Rattle.net_file.specs.Names.{is_among, with_name, with_names}
 use Rattle.net_file.specs.Blocks.{pinlists}
 use Rattle.net_file.specs.Reading.{line_fault_from}
@@ -124,9 +123,8 @@ have_more pins before l h blocks =
     let fine = no_faults (is_bad_line (opened before) (latest before) l.words) (is_bad_count pins (opened before) l.words) (is_double (block_names before) l.words) _ h in
     let place = of_bad_line (is_some (opened before)) (is_pinlist l.words) (stands (latest before) l.words) fine.0 (stands_not (latest before) l.words) in
     let more : length (block_names (before ++ l ∷ [])) ≡ cond (is_element l.words) (length (block_names before) + 1) (length (block_names before)) =
-        ap length (words_more block_name_on before l) ∙ grown (block_names before) l.words (is_element l.words) refl fine.1 in
-    let stepped = step (is_pinlist l.words) (is_element l.words) (is_some (opened before)) (pinlists_in before) (length (block_names before)) (length (block_names (before ++ l ∷ []))) (no_element l.words) place.0 place.1 more blocks in
-    (
+    ap length (words_more block_name_on before l) ∙ grown (block_names before) l.words (is_element l.words) refl fine.1 in
+    let stepped = step (is_pinlist l.words) (is_element l.words) (is_some (opened before)) (pinlists_in before) (length (block_names before)) (length (block_names (before ++ l ∷ []))) (no_element l.words) place.0 place.1 more blocks in (
       rw (one_more before l, opened_by before l) stepped,
       ltb-false 20000 (length (block_names (before ++ l ∷ []))) (first_false _ _ fine.2),
     )
@@ -143,9 +141,9 @@ count_from before (l ∷ ls) =
     let here : is_pinlist (words_at (before ++ l ∷ ls) (length before)) ≡ is_pinlist l.words = ap (λ k. is_pinlist k.words) (get_or-append_seam before l ls no_line) in
     let rest = count_from (before ++ l ∷ []) ls in
     let moved : length (filter (λ i. is_pinlist (words_at (before ++ l ∷ ls) i)) (range_with_len (length before + 1) (length ls))) ≡ pinlists_in ls =
-        ap (λ all. length (filter (λ i. is_pinlist (words_at all i)) (range_with_len (length before + 1) (length ls)))) (sym (append_assoc before (l ∷ []) ls))
-        ∙ ap (λ n. length (filter (λ i. is_pinlist (words_at ((before ++ l ∷ []) ++ ls) i)) (range_with_len n (length ls)))) (sym (length-append before (l ∷ [])))
-        ∙ rest in
+    ap (λ all. length (filter (λ i. is_pinlist (words_at all i)) (range_with_len (length before + 1) (length ls)))) (sym (append_assoc before (l ∷ []) ls))
+    ∙ ap (λ n. length (filter (λ i. is_pinlist (words_at ((before ++ l ∷ []) ++ ls) i)) (range_with_len n (length ls)))) (sym (length-append before (l ∷ [])))
+    ∙ rest in
     both (is_pinlist (words_at (before ++ l ∷ ls) (length before))) (is_pinlist l.words) (length before) l _ (filter (λ k. is_pinlist k.words) ls) here moved
   where
     both : (b c : Bool) (i : ℕ) (x : Line) (is : List ℕ) (xs : List Line) → b ≡ c → length is ≡ length xs → length (cond b (i ∷ is) is) ≡ length (cond c (x ∷ xs) xs)

@@ -1,9 +1,9 @@
 -- Worked examples: netlists of pads, and what is read.
-use Rattle.std.proofs.Common.{◌≡◌, ℕ, Bool, true, false, List, [], ◌∷◌, Some, None, Ok, Err, refl}
+use Rattle.std.proofs.Common.{◌≡◌, ℕ, false, List, [], ◌∷◌, Some, None, Ok, Err, refl}
 use Rattle.std.specs.Prelude.{codes}
 use Rattle.vpr_text.specs.Words.{Line}
 use Rattle.arch_file.specs.Keyword.{is_text}
-use Rattle.net_file.specs.declared.fault.LineFault.TheVariants.{BadLine, PinCount, DoubleName}
+use Rattle.net_file.specs.declared.fault.LineFault.TheVariants.{BadLine, DoubleName}
 use Rattle.net_file.specs.declared.fault.NetFault.TheVariants as net
 use Rattle.net_file.specs.declared.parts.BlockKind.TheVariants.{InputPad, OutputPad}
 use Rattle.net_file.specs.Blocks.{block_of, block_at, blocks_of, pinlists, pinlist_numbers}
@@ -11,7 +11,6 @@ use Rattle.net_file.specs.Connections.{is_repeated, connection_at, connections_o
 use Rattle.net_file.specs.Judge.{is_bad_line, is_bad_count, is_double, are_too_many, fault_behind}
 use Rattle.net_file.specs.Lines.{kind_of, block_names, net_names, global_names, opened, latest}
 use Rattle.net_file.specs.Names.{is_among, number_among, with_name}
-use Rattle.net_file.specs.Netlist.{Netlist}
 use Rattle.net_file.specs.Reading.{line_fault_from, net_from, net_at, nets_of, rows_of, completed, reading}
 use Rattle.net_file.specs.WholeFile.{net_fault, whole_fault}
 
