@@ -1,0 +1,6 @@
+pub mod Placement
+pub mod Lines
+pub mod Sites
+pub mod Judge
+pub mod Reading
+pub mod Kept

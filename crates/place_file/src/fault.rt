@@ -1,0 +1,57 @@
+//! Why a placement could not be read.
+
+ghost use Rattle.std.specs.Prelude.{◌≡◌};
+ghost use Rattle.place_file.specs.declared.fault.PlaceFault.TheVariants.{Memory};
+
+use std::alloc::{AllocError, AllocFailed};
+use thiserror::Error;
+use vpr_text::TextFault;
+
+/// What is wrong with a placement. A line is the number of the faulty logical line: that of its first physical line, counted
+/// from 1; 0 is the end of the file.
+#[derive(Clone, Copy, Debug, PartialEq, Eq, Error)]
+pub enum PlaceFault {
+    /// The text has no lines.
+    #[error("{0}")]
+    Text(TextFault),
+    /// The line is none that can stand there; at line 0, one of the first two lines isn't there.
+    #[error("line {0} can't stand there")]
+    BadLine(u32),
+    /// The array has less than 1 or more than 100 columns or rows.
+    #[error("line {0} has a size out of 1 to 100")]
+    ArraySize(u32),
+    /// The netlist has no block of that name.
+    #[error("line {0} names no block")]
+    UnknownBlock(u32),
+    /// A line before places the same block.
+    #[error("line {0} places a block again")]
+    PlacedTwice(u32),
+    /// The block can't stand there.
+    #[error("line {0} has no site for this block")]
+    OffSite(u32),
+    /// Another block stands there.
+    #[error("line {0} has a site that is taken")]
+    Occupied(u32),
+    /// No line places the block, the least one that is left.
+    #[error("block {0} isn't placed")]
+    Missing(usize),
+    /// Memory ran out.
+    #[error("memory ran out")]
+    Memory,
+}
+
+impl From<AllocError> for PlaceFault {
+    ghost from_gives = { λ _ e. e ≡ Memory };
+
+    fn from(_e: AllocError) -> PlaceFault {
+        PlaceFault::Memory
+    }
+}
+
+impl<T: Drop> From<AllocFailed<T>> for PlaceFault {
+    ghost from_gives = { λ _ e. e ≡ Memory };
+
+    fn from(_e: AllocFailed<T>) -> PlaceFault {
+        PlaceFault::Memory
+    }
+}

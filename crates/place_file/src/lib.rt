@@ -1,0 +1,18 @@
+//! The placement of VPR 4.30: the size of the array, and the site of each block.
+#![tactic(auto)]
+
+mod fault;
+mod header;
+mod judge;
+mod names;
+mod placement;
+mod reading;
+mod rows;
+mod site;
+mod sites;
+mod words;
+
+pub use fault::PlaceFault;
+pub use placement::Placement;
+
+pub use site::Site;
