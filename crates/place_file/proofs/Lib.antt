@@ -1,0 +1,3 @@
+pub mod Placing
+pub mod Numbered
+pub mod Steps

@@ -1,0 +1,66 @@
+//! A row, given the sites that the rows before it tell.
+
+ghost use Rattle.std.specs.Prelude.{◌≡◌, None, Some, length, slice_set};
+ghost use Rattle.place_file.specs.Judge.{row_fault};
+ghost use Rattle.place_file.specs.Kept.{IsFit};
+ghost use Rattle.place_file.specs.Lines.{is_row, site_on, block_on};
+
+use crate::fault::PlaceFault;
+use crate::names::NamedBlocks;
+use crate::site::{Array, Site, is_site};
+use crate::sites::Sites;
+use crate::words::Words;
+
+/// Whether the line is a name and three numbers.
+#[tactic(auto, unfolding(crate::specs::Lines::is_row))]
+fn is_row(words: &Words) -> bool
+    ensures { result ≡ is_row words.now }
+{
+    words.len() == 4 && words.is_number(1) && words.is_number(2) && words.is_number(3)
+}
+
+/// The site that a row tells.
+fn site_on(words: &Words) -> Site
+    ensures { result ≡ site_on words.now }
+{
+    Site {
+        x: words.number_on(1),
+        y: words.number_on(2),
+        subblk: words.number_on(3),
+    }
+}
+
+/// The first fault of row `words` on line `line`; a block whose row has none is put on its site.
+#[tactic(auto, using(crate::proofs::Placing::site_in_table, crate::proofs::Numbered::block_within), unfolding(crate::specs::Judge::row_fault))]
+pub(crate) fn judge(
+    array: Array,
+    blocks: &NamedBlocks,
+    sites: &mut Sites,
+    line: u32,
+    words: &Words,
+) -> Option<PlaceFault>
+    requires fit { IsFit array }
+    requires count { length sites.now ≡ length blocks.now }
+    ensures exact { result ≡ row_fault array blocks.now sites.old line words.now }
+    ensures put { result ≡ None → sites.new
+        ≡ slice_set sites.old (block_on blocks.now words.now) (Some (site_on words.now)) }
+{
+    if !is_row(words) {
+        return Some(PlaceFault::BadLine(line));
+    }
+    let Some(block) = blocks.number(words.name()) else {
+        return Some(PlaceFault::UnknownBlock(line));
+    };
+    if sites.at(block).is_some() {
+        return Some(PlaceFault::PlacedTwice(line));
+    }
+    let site = site_on(words);
+    if !is_site(array, blocks.kind(block), site) {
+        return Some(PlaceFault::OffSite(line));
+    }
+    if sites.is_occupied(site) {
+        return Some(PlaceFault::Occupied(line));
+    }
+    sites.put(block, site);
+    None
+}

@@ -15,4 +15,5 @@ mod words;
 pub use fault::PlaceFault;
 pub use placement::Placement;
 
+pub use reading::parse;
 pub use site::Site;

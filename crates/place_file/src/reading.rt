@@ -1,0 +1,68 @@
+//! The reader of a placement file.
+
+ghost use Rattle.std.specs.Prelude.{◌≡◌, ◌≤◌, IfOk};
+ghost use Rattle.place_file.specs.Placement.{IsPlaced};
+ghost use Rattle.place_file.specs.Reading.{Gives, reading, placement_of};
+
+use crate::fault::PlaceFault;
+use crate::header::{array_on, header_fault};
+use crate::names::NamedBlocks;
+use crate::placement::Placement;
+use crate::rows::placing;
+use arch_file::Arch;
+use net_file::{Block, Netlist};
+use std::alloc::Global;
+use vpr_text::{Lines, TextFault, lines};
+
+/// Lines as a placement, where `io_rat` pads stand at a place.
+#[tactic(auto, using(crate::proofs::Steps::header_fit, crate::proofs::Steps::header_long), unfolding(crate::specs::Reading::reading))]
+fn read(
+    alloc: Global,
+    io_rat: u32,
+    blocks: &[Block],
+    lines: &Lines,
+) -> Result<Placement, PlaceFault>
+    requires { io_rat ≤ 16 }
+    ensures { Gives (λ p. p) result (reading io_rat blocks.now lines.now) }
+{
+    if let Some(fault) = header_fault(io_rat, lines) {
+        return Err(fault);
+    }
+    let blocks = NamedBlocks::new(alloc, blocks)?;
+    placing(alloc, array_on(io_rat, lines), &blocks, lines)
+}
+
+/// Bytes as a placement.
+#[tactic(auto, unfolding(crate::specs::Reading::placement_of))]
+fn placement_in(
+    alloc: Global,
+    source: &[u8],
+    io_rat: u32,
+    blocks: &[Block],
+) -> Result<Placement, PlaceFault>
+    requires { io_rat ≤ 16 }
+    ensures { Gives (λ p. p) result (placement_of io_rat blocks.now source.now) }
+{
+    match lines(alloc, source) {
+        Ok(lines) => read(alloc, io_rat, blocks, &lines),
+        Err(TextFault::Memory) => Err(PlaceFault::Memory),
+        Err(fault) => Err(PlaceFault::Text(fault)),
+    }
+}
+
+/// The placement of a netlist's blocks that a file's bytes describe, by "The Placement File Format" of the VPR and T-VPack
+/// manual 4.30 and the limits of this project's profile: 1 to 100 columns and rows of logic blocks.
+///
+/// A fault of the text comes first, then that of the first faulty line, then the least block that no line places. Of the
+/// faults of one line it is the first in the order of `PlaceFault`.
+pub fn parse(
+    alloc: Global,
+    source: &[u8],
+    arch: &Arch,
+    netlist: &Netlist,
+) -> Result<Placement, PlaceFault>
+    // Which placement or fault it is.
+    ensures exact { Gives (λ p. p) result (placement_of arch.now.io_rat netlist.now.blocks source.now) }
+{
+    placement_in(alloc, source, arch.io_rat(), netlist.blocks())
+}

@@ -1,0 +1,74 @@
+-- Sites and their places in the table.
+use Rattle.std.proofs.Common.{◌≡◌, ℕ, ◌+◌, ◌*◌, ◌<◌, ◌≤◌, Bool, true, false, cond, ◌||◌, List, [], ◌∷◌, length, map, get_or, set, replicate, Option, Some, None, refl, sym, ap, subst, ◌∙◌, arith, ◌≢◌, zero, suc}
+use Rattle.std.specs.List.{list_any}
+use Rattle.std.proofs.lemmas.Bool.Decides.{nat_tests}
+use Rattle.std.proofs.lemmas.List.{get_or-set_same, get_or-set_other, get_or-replicate, length-set, length-replicate}
+use Rattle.net_file.specs.declared.parts.BlockKind.{BlockKind}
+use Rattle.net_file.specs.declared.parts.BlockKind.TheVariants.{InputPad, OutputPad, LogicBlock}
+use Rattle.place_file.specs.declared.site.Array.{Array}
+use Rattle.place_file.specs.declared.site.Site.{Site}
+use Rattle.place_file.specs.Kept.{IsFit, IsTable, is_in_table, entry_of, table_size}
+use Rattle.place_file.specs.Placement.{is_site}
+use Rattle.place_file.specs.Sites.{same_site, is_on, is_occupied}
+
+-- a site of an array is in the table
+pub site_in_table : (a : Array) (kind : BlockKind) (s : Site) → IsFit a → is_site a kind s ≡ true → is_in_table s ≡ true
+unfolding is_site
+site_in_table a LogicBlock s fit e = grind (arith, nat_tests, e, fit.pads, fit.columns, fit.rows)
+site_in_table a InputPad s fit e = grind (arith, nat_tests, e, fit.pads, fit.columns, fit.rows)
+site_in_table a OutputPad s fit e = grind (arith, nat_tests, e, fit.pads, fit.columns, fit.rows)
+
+-- ---- the table of sites
+
+pub entry_within : (s : Site) → is_in_table s ≡ true → entry_of s < table_size
+entry_within s e = grind (arith, nat_tests, e)
+
+-- different sites have different entries
+one_from_entries : (s t : Site) → is_in_table s ≡ true → is_in_table t ≡ true → entry_of s ≡ entry_of t → same_site s t ≡ true
+one_from_entries s t i j e = grind (arith, nat_tests, i, j, e)
+
+entries_from_one : (s t : Site) → same_site s t ≡ true → entry_of s ≡ entry_of t
+entries_from_one s t e = grind (arith, nat_tests, e)
+
+none_on : {X : Type 0} (s : Site) (xs : List X) → list_any (is_on s) (map (λ _. None) xs) ≡ false
+none_on s [] = refl
+none_on s (x ∷ xs) = none_on s xs
+
+pub none_taken : {X : Type 0} (xs : List X) (taken : List Bool) → taken ≡ replicate table_size false → IsTable (map (λ _. None) xs) taken
+unfolding is_occupied
+none_taken xs taken e =
+    record {
+      size = ap length e ∙ length-replicate table_size false;
+      tells = λ s i. ap (λ t. get_or t (entry_of s) false) e ∙ get_or-replicate table_size (entry_of s) false false (entry_within s i) ∙ sym (none_on s xs);
+    }
+
+or_swap : (a b c : Bool) → (a || (b || c)) ≡ (b || (a || c))
+or_swap true true c = refl
+or_swap true false c = refl
+or_swap false b c = refl
+
+any_set : (p : Option Site → Bool) (xs : List (Option Site)) (b : ℕ) (t : Option Site) → b < length xs → get_or xs b None ≡ None → p None ≡ false → list_any p (set xs b t) ≡ (p t || list_any p xs)
+any_set p [] b t within free none = absurd (omega (arith, within))
+any_set p (x ∷ xs) zero t within free none = let skip : p x ≡ false = ap p free ∙ none in rw skip refl
+any_set p (x ∷ xs) (suc b) t within free none = ap (λ r. p x || r) (any_set p xs b t (omega (arith, within)) free none) ∙ or_swap (p x) (p t) (list_any p xs)
+
+true-false : true ≡ false → ⊥
+true-false e = absurd cc
+
+tells_more : (xs : List (Option Site)) (taken : List Bool) (t s : Site) (one : Bool) → same_site s t ≡ one → is_in_table t ≡ true → is_in_table s ≡ true → IsTable xs taken
+    → get_or (set taken (entry_of t) true) (entry_of s) false ≡ (one || list_any (is_on s) xs)
+unfolding is_occupied
+tells_more xs taken t s true e j i table =
+    let within : entry_of t < length taken = subst (λ n. entry_of t < n) (sym table.size) (entry_within t j) in
+    ap (λ n. get_or (set taken (entry_of t) true) n false) (entries_from_one s t e) ∙ get_or-set_same taken (entry_of t) true false within
+tells_more xs taken t s false e j i table =
+    let apart : entry_of s ≢ entry_of t = λ h. true-false (sym (one_from_entries s t i j h) ∙ e) in
+    get_or-set_other taken (entry_of t) (entry_of s) true false apart ∙ table.tells s i
+
+pub one_taken : (xs : List (Option Site)) (taken : List Bool) (b : ℕ) (t : Site) (entry : ℕ) → entry ≡ entry_of t → IsTable xs taken → b < length xs → get_or xs b None ≡ None → is_in_table t ≡ true → IsTable (set xs b (Some t)) (set taken entry true)
+unfolding is_occupied
+one_taken xs taken b t entry is table within free j =
+    rw is (record {
+      size = length-set taken (entry_of t) true ∙ table.size;
+      tells = λ s i. tells_more xs taken t s (same_site s t) refl j i table ∙ sym (any_set (is_on s) xs b (Some t) within free refl);
+    })

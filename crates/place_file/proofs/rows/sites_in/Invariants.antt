@@ -1,0 +1,7 @@
+use Rattle.place_file.specs.Lines.{rows_of}
+use Rattle.place_file.proofs.Steps.{IsSoFar}
+use Rattle.place_file.proofs.rows.sites_in.Given as goal
+
+-- the sites so far are those of the rows so far, and none of them is faulty
+abbrev pub invariant-loop-row : goal.invariant-loop-row
+invariant-loop-row l = IsSoFar l.array l.blocks (rows_of l.lines) l.row l.sites
