@@ -6,7 +6,7 @@ use Rattle.std.specs.List.{range_with_len}
 use Rattle.std.proofs.Math.Seq.{drop-cons}
 use Rattle.std.proofs.lemmas.Bool.{eqb-true, eqb-false, ltb-false}
 use Rattle.std.proofs.lemmas.Bool.Decides.{nat_tests}
-use Rattle.std.proofs.lemmas.List.{drop_all, take_all, length-map, length-set, get_or-set_same, get_or-set_other, ext_get_or}
+use Rattle.std.proofs.lemmas.List.{get_or-drop, drop_all, take_all, length-map, length-set, get_or-set_same, get_or-set_other, ext_get_or}
 use Rattle.std.proofs.lemmas.List.Folds.{find-append}
 use Rattle.std.proofs.lemmas.List.FromFn.{length-range_with_len, get_or-map-range_with_len}
 use Rattle.vpr_text.specs.Words.{Line, no_line, number_at, words_at}
@@ -202,3 +202,18 @@ unfolding header_fault
 header_fit io_rat lines few e =
     let size = true_from_not _ (header_by io_rat lines _ _ _ _ e).1 in
     record { pads = few; columns = grind (arith, nat_tests, size); rows = grind (arith, nat_tests, size) }
+
+-- ---- the rows behind the first two lines
+
+pub no_rows : (blocks : List Block) (sites : List (Option Site)) (n : ℕ) → n ≡ length blocks → sites ≡ map (λ _. None) (range_with_len 0 n) → sites ≡ sites_in blocks []
+unfolding sites_in site_in
+no_rows blocks sites n count e = e ∙ ap (λ k. map (λ _. None) (range_with_len 0 k)) count
+
+row_line : (lines : List Line) (row : ℕ) → get_or lines (row + 2) no_line ≡ get_or (drop 2 lines) row no_line
+row_line lines row = let e : row + 2 ≡ 2 + row = omega arith in rw e (sym (get_or-drop 2 lines row no_line))
+
+pub row_number : (lines : List Line) (row : ℕ) → number_at lines (row + 2) ≡ number_at (drop 2 lines) row
+row_number lines row = ap (λ l. l.number) (row_line lines row)
+
+pub row_words : (lines : List Line) (row : ℕ) → words_at lines (row + 2) ≡ words_at (drop 2 lines) row
+row_words lines row = ap (λ l. l.words) (row_line lines row)
