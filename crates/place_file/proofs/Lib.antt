@@ -1,3 +1,4 @@
 pub mod Placing
 pub mod Numbered
 pub mod Steps
+pub mod Placed

@@ -55,6 +55,7 @@ fn placement_in(
 ///
 /// A fault of the text comes first, then that of the first faulty line, then the least block that no line places. Of the
 /// faults of one line it is the first in the order of `PlaceFault`.
+#[tactic(auto, using(crate::proofs::Placed::placed_given))]
 pub fn parse(
     alloc: Global,
     source: &[u8],
@@ -63,6 +64,8 @@ pub fn parse(
 ) -> Result<Placement, PlaceFault>
     // Which placement or fault it is.
     ensures exact { Gives (λ p. p) result (placement_of arch.now.io_rat netlist.now.blocks source.now) }
+    // All blocks stand on sites of their kind, and different blocks on different sites.
+    ensures placed { IfOk result (λ p. IsPlaced arch.now.io_rat netlist.now.blocks p) }
 {
     placement_in(alloc, source, arch.io_rat(), netlist.blocks())
 }
