@@ -13,10 +13,22 @@ use Rattle.std.proofs.lemmas.Iterator.Adapters.{position_from-zero}
 use Rattle.std.proofs.lemmas.Map.Text.{btree_map_updates_str}
 use Rattle.net_file.specs.Names.{number_among}
 use Rattle.net_file.specs.Netlist.{Block}
-use Rattle.net_file.proofs.Ranges.{take_next}
-use Rattle.net_file.proofs.Numbered.{one_from_same, same_itself}
+use Rattle.std.proofs.Math.Seq.{take-suc}
+use Rattle.std.proofs.lemmas.Slice.Eq.{bytes_eq-Decides}
 use Rattle.place_file.specs.Kept.{AreNumbered, AddsName}
 use Rattle.place_file.specs.Lines.{names_of}
+
+-- the front of a list, and the element behind it
+pub take_next : {X : Type 0} (xs : List X) (i : ℕ) (d : X) → i < length xs → take (i + 1) xs ≡ take i xs ++ get_or xs i d ∷ []
+take_next xs i d lt = ap (λ n. take n xs) (add-one i) ∙ take-suc xs i d lt
+
+-- ---- when two names are one
+
+one_from_same : (a b : List ℕ) → bytes_eq a b ≡ true → a ≡ b
+one_from_same a b e = (bytes_eq-Decides a b).0 e
+
+same_itself : (a : List ℕ) → bytes_eq a a ≡ true
+same_itself a = (bytes_eq-Decides a a).1 refl
 
 -- ---- the place of a name behind the others
 

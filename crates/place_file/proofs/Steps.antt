@@ -11,7 +11,6 @@ use Rattle.std.proofs.lemmas.List.Folds.{find-append}
 use Rattle.std.proofs.lemmas.List.FromFn.{length-range_with_len, get_or-map-range_with_len}
 use Rattle.vpr_text.specs.Words.{Line, no_line, number_at, words_at}
 use Rattle.net_file.specs.Netlist.{Block}
-use Rattle.net_file.proofs.Ranges.{take_next}
 use Rattle.place_file.specs.declared.fault.PlaceFault.{PlaceFault}
 use Rattle.place_file.specs.declared.fault.PlaceFault.TheVariants as place
 use Rattle.place_file.specs.declared.site.Array.{Array}
@@ -22,7 +21,7 @@ use Rattle.place_file.specs.Lines.{is_row, array_on, block_named, block_on, site
 use Rattle.place_file.specs.Placement.{is_site, kind_at}
 use Rattle.place_file.specs.Reading.{unless_faulty, Fails}
 use Rattle.place_file.specs.Sites.{is_row_of, site_in, sites_in, site_at, is_occupied}
-use Rattle.place_file.proofs.Numbered.{block_within}
+use Rattle.place_file.proofs.Numbered.{block_within, take_next}
 
 -- ---- a row without a fault
 

@@ -17,3 +17,6 @@ pub use placement::Placement;
 
 pub use reading::parse;
 pub use site::Site;
+
+#[cfg(test)]
+mod tests;

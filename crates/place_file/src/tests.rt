@@ -1,0 +1,203 @@
+use super::*;
+use std::alloc::Global;
+use std::process::Abort;
+use std::test::Fail;
+use vpr_text::TextFault;
+
+/// An architecture with two pads at a place, and a logic block of two input pins and an output pin.
+const ARCH: &[u8] = b"io_rat 2\nchan_width_io 1\nchan_width_x uniform 1\nchan_width_y uniform 1\n\
+    inpin class: 0 bottom\ninpin class: 0 top\noutpin class: 1 right\nsubblocks_per_clb 1\nsubblock_lut_size 2\n\
+    switch_block_type subset\nFc_type fractional\nFc_output 1\nFc_input 1\nFc_pad 1\n\
+    segment frequency: 1 length: 1 wire_switch: 0 opin_switch: 0 Frac_cb: 1. Frac_sb: 1. Rmetal: 0 Cmetal: 81e-15\n\
+    switch 0 buffered: yes R: 0 Cin: 0 Cout: 0 Tdel: 0\n";
+
+/// A pad and a logic block.
+const TWO: &[u8] = b".input a\npinlist: a\n.clb c\npinlist: a open open\n";
+
+/// Two pads, one of each kind, and a logic block.
+const THREE: &[u8] =
+    b".input a\npinlist: a\n.clb c\npinlist: a open y\n.output out:y\npinlist: y\n";
+
+/// Two input pads and a logic block.
+const PADS: &[u8] =
+    b".input a\npinlist: a\n.input b\npinlist: b\n.clb c\npinlist: a b open\n";
+
+/// The placement of a netlist's blocks.
+fn read(alloc: Global, net: &[u8], source: &[u8]) -> Result<Placement, PlaceFault> {
+    let Ok(arch) = arch_file::parse(alloc, ARCH) else {
+        return Err(PlaceFault::Memory);
+    };
+    let Ok(netlist) = net_file::parse(alloc, net, &arch) else {
+        return Err(PlaceFault::Memory);
+    };
+    parse(alloc, source, &arch, &netlist)
+}
+
+/// The fault of a placement, if it has one.
+fn fault(alloc: Global, net: &[u8], source: &[u8]) -> Option<PlaceFault> {
+    match read(alloc, net, source) {
+        Ok(_) => None,
+        Err(fault) => Some(fault),
+    }
+}
+
+fn site(x: u32, y: u32, subblk: u32) -> Option<Site> {
+    Some(Site { x, y, subblk })
+}
+
+#[test]
+fn reads_the_sites(rt: HostRuntime) -> Result<(), Fail> {
+    let source = b"Netlist file: t.net  Architecture file: a.arch\nArray size: 1 x 1 logic blocks\n\
+        a 0 1 0 #0\nb 0 1 1 #1\nc 1 1 0 #2\n";
+    let placement = read(rt.alloc(), PADS, source)?;
+    assert_eq!(rt; placement.nx(), 1);
+    assert_eq!(rt; placement.ny(), 1);
+    assert_eq!(rt; placement.site(0), site(0, 1, 0));
+    assert_eq!(rt; placement.site(1), site(0, 1, 1));
+    assert_eq!(rt; placement.site(2), site(1, 1, 0));
+    assert_eq!(rt; placement.site(3), None);
+    Ok(())
+}
+
+#[test]
+fn reads_rows_in_any_order(rt: HostRuntime) -> Result<(), Fail> {
+    let source = b"Netlist file: t.net  Architecture file: a.arch\nArray size: 2 x 3 logic blocks\n\
+        out:y 1 4 1\nc 2 3 0\na 3 2 0\n";
+    let placement = read(rt.alloc(), THREE, source)?;
+    assert_eq!(rt; placement.nx(), 2);
+    assert_eq!(rt; placement.ny(), 3);
+    assert_eq!(rt; placement.site(0), site(3, 2, 0));
+    assert_eq!(rt; placement.site(1), site(2, 3, 0));
+    assert_eq!(rt; placement.site(2), site(1, 4, 1));
+    Ok(())
+}
+
+#[test]
+fn reads_two_lines_where_there_are_no_blocks(rt: HostRuntime) -> Result<(), Fail> {
+    let source =
+        b"Netlist file: t.net Architecture file: a.arch\nArray size: 100 x 1 logic blocks";
+    let placement = read(rt.alloc(), b"", source)?;
+    assert_eq!(rt; placement.nx(), 100);
+    assert_eq!(rt; placement.site(0), None);
+    Ok(())
+}
+
+#[test]
+fn names_the_fault_of_the_text(rt: HostRuntime) -> Result<(), Fail> {
+    let bad = fault(rt.alloc(), TWO, b"Netlist file: a Architecture file: b\n\x01");
+    assert_eq!(rt; bad, Some(PlaceFault::Text(TextFault::BadByte(2))));
+    Ok(())
+}
+
+#[test]
+fn names_the_fault_of_the_first_two_lines(rt: HostRuntime) -> Result<(), Fail> {
+    let alloc = rt.alloc();
+    let none = fault(alloc, TWO, b"");
+    assert_eq!(rt; none, Some(PlaceFault::BadLine(0)));
+    let one = fault(alloc, TWO, b"Netlist file: a Architecture file: b\n");
+    assert_eq!(rt; one, Some(PlaceFault::BadLine(0)));
+    let short = fault(alloc, TWO, b"\nNetlist file: Architecture file: b\n");
+    assert_eq!(rt; short, Some(PlaceFault::BadLine(2)));
+    let shape = fault(
+        alloc,
+        TWO,
+        b"Netlist file: a Architecture file: b\nArray size: 0 x 1 logic blocks.\n",
+    );
+    assert_eq!(rt; shape, Some(PlaceFault::BadLine(2)));
+    let large = fault(
+        alloc,
+        TWO,
+        b"Netlist file: a Architecture file: b\nArray size: 4294967296 x 1 logic blocks\n",
+    );
+    assert_eq!(rt; large, Some(PlaceFault::BadLine(2)));
+    Ok(())
+}
+
+#[test]
+fn names_the_size_of_the_array(rt: HostRuntime) -> Result<(), Fail> {
+    let alloc = rt.alloc();
+    let empty = fault(
+        alloc,
+        TWO,
+        b"Netlist file: t.net  Architecture file: a.arch\nArray size: 0 x 1 logic blocks\na 0 1 0\nc 1 1 0\n",
+    );
+    assert_eq!(rt; empty, Some(PlaceFault::ArraySize(2)));
+    let large = fault(
+        alloc,
+        TWO,
+        b"Netlist file: t.net  Architecture file: a.arch\nArray size: 1 x 101 logic blocks\na 0 1 0\nc 1 1 0\n",
+    );
+    assert_eq!(rt; large, Some(PlaceFault::ArraySize(2)));
+    Ok(())
+}
+
+#[test]
+fn names_the_fault_of_a_name(rt: HostRuntime) -> Result<(), Fail> {
+    let alloc = rt.alloc();
+    let twice = fault(
+        alloc,
+        TWO,
+        b"Netlist file: t.net  Architecture file: a.arch\nArray size: 1 x 1 logic blocks\na 0 1 0\na 0 1 1\n",
+    );
+    assert_eq!(rt; twice, Some(PlaceFault::PlacedTwice(4)));
+    let unknown = fault(
+        alloc,
+        THREE,
+        b"Netlist file: t.net  Architecture file: a.arch\nArray size: 1 x 1 logic blocks\na 0 1 0\nc 1 1 0\nz 2 1 0\n",
+    );
+    assert_eq!(rt; unknown, Some(PlaceFault::UnknownBlock(5)));
+    let again = fault(
+        alloc,
+        TWO,
+        b"Netlist file: t.net  Architecture file: a.arch\nArray size: 1 x 1 logic blocks\na 0 1 0\nc 1 1 0\n\
+        Netlist file: t.net  Architecture file: a.arch\nArray size: 1 x 1 logic blocks\na 0 1 0\nc 1 1 0\n",
+    );
+    assert_eq!(rt; again, Some(PlaceFault::BadLine(5)));
+    Ok(())
+}
+
+#[test]
+fn names_the_fault_of_a_site(rt: HostRuntime) -> Result<(), Fail> {
+    let alloc = rt.alloc();
+    let taken = fault(
+        alloc,
+        PADS,
+        b"Netlist file: t.net  Architecture file: a.arch\nArray size: 1 x 1 logic blocks\na 0 1 0\nb 0 1 0\nc 1 1 0\n",
+    );
+    assert_eq!(rt; taken, Some(PlaceFault::Occupied(4)));
+    let outside = fault(
+        alloc,
+        PADS,
+        b"Netlist file: t.net  Architecture file: a.arch\nArray size: 1 x 1 logic blocks\na 0 1 0\nb 0 1 1\nc 0 1 0\n",
+    );
+    assert_eq!(rt; outside, Some(PlaceFault::OffSite(5)));
+    let corner = fault(
+        alloc,
+        PADS,
+        b"Netlist file: t.net  Architecture file: a.arch\nArray size: 1 x 1 logic blocks\na 0 0 0\nb 0 1 1\nc 1 1 0\n",
+    );
+    assert_eq!(rt; corner, Some(PlaceFault::OffSite(3)));
+    let missing = fault(
+        alloc,
+        PADS,
+        b"Netlist file: t.net  Architecture file: a.arch\nArray size: 1 x 1 logic blocks\na 0 1 0\nb 0 1 1\n",
+    );
+    assert_eq!(rt; missing, Some(PlaceFault::Missing(2)));
+    Ok(())
+}
+
+// growths: 40
+#[test]
+fn parse_without_memory(rt: HostRuntime) -> Result<(), Fail> {
+    const SMALLEST: &[u8] =
+        b"Netlist file: a Architecture file: b\nArray size: 1 x 1 logic blocks\na 0 1 0\nc 1 1 0\n";
+    let placement = match read(rt.alloc(), TWO, SMALLEST) {
+        Ok(placement) => placement,
+        Err(fault) => {
+            assert_eq!(rt; fault, PlaceFault::Memory);
+            read(rt.alloc(), TWO, SMALLEST)?
+        }
+    };
+    assert_eq!(rt; placement.site(1), site(1, 1, 0));
+    Ok(())
+}
