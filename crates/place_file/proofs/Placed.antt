@@ -1,5 +1,5 @@
 -- What is read is placed.
-use Rattle.std.proofs.Common.{◌≡◌, ℕ, zero, suc, ◌+◌, ◌<◌, ◌≤◌, Bool, true, false, cond, not, eqb, List, [], ◌∷◌, ◌++◌, length, map, get_or, drop, Option, None, Some, Result, Ok, Err, refl, sym, ap, subst, ◌∙◌, arith}
+use Rattle.std.proofs.Common.{◌≡◌, ℕ, ◌+◌, ◌<◌, Bool, true, false, cond, not, eqb, List, [], ◌∷◌, ◌++◌, length, map, Option, None, Some, Result, Ok, Err, refl, sym, ap, subst, ◌∙◌, arith}
 use Rattle.std.specs.Prelude.{is_some, slice_get, IfOk}
 use Rattle.std.specs.Option.{option_or, option_map}
 use Rattle.std.specs.List.{position_from, filter_map}
@@ -17,10 +17,10 @@ use Rattle.place_file.specs.declared.fault.PlaceFault.{PlaceFault}
 use Rattle.place_file.specs.declared.fault.PlaceFault.TheVariants as place
 use Rattle.place_file.specs.declared.site.Array.{Array}
 use Rattle.place_file.specs.declared.site.Site.{Site}
-use Rattle.place_file.specs.Judge.{row_fault, rows_fault_from, header_fault}
+use Rattle.place_file.specs.Judge.{rows_fault_from, header_fault}
 use Rattle.place_file.specs.Lines.{array_on, block_on, site_on, rows_of}
-use Rattle.place_file.specs.Placement.{Placement, IsPlaced, is_site, kind_at, array_of}
-use Rattle.place_file.specs.Reading.{unless_faulty, first_missing, completed, placing, reading, placement_of, text_of, Gives}
+use Rattle.place_file.specs.Placement.{Placement, IsPlaced, is_site, kind_at}
+use Rattle.place_file.specs.Reading.{unless_faulty, first_missing, completed, placing, reading, placement_of, Gives}
 use Rattle.place_file.specs.Sites.{site_in, sites_in, site_at, is_on, is_occupied, same_site}
 use Rattle.place_file.proofs.Steps.{IsGood, good_row, good_within, site_more, site_here, count_sites}
 
@@ -69,20 +69,20 @@ sound_more array blocks rows l h good =
     let t = site_on l.words in
     let here = λ (b : ℕ) (s : Site) (e : site_in blocks (rows ++ l ∷ []) b ≡ Some s). sym (site_more blocks rows l b) ∙ e in
     let clash = λ (P : Type 0) (a : ℕ) (s : Site) (old : site_in blocks rows a ≡ Some s) (same : t ≡ s).
-      two_answers {P = P} (is_occupied (sites_in blocks rows) s) (occupied blocks rows a s (h.within a s old) old) (ap (is_occupied (sites_in blocks rows)) (sym same) ∙ good.alone) in
+    two_answers {P = P} (is_occupied (sites_in blocks rows) s) (occupied blocks rows a s (h.within a s old) old) (ap (is_occupied (sites_in blocks rows)) (sym same) ∙ good.alone) in
     record {
       within = λ b s e.
-        by_row (site_in blocks rows b) (eqb k b) t s (here b s e)
-        (λ old. h.within b s old)
-        (λ one same. subst (λ n. n < length blocks) (eqb-true k b one) (good_within blocks l.words good.known));
+          by_row (site_in blocks rows b) (eqb k b) t s (here b s e)
+          (λ old. h.within b s old)
+          (λ one same. subst (λ n. n < length blocks) (eqb-true k b one) (good_within blocks l.words good.known));
       fitting = λ b s e.
-        by_row (site_in blocks rows b) (eqb k b) t s (here b s e)
-        (λ old. h.fitting b s old)
-        (λ one same. ap (λ n. is_site array (kind_at blocks n) s) (sym (eqb-true k b one)) ∙ ap (is_site array (kind_at blocks k)) (sym same) ∙ good.fitting);
+          by_row (site_in blocks rows b) (eqb k b) t s (here b s e)
+          (λ old. h.fitting b s old)
+          (λ one same. ap (λ n. is_site array (kind_at blocks n) s) (sym (eqb-true k b one)) ∙ ap (is_site array (kind_at blocks k)) (sym same) ∙ good.fitting);
       apart = λ a b s e f.
-        by_row (site_in blocks rows a) (eqb k a) t s (here a s e)
-        (λ old. by_row (site_in blocks rows b) (eqb k b) t s (here b s f) (λ older. h.apart a b s old older) (λ one same. clash (a ≡ b) a s old same))
-        (λ one same. by_row (site_in blocks rows b) (eqb k b) t s (here b s f) (λ old. clash (a ≡ b) b s old same) (λ two also. sym (eqb-true k a one) ∙ eqb-true k b two));
+          by_row (site_in blocks rows a) (eqb k a) t s (here a s e)
+          (λ old. by_row (site_in blocks rows b) (eqb k b) t s (here b s f) (λ older. h.apart a b s old older) (λ one same. clash (a ≡ b) a s old same))
+          (λ one same. by_row (site_in blocks rows b) (eqb k b) t s (here b s f) (λ old. clash (a ≡ b) b s old same) (λ two also. sym (eqb-true k a one) ∙ eqb-true k b two));
     }
 
 both_none : (a b : Option PlaceFault) → option_or a b ≡ None → (a ≡ None) × (b ≡ None)
@@ -128,8 +128,8 @@ placed_sites : (array : Array) (blocks : List Block) (rows : List Line) (ys : Li
 placed_sites array blocks rows ys are h =
     let count : length ys ≡ length blocks = sym (length-map ys Some) ∙ ap length (sym are) ∙ count_sites blocks rows in
     let site = λ (b : ℕ) (s : Site) (e : slice_get ys b ≡ Some s).
-      let within : b < length blocks = subst (λ n. b < n) count (slice_get_within ys b s e) in
-      sym (site_here blocks rows b within) ∙ site_of ys (sites_in blocks rows) b s are e in
+    let within : b < length blocks = subst (λ n. b < n) count (slice_get_within ys b s e) in
+    sym (site_here blocks rows b within) ∙ site_of ys (sites_in blocks rows) b s are e in
     record {
       all = count;
       fitting = λ b s e. h.fitting b s (site b s e);

@@ -1,5 +1,5 @@
 -- Rows judged one by one.
-use Rattle.std.proofs.Common.{◌≡◌, ◌≢◌, ℕ, zero, suc, ◌+◌, ◌-◌, ◌<◌, ◌≤◌, Bool, true, false, cond, not, eqb, List, [], ◌∷◌, ◌++◌, length, map, get_or, set, take, drop, Option, None, Some, Result, Ok, Err, refl, sym, ap, subst, ◌∙◌, arith, zero-add, add-one}
+use Rattle.std.proofs.Common.{◌≡◌, ℕ, ◌+◌, ◌<◌, ◌≤◌, Bool, true, false, cond, not, eqb, List, [], ◌∷◌, ◌++◌, length, map, get_or, set, take, drop, Option, None, Some, Result, Err, refl, sym, ap, subst, ◌∙◌, arith, zero-add, add-one}
 use Rattle.std.specs.Prelude.{is_some, find}
 use Rattle.std.specs.Option.{option_or, option_map}
 use Rattle.std.specs.List.{range_with_len}
@@ -17,9 +17,9 @@ use Rattle.place_file.specs.declared.site.Array.{Array}
 use Rattle.place_file.specs.declared.site.Site.{Site}
 use Rattle.place_file.specs.Judge.{first_fault, row_fault, rows_fault_from, header_fault}
 use Rattle.place_file.specs.Kept.{IsFit}
-use Rattle.place_file.specs.Lines.{is_row, array_on, block_named, block_on, site_on, names_of}
+use Rattle.place_file.specs.Lines.{array_on, block_named, block_on, site_on}
 use Rattle.place_file.specs.Placement.{is_site, kind_at}
-use Rattle.place_file.specs.Reading.{unless_faulty, Fails}
+use Rattle.place_file.specs.Reading.{Fails}
 use Rattle.place_file.specs.Sites.{is_row_of, site_in, sites_in, site_at, is_occupied}
 use Rattle.place_file.proofs.Numbered.{block_within, take_next}
 
@@ -120,8 +120,8 @@ sites_more blocks rows l free =
     let count : length (set old k one) ≡ length blocks = length-set old k one ∙ count_sites blocks rows in
     ext_get_or None (set old k one) (sites_in blocks (rows ++ l ∷ [])) (count ∙ sym (count_sites blocks (rows ++ l ∷ [])))
     (λ b lt.
-      let within : b < length blocks = subst (λ n. b < n) count lt in
-      put_by blocks rows l b (eqb k b) refl within free ∙ sym (site_here blocks (rows ++ l ∷ []) b within ∙ site_more blocks rows l b))
+    let within : b < length blocks = subst (λ n. b < n) count lt in
+    put_by blocks rows l b (eqb k b) refl within free ∙ sym (site_here blocks (rows ++ l ∷ []) b within ∙ site_more blocks rows l b))
 
 -- ---- row by row, as the loop does
 
@@ -149,8 +149,7 @@ module _ (array : Array) (blocks : List Block) (rows : List Line) where
       → IsSoFar i old → IsSoFar (i + 1) new
   stepped i old new n words fault lt at here is none put h =
       let no_fault : fault_of i ≡ None = sym (rw (at, here, h.0) at (sym none ∙ is)) in
-      let good = good_row array blocks (sites_in blocks (take i rows)) (number_at rows i) (words_at rows i) no_fault in
-      (
+      let good = good_row array blocks (sites_in blocks (take i rows)) (number_at rows i) (words_at rows i) no_fault in (
         put ∙ rw (here, h.0) (sites_more blocks (take i rows) (get_or rows i no_line) good.once ∙ ap (sites_in blocks) (sym (take_next rows i no_line lt))),
         ap (λ f. option_or f (first_from (i + 1))) (sym no_fault) ∙ sym (opens i lt) ∙ h.1,
       )
@@ -163,11 +162,10 @@ module _ (array : Array) (blocks : List Block) (rows : List Line) where
 
   pub ended : (i : ℕ) (sites : List (Option Site)) → length rows ≤ i → IsSoFar i sites → (rows_fault_from array blocks [] rows ≡ None) × (sites ≡ sites_in blocks rows)
   unfolding rows_fault_from
-  ended i sites past h =
-      (
-        sym h.1 ∙ ap (rows_fault_from array blocks (take i rows)) (drop_all i rows past),
-        h.0 ∙ ap (sites_in blocks) (take_all i rows past),
-      )
+  ended i sites past h = (
+    sym h.1 ∙ ap (rows_fault_from array blocks (take i rows)) (drop_all i rows past),
+    h.0 ∙ ap (sites_in blocks) (take_all i rows past),
+  )
 
 -- ---- a fault that was found
 

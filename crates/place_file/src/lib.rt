@@ -14,7 +14,6 @@ mod words;
 
 pub use fault::PlaceFault;
 pub use placement::Placement;
-
 pub use reading::parse;
 pub use site::Site;
 

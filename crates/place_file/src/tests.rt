@@ -19,8 +19,7 @@ const THREE: &[u8] =
     b".input a\npinlist: a\n.clb c\npinlist: a open y\n.output out:y\npinlist: y\n";
 
 /// Two input pads and a logic block.
-const PADS: &[u8] =
-    b".input a\npinlist: a\n.input b\npinlist: b\n.clb c\npinlist: a b open\n";
+const PADS: &[u8] = b".input a\npinlist: a\n.input b\npinlist: b\n.clb c\npinlist: a b open\n";
 
 /// The placement of a netlist's blocks.
 fn read(alloc: Global, net: &[u8], source: &[u8]) -> Result<Placement, PlaceFault> {
@@ -74,8 +73,7 @@ fn reads_rows_in_any_order(rt: HostRuntime) -> Result<(), Fail> {
 
 #[test]
 fn reads_two_lines_where_there_are_no_blocks(rt: HostRuntime) -> Result<(), Fail> {
-    let source =
-        b"Netlist file: t.net Architecture file: a.arch\nArray size: 100 x 1 logic blocks";
+    let source = b"Netlist file: t.net Architecture file: a.arch\nArray size: 100 x 1 logic blocks";
     let placement = read(rt.alloc(), b"", source)?;
     assert_eq!(rt; placement.nx(), 100);
     assert_eq!(rt; placement.site(0), None);
@@ -84,7 +82,11 @@ fn reads_two_lines_where_there_are_no_blocks(rt: HostRuntime) -> Result<(), Fail
 
 #[test]
 fn names_the_fault_of_the_text(rt: HostRuntime) -> Result<(), Fail> {
-    let bad = fault(rt.alloc(), TWO, b"Netlist file: a Architecture file: b\n\x01");
+    let bad = fault(
+        rt.alloc(),
+        TWO,
+        b"Netlist file: a Architecture file: b\n\x01",
+    );
     assert_eq!(rt; bad, Some(PlaceFault::Text(TextFault::BadByte(2))));
     Ok(())
 }

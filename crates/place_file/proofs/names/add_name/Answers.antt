@@ -1,5 +1,3 @@
-use Rattle.std.proofs.Common.{◌≡◌, Option, None, Some, Bool, true, false, refl, sym, ap, ◌∙◌}
-use Rattle.std.specs.Prelude.{is_some}
 use Rattle.place_file.proofs.Numbered.{name_new, name_there, copied_none, copied_some}
 use Rattle.place_file.proofs.names.add_name.Goals as goal
 

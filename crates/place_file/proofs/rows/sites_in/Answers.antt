@@ -1,4 +1,4 @@
-use Rattle.std.proofs.Common.{◌≡◌, ◌<◌, ◌≤◌, length, drop, Ok, sym, ap, ◌∙◌, refl, arith}
+use Rattle.std.proofs.Common.{◌<◌, ◌≤◌, length, drop, Ok, sym, ap, ◌∙◌, refl, arith}
 use Rattle.std.proofs.lemmas.List.{length-drop}
 use Rattle.place_file.specs.Reading.{unless_faulty}
 use Rattle.place_file.specs.Sites.{sites_in}
@@ -19,8 +19,8 @@ returns-in-Some c =
     let here = c.new-words.ensures ∙ row_words lines c.loop-row.row in
     fails_is c.in-Some.fault _
     (
-      ap (λ f. unless_faulty f (Ok (sites_in c.args.blocks.now (drop 2 lines))))
-      (refused c.args.array c.args.blocks.now (drop 2 lines) c.loop-row.row c.loop-row.sites c.at.result c.new-words.result c.in-Some.fault within at here (sym c.in-Some.is ∙ c.judge.ensures.exact) c.loop-row.invariant))
+    ap (λ f. unless_faulty f (Ok (sites_in c.args.blocks.now (drop 2 lines))))
+    (refused c.args.array c.args.blocks.now (drop 2 lines) c.loop-row.row c.loop-row.sites c.at.result c.new-words.result c.in-Some.fault within at here (sym c.in-Some.is ∙ c.judge.ensures.exact) c.loop-row.invariant))
 
 pub loop-row-preserved : goal.loop-row-preserved
 loop-row-preserved c =

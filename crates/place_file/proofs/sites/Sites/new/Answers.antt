@@ -1,4 +1,4 @@
-use Rattle.std.proofs.Common.{◌≡◌, List, Bool, false, replicate, map, refl, sym, ap, subst, ◌∙◌}
+use Rattle.std.proofs.Common.{◌≡◌, false, replicate, sym, subst}
 use Rattle.std.specs.List.{range_with_len}
 use Rattle.place_file.specs.Kept.{IsTable, table_size}
 use Rattle.place_file.proofs.Placing.{none_taken}
