@@ -1,8 +1,7 @@
 -- The sites that rows give to blocks.
-use Rattle.std.specs.Prelude.{ℕ, Bool, ◌&&◌, ◌==◌, List, length, map, find, Option, slice_index_or}
+use Rattle.std.specs.Prelude.{ℕ, Bool, false, ◌&&◌, ◌==◌, List, length, map, find, Option, None, slice_index_or}
 use Rattle.std.specs.Option.{option_map, option_map_or}
 use Rattle.std.specs.List.{list_any, range_with_len}
-use Rattle.std.specs.Prelude.{None, false}
 use Rattle.vpr_text.specs.Words.{Line}
 use Rattle.net_file.specs.Netlist.{Block}
 use Rattle.place_file.specs.declared.site.Site.{Site}

@@ -1,0 +1,54 @@
+-- Worked examples that compute: an array of one logic block with two pads at each place, and the blocks a and b, which are
+-- pads, and c.
+use Rattle.std.proofs.Common.{◌≡◌, ℕ, true, false, List, [], ◌∷◌, Some, None, refl}
+use Rattle.std.specs.Prelude.{codes}
+use Rattle.vpr_text.specs.Words.{Line}
+use Rattle.net_file.specs.declared.parts.BlockKind.{BlockKind}
+use Rattle.net_file.specs.declared.parts.BlockKind.TheVariants.{InputPad, LogicBlock}
+use Rattle.net_file.specs.Names.{number_among}
+use Rattle.net_file.specs.Netlist.{Block}
+use Rattle.place_file.specs.declared.fault.PlaceFault.TheVariants.{BadLine, UnknownBlock, PlacedTwice, OffSite, Occupied}
+use Rattle.place_file.specs.declared.site.Array.{Array}
+use Rattle.place_file.specs.declared.site.Site.{Site}
+use Rattle.place_file.specs.Judge.{row_fault, rows_fault_from}
+use Rattle.place_file.specs.Lines.{is_row}
+use Rattle.place_file.specs.Placement.{is_site}
+use Rattle.place_file.specs.Sites.{site_in, sites_in, is_occupied}
+
+abbrev one_block : Array
+one_block = record { io_rat = 2; nx = 1; ny = 1 }
+
+abbrev site : ℕ → ℕ → ℕ → Site
+site x y subblk = record { x = x; y = y; subblk = subblk }
+
+abbrev block : List ℕ → BlockKind → Block
+block name kind = record { kind = kind; name = name; nets = [] }
+
+abbrev blocks : List Block
+blocks = block (codes "a") InputPad ∷ block (codes "b") InputPad ∷ block (codes "c") LogicBlock ∷ []
+
+abbrev row : ℕ → List ℕ → List ℕ → List ℕ → List ℕ → Line
+row n name x y subblk = record { number = n; words = name ∷ x ∷ y ∷ subblk ∷ [] }
+
+-- a pad stands at the two positions beside the array and at no third, in no corner and not within
+pub sites_of_pads : (is_site one_block InputPad (site 0 1 1) ≡ true) × (is_site one_block InputPad (site 0 1 2) ≡ false) × (is_site one_block InputPad (site 0 0 0) ≡ false) × (is_site one_block InputPad (site 1 1 0) ≡ false)
+unfolding is_site
+sites_of_pads = (refl, refl, refl, refl)
+
+-- a logic block stands within, at position 0
+pub sites_of_blocks : (is_site one_block LogicBlock (site 1 1 0) ≡ true) × (is_site one_block LogicBlock (site 1 1 1) ≡ false) × (is_site one_block LogicBlock (site 0 1 0) ≡ false)
+unfolding is_site
+sites_of_blocks = (refl, refl, refl)
+
+abbrev first_row : Line
+first_row = row 3 (codes "a") (codes "0") (codes "1") (codes "0")
+
+-- behind a's row: b on a's site, a again, a name that is none, c on the perimeter, a word too many
+pub second_rows : (rows_fault_from one_block blocks [] (first_row ∷ row 4 (codes "b") (codes "0") (codes "1") (codes "1") ∷ []) ≡ None)
+    × (rows_fault_from one_block blocks [] (first_row ∷ row 4 (codes "b") (codes "0") (codes "1") (codes "0") ∷ []) ≡ Some (Occupied 4))
+    × (rows_fault_from one_block blocks [] (first_row ∷ row 4 (codes "a") (codes "0") (codes "1") (codes "1") ∷ []) ≡ Some (PlacedTwice 4))
+    × (rows_fault_from one_block blocks [] (first_row ∷ row 4 (codes "z") (codes "0") (codes "1") (codes "1") ∷ []) ≡ Some (UnknownBlock 4))
+    × (rows_fault_from one_block blocks [] (first_row ∷ row 4 (codes "c") (codes "0") (codes "1") (codes "1") ∷ []) ≡ Some (OffSite 4))
+    × (rows_fault_from one_block blocks [] (first_row ∷ row 4 (codes "b") (codes "0") (codes "x") (codes "1") ∷ []) ≡ Some (BadLine 4))
+unfolding rows_fault_from row_fault is_row is_site sites_in site_in is_occupied number_among
+second_rows = (refl, refl, refl, refl, refl, refl)
