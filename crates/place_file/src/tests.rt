@@ -191,15 +191,16 @@ fn names_the_fault_of_a_site(rt: HostRuntime) -> Result<(), Fail> {
 // growths: 40
 #[test]
 fn parse_without_memory(rt: HostRuntime) -> Result<(), Fail> {
+    const PAD: &[u8] = b".input a\npinlist: a\n";
     const SMALLEST: &[u8] =
-        b"Netlist file: a Architecture file: b\nArray size: 1 x 1 logic blocks\na 0 1 0\nc 1 1 0\n";
-    let placement = match read(rt.alloc(), TWO, SMALLEST) {
+        b"Netlist file: a Architecture file: b\nArray size: 1 x 1 logic blocks\na 0 1 0\n";
+    let placement = match read(rt.alloc(), PAD, SMALLEST) {
         Ok(placement) => placement,
         Err(fault) => {
             assert_eq!(rt; fault, PlaceFault::Memory);
-            read(rt.alloc(), TWO, SMALLEST)?
+            read(rt.alloc(), PAD, SMALLEST)?
         }
     };
-    assert_eq!(rt; placement.site(1), site(1, 1, 0));
+    assert_eq!(rt; placement.site(0), site(0, 1, 0));
     Ok(())
 }
