@@ -25,12 +25,13 @@ use Rattle.arch_file.specs.Judge.{is_passed, has_keyword, is_repeated, judge, ju
 use Rattle.arch_file.specs.Keyword.{is_text, same_keyword}
 use Rattle.arch_file.specs.Lines.{keyword_of_pin, io_rat_of, pin_of, segment_of, pins_of, segments_of}
 use Rattle.arch_file.specs.Pairs.{pairs_of, pair_with, value_of, has_key, fixed_for}
-use Rattle.arch_file.specs.PinLine.{pin_line, pin_in, is_bad_class, lacks_sides}
+use Rattle.arch_file.specs.PinLine.{mixes, pin_line, pin_in, is_bad_class, lacks_sides}
 use Rattle.arch_file.specs.Reading.{◌>>=◌, at_number, entries_from, has_gap, missing_of, value_in, architecture_from}
 use Rattle.arch_file.specs.SegmentLine.{segment_line, segment_in, length_in, is_unsupported, is_too_long, has_segment_keys, has_wire_keys, has_other_keys, has_wrong_value, is_wrong_value, is_wrong_length}
 use Rattle.arch_file.specs.SwitchLine.{switch_line, switch_in, repeats_switch, has_bad_number, has_switch_keys, is_buffer_word}
 use Rattle.arch_file.specs.Values.{pads_in, is_one, is_not_fixed, is_distribution, io_rat_line, chan_width_io_line, channel_line, number_line, fixed_line, switch_block_type_line, fc_type_line}
 use Rattle.arch_file.specs.Word.{has, is_at, number_at, fixed_at}
+use Rattle.arch_file.proofs.Directions.{HaveOneDirection, direction_in, one_direction_more, not_mixed}
 use Rattle.arch_file.proofs.Faultless.{accepted, or_false, or_true, and_false, and_true, not_false, passed, not_err, found_passes, found_fails}
 
 -- pads at one place of the perimeter
@@ -41,13 +42,14 @@ pub record IsKept (lines : List ArchLine) : Type 0 where
   pub pads : All IsPads (filter_map io_rat_of lines)
   pub few_pins : length (pins_of lines) ≤ 64
   pub few_classes : All (λ p. p.class < 64) (pins_of lines)
+  pub one_direction : HaveOneDirection (pins_of lines)
   pub few_segments : length (segments_of lines) ≤ 16
   pub segment_lengths : All (λ s. IsSegmentLength s.length) (segments_of lines)
 
 -- what a line has to be, so that the lines before it and this one keep the limits
 abbrev Suits : List ArchLine → ArchLine → Type 0
 Suits before (line.IoRat n) = IsPads n
-Suits before (line.Pin p) = (p.class < 64) × (length (pins_of before) < 64)
+Suits before (line.Pin p) = (p.class < 64) × (length (pins_of before) < 64) × (mixes before p.direction p.class ≡ false)
 Suits before (line.Segment s) = IsSegmentLength s.length × (length (segments_of before) < 16)
 Suits before _ = Unit {0}
 
@@ -65,6 +67,7 @@ kept_other before x no_pads no_pin no_segment k =
       pads = subst (All IsPads) (same io_rat_of before x no_pads) k.pads;
       few_pins = subst (λ ps. length ps ≤ 64) (same pin_of before x no_pin) k.few_pins;
       few_classes = subst (All (λ p. p.class < 64)) (same pin_of before x no_pin) k.few_classes;
+      one_direction = subst HaveOneDirection (same pin_of before x no_pin) k.one_direction;
       few_segments = subst (λ ss. length ss ≤ 16) (same segment_of before x no_segment) k.few_segments;
       segment_lengths = subst (All (λ s. IsSegmentLength s.length)) (same segment_of before x no_segment) k.segment_lengths;
     }
@@ -75,6 +78,7 @@ IsKept-push before (line.IoRat n) k suits =
       pads = subst (All IsPads) (more io_rat_of before (line.IoRat n) n refl) (All-push IsPads (filter_map io_rat_of before) n k.pads suits);
       few_pins = subst (λ ps. length ps ≤ 64) (same pin_of before (line.IoRat n) refl) k.few_pins;
       few_classes = subst (All (λ p. p.class < 64)) (same pin_of before (line.IoRat n) refl) k.few_classes;
+      one_direction = subst HaveOneDirection (same pin_of before (line.IoRat n) refl) k.one_direction;
       few_segments = subst (λ ss. length ss ≤ 16) (same segment_of before (line.IoRat n) refl) k.few_segments;
       segment_lengths = subst (All (λ s. IsSegmentLength s.length)) (same segment_of before (line.IoRat n) refl) k.segment_lengths;
     }
@@ -83,6 +87,7 @@ IsKept-push before (line.Pin p) k suits =
       pads = subst (All IsPads) (same io_rat_of before (line.Pin p) refl) k.pads;
       few_pins = subst (λ ps. length ps ≤ 64) (more pin_of before (line.Pin p) p refl) (omega (arith, length-append (pins_of before) (p ∷ []), suits.1));
       few_classes = subst (All (λ q. q.class < 64)) (more pin_of before (line.Pin p) p refl) (All-push (λ q. q.class < 64) (pins_of before) p k.few_classes suits.0);
+      one_direction = subst HaveOneDirection (more pin_of before (line.Pin p) p refl) (one_direction_more before p k.one_direction suits.2);
       few_segments = subst (λ ss. length ss ≤ 16) (same segment_of before (line.Pin p) refl) k.few_segments;
       segment_lengths = subst (All (λ s. IsSegmentLength s.length)) (same segment_of before (line.Pin p) refl) k.segment_lengths;
     }
@@ -91,6 +96,7 @@ IsKept-push before (line.Segment s) k suits =
       pads = subst (All IsPads) (same io_rat_of before (line.Segment s) refl) k.pads;
       few_pins = subst (λ ps. length ps ≤ 64) (same pin_of before (line.Segment s) refl) k.few_pins;
       few_classes = subst (All (λ p. p.class < 64)) (same pin_of before (line.Segment s) refl) k.few_classes;
+      one_direction = subst HaveOneDirection (same pin_of before (line.Segment s) refl) k.one_direction;
       few_segments = subst (λ ss. length ss ≤ 16) (more segment_of before (line.Segment s) s refl) (omega (arith, length-append (segments_of before) (s ∷ []), suits.1));
       segment_lengths = subst (All (λ t. IsSegmentLength t.length)) (more segment_of before (line.Segment s) s refl) (All-push (λ t. IsSegmentLength t.length) (segments_of before) s k.segment_lengths suits.0);
     }
@@ -125,7 +131,8 @@ unfolding pin_line pin_in
 pin_suits before d words x e =
     let a = accepted (is_bad_class before d words) (not (is_at words 1 (codes "class:")) || lacks_sides d words) false (ltb 63 (pin_in d words).class || leb 64 (length (pins_of before))) (line.Pin (pin_in d words)) x e in
     let few = or_false (ltb 63 (pin_in d words).class) (leb 64 (length (pins_of before))) a.0.not_too_many in
-    subst (Suits before) a.1 (omega (arith, ltb-false 63 (pin_in d words).class few.0), leb-false 64 (length (pins_of before)) few.1)
+    let sides = or_false (not (is_at words 1 (codes "class:"))) (lacks_sides d words) a.0.no_bad_word in
+    subst (Suits before) a.1 (omega (arith, ltb-false 63 (pin_in d words).class few.0), leb-false 64 (length (pins_of before)) few.1, not_mixed before d words a.0.no_bad_number sides.1)
 
 by_text : (b : Bool) (n : ℕ) → (not b && eqb n 0) ≡ false → is_too_long (cond b Longline (Places n)) ≡ false → IsSegmentLength (cond b Longline (Places n))
 by_text true n some short = tt
@@ -284,7 +291,7 @@ kept_from before (l ∷ ls) es k e =
     step_kept (is_passed l.words) (judge before l.words) l.number before ls es (λ front kept h. kept_from front ls es kept h) (λ x j. judge_suits before l.words x j) k e
 
 none_kept : IsKept []
-none_kept = record { pads = All-nil IsPads; few_pins = omega arith; few_classes = All-nil (λ p. p.class < 64); few_segments = omega arith; segment_lengths = All-nil (λ s. IsSegmentLength s.length) }
+none_kept = record { pads = All-nil IsPads; few_pins = omega arith; few_classes = All-nil (λ p. p.class < 64); one_direction = All-nil (λ p. direction_in [] p.class ≡ Some p.direction); few_segments = omega arith; segment_lengths = All-nil (λ s. IsSegmentLength s.length) }
 
 -- ---- a whole architecture
 
@@ -358,6 +365,7 @@ within ls es e m =
       some_pins = some_of (length (pins_of es)) m4.0;
       few_pins = k.few_pins;
       few_classes = k.few_classes;
+      one_direction = k.one_direction;
       some_segments = some_of (length (segments_of es)) m11.0;
       few_segments = k.few_segments;
       segment_lengths = k.segment_lengths;

@@ -1,5 +1,6 @@
 pub mod Drops
 pub mod Lines
 pub mod Faultless
+pub mod Directions
 pub mod Kept
 pub mod Related

@@ -1,5 +1,5 @@
 -- An architecture as the record of its entries (VPR and T-VPack manual 4.30, "The Architecture File Format").
-use Rattle.std.specs.Prelude.{ℕ, ◌+◌, ◌<◌, ◌≤◌, ◌==◌, List, length, max, fold, find, count_by, Option, All}
+use Rattle.std.specs.Prelude.{◌≡◌, ℕ, ◌+◌, ◌<◌, ◌≤◌, ◌==◌, List, length, max, fold, find, count_by, Option, Some, All}
 use Rattle.std.specs.Option.{option_map}
 use Rattle.arch_file.specs.declared.parts.Direction.{Direction}
 use Rattle.arch_file.specs.declared.parts.Pin.{Pin}
@@ -28,17 +28,6 @@ abbrev pub IsSegmentLength : SegmentLength → Type 0
 IsSegmentLength (Places n) = (1 ≤ n) × (n ≤ 16)
 IsSegmentLength Longline = Unit {0}
 
--- the limits that every architecture keeps (this project's profile)
-pub record IsWithinLimits (a : Architecture) : Type 0 where
-  pub some_pads : 1 ≤ a.io_rat
-  pub few_pads : a.io_rat ≤ 16
-  pub some_pins : 1 ≤ length a.pins
-  pub few_pins : length a.pins ≤ 64
-  pub few_classes : All (λ p. p.class < 64) a.pins
-  pub some_segments : 1 ≤ length a.segments
-  pub few_segments : length a.segments ≤ 16
-  pub segment_lengths : All (λ s. IsSegmentLength s.length) a.segments
-
 -- how many classes of pins there are: they run from 0 without gaps
 abbrev pub class_count : Architecture → ℕ
 class_count a = fold (λ n p. max n (p.class + 1)) 0 a.pins
@@ -50,3 +39,16 @@ class_size a class = count_by (λ p. p.class == class) a.pins
 -- the direction of a class: that of its first pin
 abbrev pub class_direction : Architecture → ℕ → Option Direction
 class_direction a class = option_map (λ p. p.direction) (find (λ p. p.class == class) a.pins)
+
+-- the limits that every architecture keeps (this project's profile)
+pub record IsWithinLimits (a : Architecture) : Type 0 where
+  pub some_pads : 1 ≤ a.io_rat
+  pub few_pads : a.io_rat ≤ 16
+  pub some_pins : 1 ≤ length a.pins
+  pub few_pins : length a.pins ≤ 64
+  pub few_classes : All (λ p. p.class < 64) a.pins
+  -- no class has pins of both directions
+  pub one_direction : All (λ p. class_direction a p.class ≡ Some p.direction) a.pins
+  pub some_segments : 1 ≤ length a.segments
+  pub few_segments : length a.segments ≤ 16
+  pub segment_lengths : All (λ s. IsSegmentLength s.length) a.segments

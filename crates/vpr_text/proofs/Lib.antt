@@ -5,6 +5,7 @@ pub mod BadLines
 pub mod Splitting
 pub mod Joining
 pub mod Texts
+pub mod WordBytes
 pub mod Spelled
 pub mod NumberExamples
 pub mod Transfers

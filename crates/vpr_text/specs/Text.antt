@@ -1,13 +1,26 @@
 -- What splitting a text gives: its lines, or the first fault. This project's profile.
-use Rattle.std.specs.Prelude.{◌≡◌, ℕ, ◌^◌, Bool, not, ◌&&◌, ◌||◌, ◌==◌, nat_lt, nat_le, if◌then◌else◌, List, length, Option, None, Some, Result, Ok, Err}
+use Rattle.std.specs.Prelude.{◌≡◌, ℕ, ◌^◌, Bool, true, not, All, ◌&&◌, ◌||◌, ◌==◌, nat_lt, nat_le, if◌then◌else◌, List, length, Option, None, Some, Result, Ok, Err}
 use Rattle.std.specs.List.{slice_split, list_any, position_from}
 use Rattle.vpr_text.specs.declared.fault.TextFault.{TextFault}
 use Rattle.vpr_text.specs.declared.fault.TextFault.TheVariants.{TooLong, BadByte, Memory}
-use Rattle.vpr_text.specs.Words.{Line, is_line_feed, words_of}
+use Rattle.vpr_text.specs.Words.{Line, is_line_feed, is_comment_sign, is_separator, is_filled, words_of}
 
 -- a control byte other than a tab, a line feed, a vertical tab, a form feed and a carriage return
 abbrev pub is_bad : ℕ → Bool
 is_bad b = (nat_lt b 32 && not (nat_le 9 b && nat_le b 13)) || (b == 127)
+
+-- a byte that a word may have: one that neither separates words nor ends a line nor begins a comment, and isn't bad
+abbrev pub is_word_byte : ℕ → Bool
+is_word_byte b = not (is_separator b || is_line_feed b || is_comment_sign b || is_bad b)
+
+-- a word as texts have them: it isn't empty, and each byte is one that words may have
+pub record IsWord (word : List ℕ) : Type 0 where
+  pub filled : is_filled word ≡ true
+  pub bytes : All (λ b. is_word_byte b ≡ true) word
+
+-- lines consist of words
+abbrev pub HaveWords : List Line → Type 0
+HaveWords lines = All (λ l. All IsWord l.words) lines
 
 -- the first physical line that has a bad byte, where the bytes begin on line n
 abbrev pub bad_line_from : ℕ → List ℕ → Option ℕ
