@@ -15,10 +15,8 @@ use Rattle.net_file.specs.Judge.{first_fault, stands, is_bad_line, is_bad_count,
 use Rattle.net_file.specs.Lines.{kind_of, kind_at, is_element, is_pinlist, name_in, block_name_on, block_names, opened, latest}
 use Rattle.net_file.specs.Names.{is_among, with_name, with_names}
 use Rattle.net_file.specs.Blocks.{pinlists}
-use Rattle.net_file.specs.Reading.{line_fault_from}
 use Rattle.net_file.specs.Reads.{AreAccepted}
 use Rattle.net_file.proofs.Judging.{words_more}
-use Rattle.net_file.proofs.Related.{accepted}
 
 -- ---- a pinlist's line is nothing else
 
@@ -26,7 +24,7 @@ no_element_on : (w : List ℕ) (ws : List (List ℕ)) → is_pinlist (w ∷ ws) 
 unfolding is_text kind_of
 no_element_on w ws e = subst (λ v. is_element (v ∷ ws) ≡ false) (sym ((bytes_eq-Decides w (codes "pinlist:")).0 e)) refl
 
-no_element : (words : List (List ℕ)) → is_pinlist words ≡ true → is_element words ≡ false
+pub no_element : (words : List (List ℕ)) → is_pinlist words ≡ true → is_element words ≡ false
 no_element [] e = absurd cc
 no_element (w ∷ ws) e = no_element_on w ws e
 
@@ -34,7 +32,7 @@ stands_not_on : (block : Option BlockKind) (w : List ℕ) (ws : List (List ℕ))
 unfolding is_text kind_of
 stands_not_on block w ws e = subst (λ v. stands block (v ∷ ws) ≡ false) (sym ((bytes_eq-Decides w (codes "pinlist:")).0 e)) refl
 
-stands_not : (block : Option BlockKind) (words : List (List ℕ)) → is_pinlist words ≡ true → stands block words ≡ false
+pub stands_not : (block : Option BlockKind) (words : List (List ℕ)) → is_pinlist words ≡ true → stands block words ≡ false
 stands_not block [] e = absurd cc
 stands_not block (w ∷ ws) e = stands_not_on block w ws e
 
@@ -78,7 +76,7 @@ step false false true count blocks more a b c m h = absurd (ff (c refl))
     ff x = absurd cc
 step false false false count blocks more a b c m h = omega (arith, m, h)
 
-of_bad_line : (o p s : Bool) → cond o (not p) (not s) ≡ false → (p ≡ true → s ≡ false) → (p ≡ true → o ≡ true) × (p ≡ false → o ≡ false)
+pub of_bad_line : (o p s : Bool) → cond o (not p) (not s) ≡ false → (p ≡ true → s ≡ false) → (p ≡ true → o ≡ true) × (p ≡ false → o ≡ false)
 of_bad_line true true s h k = (λ e. refl, λ e. absurd cc)
 of_bad_line true false s h k = absurd cc
 of_bad_line false true true h k = absurd (ff (k refl))
@@ -113,7 +111,7 @@ one_more before l =
     one true x = refl
     one false x = refl
 
-opened_by : (before : List Line) (l : Line) → opened (before ++ l ∷ []) ≡ kind_at l.words
+pub opened_by : (before : List Line) (l : Line) → opened (before ++ l ∷ []) ≡ kind_at l.words
 unfolding opened
 opened_by before l = fold-append (λ _ k. kind_at k.words) None before (l ∷ [])
 
@@ -157,6 +155,6 @@ unfolding block_names opened
 none_have = (omega arith, omega arith)
 
 -- lines of which none is faulty have at most 20,000 pinlists, and so blocks
-pub few_blocks : (pins : ℕ) (ls : List Line) → line_fault_from pins [] ls ≡ None → length (pinlists ls) ≤ 20000
+pub few_pinlists : (pins : ℕ) (ls : List Line) → AreAccepted pins [] ls → length (pinlists ls) ≤ 20000
 unfolding pinlists
-few_blocks pins ls h = subst (λ n. n ≤ 20000) (sym (count_from [] ls)) (few_from pins [] ls none_have.0 none_have.1 (accepted pins [] ls h).0)
+few_pinlists pins ls h = subst (λ n. n ≤ 20000) (sym (count_from [] ls)) (few_from pins [] ls none_have.0 none_have.1 h)

@@ -7,4 +7,11 @@ pub mod Steps
 pub mod Related
 pub mod Limits
 pub mod BlockCount
+pub mod PinCounts
+pub mod Each
+pub mod Terminals
+pub mod Distinct
+pub mod BlockNames
+pub mod NameWords
+pub mod Facts
 pub mod Examples

@@ -54,7 +54,7 @@ position_other : (p : List ℕ → Bool) (k : ℕ) (names : List (List ℕ)) (x 
 position_other p k [] x apart = rw apart refl
 position_other p k (y ∷ ys) x apart = ap (cond (p y) (Some k)) (position_other p (k + 1) ys x apart)
 
-number_push : (names : List (List ℕ)) (x name : List ℕ) (b : Bool) → bytes_eq x name ≡ b → is_among names x ≡ false → number_among (names ++ x ∷ []) name ≡ cond b (Some (length names)) (number_among names name)
+pub number_push : (names : List (List ℕ)) (x name : List ℕ) (b : Bool) → bytes_eq x name ≡ b → is_among names x ≡ false → number_among (names ++ x ∷ []) name ≡ cond b (Some (length names)) (number_among names name)
 unfolding number_among is_among
 number_push names x name true e new =
     let one = one_from_same x name e in

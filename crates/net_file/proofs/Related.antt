@@ -54,7 +54,7 @@ first_of f n = fold (λ found k. option_or found (f k)) None (range_with_len 0 n
 first_next : (f : ℕ → Option NetFault) (n : ℕ) → first_of f (suc n) ≡ option_or (first_of f n) (f n)
 first_next f n = ap (first_of f) (sym (add-one n)) ∙ fold_next (λ found k. option_or found (f k)) None n
 
-each_none : (f : ℕ → Option NetFault) (n : ℕ) → first_of f n ≡ None → (k : ℕ) → k < n → f k ≡ None
+pub each_none : (f : ℕ → Option NetFault) (n : ℕ) → first_of f n ≡ None → (k : ℕ) → k < n → f k ≡ None
 each_none f zero e k lt = absurd (omega (arith, lt))
 each_none f (suc n) e k lt =
     let both = neither (first_of f n) (f n) (sym (first_next f n) ∙ e) in

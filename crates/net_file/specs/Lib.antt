@@ -11,3 +11,5 @@ pub mod Rows
 pub mod WholeFile
 pub mod Reading
 pub mod Reads
+pub mod Routed
+pub mod Facts

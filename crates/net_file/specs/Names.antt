@@ -1,5 +1,5 @@
 -- Names in order: a name is the list of its bytes, and no two of another spelling are one.
-use Rattle.std.specs.Prelude.{ℕ, Bool, if◌then◌else◌, List, [], ◌∷◌, ◌++◌, Option, fold}
+use Rattle.std.specs.Prelude.{◌≡◌, ℕ, ◌<◌, Bool, if◌then◌else◌, List, [], ◌∷◌, ◌++◌, length, Option, Some, fold, slice_index_or}
 use Rattle.std.specs.Str.{bytes_eq}
 use Rattle.std.specs.List.{list_any, position_from}
 
@@ -26,3 +26,7 @@ with_names names new = fold with_name names new
 -- each name once, in the order of first appearance
 abbrev pub distinct : List (List ℕ) → List (List ℕ)
 distinct names = with_names [] names
+
+-- no two of the names are one: each is found at its own place
+abbrev pub AreDifferent : List (List ℕ) → Type 0
+AreDifferent names = (n : ℕ) → n < length names → number_among names (slice_index_or names n []) ≡ Some n

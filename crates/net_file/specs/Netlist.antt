@@ -1,5 +1,5 @@
 -- A netlist as the record of its blocks and nets (VPR and T-VPack manual 4.30, "The Netlist File Format").
-use Rattle.std.specs.Prelude.{ℕ, ◌≤◌, Bool, List, length, Option}
+use Rattle.std.specs.Prelude.{ℕ, Bool, List, Option}
 use Rattle.net_file.specs.declared.parts.BlockKind.{BlockKind}
 use Rattle.net_file.specs.declared.parts.Terminal.{Terminal}
 
@@ -20,8 +20,3 @@ pub record Net : Type 0 where
 pub record Netlist : Type 0 where
   pub blocks : List Block
   pub nets : List Net
-
--- the limits that every netlist keeps (this project's profile)
-pub record IsWithinLimits (n : Netlist) : Type 0 where
-  pub few_blocks : length n.blocks ≤ 20000
-  pub few_nets : length n.nets ≤ 65535

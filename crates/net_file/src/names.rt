@@ -55,15 +55,15 @@ impl<'a> Names<'a> {
     }
 
     /// The number of a name, if it is one of them.
-    pub(crate) fn number(&self, name: &'a [u8]) -> Option<usize>
+    pub(crate) fn number(&self, name: &[u8]) -> Option<usize>
         ensures { result ≡ number_among self.now name.now }
     {
-        self.numbers.get(&name).copied()
+        self.numbers.get(name).copied()
     }
 
     /// Whether the name is one of them.
     #[tactic(auto, using(crate::proofs::Numbered::numbered))]
-    pub(crate) fn has(&self, name: &'a [u8]) -> bool
+    pub(crate) fn has(&self, name: &[u8]) -> bool
         ensures { result ≡ is_among self.now name.now }
     {
         self.number(name).is_some()

@@ -1,11 +1,14 @@
 //! The reader of a netlist file.
 
-ghost use Rattle.std.specs.Prelude.{◌≡◌, ◌≤◌, [], IfOk, Ok, length};
+ghost use Rattle.std.specs.Prelude.{◌≡◌, [], IfOk, Ok, None, length};
+ghost use Rattle.vpr_text.specs.Text.{HaveWords};
 ghost use Rattle.net_file.specs.Blocks.{blocks_of, pinlist_numbers};
+ghost use Rattle.net_file.specs.Facts.{names_of_blocks, IsNetlist};
 ghost use Rattle.net_file.specs.Netlist as netlist;
 ghost use Rattle.net_file.specs.Reads.{ReadsBytes};
 ghost use Rattle.net_file.specs.Seen.{seen_of};
-ghost use Rattle.net_file.specs.Reading.{Gives, unless_faulty, line_fault_from, completed, rows_of, reading, netlist_of};
+ghost use Rattle.net_file.specs.Reading.{Gives, unless_faulty, line_fault_from, nets_of, completed, rows_of, reading, netlist_of};
+ghost use Rattle.net_file.specs.WholeFile.{whole_fault};
 
 use crate::block::Block;
 use crate::blocks::{blocks_at, line_numbers, pinlists};
@@ -62,36 +65,42 @@ fn pinlist_numbers(alloc: Global, lines: &Lines) -> Result<Vec<u32>, AllocError>
     line_numbers(alloc, lines, &places)
 }
 
-/// The netlist of blocks and nets with these connections.
+/// The netlist of blocks and nets with these connections, where the lines say what was seen.
 #[tactic(auto, unfolding(crate::specs::Reading::completed))]
 fn completed<'a>(
     alloc: Global,
-    nets: &Names<'a>,
-    globals: &Names<'a>,
+    seen: Seen<'a>,
     blocks: Vec<Block<'a>>,
     rows: &[Row],
 ) -> Result<Netlist<'a>, NetFault>
-    requires few_blocks { length blocks.items ≤ 20000 }
-    requires few_nets { length nets.now ≤ 65535 }
-    ensures { Gives (λ n. n) result (completed nets.now globals.now blocks.entry.items rows.now) }
+    requires names { seen.blocks ≡ names_of_blocks blocks.items }
+    requires facts { whole_fault seen.nets seen.globals rows.now ≡ None
+        → IsNetlist (record { blocks = blocks.items; nets = nets_of seen.nets seen.globals rows.now }) }
+    ensures { Gives (λ n. n) result (completed seen.entry.nets seen.entry.globals blocks.entry.items rows.now) }
 {
-    if let Some(fault) = whole_fault(nets, globals, rows) {
+    if let Some(fault) = whole_fault(&seen.nets, &seen.globals, rows) {
         return Err(fault);
     }
-    let nets = nets_of(alloc, nets, globals, rows)?;
-    Ok(Netlist { blocks, nets })
+    let nets = nets_of(alloc, &seen.nets, &seen.globals, rows)?;
+    Ok(Netlist {
+        blocks,
+        nets,
+        block_names: seen.blocks,
+        net_names: seen.nets,
+    })
 }
 
 /// Lines as a netlist.
 #[tactic(auto, unfolding(crate::specs::Reading::reading, crate::specs::Reading::rows_of))]
 fn read<'a>(alloc: Global, pins: &[Pin], lines: &Lines<'a>) -> Result<Netlist<'a>, NetFault>
+    requires words { HaveWords lines.now }
     ensures { Gives (λ n. n) result (reading pins.now lines.now) }
 {
     let seen = seen_in(alloc, pins.len(), lines)?;
     let blocks = blocks_of(alloc, &seen.nets, lines)?;
     let numbers = pinlist_numbers(alloc, lines)?;
     let rows = by_net(alloc, pins, &numbers, &blocks, seen.nets.len())?;
-    completed(alloc, &seen.nets, &seen.globals, blocks, &rows)
+    completed(alloc, seen, blocks, &rows)
 }
 
 /// Bytes as a netlist.

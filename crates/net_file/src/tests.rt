@@ -74,6 +74,10 @@ fn reads_three_blocks(rt: HostRuntime) -> Result<(), Fail> {
         assert_eq!(rt; out.net(0), Some(1));
         assert_eq!(rt; out.net(1), None);
     }
+    assert_eq!(rt; netlist.block_named(b"out:y"), Some(2));
+    assert_eq!(rt; netlist.block_named(b"y"), None);
+    assert_eq!(rt; netlist.net_named(b"y"), Some(1));
+    assert_eq!(rt; netlist.net_named(b"c"), None);
     if let [a, y] = netlist.nets() {
         assert_eq!(rt; a.name(), b"a".as_slice());
         assert_eq!(rt; a.driver(), pad(0));
@@ -306,6 +310,22 @@ fn wide_blocks(alloc: Global, count: u32) -> Result<String, AllocError> {
     Ok(text)
 }
 
+/// A logic block of 64 pins, of which the first `nets` are each on a net of its own.
+fn last_block(alloc: Global, nets: u32) -> Result<String, AllocError> {
+    let mut text = String::new(alloc);
+    text.push_str(".clb last\npinlist:")?;
+    for p in 0..64 {
+        if p < nets {
+            let name = format!(in alloc; " last_{p}")?;
+            text.push_str(&name)?;
+        } else {
+            text.push_str(" open")?;
+        }
+    }
+    text.push_str("\n")?;
+    Ok(text)
+}
+
 #[test]
 fn keeps_the_limit_of_blocks(rt: HostRuntime) -> Result<(), Fail> {
     let arch = arch_with(rt.alloc(), TWO_INPUTS)?;
@@ -329,13 +349,11 @@ fn keeps_the_limit_of_nets(rt: HostRuntime) -> Result<(), Fail> {
     }
     let arch = arch_with(rt.alloc(), &pins)?;
     let mut text = wide_blocks(rt.alloc(), 1_023)?;
-    text.push_str(".clb last\npinlist:")?;
-    for _ in 0..63 {
-        text.push_str(" open")?;
-    }
-    text.push_str(" one_more\n")?;
+    let last = last_block(rt.alloc(), 63)?;
+    text.push_str(&last)?;
     let netlist = parse(rt.alloc(), text.as_bytes(), &arch)?;
-    assert_eq!(rt; netlist.nets().len(), 65_473);
+    assert_eq!(rt; netlist.nets().len(), 65_535);
+    assert_eq!(rt; netlist.net_named(b"last_62"), Some(65_534));
     let text = wide_blocks(rt.alloc(), 1_024)?;
     assert_eq!(rt;
         parse(rt.alloc(), text.as_bytes(), &arch).err(),

@@ -1,10 +1,13 @@
-use Rattle.std.proofs.Common.{◌≤◌, length, sym, ap, subst, ◌∙◌}
-use Rattle.net_file.proofs.Limits.{all_nets}
+use Rattle.std.proofs.Common.{sym, ap, subst, ◌∙◌}
+use Rattle.net_file.specs.Facts.{names_of_nets, IsNetlist}
+use Rattle.net_file.proofs.Facts.{net_names_are}
 use Rattle.net_file.proofs.reading.completed.Goals as goal
 
 pub invariant_of-result : goal.invariant_of-result
 invariant_of-result c =
+    let seen = c.args.seen in
     record {
-      few_blocks = c.requires.few_blocks;
-      few_nets = subst (λ n. n ≤ 65535) (sym (ap length c.in_ok-nets.ensures ∙ all_nets c.args.nets.now c.args.globals.now c.args.rows.now)) c.requires.few_nets;
+      netlist = subst (λ nets. IsNetlist (record { blocks = c.args.blocks.items; nets = nets })) (sym c.in_ok-nets.ensures) (c.requires.facts (sym c.whole_fault.ensures ∙ c.in_default.is));
+      block_names = c.requires.names;
+      net_names = sym (ap names_of_nets c.in_ok-nets.ensures ∙ net_names_are seen.nets seen.globals c.args.rows.now);
     }
