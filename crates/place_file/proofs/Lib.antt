@@ -1,5 +1,4 @@
 pub mod Placing
-pub mod Numbered
 pub mod Steps
 pub mod Placed
 pub mod Examples

@@ -1,15 +1,25 @@
 -- Sites and their places in the table.
 use Rattle.std.proofs.Common.{◌≡◌, ℕ, ◌<◌, Bool, true, false, ◌||◌, List, [], ◌∷◌, length, map, get_or, set, replicate, Option, Some, None, refl, sym, ap, subst, ◌∙◌, arith, ◌≢◌, zero, suc}
+use Rattle.std.specs.Prelude.{IfSome}
 use Rattle.std.specs.List.{list_any}
 use Rattle.std.proofs.lemmas.Bool.Decides.{nat_tests}
-use Rattle.std.proofs.lemmas.List.{get_or-set_same, get_or-set_other, get_or-replicate, length-set, length-replicate}
+use Rattle.std.proofs.lemmas.List.{get_or-set_same, get_or-set_other, get_or-replicate, length-map, length-set, length-replicate}
 use Rattle.net_file.specs.declared.parts.BlockKind.{BlockKind}
 use Rattle.net_file.specs.declared.parts.BlockKind.TheVariants.{InputPad, OutputPad, LogicBlock}
+use Rattle.net_file.specs.Facts.{names_of_blocks}
+use Rattle.net_file.specs.Names.{number_among}
+use Rattle.net_file.specs.Netlist.{Block}
+use Rattle.net_file.proofs.Distinct.{number_below}
 use Rattle.place_file.specs.declared.site.Array.{Array}
 use Rattle.place_file.specs.declared.site.Site.{Site}
 use Rattle.place_file.specs.Kept.{IsFit, IsTable, is_in_table, entry_of, table_size}
 use Rattle.place_file.specs.Placement.{is_site}
 use Rattle.place_file.specs.Sites.{same_site, is_on, is_occupied}
+
+-- the number of a block's name is that of a block
+pub block_within : (blocks : List Block) (name : List ℕ) (b : ℕ) → number_among (names_of_blocks blocks) name ≡ Some b → b < length blocks
+block_within blocks name b e =
+    subst (λ n. b < n) (length-map blocks (λ b. b.name)) (subst (λ r. IfSome r (λ n. n < length (names_of_blocks blocks))) e (number_below (names_of_blocks blocks) name))
 
 -- a site of an array is in the table
 pub site_in_table : (a : Array) (kind : BlockKind) (s : Site) → IsFit a → is_site a kind s ≡ true → is_in_table s ≡ true

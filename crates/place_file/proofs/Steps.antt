@@ -21,7 +21,8 @@ use Rattle.place_file.specs.Lines.{array_on, block_named, block_on, site_on}
 use Rattle.place_file.specs.Placement.{is_site, kind_at}
 use Rattle.place_file.specs.Reading.{Fails}
 use Rattle.place_file.specs.Sites.{is_row_of, site_in, sites_in, site_at, is_occupied}
-use Rattle.place_file.proofs.Numbered.{block_within, take_next}
+use Rattle.net_file.proofs.Ranges.{take_next}
+use Rattle.place_file.proofs.Placing.{block_within}
 
 -- ---- a row without a fault
 
@@ -198,7 +199,7 @@ pub header_fit : (io_rat : ℕ) (lines : List Line) → io_rat ≤ 16 → header
 unfolding header_fault
 header_fit io_rat lines few e =
     let size = true_from_not _ (header_by io_rat lines _ _ _ _ e).1 in
-    record { pads = few; columns = grind (arith, nat_tests, size); rows = grind (arith, nat_tests, size) }
+    record { pads = few; some_columns = grind (arith, nat_tests, size); columns = grind (arith, nat_tests, size); some_rows = grind (arith, nat_tests, size); rows = grind (arith, nat_tests, size) }
 
 -- ---- the rows behind the first two lines
 

@@ -4,3 +4,4 @@ pub mod Sites
 pub mod Judge
 pub mod Reading
 pub mod Kept
+pub mod Fields

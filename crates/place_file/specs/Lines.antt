@@ -1,7 +1,8 @@
 -- What the lines of a placement are (VPR and T-VPack manual 4.30). Words are counted from 0.
-use Rattle.std.specs.Prelude.{ℕ, Bool, ◌&&◌, ◌==◌, List, [], length, drop, map, Option, unwrap_or, is_some, slice_get, codes}
+use Rattle.std.specs.Prelude.{ℕ, Bool, ◌&&◌, ◌==◌, List, [], length, drop, Option, unwrap_or, is_some, slice_get, codes}
 use Rattle.vpr_text.specs.Words.{Line, words_at}
 use Rattle.arch_file.specs.Word.{is_at, number_at}
+use Rattle.net_file.specs.Facts.{names_of_blocks}
 use Rattle.net_file.specs.Names.{number_among}
 use Rattle.net_file.specs.Netlist.{Block}
 use Rattle.place_file.specs.declared.site.Array.{Array}
@@ -50,13 +51,9 @@ name_on words = unwrap_or (slice_get words 0) []
 abbrev pub site_on : List (List ℕ) → Site
 site_on words = record { x = number_on words 1; y = number_on words 2; subblk = number_on words 3 }
 
--- the names of the blocks
-abbrev pub names_of : List Block → List (List ℕ)
-names_of blocks = map (λ b. b.name) blocks
-
 -- the number of the block that a row names, if there is one
 abbrev pub block_named : List Block → List (List ℕ) → Option ℕ
-block_named blocks words = number_among (names_of blocks) (name_on words)
+block_named blocks words = number_among (names_of_blocks blocks) (name_on words)
 
 abbrev pub block_on : List Block → List (List ℕ) → ℕ
 block_on blocks words = unwrap_or (block_named blocks words) 0

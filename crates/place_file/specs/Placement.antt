@@ -1,5 +1,5 @@
 -- A placement, and what it is to be placed (VPR and T-VPack manual 4.30, "The Placement File Format").
-use Rattle.std.specs.Prelude.{◌≡◌, ℕ, ◌+◌, Bool, true, ◌&&◌, ◌||◌, ◌==◌, nat_le, nat_lt, List, length, Some, slice_get, slice_index_or}
+use Rattle.std.specs.Prelude.{◌≡◌, ℕ, ◌+◌, ◌≤◌, Bool, true, ◌&&◌, ◌||◌, ◌==◌, nat_le, nat_lt, List, length, Some, slice_get, slice_index_or}
 use Rattle.net_file.specs.declared.parts.BlockKind.{BlockKind}
 use Rattle.net_file.specs.declared.parts.BlockKind.TheVariants.{InputPad, OutputPad, LogicBlock}
 use Rattle.net_file.specs.Connections.{no_block}
@@ -12,6 +12,13 @@ pub record Placement : Type 0 where
   pub nx : ℕ
   pub ny : ℕ
   pub sites : List Site
+
+-- the limits that every placement keeps (this project's profile)
+pub record IsWithinLimits (p : Placement) : Type 0 where
+  pub some_columns : 1 ≤ p.nx
+  pub few_columns : p.nx ≤ 100
+  pub some_rows : 1 ≤ p.ny
+  pub few_rows : p.ny ≤ 100
 
 abbrev pub is_inside : ℕ → ℕ → Bool
 is_inside n v = nat_le 1 v && nat_le v n

@@ -4,12 +4,13 @@ ghost use Rattle.std.specs.Prelude.{◌≡◌, None, Some, length, slice_set};
 ghost use Rattle.place_file.specs.Judge.{row_fault};
 ghost use Rattle.place_file.specs.Kept.{IsFit};
 ghost use Rattle.place_file.specs.Lines.{is_row, site_on, block_on};
+ghost use Rattle.place_file.specs.Placement.{kind_at};
 
 use crate::fault::PlaceFault;
-use crate::names::NamedBlocks;
 use crate::site::{Array, Site, is_site};
 use crate::sites::Sites;
 use crate::words::Words;
+use net_file::{BlockKind, Netlist};
 
 /// Whether the line is a name and three numbers.
 #[tactic(auto, unfolding(crate::specs::Lines::is_row))]
@@ -30,32 +31,42 @@ fn site_on(words: &Words) -> Site
     }
 }
 
+/// The kind of block number `block`; that of an input past the last one.
+fn kind_at(netlist: &Netlist, block: usize) -> BlockKind
+    ensures { result ≡ kind_at netlist.now.blocks block }
+{
+    match netlist.blocks().get(block) {
+        Some(block) => block.kind(),
+        None => BlockKind::InputPad,
+    }
+}
+
 /// The first fault of row `words` on line `line`; a block whose row has none is put on its site.
-#[tactic(auto, using(crate::proofs::Placing::site_in_table, crate::proofs::Numbered::block_within), unfolding(crate::specs::Judge::row_fault))]
+#[tactic(auto, using(crate::proofs::Placing::site_in_table, crate::proofs::Placing::block_within), unfolding(crate::specs::Judge::row_fault))]
 pub(crate) fn judge(
     array: Array,
-    blocks: &NamedBlocks,
+    netlist: &Netlist,
     sites: &mut Sites,
     line: u32,
     words: &Words,
 ) -> Option<PlaceFault>
     requires fit { IsFit array }
-    requires count { length sites.now ≡ length blocks.now }
-    ensures exact { result ≡ row_fault array blocks.now sites.old line words.now }
+    requires count { length sites.now ≡ length netlist.now.blocks }
+    ensures exact { result ≡ row_fault array netlist.now.blocks sites.old line words.now }
     ensures put { result ≡ None → sites.new
-        ≡ slice_set sites.old (block_on blocks.now words.now) (Some (site_on words.now)) }
+        ≡ slice_set sites.old (block_on netlist.now.blocks words.now) (Some (site_on words.now)) }
 {
     if !is_row(words) {
         return Some(PlaceFault::BadLine(line));
     }
-    let Some(block) = blocks.number(words.name()) else {
+    let Some(block) = netlist.block_named(words.name()) else {
         return Some(PlaceFault::UnknownBlock(line));
     };
     if sites.at(block).is_some() {
         return Some(PlaceFault::PlacedTwice(line));
     }
     let site = site_on(words);
-    if !is_site(array, blocks.kind(block), site) {
+    if !is_site(array, kind_at(netlist, block), site) {
         return Some(PlaceFault::OffSite(line));
     }
     if sites.is_occupied(site) {

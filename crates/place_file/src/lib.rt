@@ -4,7 +4,6 @@
 mod fault;
 mod header;
 mod judge;
-mod names;
 mod placement;
 mod reading;
 mod rows;

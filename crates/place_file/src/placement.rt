@@ -1,6 +1,7 @@
 //! A placement and its look-ups.
 
 ghost use Rattle.std.specs.Prelude.{◌≡◌, slice_get};
+ghost use Rattle.place_file.specs.Placement.{IsWithinLimits};
 
 use crate::site::Site;
 use std::marker::Model;
@@ -18,20 +19,28 @@ impl Model for Placement {
 
     ghost Value = { placement.Placement };
 
-    ghost view = { λ p. record { nx = p.nx; ny = p.ny; sites = p.sites.items } };
+    ghost use Rattle.place_file.specs.Fields.{placement_in};
+
+    ghost view = { placement_in };
+
+    ghost use Rattle.place_file.specs.Placement.{IsWithinLimits};
+
+    ghost invariant = { λ p. IsWithinLimits (placement_in p) };
 }
 
 impl Placement {
     /// How many columns of logic blocks the array has.
     pub fn nx(&self) -> u32
-        ensures { result ≡ self.now.nx }
+        ensures entry { result ≡ self.now.nx }
+        ensures limits { IsWithinLimits self.now }
     {
         self.nx
     }
 
     /// How many rows of logic blocks the array has.
     pub fn ny(&self) -> u32
-        ensures { result ≡ self.now.ny }
+        ensures entry { result ≡ self.now.ny }
+        ensures limits { IsWithinLimits self.now }
     {
         self.ny
     }

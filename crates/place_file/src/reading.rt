@@ -6,11 +6,10 @@ ghost use Rattle.place_file.specs.Reading.{Gives, reading, placement_of};
 
 use crate::fault::PlaceFault;
 use crate::header::{array_on, header_fault};
-use crate::names::NamedBlocks;
 use crate::placement::Placement;
 use crate::rows::placing;
 use arch_file::Arch;
-use net_file::{Block, Netlist};
+use net_file::Netlist;
 use std::alloc::Global;
 use vpr_text::{Lines, TextFault, lines};
 
@@ -19,17 +18,16 @@ use vpr_text::{Lines, TextFault, lines};
 fn read(
     alloc: Global,
     io_rat: u32,
-    blocks: &[Block],
+    netlist: &Netlist,
     lines: &Lines,
 ) -> Result<Placement, PlaceFault>
     requires { io_rat ≤ 16 }
-    ensures { Gives (λ p. p) result (reading io_rat blocks.now lines.now) }
+    ensures { Gives (λ p. p) result (reading io_rat netlist.now.blocks lines.now) }
 {
     if let Some(fault) = header_fault(io_rat, lines) {
         return Err(fault);
     }
-    let blocks = NamedBlocks::new(alloc, blocks)?;
-    placing(alloc, array_on(io_rat, lines), &blocks, lines)
+    placing(alloc, array_on(io_rat, lines), netlist, lines)
 }
 
 /// Bytes as a placement.
@@ -38,13 +36,13 @@ fn placement_in(
     alloc: Global,
     source: &[u8],
     io_rat: u32,
-    blocks: &[Block],
+    netlist: &Netlist,
 ) -> Result<Placement, PlaceFault>
     requires { io_rat ≤ 16 }
-    ensures { Gives (λ p. p) result (placement_of io_rat blocks.now source.now) }
+    ensures { Gives (λ p. p) result (placement_of io_rat netlist.now.blocks source.now) }
 {
     match lines(alloc, source) {
-        Ok(lines) => read(alloc, io_rat, blocks, &lines),
+        Ok(lines) => read(alloc, io_rat, netlist, &lines),
         Err(TextFault::Memory) => Err(PlaceFault::Memory),
         Err(fault) => Err(PlaceFault::Text(fault)),
     }
@@ -67,5 +65,5 @@ pub fn parse(
     // All blocks stand on sites of their kind, and different blocks on different sites.
     ensures placed { IfOk result (λ p. IsPlaced arch.now.io_rat netlist.now.blocks p) }
 {
-    placement_in(alloc, source, arch.io_rat(), netlist.blocks())
+    placement_in(alloc, source, arch.io_rat(), netlist)
 }

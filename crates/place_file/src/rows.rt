@@ -9,11 +9,11 @@ ghost use Rattle.place_file.specs.Sites.{sites_in};
 
 use crate::fault::PlaceFault;
 use crate::judge::judge;
-use crate::names::NamedBlocks;
 use crate::placement::Placement;
 use crate::site::Array;
 use crate::sites::Sites;
 use crate::words::Words;
+use net_file::Netlist;
 use std::alloc::Global;
 use vpr_text::Lines;
 
@@ -21,18 +21,19 @@ use vpr_text::Lines;
 fn sites_in(
     alloc: Global,
     array: Array,
-    blocks: &NamedBlocks,
+    netlist: &Netlist,
     lines: &Lines,
 ) -> Result<Sites, PlaceFault>
     requires fit { IsFit array }
     requires count { 2 ≤ length lines.now }
-    ensures { Gives (λ s. s) result (unless_faulty (rows_fault_from array blocks.now [] (rows_of lines.now))
-        (Ok (sites_in blocks.now (rows_of lines.now)))) }
+    ensures { Gives (λ s. s) result (unless_faulty (rows_fault_from array netlist.now.blocks [] (rows_of lines.now))
+        (Ok (sites_in netlist.now.blocks (rows_of lines.now)))) }
 {
+    let blocks = netlist.blocks();
     let mut sites = Sites::new(alloc, blocks.len())?;
     for row in 0..lines.len() - 2 {
         let words = Words::new(lines, row + 2);
-        if let Some(fault) = judge(array, blocks, &mut sites, lines.at(row + 2), &words) {
+        if let Some(fault) = judge(array, netlist, &mut sites, lines.at(row + 2), &words) {
             return Err(fault);
         }
     }
@@ -42,6 +43,7 @@ fn sites_in(
 /// The placement with these sites.
 #[tactic(auto, unfolding(crate::specs::Reading::completed))]
 fn completed(alloc: Global, array: Array, sites: &Sites) -> Result<Placement, PlaceFault>
+    requires { IsFit array }
     ensures { Gives (λ p. p) result (completed array sites.now) }
 {
     if let Some(block) = sites.first_missing() {
@@ -60,13 +62,13 @@ fn completed(alloc: Global, array: Array, sites: &Sites) -> Result<Placement, Pl
 pub(crate) fn placing(
     alloc: Global,
     array: Array,
-    blocks: &NamedBlocks,
+    netlist: &Netlist,
     lines: &Lines,
 ) -> Result<Placement, PlaceFault>
     requires fit { IsFit array }
     requires count { 2 ≤ length lines.now }
-    ensures { Gives (λ p. p) result (placing array blocks.now (rows_of lines.now)) }
+    ensures { Gives (λ p. p) result (placing array netlist.now.blocks (rows_of lines.now)) }
 {
-    let sites = sites_in(alloc, array, blocks, lines)?;
+    let sites = sites_in(alloc, array, netlist, lines)?;
     completed(alloc, array, &sites)
 }

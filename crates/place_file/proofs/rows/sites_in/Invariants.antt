@@ -4,4 +4,4 @@ use Rattle.place_file.proofs.rows.sites_in.Given as goal
 
 -- the sites so far are those of the rows so far, and none of them is faulty
 abbrev pub invariant-loop-row : goal.invariant-loop-row
-invariant-loop-row l = IsSoFar l.array l.blocks (rows_of l.lines) l.row l.sites
+invariant-loop-row l = IsSoFar l.array l.netlist.blocks (rows_of l.lines) l.row l.sites
