@@ -34,3 +34,7 @@ pub mod OpinDegrees
 pub mod NodeSuccessors
 pub mod FirstFaults
 pub mod Problems
+pub mod Ascending
+pub mod Designs
+pub mod DesignsRead
+pub mod DesignExamples

@@ -18,6 +18,7 @@ pub mod Pushes
 pub mod Fanouts
 pub mod Terminals
 pub mod Problems
+pub mod Designs
 pub mod NodeSuccessors
 pub mod Same
 pub mod SameLaws

@@ -6,6 +6,7 @@ mod block;
 mod channel;
 mod copies;
 mod decoding;
+mod design;
 mod device;
 mod edges;
 mod fanout;
