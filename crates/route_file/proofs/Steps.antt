@@ -1,0 +1,98 @@
+-- Reading line by line, as the loop does.
+use Rattle.std.proofs.Common.{◌≡◌, ℕ, ◌+◌, ◌<◌, ◌≤◌, List, [], ◌∷◌, length, get_or, take, drop, Option, Some, None, Result, Ok, Err, refl, sym, ap, subst, ◌∙◌, add-one, zero-add, arith}
+use Rattle.std.specs.List.{range_with_len}
+use Rattle.std.specs.Option.{option_or}
+use Rattle.std.proofs.Math.Seq.{drop-cons}
+use Rattle.std.proofs.lemmas.List.{drop_all, take_all, take_more, get_or-drop, ext_get_or, length-map}
+use Rattle.std.proofs.lemmas.List.FromFn.{length-range_with_len, get_or-map-range_with_len}
+use Rattle.vpr_text.specs.Words.{Line, no_line, number_at, words_at}
+use Rattle.net_file.specs.Netlist.{Netlist}
+use Rattle.rr_graph.specs.Fabric.{Fabric}
+use Rattle.route_file.specs.declared.entry.Entry.{Entry}
+use Rattle.route_file.specs.declared.fault.RouteFileFault.{RouteFileFault}
+use Rattle.route_file.specs.declared.fault.RouteFileFault.TheVariants as route
+use Rattle.route_file.specs.declared.seen.Seen.{Seen}
+use Rattle.route_file.specs.Judge.{judge, fault_in, line_fault, fault_from}
+use Rattle.route_file.specs.Reading.{Fails}
+use Rattle.route_file.specs.Seen.{IsSeen, Notes, entry_after, routed_list, lists_by_net}
+use Rattle.route_file.proofs.Adding.{line_added}
+use Rattle.route_file.proofs.Judged.{judged_same}
+
+module _ (netlist : Netlist) (f : Fabric) (ls : List Line) where
+  abbrev line_at : ℕ → Line
+  line_at i = get_or ls i no_line
+
+  -- the fault of line i, and the first from line i on
+  abbrev fault_of : ℕ → Option RouteFileFault
+  fault_of i = line_fault netlist f (take i ls) (line_at i)
+
+  abbrev first_from : ℕ → Option RouteFileFault
+  first_from i = fault_from netlist f (take i ls) (drop i ls)
+
+  opens : (i : ℕ) → i < length ls → first_from i ≡ option_or (fault_of i) (first_from (i + 1))
+  unfolding fault_from
+  opens i lt =
+      let rest : drop i ls ≡ line_at i ∷ drop (i + 1) ls = rw add-one (drop-cons ls i no_line lt) in
+      ap (fault_from netlist f (take i ls)) rest ∙ ap (λ front. option_or (fault_of i) (fault_from netlist f front (drop (i + 1) ls))) (sym (take_more ls i no_line lt))
+
+  -- what the lines so far say is kept, and none of them is faulty
+  abbrev pub IsSoFar : ℕ → Seen → Type 0
+  IsSoFar i seen = IsSeen netlist f (take i ls) seen × (first_from i ≡ fault_from netlist f [] ls)
+
+  pub so_far_none : (seen : Seen) → IsSeen netlist f [] seen → IsSoFar 0 seen
+  so_far_none seen h = (h, refl)
+
+  judged_at : (i line : ℕ) (words : List (List ℕ)) (seen : Seen) (r : Result Entry RouteFileFault) → line ≡ number_at ls i → words ≡ words_at ls i → r ≡ entry_after netlist f seen line words → IsSoFar i seen → r ≡ judge netlist f (take i ls) (line_at i)
+  judged_at i line words seen r at here is h = is ∙ rw (at, here) (judged_same netlist f (take i ls) (line_at i) seen h.0)
+
+  pub stepped : (i line : ℕ) (words : List (List ℕ)) (old new : Seen) (r : Result Entry RouteFileFault) (e : Entry) → i < length ls → line ≡ number_at ls i → words ≡ words_at ls i → r ≡ entry_after netlist f old line words
+      → r ≡ Ok e → Notes f old new e → IsSoFar i old → IsSoFar (i + 1) new
+  stepped i line words old new r e lt at here is ok notes h =
+      let judged : judge netlist f (take i ls) (line_at i) ≡ Ok e = sym (judged_at i line words old r at here is h) ∙ ok in
+      let no_fault : fault_of i ≡ None = ap fault_in judged in (
+        subst (λ front. IsSeen netlist f front new) (sym (take_more ls i no_line lt)) (line_added netlist f (take i ls) (line_at i) old new e h.0 judged notes),
+        ap (λ x. option_or x (first_from (i + 1))) (sym no_fault) ∙ sym (opens i lt) ∙ h.1,
+      )
+
+  pub refused : (i line : ℕ) (words : List (List ℕ)) (seen : Seen) (r : Result Entry RouteFileFault) (fault : RouteFileFault) → i < length ls → line ≡ number_at ls i → words ≡ words_at ls i → r ≡ entry_after netlist f seen line words
+      → r ≡ Err fault → IsSoFar i seen → fault_from netlist f [] ls ≡ Some fault
+  refused i line words seen r fault lt at here is faulty h =
+      let judged : judge netlist f (take i ls) (line_at i) ≡ Err fault = sym (judged_at i line words seen r at here is h) ∙ faulty in
+      let one : fault_of i ≡ Some fault = ap fault_in judged in
+      sym h.1 ∙ opens i lt ∙ ap (λ x. option_or x (first_from (i + 1))) one
+
+  pub ended : (i : ℕ) (seen : Seen) → length ls ≤ i → IsSoFar i seen → (fault_from netlist f [] ls ≡ None) × (seen.lists.items ≡ lists_by_net netlist f ls)
+  unfolding fault_from
+  ended i seen past h =
+      let count = length netlist.nets in
+      let all : IsSeen netlist f ls seen = subst (λ front. IsSeen netlist f front seen) (take_all i ls past) h.0 in
+      let long : length (lists_by_net netlist f ls) ≡ count = length-map (range_with_len 0 count) (routed_list netlist f ls) ∙ length-range_with_len 0 count in (
+        sym h.1 ∙ ap (fault_from netlist f (take i ls)) (drop_all i ls past),
+        ext_get_or None seen.lists.items (lists_by_net netlist f ls) (all.lists_count ∙ sym long)
+            (λ n lt.
+            let within : n < count = subst (λ k. n < k) all.lists_count lt in
+            all.lists n within ∙ sym (get_or-map-range_with_len (routed_list netlist f ls) 0 count n n None within (zero-add n))),
+      )
+
+-- ---- a fault that was found
+
+pub fails_is : {Y : Type 0} (fault : RouteFileFault) (given : Result Y RouteFileFault) → given ≡ Err fault → Fails fault given
+fails_is (route.Text f) given e = e
+fails_is (route.BadLine n) given e = e
+fails_is (route.ArraySize n) given e = e
+fails_is (route.UnknownNet n) given e = e
+fails_is (route.NetTwice n) given e = e
+fails_is (route.NoNode n) given e = e
+fails_is (route.Detached n) given e = e
+fails_is route.Memory given e = tt
+
+-- ---- the lines behind the first two
+
+row_line : (lines : List Line) (row : ℕ) → get_or lines (row + 2) no_line ≡ get_or (drop 2 lines) row no_line
+row_line lines row = let e : row + 2 ≡ 2 + row = omega arith in rw e (sym (get_or-drop 2 lines row no_line))
+
+pub row_number : (lines : List Line) (row : ℕ) → number_at lines (row + 2) ≡ number_at (drop 2 lines) row
+row_number lines row = ap (λ l. l.number) (row_line lines row)
+
+pub row_words : (lines : List Line) (row : ℕ) → words_at lines (row + 2) ≡ words_at (drop 2 lines) row
+row_words lines row = ap (λ l. l.words) (row_line lines row)

@@ -1,0 +1,19 @@
+use Rattle.std.proofs.Common.{subst}
+use Rattle.vpr_text.specs.Output.{Sends, stream}
+use Rattle.vpr_text.proofs.Printing.{sends_none}
+use Rattle.route_file.proofs.NodeTexts.{line_of_node, no_line}
+use Rattle.route_file.proofs.nodes.put_node_at.Goals as goal
+
+pub returns-in-None : goal.returns-in-None
+returns-in-None g c =
+    let sink = g.W.ByteSink in
+    let s = stream (sink.taken c.args.sink.now) (sink.failed c.args.sink.now) c.args.out.now in
+    subst (Sends s s) (no_line c.args.device.now c.args.id c.in-None.ensures.node) (sends_none s)
+
+pub returns : goal.returns
+returns g c =
+    let sink = g.W.ByteSink in
+    let s = stream (sink.taken c.args.sink.now) (sink.failed c.args.sink.now) c.args.out.now in
+    let t = stream (sink.taken c.put_node.new.sink) (sink.failed c.put_node.new.sink) c.put_node.new.out in
+    let text = line_of_node c.args.device.now c.args.id c.in-Some.node c.in-Some-span.span c.in-Some-label.label c.in-Some.ensures.node c.in-Some-span.ensures c.in-Some-label.ensures in
+    subst (Sends s t) text c.put_node.ensures

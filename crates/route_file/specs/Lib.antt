@@ -1,0 +1,17 @@
+pub mod Words
+pub mod NodeWords
+pub mod NodeLine
+pub mod NetLine
+pub mod Sections
+pub mod Judge
+pub mod Reading
+pub mod Reads
+pub mod Kept
+pub mod Seen
+pub mod Fields
+pub mod TextLine
+pub mod PrintedNodes
+pub mod Text
+pub mod Design
+pub mod Writes
+pub mod ReadBack

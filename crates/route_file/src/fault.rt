@@ -1,0 +1,54 @@
+//! Why a routing could not be read.
+
+ghost use Rattle.std.specs.Prelude.{◌≡◌};
+ghost use Rattle.route_file.specs.declared.fault.RouteFileFault.TheVariants.{Memory};
+
+use std::alloc::{AllocError, AllocFailed};
+use thiserror::Error;
+use vpr_text::TextFault;
+
+/// What is wrong with a `.route` file. A line is the number of the faulty logical line: that of its first physical line,
+/// counted from 1; 0 is the end of the file.
+#[derive(Clone, Copy, Debug, PartialEq, Eq, Error)]
+pub enum RouteFileFault {
+    /// The text has no lines.
+    #[error("{0}")]
+    Text(TextFault),
+    /// The line is none that can stand there; at line 0, one of the first two lines isn't there.
+    #[error("line {0} can't stand there")]
+    BadLine(u32),
+    /// The array has another size than the device.
+    #[error("line {0} has another size")]
+    ArraySize(u32),
+    /// The netlist has no net of that name, or none that is written in this form.
+    #[error("line {0} names no net")]
+    UnknownNet(u32),
+    /// A line before begins the section of the same net.
+    #[error("line {0} names a net again")]
+    NetTwice(u32),
+    /// The device has no such node.
+    #[error("line {0} names no node")]
+    NoNode(u32),
+    /// Behind a sink stands a node that didn't stand in the net's section before.
+    #[error("line {0} begins off the tree")]
+    Detached(u32),
+    /// Memory ran out.
+    #[error("memory ran out")]
+    Memory,
+}
+
+impl From<AllocError> for RouteFileFault {
+    ghost from_gives = { λ _ e. e ≡ Memory };
+
+    fn from(_e: AllocError) -> RouteFileFault {
+        RouteFileFault::Memory
+    }
+}
+
+impl<T: Drop> From<AllocFailed<T>> for RouteFileFault {
+    ghost from_gives = { λ _ e. e ≡ Memory };
+
+    fn from(_e: AllocFailed<T>) -> RouteFileFault {
+        RouteFileFault::Memory
+    }
+}

@@ -1,0 +1,117 @@
+//! A line, given what is kept of those before it.
+
+ghost use Rattle.std.specs.Prelude.{◌≡◌, ◌||◌, false, slice_index_or};
+ghost use Rattle.route_file.specs.Judge.{net_entry, block_entry, node_entry, section_entry};
+ghost use Rattle.route_file.specs.NetLine.{is_net_words, is_plain_form, is_global_form};
+ghost use Rattle.route_file.specs.Seen.{is_off, entry_after};
+
+use crate::entry::Entry;
+use crate::fault::RouteFileFault;
+use crate::net_line::{is_global_at, is_global_form, is_plain_form, is_routed_at, net_on};
+use crate::node_line::{node_told, text_of};
+use crate::seen::Seen;
+use crate::words::Words;
+use net_file::Netlist;
+use rr_graph::Device;
+
+/// Whether the line has a form of nets' lines.
+fn is_net_form(words: &Words) -> bool
+    ensures { result ≡ (is_plain_form words.now || is_global_form words.now) }
+{
+    is_plain_form(words) || is_global_form(words)
+}
+
+/// The line of a net.
+#[tactic(auto, unfolding(crate::specs::Judge::net_entry))]
+fn net_entry(
+    seen: &Seen,
+    netlist: &Netlist,
+    line: u32,
+    words: &Words,
+) -> Result<Entry, RouteFileFault>
+    ensures { result ≡ net_entry netlist.now (λ n. slice_index_or seen.now.had.items n false) line words.now }
+{
+    if !is_net_form(words) {
+        return Err(RouteFileFault::BadLine(line));
+    }
+    let Some(net) = net_on(netlist, words) else {
+        return Err(RouteFileFault::UnknownNet(line));
+    };
+    if seen.had(net) {
+        return Err(RouteFileFault::NetTwice(line));
+    }
+    Ok(Entry::NetLine(net))
+}
+
+/// A line behind that of a global net.
+fn block_entry(line: u32, words: &Words) -> Result<Entry, RouteFileFault>
+    ensures { result ≡ block_entry line words.now }
+{
+    if words.is(0, "Block") {
+        Ok(Entry::BlockLine)
+    } else {
+        Err(RouteFileFault::BadLine(line))
+    }
+}
+
+/// A line behind that of routed net `net`.
+#[tactic(auto, unfolding(crate::specs::Judge::node_entry))]
+fn node_entry(
+    seen: &Seen,
+    device: &Device,
+    net: u32,
+    line: u32,
+    words: &Words,
+) -> Result<Entry, RouteFileFault>
+    ensures { result ≡ node_entry device.now (is_off device.now seen.now.last seen.now.owners.items net) line words.now }
+{
+    let Some(text) = text_of(words) else {
+        return Err(RouteFileFault::BadLine(line));
+    };
+    let Some(node) = node_told(device, text) else {
+        return Err(RouteFileFault::NoNode(line));
+    };
+    if seen.is_off(device, net, node) {
+        return Err(RouteFileFault::Detached(line));
+    }
+    Ok(Entry::NodeLine(node))
+}
+
+/// A line of a net's section.
+fn section_entry(
+    seen: &Seen,
+    netlist: &Netlist,
+    device: &Device,
+    line: u32,
+    words: &Words,
+) -> Result<Entry, RouteFileFault>
+    ensures { result ≡ section_entry netlist.now device.now (is_off device.now seen.now.last seen.now.owners.items) line words.now seen.now.net }
+{
+    let Some(net) = seen.net else {
+        return Err(RouteFileFault::BadLine(line));
+    };
+    if is_global_at(netlist, net as usize) {
+        return block_entry(line, words);
+    }
+    if !is_routed_at(netlist, net as usize) {
+        return Err(RouteFileFault::BadLine(line));
+    }
+    node_entry(seen, device, net, line, words)
+}
+
+/// A line with this number and these words.
+#[tactic(auto, unfolding(crate::specs::Seen::entry_after))]
+pub(crate) fn judge(
+    seen: &Seen,
+    netlist: &Netlist,
+    device: &Device,
+    line: u32,
+    words: &Words,
+) -> Result<Entry, RouteFileFault>
+    ensures { result ≡ entry_after netlist.now device.now seen.now line words.now }
+{
+    if words.is(0, "Net") {
+        return net_entry(seen, netlist, line, words);
+    }
+    section_entry(seen, netlist, device, line, words)
+}

@@ -1,0 +1,271 @@
+//! The node that a line names.
+
+ghost use Rattle.std.specs.Prelude.{◌≡◌, false};
+ghost use Rattle.std.specs.Option.{option_map_or};
+ghost use Rattle.rr_graph.specs.Nodes.{label_by};
+ghost use Rattle.route_file.specs.Kept.{beginning_of, is_told_at};
+ghost use Rattle.route_file.specs.NodeLine.{kind_of, label_from, kind_on, label_on, same_label, takes, takes_both, is_wire, is_place_line, is_span_line, place_text, span_text, text_of, are_ends, node_told};
+ghost use Rattle.route_file.specs.NodeWords.{node_words};
+
+use crate::node_words::NodeWords;
+use crate::words::{Words, is};
+use rr_graph::{Device, Kind, Label, Node, Span};
+
+/// What a node's line tells: its kind, its two ends, which may be one place, and what its number counts.
+#[derive(Clone, Copy, Debug)]
+pub(crate) struct NodeText {
+    pub(crate) kind: Kind,
+    pub(crate) x1: u32,
+    pub(crate) y1: u32,
+    pub(crate) x2: u32,
+    pub(crate) y2: u32,
+    pub(crate) label: Label,
+    pub(crate) number: u32,
+}
+
+/// The kind of node that a line's first word tells.
+#[tactic(auto, unfolding(crate::specs::NodeLine::kind_of))]
+fn kind_of(word: &[u8]) -> Option<Kind>
+    ensures { result ≡ kind_of word.now }
+{
+    if is(word, "SOURCE") {
+        return Some(Kind::Source);
+    }
+    if is(word, "SINK") {
+        return Some(Kind::Sink);
+    }
+    if is(word, "OPIN") {
+        return Some(Kind::Opin);
+    }
+    if is(word, "IPIN") {
+        return Some(Kind::Ipin);
+    }
+    if is(word, "CHANX") {
+        return Some(Kind::Chanx);
+    }
+    if is(word, "CHANY") {
+        return Some(Kind::Chany);
+    }
+    None
+}
+
+/// What the number of a node counts, by the word before it.
+#[tactic(auto, unfolding(crate::specs::NodeLine::label_from))]
+fn label_from(word: &[u8]) -> Option<Label>
+    ensures { result ≡ label_from word.now }
+{
+    if is(word, "Class:") {
+        return Some(Label::Class);
+    }
+    if is(word, "Pin:") {
+        return Some(Label::Pin);
+    }
+    if is(word, "Pad:") {
+        return Some(Label::Pad);
+    }
+    if is(word, "Track:") {
+        return Some(Label::Track);
+    }
+    None
+}
+
+fn kind_on(words: &NodeWords) -> Option<Kind>
+    ensures { result ≡ kind_on words.now }
+{
+    kind_of(words.word(0)?)
+}
+
+fn label_on(words: &NodeWords, j: usize) -> Option<Label>
+    ensures { result ≡ label_on words.now j }
+{
+    label_from(words.word(j)?)
+}
+
+fn same_label(a: Label, b: Label) -> bool
+    ensures { result ≡ same_label a b }
+{
+    match (a, b) {
+        (Label::Class, Label::Class) => true,
+        (Label::Pin, Label::Pin) => true,
+        (Label::Pad, Label::Pad) => true,
+        (Label::Track, Label::Track) => true,
+        _ => false,
+    }
+}
+
+/// What the number of a node of this kind counts, at a logic block or at a pad.
+fn label_by(kind: Kind, is_block: bool) -> Label
+    ensures { result ≡ label_by kind is_block }
+{
+    match kind {
+        Kind::Source | Kind::Sink => { if is_block { Label::Class } else { Label::Pad } }
+        Kind::Opin | Kind::Ipin => { if is_block { Label::Pin } else { Label::Pad } }
+        Kind::Chanx | Kind::Chany => Label::Track,
+    }
+}
+
+/// Whether nodes of the kind have this label somewhere.
+#[tactic(auto, unfolding(crate::specs::NodeLine::takes))]
+fn takes(kind: Kind, label: Label) -> bool
+    ensures { result ≡ takes kind label }
+{
+    same_label(label, label_by(kind, true)) || same_label(label, label_by(kind, false))
+}
+
+fn takes_both(kind: Option<Kind>, label: Option<Label>) -> bool
+    ensures { result ≡ takes_both kind label }
+{
+    match (kind, label) {
+        (Some(kind), Some(label)) => takes(kind, label),
+        _ => false,
+    }
+}
+
+#[tactic(auto, unfolding(crate::specs::NodeLine::is_wire))]
+fn is_wire(kind: Kind) -> bool
+    ensures { result ≡ is_wire kind }
+{
+    match kind {
+        Kind::Chanx | Kind::Chany => true,
+        Kind::Source | Kind::Sink | Kind::Opin | Kind::Ipin => false,
+    }
+}
+
+/// Whether the line begins as that of a wire.
+fn begins_wire(words: &NodeWords) -> bool
+    ensures { result ≡ option_map_or is_wire (kind_on words.now) false }
+{
+    match kind_on(words) {
+        Some(kind) => is_wire(kind),
+        None => false,
+    }
+}
+
+/// Whether the line tells a node by one place.
+#[tactic(auto, unfolding(crate::specs::NodeLine::is_place_line))]
+fn is_place_line(words: &NodeWords) -> bool
+    ensures { result ≡ is_place_line words.now }
+{
+    words.len() == 5
+        && words.is_number(1)
+        && words.is_number(2)
+        && takes_both(kind_on(words), label_on(words, 3))
+        && words.is_number(4)
+}
+
+/// Whether the line tells a wire by its two ends.
+#[tactic(auto, unfolding(crate::specs::NodeLine::is_span_line))]
+fn is_span_line(words: &NodeWords) -> bool
+    ensures { result ≡ is_span_line words.now }
+{
+    words.len() == 8
+        && begins_wire(words)
+        && words.is_number(1)
+        && words.is_number(2)
+        && words.is(3, "to")
+        && words.is_number(4)
+        && words.is_number(5)
+        && takes_both(kind_on(words), label_on(words, 6))
+        && words.is_number(7)
+}
+
+#[tactic(auto, unfolding(crate::specs::NodeLine::place_text))]
+fn place_text(words: &NodeWords) -> NodeText
+    ensures { result ≡ place_text words.now }
+{
+    NodeText {
+        kind: kind_on(words).unwrap_or(Kind::Source),
+        x1: words.number_on(1),
+        y1: words.number_on(2),
+        x2: words.number_on(1),
+        y2: words.number_on(2),
+        label: label_on(words, 3).unwrap_or(Label::Class),
+        number: words.number_on(4),
+    }
+}
+
+#[tactic(auto, unfolding(crate::specs::NodeLine::span_text))]
+fn span_text(words: &NodeWords) -> NodeText
+    ensures { result ≡ span_text words.now }
+{
+    NodeText {
+        kind: kind_on(words).unwrap_or(Kind::Source),
+        x1: words.number_on(1),
+        y1: words.number_on(2),
+        x2: words.number_on(4),
+        y2: words.number_on(5),
+        label: label_on(words, 6).unwrap_or(Label::Class),
+        number: words.number_on(7),
+    }
+}
+
+/// What the words of a node's line tell.
+#[tactic(auto, unfolding(crate::specs::NodeLine::text_of))]
+fn text_in(words: &NodeWords) -> Option<NodeText>
+    ensures { result ≡ text_of words.now }
+{
+    if is_place_line(words) {
+        return Some(place_text(words));
+    }
+    if is_span_line(words) {
+        return Some(span_text(words));
+    }
+    None
+}
+
+/// What a line tells, if it is a node's line.
+#[tactic(auto, using(crate::proofs::Told::too_long))]
+pub(crate) fn text_of(words: &Words) -> Option<NodeText>
+    ensures { result ≡ text_of (node_words words.now) }
+{
+    match NodeWords::of_line(words.copy()) {
+        Some(words) => text_in(&words),
+        None => None,
+    }
+}
+
+/// Whether the first and the last place of a node are the two ends, in either order.
+#[tactic(auto, unfolding(crate::specs::NodeLine::are_ends))]
+fn are_ends(span: Span, text: NodeText) -> bool
+    ensures { result ≡ are_ends span text }
+{
+    (span.x1 == text.x1 && span.y1 == text.y1 && (span.x2 == text.x2 && span.y2 == text.y2))
+        || (span.x1 == text.x2 && span.y1 == text.y2 && (span.x2 == text.x1 && span.y2 == text.y1))
+}
+
+/// Whether node `id` lies between the ends and has the label.
+fn is_told_at(device: &Device, text: NodeText, id: u32) -> bool
+    ensures { result ≡ is_told_at device.now text id }
+{
+    match (device.span(id), device.label(id)) {
+        (Some(span), Some(label)) => are_ends(span, text) && same_label(label, text.label),
+        _ => false,
+    }
+}
+
+/// The node that begins at the lower end.
+fn beginning_of(text: NodeText) -> Node
+    ensures { result ≡ beginning_of text }
+{
+    Node {
+        kind: text.kind,
+        x: text.x1.min(text.x2),
+        y: text.y1.min(text.y2),
+        number: text.number,
+    }
+}
+
+/// The number of the node that is told, if the device has it.
+#[tactic(auto, using(crate::proofs::Told::told_yes, crate::proofs::Told::told_no, crate::proofs::Told::told_nowhere))]
+pub(crate) fn node_told(device: &Device, text: NodeText) -> Option<u32>
+    ensures { result ≡ node_told device.now text }
+{
+    let Some(id) = device.id(beginning_of(text)) else {
+        return None;
+    };
+    if is_told_at(device, text, id) {
+        Some(id)
+    } else {
+        None
+    }
+}

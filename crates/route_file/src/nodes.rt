@@ -1,0 +1,98 @@
+//! The node lines of a net.
+
+ghost use Rattle.std.specs.Prelude.{◌≡◌};
+ghost use Rattle.std.specs.List.{flat_map};
+ghost use Rattle.vpr_text.specs.Output.{Sends, stream};
+ghost use Rattle.route_file.specs.TextLine.{NodeLine, line_text};
+ghost use Rattle.route_file.specs.PrintedNodes.{goes_on, nodes_for, printed_nodes};
+ghost use Rattle.route_file.specs.Text.{node_lines};
+
+use crate::text::{kind_name, label_name, put_number, put_span};
+use rr_graph::{Device, Kind, Label, Span};
+use vpr_text::{ByteSink, OutputBuffer};
+
+/// Prints the line of a node, as ` CHANX (1,2)  Track: 0`.
+fn put_node<W: ByteSink>(
+    out: &mut OutputBuffer,
+    sink: &mut W,
+    kind: Kind,
+    span: Span,
+    label: Label,
+    number: u32,
+)
+    ensures { Sends (stream (W.taken sink.old) (W.failed sink.old) out.old) (stream (W.taken sink.new) (W.failed sink.new) out.new) (line_text (NodeLine kind span label number)) }
+{
+    out.push(sink, kind_name(kind));
+    out.push(sink, b" ");
+    put_span(out, sink, span);
+    out.push(sink, b"  ");
+    out.push(sink, label_name(label));
+    put_number(out, sink, number);
+    out.push(sink, b"\n");
+}
+
+/// Prints the line of the node of a number; nothing for what is no node.
+fn put_node_at<W: ByteSink>(out: &mut OutputBuffer, sink: &mut W, device: &Device, id: u32)
+    ensures { Sends (stream (W.taken sink.old) (W.failed sink.old) out.old) (stream (W.taken sink.new) (W.failed sink.new) out.new) (flat_map line_text (node_lines device.now id)) }
+{
+    let node = match device.node(id) {
+        Some(node) => node,
+        None => return,
+    };
+    let span = match device.span(id) {
+        Some(span) => span,
+        None => return,
+    };
+    let label = match device.label(id) {
+        Some(label) => label,
+        None => return,
+    };
+    put_node(out, sink, node.kind, span, label, node.number);
+}
+
+/// Whether a pair goes on from where the one before it ended, which is no sink.
+fn goes_on(device: &Device, before: Option<u32>, pair: (u32, u32)) -> bool
+    ensures { result ≡ goes_on device.now before pair }
+{
+    match before {
+        Some(end) => pair.0 == end && !device.is_sink(end),
+        None => false,
+    }
+}
+
+/// Prints the lines of the nodes that are named for a pair, behind one that ended at `before`.
+fn put_pair<W: ByteSink>(
+    out: &mut OutputBuffer,
+    sink: &mut W,
+    device: &Device,
+    before: Option<u32>,
+    pair: (u32, u32),
+)
+    ensures { Sends (stream (W.taken sink.old) (W.failed sink.old) out.old) (stream (W.taken sink.new) (W.failed sink.new) out.new) (flat_map line_text (flat_map (node_lines device.now) (nodes_for device.now before pair))) }
+{
+    if goes_on(device, before, pair) {
+        put_node_at(out, sink, device, pair.1);
+        return;
+    }
+    put_node_at(out, sink, device, pair.0);
+    put_node_at(out, sink, device, pair.1);
+}
+
+/// Prints the lines of the nodes that a list of pairs names, or until the sink breaks.
+pub(crate) fn put_pairs<W: ByteSink>(
+    out: &mut OutputBuffer,
+    sink: &mut W,
+    device: &Device,
+    pairs: &[(u32, u32)],
+)
+    ensures { Sends (stream (W.taken sink.old) (W.failed sink.old) out.old) (stream (W.taken sink.new) (W.failed sink.new) out.new) (flat_map line_text (flat_map (node_lines device.now) (printed_nodes device.now pairs.now))) }
+{
+    let mut before = None;
+    for pair in pairs {
+        put_pair(out, sink, device, before, *pair);
+        if out.is_broken() {
+            return;
+        }
+        before = Some(pair.1);
+    }
+}

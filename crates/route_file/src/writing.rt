@@ -1,0 +1,210 @@
+//! The writer of routings.
+
+ghost use Rattle.std.specs.Prelude.{◌≡◌, true, ◌<◌, length, slice_index_or, Some, None, if◌then◌else◌};
+ghost use Rattle.std.specs.List.{flat_map};
+ghost use Rattle.vpr_text.specs.Output.{Sends, stream};
+ghost use Rattle.net_file.specs.Blocks.{numbers_below};
+ghost use Rattle.net_file.specs.Routed.{is_routed_net};
+ghost use Rattle.route_tree.specs.Fits.{fits_problem};
+ghost use Rattle.route_file.specs.TextLine.{Size, RoutedNet, line_text};
+ghost use Rattle.route_file.specs.Text.{routed_net_lines, lines_of_net, net_lines, text_of};
+ghost use Rattle.route_file.specs.Design.{IsDesign};
+ghost use Rattle.route_file.specs.Writes.{Writes};
+
+use crate::blocks::put_global_net;
+use crate::nodes::put_pairs;
+use crate::text::{put_blank, put_number};
+use net_file::{Net, Netlist};
+use place_file::Placement;
+use route_tree::{Pairs, Routing};
+use rr_graph::{Device, Problem};
+use thiserror::Error;
+use vpr_text::{ByteSink, OutputBuffer};
+
+/// Why a routing could not be written.
+#[derive(Clone, Copy, Debug, PartialEq, Eq, Error)]
+pub enum WriteFault {
+    /// The sink broke, and took no more than a front of the text.
+    #[error("the routing could not be written")]
+    Failed,
+}
+
+/// Prints the line with the size of the array.
+fn put_size<W: ByteSink>(out: &mut OutputBuffer, sink: &mut W, nx: u32, ny: u32)
+    ensures { Sends (stream (W.taken sink.old) (W.failed sink.old) out.old) (stream (W.taken sink.new) (W.failed sink.new) out.new) (line_text (Size nx ny)) }
+{
+    out.push(sink, b"Array size: ");
+    put_number(out, sink, nx);
+    out.push(sink, b" x ");
+    put_number(out, sink, ny);
+    out.push(sink, b" logic blocks.");
+    out.push(sink, b"\n");
+}
+
+/// Prints the line that begins a routed net.
+fn put_net_heading<W: ByteSink>(out: &mut OutputBuffer, sink: &mut W, number: usize, name: &[u8])
+    ensures { Sends (stream (W.taken sink.old) (W.failed sink.old) out.old) (stream (W.taken sink.new) (W.failed sink.new) out.new) (line_text (RoutedNet number name.now)) }
+{
+    out.push(sink, b"Net ");
+    put_number(out, sink, number);
+    out.push(sink, b" (");
+    out.push(sink, name);
+    out.push(sink, b")");
+    out.push(sink, b"\n");
+}
+
+/// Prints the lines of a net that is routed by a list of pairs.
+fn put_listed_net<W: ByteSink>(
+    out: &mut OutputBuffer,
+    sink: &mut W,
+    device: &Device,
+    number: usize,
+    name: &[u8],
+    pairs: &[(u32, u32)],
+)
+    ensures { Sends (stream (W.taken sink.old) (W.failed sink.old) out.old) (stream (W.taken sink.new) (W.failed sink.new) out.new) (flat_map line_text (routed_net_lines device.now number name.now (Some pairs.now))) }
+{
+    put_blank(out, sink);
+    put_net_heading(out, sink, number, name);
+    put_blank(out, sink);
+    put_pairs(out, sink, device, pairs);
+}
+
+/// Prints the lines of a routed net; none where it has no list.
+fn put_list<W: ByteSink>(
+    out: &mut OutputBuffer,
+    sink: &mut W,
+    device: &Device,
+    number: usize,
+    name: &[u8],
+    list: &Option<Pairs>,
+)
+    ensures { Sends (stream (W.taken sink.old) (W.failed sink.old) out.old) (stream (W.taken sink.new) (W.failed sink.new) out.new) (flat_map line_text (routed_net_lines device.now number name.now list.now)) }
+{
+    match list {
+        Some(pairs) => put_listed_net(out, sink, device, number, name, &pairs.items),
+        None => {}
+    }
+}
+
+/// Prints the lines of a routed net, whose list stands at a place of the routing.
+fn put_routed_net<W: ByteSink>(
+    out: &mut OutputBuffer,
+    sink: &mut W,
+    device: &Device,
+    number: usize,
+    name: &[u8],
+    lists: &[Option<Pairs>],
+    place: usize,
+)
+    ensures { Sends (stream (W.taken sink.old) (W.failed sink.old) out.old) (stream (W.taken sink.new) (W.failed sink.new) out.new) (flat_map line_text (routed_net_lines device.now number name.now (slice_index_or lists.now place None))) }
+{
+    match lists.get(place) {
+        Some(list) => put_list(out, sink, device, number, name, list),
+        None => {}
+    }
+}
+
+/// Whether the net is to be routed: it isn't global, and something takes its signal.
+fn is_routed(net: &Net<'_>) -> bool
+    ensures { result ≡ is_routed_net net.now }
+{
+    !net.is_global() && !net.sinks().is_empty()
+}
+
+/// How many lists of a routing are those of the net.
+fn list_count(net: &Net<'_>) -> usize
+    ensures { result ≡ (if is_routed_net net.now then 1 else 0) }
+{
+    usize::from(is_routed(net))
+}
+
+/// Prints the lines of a net. Its list, if it is routed, stands at a place of the routing.
+fn put_net<W: ByteSink>(
+    out: &mut OutputBuffer,
+    sink: &mut W,
+    netlist: &Netlist<'_>,
+    placement: &Placement,
+    device: &Device,
+    number: usize,
+    net: &Net<'_>,
+    lists: &[Option<Pairs>],
+    place: usize,
+)
+    ensures { Sends (stream (W.taken sink.old) (W.failed sink.old) out.old) (stream (W.taken sink.new) (W.failed sink.new) out.new) (flat_map line_text (lines_of_net netlist.now placement.now device.now number net.now (slice_index_or lists.now place None))) }
+{
+    if net.is_global() {
+        put_global_net(out, sink, netlist, placement, number, net);
+        return;
+    }
+    if is_routed(net) {
+        put_routed_net(out, sink, device, number, net.name(), lists, place);
+    }
+}
+
+/// Prints the lines of all nets, or until the sink breaks.
+fn put_nets<W: ByteSink>(
+    out: &mut OutputBuffer,
+    sink: &mut W,
+    netlist: &Netlist<'_>,
+    placement: &Placement,
+    device: &Device,
+    lists: &[Option<Pairs>],
+)
+    ensures { Sends (stream (W.taken sink.old) (W.failed sink.old) out.old) (stream (W.taken sink.new) (W.failed sink.new) out.new) (flat_map line_text (flat_map (net_lines netlist.now placement.now device.now lists.now) (numbers_below (length netlist.now.nets)))) }
+{
+    let nets = netlist.nets();
+    let mut place = 0;
+    for number in 0..nets.len() {
+        let net = &nets[number];
+        put_net(
+            out, sink, netlist, placement, device, number, net, lists, place,
+        );
+        if out.is_broken() {
+            return;
+        }
+        place += list_count(net);
+    }
+}
+
+/// Prints the text of a routing, or until the sink breaks.
+fn put_text<W: ByteSink>(
+    out: &mut OutputBuffer,
+    sink: &mut W,
+    netlist: &Netlist<'_>,
+    placement: &Placement,
+    problem: &Problem,
+    routing: &Routing,
+)
+    ensures { Sends (stream (W.taken sink.old) (W.failed sink.old) out.old) (stream (W.taken sink.new) (W.failed sink.new) out.new) (text_of netlist.now placement.now problem.now routing.now) }
+{
+    let device = problem.device();
+    put_size(out, sink, device.nx(), device.ny());
+    put_blank(out, sink);
+    out.push(sink, b"Routing:");
+    out.push(sink, b"\n");
+    put_nets(out, sink, netlist, placement, device, &routing.lists);
+}
+
+/// Writes the routing of a placed design, in one pass over its nets and without memory.
+///
+/// # Errors
+/// Failed exactly where the sink broke: it took a front of the text.
+pub fn write<W: ByteSink>(
+    netlist: &Netlist<'_>,
+    placement: &Placement,
+    problem: &Problem,
+    routing: &Routing,
+    sink: &mut W,
+) -> Result<(), WriteFault>
+    requires fits { fits_problem problem.now routing.now ≡ true }
+    requires design { IsDesign netlist.now placement.now problem.now }
+    ensures { Writes (W.failed sink.new) (W.taken sink.old) (W.taken sink.new) (text_of netlist.now placement.now problem.now routing.now) result }
+{
+    let mut out = OutputBuffer::new();
+    put_text(&mut out, sink, netlist, placement, problem, routing);
+    match out.finish(sink) {
+        Ok(()) => Ok(()),
+        Err(_) => Err(WriteFault::Failed),
+    }
+}
