@@ -1,0 +1,168 @@
+-- Counting the nodes of nets.
+use Rattle.std.proofs.Common.{◌≡◌, ℕ, ◌+◌, ◌<◌, ◌≤◌, ◌==◌, zero, suc, Bool, true, false, cond, if◌then◌else◌, List, []}
+use Rattle.std.proofs.Common.{◌∷◌, ◌++◌, length, get_or, set, Option, Some, None}
+use Rattle.std.proofs.Common.{inl, inr, refl, sym, ap, ap₂, ◌∙◌, subst, arith, add-one, add_assoc, drop}
+use Rattle.std.specs.Prelude.{take, count_by}
+use Rattle.std.proofs.lemmas.Bool.{cases_eq, eq-eqb, ne_eqb}
+use Rattle.std.proofs.lemmas.List.{get_or-set_same, get_or-set_other, length-set, length-map, length-take-le, take_more}
+use Rattle.std.proofs.lemmas.List.{take_all, get_or_default, take-append-drop, map-append}
+use Rattle.std.proofs.lemmas.List.Elements.{All-cons, Contains-get_or}
+use Rattle.std.proofs.lemmas.List.Sums.{sum_by-append, sum_by-cons}
+use Rattle.rr_graph.specs.Problems.{Net, RoutingProblem, net_in, IsProblem}
+use Rattle.route_tree.specs.Paths.{Pair, ends_of}
+use Rattle.route_tree.specs.Usage.{covers, covers_by, use_of}
+use Rattle.route_tree.specs.Faults.{IsRoute}
+use Rattle.route_tree.proofs.LegalLists.{counts_covered, covers_nodes, covers_source, covers_end}
+use Rattle.route_tree.proofs.Members.{end_at}
+use Rattle.route_check.specs.Routed.{Lists, list_in, IsNetRouted}
+use Rattle.route_check.specs.Ends.{end_in}
+use Rattle.route_check.specs.Counted.{Counts, HasRoom, AreUses}
+
+one_more : (a b : ℕ) (t : Bool) → (b == a) ≡ t → count_by (λ x. x == a) (b ∷ []) ≡ cond t 1 0
+one_more a b t e = sum_by-cons (λ x. cond (x == a) 1 0) b [] ∙ ap (λ t. cond t 1 0 + 0) e ∙ closed t
+  where
+    closed : (t : Bool) → cond t 1 0 + 0 ≡ cond t 1 0
+    closed true = refl
+    closed false = refl
+
+pub counts_one : (counts : List ℕ) (node : ℕ) → node < length counts → Counts counts (node ∷ []) (set counts node (get_or counts node 0 + 1))
+counts_one counts node l = record {
+  size = length-set counts node (get_or counts node 0 + 1);
+  each = λ a. elim (cases_eq a node) [
+    | inl same ↦ (
+        let here = get_or-set_same counts node (get_or counts node 0 + 1) 0 l in
+        subst (λ i. get_or (set counts node (get_or counts node 0 + 1)) i 0 ≡ get_or counts i 0 + count_by (λ x. x == i) (node ∷ [])) (sym same)
+        (here ∙ ap (λ k. get_or counts node 0 + k) (sym (one_more node node true (eq-eqb node node refl)))))
+    | inr apart ↦ (
+        let none = one_more a node false (ne_eqb node a (λ e. apart (sym e))) in
+        let kept = get_or-set_other counts node a (get_or counts node 0 + 1) 0 apart in
+        omega (arith, none, kept))
+  ];
+}
+
+pub counts_then : (a b c : List ℕ) (xs ys : List ℕ) → Counts a xs b → Counts b ys c → Counts a (xs ++ ys) c
+counts_then a b c xs ys f g = record {
+  size = g.size ∙ f.size;
+  each = λ n.
+      let first = f.each n in
+      let second = g.each n in
+      let all = sum_by-append (λ x. cond (x == n) 1 0) xs ys in
+      omega (arith, first, second, all);
+}
+
+-- ---- the ends of pairs, one by one
+module _ (source : ℕ) (pairs : List Pair) where
+  -- the source, and where the first pairs end
+  abbrev pub nodes_to : ℕ → List ℕ
+  nodes_to i = source ∷ ends_of (take i pairs)
+
+  nodes_next : (i : ℕ) → i < length pairs → nodes_to i ++ end_in pairs i ∷ [] ≡ nodes_to (i + 1)
+  nodes_next i l =
+      ap (λ xs. source ∷ xs)
+      (sym (ap ends_of (take_more pairs i (0, 0) l) ∙ map-append (λ (p : Pair). p.1) (take i pairs) (get_or pairs i (0, 0) ∷ [])))
+
+  pub counts_next : (old counts new : List ℕ) (i : ℕ) → i < length pairs → Counts old (nodes_to i) counts → Counts counts (end_in pairs i ∷ []) new →
+      Counts old (nodes_to (i + 1)) new
+  counts_next old counts new i l so_far more =
+      subst (λ xs. Counts old xs new) (nodes_next i l) (counts_then old counts new (nodes_to i) (end_in pairs i ∷ []) so_far more)
+
+  pub counts_all : (old new : List ℕ) (i : ℕ) → length pairs ≤ i → Counts old (nodes_to i) new → Counts old (source ∷ ends_of pairs) new
+  counts_all old new i all counts = subst (λ ps. Counts old (source ∷ ends_of ps) new) (take_all i pairs all) counts
+
+  pub end_there : (old counts : List ℕ) (i : ℕ) → i < length pairs → HasRoom old (source ∷ ends_of pairs) → Counts old (nodes_to i) counts →
+      end_in pairs i < length counts
+  end_there old counts i l room so_far =
+      let below = room.there (i + 1) 0 (omega (arith, l, length-map pairs (λ p. p.1))) in
+      let at : get_or (source ∷ ends_of pairs) (i + 1) 0 ≡ end_in pairs i = ap (λ k. get_or (source ∷ ends_of pairs) k 0) (add-one i) ∙ end_at pairs i l in
+      let size = so_far.size in
+      omega (arith, below, at, size)
+
+  whole : (i a : ℕ) → count_by (λ b. b == a) (source ∷ ends_of pairs) ≡ count_by (λ b. b == a) (nodes_to i) + count_by (λ b. b == a) (ends_of (drop i pairs))
+  whole i a =
+      ap (λ ps. count_by (λ b. b == a) (source ∷ ends_of ps)) (sym (take-append-drop i pairs))
+      ∙ ap (λ xs. count_by (λ b. b == a) (source ∷ xs)) (map-append (λ (p : Pair). p.1) (take i pairs) (drop i pairs))
+      ∙ sum_by-append (λ b. cond (b == a) 1 0) (nodes_to i) (ends_of (drop i pairs))
+
+  pub end_room : (old counts : List ℕ) (i : ℕ) → i < length pairs → HasRoom old (source ∷ ends_of pairs) → Counts old (nodes_to i) counts →
+      get_or counts (end_in pairs i) 0 < 65535
+  end_room old counts i l room so_far =
+      let e = end_in pairs i in
+      let most = room.room e in
+      let each = so_far.each e in
+      let parts = whole (i + 1) e in
+      let next = ap (count_by (λ b. b == e)) (sym (nodes_next i l)) ∙ sum_by-append (λ b. cond (b == e) 1 0) (nodes_to i) (e ∷ []) in
+      let one = one_more e e true (eq-eqb e e refl) in
+      omega (arith, most, each, parts, next, one)
+
+-- ---- one net more
+use_next : (nets : List Net) (lists : Lists) (i a : ℕ) → i < length nets → i < length lists →
+    use_of (take (i + 1) nets) (take (i + 1) lists) a ≡ use_of (take i nets) (take i lists) a + (if covers_by (net_in nets i) (list_in lists i) a then 1 else 0)
+use_next [] lists i a l m = absurd (omega arith)
+use_next (n ∷ ns) [] i a l m = absurd (omega arith)
+use_next (n ∷ ns) (x ∷ xs) zero a l m = omega arith
+use_next (n ∷ ns) (x ∷ xs) (suc i) a l m =
+    let next : suc i + 1 ≡ suc (i + 1) = omega arith in
+    ap (λ k. use_of (take k (n ∷ ns)) (take k (x ∷ xs)) a) next
+    ∙ ap (λ k. (if covers_by n x a then 1 else 0) + k) (use_next ns xs i a (omega arith) (omega arith))
+    ∙ sym (add_assoc (if covers_by n x a then 1 else 0) (use_of (take i ns) (take i xs) a) (if covers_by (net_in ns i) (list_in xs i) a then 1 else 0))
+
+few_uses : (nets : List Net) (lists : Lists) (a : ℕ) → use_of nets lists a ≤ length nets
+few_uses [] lists a = omega arith
+few_uses (n ∷ ns) [] a = omega arith
+few_uses (n ∷ ns) (x ∷ xs) a =
+    let more = few_uses ns xs a in
+    let one = at_most (covers_by n x a) in
+    omega (arith, more, one)
+  where
+    at_most : (b : Bool) → (if b then 1 else 0) ≤ 1
+    at_most true = omega arith
+    at_most false = omega arith
+
+-- a list that was read is that of its net
+pub list_read : (lists : Lists) (i : ℕ) (x : Option (List Pair)) (pairs : List Pair) → i < length lists → x ≡ get_or lists i x → x ≡ Some pairs →
+    list_in lists i ≡ Some pairs
+list_read lists i x pairs l read e = get_or_default lists i None x l ∙ sym read ∙ e
+
+pub routed_by : (p : RoutingProblem) (lists : Lists) (i : ℕ) (pairs : List Pair) → IsNetRouted p lists i → list_in lists i ≡ Some pairs → IsRoute p i pairs
+routed_by p lists i pairs routed e = subst (IsRoute p i) (same (sym routed.1 ∙ e)) routed.2
+  where
+    same : {xs ys : List Pair} → Some xs ≡ Some ys → xs ≡ ys
+    same e = cc
+
+module _ (p : RoutingProblem) (keeps : IsProblem p) (lists : Lists) (i : ℕ) (there : i < length p.nets) (counts : List ℕ)
+    (uses : AreUses p lists i counts) where
+  module _ (pairs : List Pair) (route : IsRoute p i pairs) where
+    abbrev n : Net
+    n = net_in p.nets i
+
+    covered_there : (a : ℕ) → covers n.source pairs a ≡ true → a < length counts
+    covered_there a e = let below = covers_nodes p.device n pairs route.legal a e in let size = uses.size in omega (arith, below, size)
+
+    pub room_for : HasRoom counts (n.source ∷ ends_of pairs)
+    room_for = record {
+      there = All-cons (λ a. a < length counts) n.source (ends_of pairs) (covered_there n.source (covers_source n.source pairs))
+          (λ k d l. covered_there (get_or (ends_of pairs) k d) (covers_end n.source pairs (get_or (ends_of pairs) k d)
+          (Contains-get_or (ends_of pairs) k d l)));
+      room = λ a.
+          let each = uses.each a in
+          let few = few_uses (take i p.nets) (take i lists) a in
+          let size = length-take-le i p.nets (let l : i < length p.nets = there in omega arith) in
+          let once = counts_covered p.device n pairs route.legal a in
+          let one = at_most (covers n.source pairs a) in
+          let limit = keeps.few in
+          omega (arith, each, few, size, once, one, limit);
+    }
+      where
+        at_most : (b : Bool) → cond b 1 0 ≤ 1
+        at_most true = omega arith
+        at_most false = omega arith
+
+    pub uses_more : i < length lists → list_in lists i ≡ Some pairs → (new : List ℕ) → Counts counts (n.source ∷ ends_of pairs) new →
+        AreUses p lists (i + 1) new
+    uses_more l e new counted = record {
+      size = counted.size ∙ uses.size;
+      each = λ a.
+          counted.each a
+          ∙ ap₂ (λ x y. x + y) (uses.each a) (counts_covered p.device n pairs route.legal a)
+          ∙ sym (use_next p.nets lists i a there l ∙ ap (λ x. use_of (take i p.nets) (take i lists) a + (if covers_by n x a then 1 else 0)) e);
+    }

@@ -1,0 +1,10 @@
+pub mod Twice
+pub mod SortedEnds
+pub mod Once
+pub mod Earlier
+pub mod Climbing
+pub mod Walked
+pub mod Judging
+pub mod Counting
+pub mod RoutingFaults
+pub mod Answering

@@ -1,0 +1,179 @@
+//! The tests of a net's list, one behind the other.
+
+ghost use Rattle.std.specs.Prelude.{◌≡◌, ◌==◌, ◌&&◌, not, false, None, length, IfOk, count_by};
+ghost use Rattle.std.specs.List.{list_any};
+ghost use Rattle.std.specs.List.Sorted.{IsStrictlyIncreasing};
+ghost use Rattle.rr_graph.specs.Edges.{edge_between};
+ghost use Rattle.rr_graph.specs.Problems.{is_sink};
+ghost use Rattle.route_tree.specs.Paths.{ends_of};
+ghost use Rattle.route_tree.specs.Legality.{is_among};
+ghost use Rattle.route_tree.specs.Faults.{begins_elsewhere, lacks_switch, reaches_twice, leaves_twice, has_foreign_sink, misses_sink};
+ghost use Rattle.route_check.specs.Ends.{AreEnds};
+ghost use Rattle.route_check.specs.Judged.{early_fault_of, late_fault_of, TellsDangling, IsToldBy};
+
+use crate::ends::{End, reaches_twice, row_of, sorted_ends};
+use crate::order::is_listed;
+use crate::walks::dangles;
+use route_tree::TreeFault;
+use rr_graph::Device;
+use std::alloc::{AllocError, Global};
+
+/// Whether there is no pair, or the first one begins elsewhere than at the source.
+fn begins_elsewhere(source: u32, pairs: &[(u32, u32)]) -> bool
+    ensures { result ≡ begins_elsewhere source pairs.now }
+{
+    match pairs.first() {
+        None => true,
+        Some(pair) => pair.0 != source,
+    }
+}
+
+/// Whether a pair is no edge of the device.
+fn lacks_switch(device: &Device, pairs: &[(u32, u32)]) -> bool
+    ensures { result ≡ lacks_switch device.now pairs.now }
+{
+    pairs.iter().any(|pair| !device.edge(pair.0, pair.1))
+}
+
+/// How many pairs begin at the source.
+fn count_leaving(source: u32, pairs: &[(u32, u32)]) -> usize
+    ensures { result ≡ count_by (λ p. p.0 == source) pairs.now }
+{
+    pairs.iter().filter(|pair| pair.0 == source).count()
+}
+
+/// Whether two pairs begin at the source.
+fn leaves_twice(source: u32, pairs: &[(u32, u32)]) -> bool
+    ensures { result ≡ leaves_twice source pairs.now }
+{
+    count_leaving(source, pairs) > 1
+}
+
+/// Whether a node is one of the sinks.
+fn is_one_of(sinks: &[u32], node: u32) -> bool
+    requires { IsStrictlyIncreasing sinks.now }
+    ensures { result ≡ is_among sinks.now node }
+{
+    sinks.binary_search(&node).is_ok()
+}
+
+/// Whether a node is a sink of the device and none of these.
+fn is_foreign(device: &Device, sinks: &[u32], node: u32) -> bool
+    requires { IsStrictlyIncreasing sinks.now }
+    ensures { result ≡ (is_sink device.now node && not (is_among sinks.now node)) }
+{
+    device.is_sink(node) && !is_one_of(sinks, node)
+}
+
+/// Whether a pair ends in a sink of the device that is none of these.
+fn has_foreign_end(device: &Device, sinks: &[u32], pairs: &[(u32, u32)]) -> bool
+    requires { IsStrictlyIncreasing sinks.now }
+    ensures { result ≡ list_any (λ p. is_sink device.now p.1 && not (is_among sinks.now p.1)) pairs.now }
+{
+    pairs.iter().any(|pair| is_foreign(device, sinks, pair.1))
+}
+
+/// Whether among the nodes in which pairs end there is a sink of the device that is none of these.
+fn has_foreign_sink(device: &Device, sinks: &[u32], pairs: &[(u32, u32)]) -> bool
+    requires { IsStrictlyIncreasing sinks.now }
+    ensures { result ≡ has_foreign_sink device.now sinks.now pairs.now }
+{
+    has_foreign_end(device, sinks, pairs)
+}
+
+/// Whether no pair ends in a node.
+fn is_missed(pairs: &[(u32, u32)], ends: &[End], node: u32) -> bool
+    requires { AreEnds pairs.now ends.now }
+    ensures { result ≡ not (is_among (ends_of pairs.now) node) }
+{
+    match row_of(pairs, ends, node) {
+        None => true,
+        Some(_) => false,
+    }
+}
+
+/// Whether at one of the sinks no pair ends.
+fn misses_sink(sinks: &[u32], pairs: &[(u32, u32)], ends: &[End]) -> bool
+    requires { AreEnds pairs.now ends.now }
+    ensures { result ≡ misses_sink sinks.now pairs.now }
+{
+    sinks.iter().any(|sink| is_missed(pairs, ends, *sink))
+}
+
+/// The first fault of those that are seen pair by pair.
+#[tactic(auto, unfolding(crate::specs::Judged::early_fault_of))]
+fn early_fault(
+    device: &Device,
+    source: u32,
+    sinks: &[u32],
+    pairs: &[(u32, u32)],
+    ends: &[End],
+) -> Option<TreeFault>
+    requires ends { AreEnds pairs.now ends.now }
+    requires ascending { IsStrictlyIncreasing sinks.now }
+    ensures { result ≡ early_fault_of device.now source sinks.now pairs.now }
+{
+    if begins_elsewhere(source, pairs) {
+        return Some(TreeFault::WrongSource);
+    }
+    if lacks_switch(device, pairs) {
+        return Some(TreeFault::NoSwitch);
+    }
+    if reaches_twice(source, pairs, ends) {
+        return Some(TreeFault::NodeTwice);
+    }
+    if leaves_twice(source, pairs) {
+        return Some(TreeFault::SecondOutput);
+    }
+    if has_foreign_sink(device, sinks, pairs) {
+        return Some(TreeFault::ForeignSink);
+    }
+    None
+}
+
+/// The first fault of the others, where it is known whether a pair dangles.
+#[tactic(auto, unfolding(crate::specs::Judged::late_fault_of))]
+fn late_fault(
+    dangles: bool,
+    device: &Device,
+    source: u32,
+    sinks: &[u32],
+    pairs: &[(u32, u32)],
+    ends: &[End],
+) -> Option<TreeFault>
+    requires ends { AreEnds pairs.now ends.now }
+    requires once { reaches_twice source pairs.now ≡ false }
+    ensures { result ≡ late_fault_of dangles device.now source sinks.now pairs.now }
+{
+    if dangles {
+        return Some(TreeFault::Dangling);
+    }
+    if misses_sink(sinks, pairs, ends) {
+        return Some(TreeFault::MissingSink);
+    }
+    if !is_listed(device, source, sinks, pairs, ends) {
+        return Some(TreeFault::Order);
+    }
+    None
+}
+
+/// The first fault of a list for a net of this source and these sinks.
+pub(crate) fn list_fault(
+    alloc: Global,
+    device: &Device,
+    source: u32,
+    sinks: &[u32],
+    pairs: &[(u32, u32)],
+) -> Result<Option<TreeFault>, AllocError>
+    requires { IsStrictlyIncreasing sinks.now }
+    ensures { IfOk result (IsToldBy device.now source sinks.now pairs.now) }
+{
+    let ends = sorted_ends(alloc, pairs)?;
+    match early_fault(device, source, sinks, pairs, &ends) {
+        Some(fault) => Ok(Some(fault)),
+        None => {
+            let told = dangles(alloc, source, sinks, pairs, &ends)?;
+            Ok(late_fault(told, device, source, sinks, pairs, &ends))
+        }
+    }
+}
