@@ -10,7 +10,7 @@ use std::test::Fail;
 pub(crate) const ONE_BLOCK: &str =
     "io_rat 2\nchan_width_io 1\nchan_width_x uniform 1\nchan_width_y uniform 1\ninpin class: 0 bottom\ninpin class: 0 top\noutpin class: 1 right\nswitch_block_type subset\nFc_type fractional\nFc_output 1\nFc_input 1\nFc_pad 1\nsegment frequency: 1 length: 1 wire_switch: 0 opin_switch: 0 Frac_cb: 1. Frac_sb: 1. Rmetal: 0 Cmetal: 81e-15\nswitch 0 buffered: yes R: 0 Cin: 0 Cout: 0 Tdel: 0\n";
 
-const LONG_WIRES: &str =
+pub(crate) const LONG_WIRES: &str =
     "io_rat 2\nchan_width_io 1\nchan_width_x uniform 1\nchan_width_y uniform 1\ninpin class: 0 bottom\ninpin class: 0 top\noutpin class: 1 right\nswitch_block_type subset\nFc_type fractional\nFc_output 1\nFc_input 1\nFc_pad 1\nsegment frequency: 1 length: 2 wire_switch: 0 opin_switch: 0 Frac_cb: 1. Frac_sb: 1. Rmetal: 0 Cmetal: 81e-15\nswitch 0 buffered: yes R: 0 Cin: 0 Cout: 0 Tdel: 0\n";
 
 const TWO_TYPES: &str =

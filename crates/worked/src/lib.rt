@@ -2,11 +2,17 @@
 #![tactic(auto)]
 
 #[cfg(test)]
+mod checks;
+#[cfg(test)]
 mod comparisons;
 #[cfg(test)]
 mod copies;
 #[cfg(test)]
+mod designs;
+#[cfg(test)]
 mod devices;
+#[cfg(test)]
+mod matching;
 #[cfg(test)]
 mod plain;
 #[cfg(test)]
@@ -15,6 +21,8 @@ mod plain_edges;
 mod plain_wires;
 #[cfg(test)]
 mod problems;
+#[cfg(test)]
+mod route_files;
 #[cfg(test)]
 mod tree_shapes;
 #[cfg(test)]

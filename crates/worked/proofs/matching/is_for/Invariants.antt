@@ -1,0 +1,5 @@
+use Rattle.worked.proofs.NetNumbers.{AreFirst}
+use Rattle.worked.proofs.matching.is_for.Given as goal
+
+abbrev pub invariant-loop-n : goal.invariant-loop-n
+invariant-loop-n l = AreFirst l.netlist l.problem.nets l.next l.n
