@@ -1,9 +1,13 @@
 -- Why a measurement ends early.
 use Rattle.std.specs.Prelude.{◌≡◌, ℕ, ◌<◌, ◌⊎◌, List}
 use Rattle.arch_file.specs.Reading.{Fails, arch_of}
+use Rattle.arch_file.specs.declared.parts.Pin.{Pin}
+use Rattle.net_file.specs.Netlist.{Block}
+use Rattle.net_file.specs.Reading as net
+use Rattle.place_file.specs.Reading as place
 use Rattle.rr_graph.specs.declared.fault.DeviceFault.TheVariants.{Width}
 use Rattle.bench.specs.declared.fault.BenchFault.{BenchFault}
-use Rattle.bench.specs.declared.fault.BenchFault.TheVariants.{Arch, Device, Io, Memory}
+use Rattle.bench.specs.declared.fault.BenchFault.TheVariants.{Arch, Device, Io, Memory, Net, Place}
 
 -- the clock or standard error failed
 abbrev pub IsIo : BenchFault → Type 0
@@ -21,3 +25,18 @@ abbrev pub IsFaultOf : (text : List ℕ) → (width : ℕ) → BenchFault → Ty
 IsFaultOf text width (Arch fault) = Fails fault (arch_of text)
 IsFaultOf text width (Device Width) = (width ≡ 0) ⊎ (256 < width)
 IsFaultOf text width _ = Unit {0}
+
+-- an architecture is refused only if its text has that fault, memory aside
+abbrev pub IsArchFault : (text : List ℕ) → BenchFault → Type 0
+IsArchFault text (Arch fault) = Fails fault (arch_of text)
+IsArchFault text fault = IsOutside fault
+
+-- so a netlist
+abbrev pub IsNetFault : List Pin → (text : List ℕ) → BenchFault → Type 0
+IsNetFault pins text (Net fault) = net.Fails fault (net.netlist_of pins text)
+IsNetFault pins text fault = IsOutside fault
+
+-- and so a placement
+abbrev pub IsPlaceFault : (io_rat : ℕ) → List Block → (text : List ℕ) → BenchFault → Type 0
+IsPlaceFault io_rat blocks text (Place fault) = place.Fails fault (place.placement_of io_rat blocks text)
+IsPlaceFault io_rat blocks text fault = IsOutside fault

@@ -1,13 +1,16 @@
 //! Why a measurement ends early.
 
 ghost use Rattle.std.specs.Prelude.{◌≡◌};
-ghost use Rattle.bench.specs.declared.fault.BenchFault.TheVariants.{Arch, Device, Io, Memory};
+ghost use Rattle.bench.specs.declared.fault.BenchFault.TheVariants.{Arch, Device, Io, Memory, Net, Place, Read};
 
 use arch_file::ArchFault;
+use net_file::NetFault;
+use place_file::PlaceFault;
 use rr_graph::DeviceFault;
 use std::alloc::AllocError;
 use std::io;
 use thiserror::Error;
+use vpr_text::ReadFault;
 
 #[derive(Debug, Drop, Error)]
 pub enum BenchFault {
@@ -15,6 +18,12 @@ pub enum BenchFault {
     Arch(ArchFault),
     #[error("the device: {0}")]
     Device(DeviceFault),
+    #[error("the netlist: {0}")]
+    Net(NetFault),
+    #[error("the placement: {0}")]
+    Place(PlaceFault),
+    #[error("{0}")]
+    Read(ReadFault),
     #[error("{0}")]
     Io(io::Error),
     #[error("out of memory")]
@@ -50,5 +59,29 @@ impl From<AllocError> for BenchFault {
 
     fn from(given: AllocError) -> BenchFault {
         BenchFault::Memory(given)
+    }
+}
+
+impl From<NetFault> for BenchFault {
+    ghost from_gives = { λ given fault. fault ≡ Net given };
+
+    fn from(given: NetFault) -> BenchFault {
+        BenchFault::Net(given)
+    }
+}
+
+impl From<PlaceFault> for BenchFault {
+    ghost from_gives = { λ given fault. fault ≡ Place given };
+
+    fn from(given: PlaceFault) -> BenchFault {
+        BenchFault::Place(given)
+    }
+}
+
+impl From<ReadFault> for BenchFault {
+    ghost from_gives = { λ given fault. fault ≡ Read given };
+
+    fn from(given: ReadFault) -> BenchFault {
+        BenchFault::Read(given)
     }
 }

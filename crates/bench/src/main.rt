@@ -1,7 +1,7 @@
 //! `bench`: measures the libraries of the router. Without words it does nothing; a word says what is measured.
 #![tactic(auto)]
 
-ghost use Rattle.std.specs.Prelude.{◌≡◌, ◌≤◌, ◌↔◌, None, map, string_bytes};
+ghost use Rattle.std.specs.Prelude.{◌≡◌, ◌≤◌, ◌↔◌, None, false, is_ok, map, string_bytes, true};
 ghost use Rattle.bench.specs.Sizes.{size_of_words};
 
 mod archs;
@@ -10,12 +10,14 @@ mod edges;
 mod fault;
 mod figure;
 mod look_ups;
+mod reading;
 mod size;
 mod spread;
 
 use archs::{LONG_ARCH, SMALL_ARCH};
 use device::measure_device;
 use fault::BenchFault;
+use reading::measure_reading;
 use size::size_of_words;
 use std::process::ExitCode;
 use std::rt::Runtime;
@@ -44,6 +46,7 @@ fn run(rt: &(impl Runtime + AllocGlobal)) -> u8
         [_, word, given @ ..] => match word.as_str() {
             "device" => run_device(rt, SMALL_ARCH, given),
             "long" => run_device(rt, LONG_ARCH, given),
+            "read" => run_reading(rt, given),
             _ => usage(rt),
         },
     }
@@ -58,7 +61,7 @@ fn words(rt: &(impl Runtime + AllocGlobal)) -> io::Result<Vec<String>> {
 fn usage(rt: &impl Runtime) -> u8
     ensures { result ≡ BAD_WORDS }
 {
-    let _ = eprintln!(rt; "usage: bench [device|long [NX NY W]]");
+    let _ = eprintln!(rt; "usage: bench [device|long [NX NY W]], or bench read ARCH NET [PLACE]");
     BAD_WORDS
 }
 
@@ -70,6 +73,17 @@ fn failed(rt: &impl Runtime, fault: BenchFault) -> u8
     ENDED_EARLY
 }
 
+/// The status of a measurement. Where it ended early, it is said why.
+fn status(rt: &impl Runtime, measured: Result<(), BenchFault>) -> u8
+    ensures measured { is_ok measured ≡ true → result ≡ 0 }
+    ensures ended_early { is_ok measured ≡ false → result ≡ ENDED_EARLY }
+{
+    match measured {
+        Ok(()) => 0,
+        Err(fault) => failed(rt, fault),
+    }
+}
+
 /// Measures the device of an architecture's text and of the size that is given.
 fn run_device(rt: &(impl Runtime + AllocGlobal), text: &str, given: &[String]) -> u8
     ensures status { result ≤ 2 }
@@ -78,8 +92,19 @@ fn run_device(rt: &(impl Runtime + AllocGlobal), text: &str, given: &[String]) -
     let Some(size) = size_of_words(given) else {
         return usage(rt);
     };
-    match measure_device(rt, text, size.nx, size.ny, size.width) {
-        Ok(()) => 0,
-        Err(fault) => failed(rt, fault),
-    }
+    status(rt, measure_device(rt, text, size.nx, size.ny, size.width))
+}
+
+/// Measures the reading of the files that are given.
+fn run_reading(rt: &(impl Runtime + AllocGlobal), given: &[String]) -> u8
+    ensures { result ≤ 2 }
+{
+    let measured = match given {
+        [arch, net] => measure_reading(rt, arch.as_str(), net.as_str(), None),
+        [arch, net, place] => {
+            measure_reading(rt, arch.as_str(), net.as_str(), Some(place.as_str()))
+        }
+        _ => return usage(rt),
+    };
+    status(rt, measured)
 }

@@ -1,0 +1,103 @@
+//! Measures the reading of a placed design's three files.
+
+ghost use Rattle.std.specs.Prelude.{◌≡◌, IfOk, IfErr, Ok};
+ghost use Rattle.arch_file.specs.Reads as arch;
+ghost use Rattle.net_file.specs.Reads as net;
+ghost use Rattle.place_file.specs.Reading.{placement_of};
+ghost use Rattle.bench.specs.Faults.{IsArchFault, IsNetFault, IsPlaceFault};
+
+use crate::fault::BenchFault;
+use crate::figure::print_once;
+use arch_file::Arch;
+use net_file::Netlist;
+use place_file::Placement;
+use std::fs;
+use std::rt::{Clock, Runtime};
+use std::time::Instant;
+use vpr_text::{Adapted, read_all};
+
+/// The bytes of a file.
+fn bytes_of(rt: &(impl Runtime + AllocGlobal), name: &str) -> Result<Vec<u8>, BenchFault> {
+    let mut file = Adapted::new(fs::open(rt, name)?);
+    let bytes = read_all(rt.alloc(), &mut file)?;
+    Ok(bytes)
+}
+
+/// Reads an architecture, and tells how long that took.
+fn read_arch(rt: &(impl Clock + Eprint + AllocGlobal), bytes: &[u8]) -> Result<Arch, BenchFault>
+    ensures architecture { IfOk result (λ a. arch.ReadsBytes bytes.now a) }
+    ensures refused { IfErr result (IsArchFault bytes.now) }
+{
+    let start = Instant::now(rt)?;
+    let arch = arch_file::parse(rt.alloc(), bytes)?;
+    let time = start.elapsed(rt)?;
+    print_once(rt, "architecture", time, bytes.len() as u64, "bytes")?;
+    Ok(arch)
+}
+
+/// Reads a netlist, and tells how long that took.
+fn read_netlist<'a>(
+    rt: &(impl Clock + Eprint + AllocGlobal),
+    bytes: &'a [u8],
+    arch: &Arch,
+) -> Result<Netlist<'a>, BenchFault>
+    ensures netlist { IfOk result (λ n. net.ReadsBytes arch.now.pins bytes.now n) }
+    ensures refused { IfErr result (IsNetFault arch.now.pins bytes.now) }
+{
+    let start = Instant::now(rt)?;
+    let netlist = net_file::parse(rt.alloc(), bytes, arch)?;
+    let time = start.elapsed(rt)?;
+    print_once(rt, "netlist", time, bytes.len() as u64, "bytes")?;
+    Ok(netlist)
+}
+
+/// Reads a placement, and tells how long that took.
+fn read_placement(
+    rt: &(impl Clock + Eprint + AllocGlobal),
+    bytes: &[u8],
+    arch: &Arch,
+    netlist: &Netlist,
+) -> Result<Placement, BenchFault>
+    ensures placement { IfOk result (λ p. placement_of arch.now.io_rat netlist.now.blocks bytes.now ≡ Ok p) }
+    ensures refused { IfErr result (IsPlaceFault arch.now.io_rat netlist.now.blocks bytes.now) }
+{
+    let start = Instant::now(rt)?;
+    let placement = place_file::parse(rt.alloc(), bytes, arch, netlist)?;
+    let time = start.elapsed(rt)?;
+    print_once(rt, "placement", time, bytes.len() as u64, "bytes")?;
+    Ok(placement)
+}
+
+/// Measures the reading of a placement's file.
+fn measure_placement(
+    rt: &(impl Runtime + AllocGlobal),
+    name: &str,
+    arch: &Arch,
+    netlist: &Netlist,
+) -> Result<(), BenchFault> {
+    let bytes = bytes_of(rt, name)?;
+    let placement = read_placement(rt, &bytes, arch, netlist)?;
+    let (nx, ny) = (placement.nx(), placement.ny());
+    eprintln!(rt; "array {nx} x {ny}")?;
+    Ok(())
+}
+
+/// Measures the reading of an architecture, a netlist, and a placement if one is given, by the names of their files. A
+/// file's bytes are in memory before the clock starts.
+pub fn measure_reading(
+    rt: &(impl Runtime + AllocGlobal),
+    arch: &str,
+    netlist: &str,
+    placement: Option<&str>,
+) -> Result<(), BenchFault> {
+    let arch_bytes = bytes_of(rt, arch)?;
+    let netlist_bytes = bytes_of(rt, netlist)?;
+    let arch = read_arch(rt, &arch_bytes)?;
+    let netlist = read_netlist(rt, &netlist_bytes, &arch)?;
+    let (blocks, nets) = (netlist.blocks().len(), netlist.nets().len());
+    eprintln!(rt; "{blocks} blocks, {nets} nets")?;
+    match placement {
+        Some(placement) => measure_placement(rt, placement, &arch, &netlist),
+        None => Ok(()),
+    }
+}
