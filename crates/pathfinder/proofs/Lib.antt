@@ -1,2 +1,5 @@
-pub mod Lines
 pub mod Ending
+pub mod Lines
+pub mod Stages
+pub mod Judged
+pub mod Designs

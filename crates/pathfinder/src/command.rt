@@ -18,23 +18,46 @@ fn number<'a>(alloc: Global, name: &'a str, most: u32, help: &'a str) -> Arg<'a>
         .help(help)
 }
 
+fn input<'a>(alloc: Global, name: &'a str, help: &'a str) -> Arg<'a> {
+    Arg::new(alloc, name).required(true).help(help)
+}
+
+fn global_flag<'a>(alloc: Global) -> Arg<'a> {
+    Arg::new(alloc, "global")
+        .long("global")
+        .action(ArgAction::SetTrue)
+        .help("Global routing: one node for each channel place")
+}
+
+fn width<'a>(alloc: Global) -> Arg<'a> {
+    number(alloc, "width", MOST_TRACKS, "Tracks in a channel")
+        .long("width")
+        .value_name("W")
+}
+
+fn check_command<'a>(alloc: Global) -> Result<Command<'a>, AllocError> {
+    let command = Command::new(alloc, "check")
+        .about("Judge a routing of a placed netlist")
+        .arg(input(alloc, "NET", "The netlist"))?
+        .arg(input(alloc, "ARCH", "The architecture file"))?
+        .arg(input(alloc, "PLACE", "The placement"))?
+        .arg(input(alloc, "ROUTE", "The routing file that is judged"))?
+        .arg(width(alloc))?;
+    command.arg(global_flag(alloc))
+}
+
 fn graph_command<'a>(alloc: Global) -> Result<Command<'a>, AllocError> {
     let command = Command::new(alloc, "graph")
         .about("Print the nodes and edges of a device's routing-resource graph")
-        .arg(
-            Arg::new(alloc, "ARCH")
-                .required(true)
-                .help("The architecture file; `stdin` is standard input"),
-        )?
+        .arg(input(
+            alloc,
+            "ARCH",
+            "The architecture file; `stdin` is standard input",
+        ))?
         .arg(number(alloc, "NX", MOST_BLOCKS, "Logic blocks in a row"))?
         .arg(number(alloc, "NY", MOST_BLOCKS, "Logic blocks in a column"))?
         .arg(number(alloc, "W", MOST_TRACKS, "Tracks in a channel"))?;
-    command.arg(
-        Arg::new(alloc, "global")
-            .long("global")
-            .action(ArgAction::SetTrue)
-            .help("Global routing: one node for each channel place"),
-    )
+    command.arg(global_flag(alloc))
 }
 
 /// The command line of the program.
@@ -43,7 +66,19 @@ pub fn command<'a>(alloc: Global) -> Result<Command<'a>, AllocError> {
         .about("Routes placed designs in the text formats of VPR 4.30")
         .subcommand_required(true)
         .arg_required_else_help(true)
+        .subcommand(check_command(alloc)?)?
         .subcommand(graph_command(alloc)?)
+}
+
+/// What the `check` command was given.
+#[derive(Clone, Copy)]
+pub struct CheckWords<'a> {
+    pub net: &'a str,
+    pub arch: &'a str,
+    pub place: &'a str,
+    pub route: &'a str,
+    pub width: u32,
+    pub global: bool,
 }
 
 /// What the `graph` command was given.
@@ -66,6 +101,20 @@ fn number_within(matches: &ArgMatches<'_>, name: &str, most: u32) -> Option<u32>
     } else {
         None
     }
+}
+
+/// The words of the `check` command; None where one is out of its range.
+pub fn check_words<'a>(matches: &ArgMatches<'a>) -> Option<CheckWords<'a>>
+    ensures { IfSome result (λ c. (1 ≤ c.width) × (c.width ≤ 256)) }
+{
+    Some(CheckWords {
+        net: matches.get_str("NET")?,
+        arch: matches.get_str("ARCH")?,
+        place: matches.get_str("PLACE")?,
+        route: matches.get_str("ROUTE")?,
+        width: number_within(matches, "width", MOST_TRACKS)?,
+        global: matches.get_flag("global"),
+    })
 }
 
 /// The words of the `graph` command; None where one is out of its range.

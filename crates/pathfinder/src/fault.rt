@@ -4,18 +4,28 @@ ghost use Rattle.std.specs.Prelude.{◌≡◌, OnOk, OnErr, IsTrue};
 ghost use Rattle.std.specs.Io.KnownBytes.{Appends};
 ghost use Rattle.vpr_text.specs.Output.{Sends, stream};
 ghost use Rattle.pathfinder.specs.declared.fault.AppFault.TheVariants.{Memory};
-ghost use Rattle.pathfinder.specs.Faults.{fault_of_arch, fault_text, input_text, line_fault_text, line_of, name_of, status_of, unread_text};
+ghost use Rattle.pathfinder.specs.Faults.{fault_text, input_text, line_fault_text, status_of, unread_text};
 
+use crate::arch_fault::{arch_line, arch_name};
+use crate::net_fault::{net_line, net_name};
+use crate::place_fault::{place_line, place_name};
+use crate::route_fault::{route_line, route_name};
 use crate::text::put_number;
 use arch_file::ArchFault;
+use net_file::NetFault;
+use place_file::PlaceFault;
+use route_file::RouteFileFault;
 use std::alloc::AllocError;
 use thiserror::Error;
-use vpr_text::{Broken, ByteSink, OutputBuffer, TextFault};
+use vpr_text::{Broken, ByteSink, OutputBuffer};
 
 /// An input file of the program.
 #[derive(Clone, Copy, Debug, PartialEq, Eq)]
 pub enum InputFile {
     Arch,
+    Net,
+    Place,
+    Route,
 }
 
 /// What can go wrong in a run.
@@ -24,6 +34,15 @@ pub enum AppFault {
     /// The architecture file has this fault; never that of memory.
     #[error("the architecture file: {0}")]
     Arch(ArchFault),
+    /// The netlist has this fault; never that of memory.
+    #[error("the netlist: {0}")]
+    Net(NetFault),
+    /// The placement has this fault; never that of memory.
+    #[error("the placement: {0}")]
+    Place(PlaceFault),
+    /// The routing file has this fault; never that of memory.
+    #[error("the routing file: {0}")]
+    Route(RouteFileFault),
     /// An input file could not be opened, or reading it failed.
     #[error("an input file cannot be read")]
     Unread(InputFile),
@@ -43,30 +62,12 @@ impl From<AllocError> for AppFault {
     }
 }
 
-/// The fault of a run whose architecture file has this one: that of memory is the run's own.
-pub fn of_arch(fault: ArchFault) -> AppFault
-    ensures { result ≡ fault_of_arch fault }
-{
-    match fault {
-        ArchFault::Memory | ArchFault::Text(TextFault::Memory) => AppFault::Memory,
-        ArchFault::Text(TextFault::TooLong)
-        | ArchFault::Text(TextFault::BadByte(_))
-        | ArchFault::UnknownKeyword(_)
-        | ArchFault::Repeated(_)
-        | ArchFault::BadNumber(_)
-        | ArchFault::BadWord(_)
-        | ArchFault::Unsupported(_)
-        | ArchFault::TooMany(_)
-        | ArchFault::Missing(_) => AppFault::Arch(fault),
-    }
-}
-
 /// The exit status that a fault gives: 4 for bad input, 5 for reading or writing that failed, 6 for memory.
 pub fn status(fault: &AppFault) -> u8
     ensures { result ≡ status_of fault.now }
 {
     match fault {
-        AppFault::Arch(_) => 4,
+        AppFault::Arch(_) | AppFault::Net(_) | AppFault::Place(_) | AppFault::Route(_) => 4,
         AppFault::Unread(_) | AppFault::Unwritten => 5,
         AppFault::Memory => 6,
     }
@@ -78,44 +79,9 @@ fn input_name(file: InputFile) -> &'static [u8]
 {
     match file {
         InputFile::Arch => b"arch",
-    }
-}
-
-/// The line of an architecture's fault; 0 where it has none.
-fn line_of(fault: ArchFault) -> u32
-    ensures { result ≡ line_of fault }
-{
-    match fault {
-        ArchFault::Text(TextFault::BadByte(line))
-        | ArchFault::UnknownKeyword(line)
-        | ArchFault::Repeated(line)
-        | ArchFault::BadNumber(line)
-        | ArchFault::BadWord(line)
-        | ArchFault::Unsupported(line)
-        | ArchFault::TooMany(line) => line,
-        ArchFault::Text(TextFault::TooLong)
-        | ArchFault::Text(TextFault::Memory)
-        | ArchFault::Missing(_)
-        | ArchFault::Memory => 0,
-    }
-}
-
-/// The name of an architecture's fault.
-fn name_of(fault: ArchFault) -> &'static [u8]
-    ensures { result.now ≡ name_of fault }
-{
-    match fault {
-        ArchFault::Text(TextFault::TooLong) => b"TooLong",
-        ArchFault::Text(TextFault::BadByte(_)) => b"BadByte",
-        ArchFault::Text(TextFault::Memory) => b"Memory",
-        ArchFault::UnknownKeyword(_) => b"UnknownKeyword",
-        ArchFault::Repeated(_) => b"Repeated",
-        ArchFault::BadNumber(_) => b"BadNumber",
-        ArchFault::BadWord(_) => b"BadWord",
-        ArchFault::Unsupported(_) => b"Unsupported",
-        ArchFault::TooMany(_) => b"TooMany",
-        ArchFault::Missing(_) => b"Missing",
-        ArchFault::Memory => b"Memory",
+        InputFile::Net => b"net",
+        InputFile::Place => b"place",
+        InputFile::Route => b"route",
     }
 }
 
@@ -152,13 +118,42 @@ fn put_fault<W: ByteSink>(out: &mut OutputBuffer, sink: &mut W, fault: &AppFault
     ensures { Sends (stream (W.taken sink.old) (W.failed sink.old) out.old) (stream (W.taken sink.new) (W.failed sink.new) out.new) (fault_text fault.now) }
 {
     match fault {
-        AppFault::Arch(arch) => put_line_fault(
-            out,
-            sink,
-            InputFile::Arch,
-            line_of(*arch),
-            name_of(*arch),
-        ),
+        AppFault::Arch(fault) => {
+            put_line_fault(
+                out,
+                sink,
+                InputFile::Arch,
+                arch_line(*fault),
+                arch_name(*fault),
+            );
+        }
+        AppFault::Net(fault) => {
+            put_line_fault(
+                out,
+                sink,
+                InputFile::Net,
+                net_line(*fault),
+                net_name(*fault),
+            );
+        }
+        AppFault::Place(fault) => {
+            put_line_fault(
+                out,
+                sink,
+                InputFile::Place,
+                place_line(*fault),
+                place_name(*fault),
+            );
+        }
+        AppFault::Route(fault) => {
+            put_line_fault(
+                out,
+                sink,
+                InputFile::Route,
+                route_line(*fault),
+                route_name(*fault),
+            );
+        }
         AppFault::Unread(file) => put_unread(out, sink, *file),
         AppFault::Unwritten => out.push(sink, b"error: cannot write\n"),
         AppFault::Memory => out.push(sink, b"error: memory\n"),

@@ -1,25 +1,44 @@
 //! `pathfinder`: routes placed designs in the text formats of VPR 4.30.
 #![tactic(auto)]
 
+mod arch_fault;
+mod check_run;
+#[cfg(test)]
+mod check_tests;
 mod command;
+mod devices;
+#[cfg(test)]
+mod fakes;
 mod fault;
+#[cfg(test)]
+mod fault_tests;
 mod graph_run;
+mod inputs;
 mod listing;
+mod net_fault;
+mod place_fault;
+mod route_fault;
 #[cfg(test)]
 mod tests;
 mod text;
+mod text_fault;
+mod verdict;
 
 ghost use Rattle.std.specs.Prelude.{◌≤◌};
 
-use clap::Error as ClapError;
+use check_run::check_run;
 use clap::error::ErrorKind;
-use command::GraphWords;
+use clap::{ArgMatches, Error as ClapError};
+use command::{CheckWords, GraphWords};
 use fault::{AppFault, InputFile, print_fault, status};
 use graph_run::graph_run;
+use route_check::RouteFault;
 use rr_graph::Mode;
 use std::process::ExitCode;
 use std::rt::Runtime;
+use std::thread::Threads;
 use std::{env, fs, io};
+use verdict::verdict_status;
 use vpr_text::Adapted;
 
 /// The status of words that the command line may not have.
@@ -30,7 +49,7 @@ fn main(rt: HostRuntime) -> ExitCode {
 }
 
 /// Runs the command that the command line names, and answers its exit status.
-fn run(rt: &(impl Runtime + AllocGlobal)) -> u8 {
+fn run(rt: &(impl Runtime + Threads + Sync + AllocGlobal)) -> u8 {
     let words = match words(rt) {
         Ok(words) => words,
         Err(error) if error.kind() == io::ErrorKind::OutOfMemory => return refused(
@@ -49,9 +68,26 @@ fn run(rt: &(impl Runtime + AllocGlobal)) -> u8 {
         Ok(matches) => matches,
         Err(error) => return explained(rt, &error),
     };
-    let Some(("graph", given)) = matches.subcommand() else {
+    match matches.subcommand() {
+        Some(("check", given)) => run_check(rt, given),
+        Some(("graph", given)) => run_graph(rt, given),
+        _ => BAD_WORDS,
+    }
+}
+
+/// Runs `check`, and answers its status.
+fn run_check(rt: &(impl Runtime + Threads + Sync + AllocGlobal), given: &ArgMatches<'_>) -> u8 {
+    let Some(given) = command::check_words(given) else {
         return BAD_WORDS;
     };
+    match check(rt, given) {
+        Ok(verdict) => verdict_status(verdict),
+        Err(fault) => refused(rt, fault),
+    }
+}
+
+/// Runs `graph`, and answers its status.
+fn run_graph(rt: &(impl Runtime + AllocGlobal), given: &ArgMatches<'_>) -> u8 {
     let Some(given) = command::graph_words(given) else {
         return BAD_WORDS;
     };
@@ -85,33 +121,50 @@ fn explained(rt: &(impl Runtime + AllocGlobal), error: &ClapError) -> u8 {
     }
 }
 
+/// The mode in which nets are routed.
+fn mode_of(global: bool) -> Mode {
+    if global { Mode::Global } else { Mode::Detailed }
+}
+
+/// Opens an input file.
+fn open<R: Runtime>(rt: &R, name: &str, file: InputFile) -> Result<Adapted<R::File>, AppFault> {
+    match fs::open(rt, name) {
+        Ok(opened) => Ok(Adapted::new(opened)),
+        Err(_) => Err(AppFault::Unread(file)),
+    }
+}
+
+/// The `check` command. All files are opened, in the order in which they are read, before one is read.
+fn check(
+    rt: &(impl Runtime + Threads + Sync + AllocGlobal),
+    given: CheckWords<'_>,
+) -> Result<Option<RouteFault>, AppFault>
+    requires { (1 ≤ given.width) × (given.width ≤ 256) }
+{
+    let mut arch = open(rt, given.arch, InputFile::Arch)?;
+    let mut net = open(rt, given.net, InputFile::Net)?;
+    let mut place = open(rt, given.place, InputFile::Place)?;
+    let mut route = open(rt, given.route, InputFile::Route)?;
+    let mut out = Adapted::new(io::writer(rt));
+    let (width, mode) = (given.width, mode_of(given.global));
+    check_run(
+        rt, &mut net, &mut arch, &mut place, &mut route, &mut out, width, mode,
+    )
+}
+
 /// The `graph` command.
 fn graph(rt: &(impl Runtime + AllocGlobal), given: GraphWords<'_>) -> Result<(), AppFault>
     requires columns { (1 ≤ given.nx) × (given.nx ≤ 100) }
     requires rows { (1 ≤ given.ny) × (given.ny ≤ 100) }
     requires tracks { (1 ≤ given.width) × (given.width ≤ 256) }
 {
-    let mode = if given.global {
-        Mode::Global
-    } else {
-        Mode::Detailed
-    };
+    let mode = mode_of(given.global);
     let mut out = Adapted::new(io::writer(rt));
     let (nx, ny, width) = (given.nx, given.ny, given.width);
     if given.arch == "stdin" {
         let mut arch = Adapted::new(rt.reader());
         return graph_run(rt.alloc(), &mut arch, nx, ny, width, mode, &mut out);
     }
-    let Ok(file) = fs::open(rt, given.arch) else {
-        return Err(AppFault::Unread(InputFile::Arch));
-    };
-    graph_run(
-        rt.alloc(),
-        &mut Adapted::new(file),
-        nx,
-        ny,
-        width,
-        mode,
-        &mut out,
-    )
+    let mut arch = open(rt, given.arch, InputFile::Arch)?;
+    graph_run(rt.alloc(), &mut arch, nx, ny, width, mode, &mut out)
 }

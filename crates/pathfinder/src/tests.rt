@@ -1,66 +1,12 @@
-ghost use Rattle.std.specs.Prelude.{◌≤◌, Some, None, false};
+ghost use Rattle.std.specs.Prelude.{◌≤◌};
 
-use crate::fault::{AppFault, InputFile, print_fault, status};
+use crate::fakes::{CountingSink, ONE_BLOCK, ShortSink, ShortSource};
+use crate::fault::{AppFault, InputFile};
 use crate::graph_run::graph_run;
 use arch_file::{ArchFault, Entry};
 use rr_graph::Mode;
 use std::test::Fail;
-use vpr_text::{Adapted, Broken, ByteSink, ByteSource, TextFault};
-
-/// The one-block architecture: a 2-input look-up table.
-const ONE_BLOCK: &[u8] =
-    b"io_rat 2\nchan_width_io 1\nchan_width_x uniform 1\nchan_width_y uniform 1\ninpin class: 0 bottom\ninpin class: 0 top\noutpin class: 1 right\nsubblocks_per_clb 1\nsubblock_lut_size 2\nswitch_block_type subset\nFc_type fractional\nFc_output 1\nFc_input 1\nFc_pad 1\nsegment frequency: 1 length: 1 wire_switch: 0 opin_switch: 0 Frac_cb: 1. Frac_sb: 1. Rmetal: 0 Cmetal: 81e-15\nswitch 0 buffered: yes R: 0 Cin: 0 Cout: 0 Tdel: 0\n";
-
-/// Takes at most so many bytes, and then fails.
-#[derive(Drop)]
-struct ShortSink {
-    bytes: Vec<u8>,
-    room: usize,
-    failed: bool,
-}
-
-impl ByteSink for ShortSink {
-    ghost taken = { λ s. Some s.bytes.items };
-
-    ghost failed = { λ s. s.failed };
-
-    fn put(&mut self, bytes: &[u8]) -> Result<usize, Broken> {
-        let count = bytes.len().min(self.room);
-        if count == 0 || self.failed || self.bytes.extend_from_slice(&bytes[..count]).is_err() {
-            self.failed = true;
-            return Err(Broken);
-        }
-        self.room -= count;
-        Ok(count)
-    }
-}
-
-/// Gives so many of the bytes, and then fails.
-#[derive(Drop)]
-struct ShortSource<'a> {
-    bytes: &'a [u8],
-    left: usize,
-    failed: bool,
-}
-
-impl<'a> ByteSource for ShortSource<'a> {
-    ghost remaining = { λ _. None };
-
-    ghost failed = { λ s. s.failed };
-
-    fn take(&mut self, buffer: &mut [u8]) -> Result<usize, Broken> {
-        let count = self.left.min(buffer.len()).min(self.bytes.len());
-        if count == 0 || self.failed {
-            self.failed = true;
-            return Err(Broken);
-        }
-        let (front, rest) = self.bytes.split_at(count);
-        buffer[..count].copy_from_slice(front);
-        self.bytes = rest;
-        self.left -= count;
-        Ok(count)
-    }
-}
+use vpr_text::{Adapted, TextFault};
 
 fn listing(rt: &HostRuntime, arch: &[u8], width: u32, mode: Mode) -> Result<Vec<u8>, AppFault>
     requires { (1 ≤ width) × (width ≤ 256) }
@@ -163,111 +109,6 @@ fn a_sink_that_fails_received_a_front(rt: HostRuntime) -> Result<(), Fail> {
         assert_eq!(rt; sink.bytes.as_slice(), &whole[..room], "{room}");
     }
     Ok(())
-}
-
-#[test]
-fn prints_each_fault(rt: HostRuntime) -> Result<(), Fail> {
-    let cases: [(AppFault, &[u8], u8); 14] = [
-        (
-            AppFault::Arch(ArchFault::Text(TextFault::TooLong)),
-            b"error: arch line 0: TooLong\n",
-            4,
-        ),
-        (
-            AppFault::Arch(ArchFault::Text(TextFault::BadByte(7))),
-            b"error: arch line 7: BadByte\n",
-            4,
-        ),
-        (
-            AppFault::Arch(ArchFault::UnknownKeyword(1)),
-            b"error: arch line 1: UnknownKeyword\n",
-            4,
-        ),
-        (
-            AppFault::Arch(ArchFault::Repeated(2)),
-            b"error: arch line 2: Repeated\n",
-            4,
-        ),
-        (
-            AppFault::Arch(ArchFault::BadNumber(3)),
-            b"error: arch line 3: BadNumber\n",
-            4,
-        ),
-        (
-            AppFault::Arch(ArchFault::BadWord(15)),
-            b"error: arch line 15: BadWord\n",
-            4,
-        ),
-        (
-            AppFault::Arch(ArchFault::Unsupported(10)),
-            b"error: arch line 10: Unsupported\n",
-            4,
-        ),
-        (
-            AppFault::Arch(ArchFault::TooMany(4)),
-            b"error: arch line 4: TooMany\n",
-            4,
-        ),
-        (
-            AppFault::Arch(ArchFault::Missing(Entry::Class)),
-            b"error: arch line 0: Missing\n",
-            4,
-        ),
-        (
-            AppFault::Unread(InputFile::Arch),
-            b"error: arch cannot be read\n",
-            5,
-        ),
-        (AppFault::Unwritten, b"error: cannot write\n", 5),
-        (AppFault::Memory, b"error: memory\n", 6),
-        (
-            AppFault::Arch(ArchFault::Memory),
-            b"error: arch line 0: Memory\n",
-            4,
-        ),
-        (
-            AppFault::Arch(ArchFault::Text(TextFault::Memory)),
-            b"error: arch line 0: Memory\n",
-            4,
-        ),
-    ];
-    for (fault, text, code) in cases {
-        let mut out = Adapted::new(Vec::new(rt.alloc()));
-        print_fault(&fault, &mut out)?;
-        assert_eq!(rt; out.into_inner().as_slice(), text);
-        assert_eq!(rt; status(&fault), code);
-    }
-    Ok(())
-}
-
-#[test]
-fn a_fault_that_cannot_be_printed_keeps_its_status(rt: HostRuntime) {
-    let mut sink = ShortSink {
-        bytes: Vec::new(rt.alloc()),
-        room: 5,
-        failed: false,
-    };
-    let fault = AppFault::Unread(InputFile::Arch);
-    assert!(rt; print_fault(&fault, &mut sink) == Err(Broken));
-    assert_eq!(rt; sink.bytes.as_slice(), b"error".as_slice());
-    assert_eq!(rt; status(&fault), 5);
-}
-
-/// A sink that counts bytes, and takes no memory.
-#[derive(Drop)]
-struct CountingSink {
-    count: usize,
-}
-
-impl ByteSink for CountingSink {
-    ghost taken = { λ _. None };
-
-    ghost failed = { λ _. false };
-
-    fn put(&mut self, bytes: &[u8]) -> Result<usize, Broken> {
-        self.count = self.count.saturating_add(bytes.len());
-        Ok(bytes.len())
-    }
 }
 
 // growths: 24
