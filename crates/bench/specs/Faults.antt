@@ -2,12 +2,14 @@
 use Rattle.std.specs.Prelude.{◌≡◌, ℕ, ◌<◌, ◌⊎◌, List}
 use Rattle.arch_file.specs.Reading.{Fails, arch_of}
 use Rattle.arch_file.specs.declared.parts.Pin.{Pin}
-use Rattle.net_file.specs.Netlist.{Block}
+use Rattle.net_file.specs.Netlist.{Block, Netlist}
 use Rattle.net_file.specs.Reading as net
 use Rattle.place_file.specs.Reading as place
-use Rattle.rr_graph.specs.declared.fault.DeviceFault.TheVariants.{Width}
+use Rattle.route_file.specs.Reading as route
+use Rattle.rr_graph.specs.Problems.{RoutingProblem}
+use Rattle.rr_graph.specs.declared.fault.DeviceFault.TheVariants as device
 use Rattle.bench.specs.declared.fault.BenchFault.{BenchFault}
-use Rattle.bench.specs.declared.fault.BenchFault.TheVariants.{Arch, Device, Io, Memory, Net, Place}
+use Rattle.bench.specs.declared.fault.BenchFault.TheVariants.{Arch, Device, Io, Memory, Net, Place, Route}
 
 -- the clock or standard error failed
 abbrev pub IsIo : BenchFault → Type 0
@@ -23,7 +25,7 @@ IsOutside _ = ⊥
 -- an architecture is refused only if its text has that fault, memory aside, and a width only if no device has it
 abbrev pub IsFaultOf : (text : List ℕ) → (width : ℕ) → BenchFault → Type 0
 IsFaultOf text width (Arch fault) = Fails fault (arch_of text)
-IsFaultOf text width (Device Width) = (width ≡ 0) ⊎ (256 < width)
+IsFaultOf text width (Device device.Width) = (width ≡ 0) ⊎ (256 < width)
 IsFaultOf text width _ = Unit {0}
 
 -- an architecture is refused only if its text has that fault, memory aside
@@ -40,3 +42,14 @@ IsNetFault pins text fault = IsOutside fault
 abbrev pub IsPlaceFault : (io_rat : ℕ) → List Block → (text : List ℕ) → BenchFault → Type 0
 IsPlaceFault io_rat blocks text (Place fault) = place.Fails fault (place.placement_of io_rat blocks text)
 IsPlaceFault io_rat blocks text fault = IsOutside fault
+
+-- and so a routing
+abbrev pub IsRouteFault : Netlist → RoutingProblem → (text : List ℕ) → BenchFault → Type 0
+IsRouteFault netlist problem text (Route fault) = route.Fails fault (route.routing_of netlist problem text)
+IsRouteFault netlist problem text fault = IsOutside fault
+
+-- no device has channels of this width
+abbrev pub IsWidthFault : (width : ℕ) → BenchFault → Type 0
+IsWidthFault width (Device device.Width) = (width ≡ 0) ⊎ (256 < width)
+IsWidthFault width (Device device.Memory) = Unit {0}
+IsWidthFault width fault = IsOutside fault

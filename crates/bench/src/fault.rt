@@ -1,11 +1,12 @@
 //! Why a measurement ends early.
 
 ghost use Rattle.std.specs.Prelude.{◌≡◌};
-ghost use Rattle.bench.specs.declared.fault.BenchFault.TheVariants.{Arch, Device, Io, Memory, Net, Place, Read};
+ghost use Rattle.bench.specs.declared.fault.BenchFault.TheVariants.{Arch, Device, Io, Memory, Net, Place, Read, Route};
 
 use arch_file::ArchFault;
 use net_file::NetFault;
 use place_file::PlaceFault;
+use route_file::RouteFileFault;
 use rr_graph::DeviceFault;
 use std::alloc::AllocError;
 use std::io;
@@ -22,6 +23,8 @@ pub enum BenchFault {
     Net(NetFault),
     #[error("the placement: {0}")]
     Place(PlaceFault),
+    #[error("the routing: {0}")]
+    Route(RouteFileFault),
     #[error("{0}")]
     Read(ReadFault),
     #[error("{0}")]
@@ -83,5 +86,13 @@ impl From<ReadFault> for BenchFault {
 
     fn from(given: ReadFault) -> BenchFault {
         BenchFault::Read(given)
+    }
+}
+
+impl From<RouteFileFault> for BenchFault {
+    ghost from_gives = { λ given fault. fault ≡ Route given };
+
+    fn from(given: RouteFileFault) -> BenchFault {
+        BenchFault::Route(given)
     }
 }

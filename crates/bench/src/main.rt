@@ -11,16 +11,18 @@ mod fault;
 mod figure;
 mod look_ups;
 mod reading;
+mod routes;
 mod size;
 mod spread;
 
 use archs::{LONG_ARCH, SMALL_ARCH};
 use device::measure_device;
 use fault::BenchFault;
-use reading::measure_reading;
-use size::size_of_words;
+use reading::{RoutedDesign, measure_reading, measure_routed};
+use size::{size_of_words, tracks};
 use std::process::ExitCode;
 use std::rt::Runtime;
+use std::thread::Threads;
 use std::{env, io};
 
 /// The status where a measurement ended early.
@@ -34,7 +36,7 @@ fn main(rt: HostRuntime) -> ExitCode {
 }
 
 /// Measures what the command line names, and answers the exit status.
-fn run(rt: &(impl Runtime + AllocGlobal)) -> u8
+fn run(rt: &(impl Runtime + Threads + Sync + AllocGlobal)) -> u8
     ensures { result ≤ 2 }
 {
     let words = match words(rt) {
@@ -47,6 +49,7 @@ fn run(rt: &(impl Runtime + AllocGlobal)) -> u8
             "device" => run_device(rt, SMALL_ARCH, given),
             "long" => run_device(rt, LONG_ARCH, given),
             "read" => run_reading(rt, given),
+            "route" => run_routing(rt, given),
             _ => usage(rt),
         },
     }
@@ -61,7 +64,9 @@ fn words(rt: &(impl Runtime + AllocGlobal)) -> io::Result<Vec<String>> {
 fn usage(rt: &impl Runtime) -> u8
     ensures { result ≡ BAD_WORDS }
 {
-    let _ = eprintln!(rt; "usage: bench [device|long [NX NY W]], or bench read ARCH NET [PLACE]");
+    let _ = eprintln!(rt;
+        "usage: bench [device|long [NX NY W]], bench read ARCH NET [PLACE], or bench route ARCH NET PLACE ROUTE W"
+    );
     BAD_WORDS
 }
 
@@ -99,12 +104,41 @@ fn run_device(rt: &(impl Runtime + AllocGlobal), text: &str, given: &[String]) -
 fn run_reading(rt: &(impl Runtime + AllocGlobal), given: &[String]) -> u8
     ensures { result ≤ 2 }
 {
-    let measured = match given {
-        [arch, net] => measure_reading(rt, arch.as_str(), net.as_str(), None),
-        [arch, net, place] => {
-            measure_reading(rt, arch.as_str(), net.as_str(), Some(place.as_str()))
+    match given {
+        [arch, net] => {
+            let measured = measure_reading(rt, arch.as_str(), net.as_str(), None);
+            status(rt, measured)
         }
-        _ => return usage(rt),
+        [arch, net, place] => {
+            let place = Some(place.as_str());
+            let measured = measure_reading(rt, arch.as_str(), net.as_str(), place);
+            status(rt, measured)
+        }
+        _ => usage(rt),
+    }
+}
+
+/// The routed design and the width that words name, None for words that name none.
+fn routed_design(given: &[String]) -> Option<(RoutedDesign<'_>, u32)> {
+    let [arch, netlist, placement, routing, width] = given else {
+        return None;
     };
-    status(rt, measured)
+    let width = tracks(width.as_str())?;
+    let design = RoutedDesign {
+        arch: arch.as_str(),
+        netlist: netlist.as_str(),
+        placement: placement.as_str(),
+        routing: routing.as_str(),
+    };
+    Some((design, width))
+}
+
+/// Measures what is done with the routing of the files that are given.
+fn run_routing(rt: &(impl Runtime + Threads + Sync + AllocGlobal), given: &[String]) -> u8
+    ensures { result ≤ 2 }
+{
+    match routed_design(given) {
+        Some((design, width)) => status(rt, measure_routed(rt, design, width)),
+        None => usage(rt),
+    }
 }

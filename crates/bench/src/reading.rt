@@ -1,18 +1,21 @@
 //! Measures the reading of a placed design's three files.
 
-ghost use Rattle.std.specs.Prelude.{◌≡◌, IfOk, IfErr, Ok};
+ghost use Rattle.std.specs.Prelude.{◌≡◌, ℕ, List, IfOk, IfErr, Ok};
 ghost use Rattle.arch_file.specs.Reads as arch;
 ghost use Rattle.net_file.specs.Reads as net;
+ghost use Rattle.place_file.specs.Placement.{IsPlaced};
 ghost use Rattle.place_file.specs.Reading.{placement_of};
 ghost use Rattle.bench.specs.Faults.{IsArchFault, IsNetFault, IsPlaceFault};
 
 use crate::fault::BenchFault;
 use crate::figure::print_once;
+use crate::routes::measure_routing;
 use arch_file::Arch;
 use net_file::Netlist;
 use place_file::Placement;
 use std::fs;
 use std::rt::{Clock, Runtime};
+use std::thread::Threads;
 use std::time::Instant;
 use vpr_text::{Adapted, read_all};
 
@@ -59,6 +62,7 @@ fn read_placement(
     netlist: &Netlist,
 ) -> Result<Placement, BenchFault>
     ensures placement { IfOk result (λ p. placement_of arch.now.io_rat netlist.now.blocks bytes.now ≡ Ok p) }
+    ensures placed { IfOk result (IsPlaced arch.now.io_rat netlist.now.blocks) }
     ensures refused { IfErr result (IsPlaceFault arch.now.io_rat netlist.now.blocks bytes.now) }
 {
     let start = Instant::now(rt)?;
@@ -80,6 +84,45 @@ fn measure_placement(
     let (nx, ny) = (placement.nx(), placement.ny());
     eprintln!(rt; "array {nx} x {ny}")?;
     Ok(())
+}
+
+/// The files of a routed design, by their names.
+#[derive(Clone, Copy)]
+pub struct RoutedDesign<'a> {
+    pub arch: &'a str,
+    pub netlist: &'a str,
+    pub placement: &'a str,
+    pub routing: &'a str,
+}
+
+/// Reads a placement, and measures its routing.
+fn measure_placed(
+    rt: &(impl Runtime + Threads + Sync + AllocGlobal),
+    arch: &Arch,
+    netlist: &Netlist,
+    given: RoutedDesign<'_>,
+    width: u32,
+) -> Result<(), BenchFault>
+    requires { (bytes : List ℕ) × net.ReadsBytes arch.now.pins bytes netlist.now }
+{
+    let placement_bytes = bytes_of(rt, given.placement)?;
+    let routing_bytes = bytes_of(rt, given.routing)?;
+    let placement = read_placement(rt, &placement_bytes, arch, netlist)?;
+    measure_routing(rt, arch, netlist, &placement, &routing_bytes, width)
+}
+
+/// Measures what is done with the routing of a placed design, on a device whose channels have `width` tracks. A file's
+/// bytes are in memory before the clock starts.
+pub fn measure_routed(
+    rt: &(impl Runtime + Threads + Sync + AllocGlobal),
+    given: RoutedDesign<'_>,
+    width: u32,
+) -> Result<(), BenchFault> {
+    let arch_bytes = bytes_of(rt, given.arch)?;
+    let netlist_bytes = bytes_of(rt, given.netlist)?;
+    let arch = read_arch(rt, &arch_bytes)?;
+    let netlist = read_netlist(rt, &netlist_bytes, &arch)?;
+    measure_placed(rt, &arch, &netlist, given, width)
 }
 
 /// Measures the reading of an architecture, a netlist, and a placement if one is given, by the names of their files. A

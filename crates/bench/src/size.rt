@@ -32,6 +32,14 @@ fn number_within(word: &str, most: u32) -> Option<u32>
     }
 }
 
+/// The tracks of a word, None where no channel has so many.
+pub fn tracks(word: &str) -> Option<u32>
+    ensures number { result ≡ number_within 256 word.now }
+    ensures limits { IfSome result (λ n. (1 ≤ n) × (n ≤ 256)) }
+{
+    number_within(word, MOST_TRACKS)
+}
+
 /// The size of three words, None where one is out of its range.
 fn size_of(nx: &str, ny: &str, width: &str) -> Option<Size>
     ensures size { result ≡ size_of nx.now ny.now width.now }
@@ -42,7 +50,7 @@ fn size_of(nx: &str, ny: &str, width: &str) -> Option<Size>
     Some(Size {
         nx: number_within(nx, MOST_BLOCKS)?,
         ny: number_within(ny, MOST_BLOCKS)?,
-        width: number_within(width, MOST_TRACKS)?,
+        width: tracks(width)?,
     })
 }
 

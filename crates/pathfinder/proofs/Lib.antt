@@ -2,4 +2,3 @@ pub mod Ending
 pub mod Lines
 pub mod Stages
 pub mod Judged
-pub mod Designs

@@ -31,5 +31,6 @@ pub mod ReadRouted
 pub mod ReadLists
 pub mod ReadClear
 pub mod ReadBack
+pub mod RoutesTold
 mod Examples
 pub mod ReadExamples

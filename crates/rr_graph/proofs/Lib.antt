@@ -37,4 +37,5 @@ pub mod Problems
 pub mod Ascending
 pub mod Designs
 pub mod DesignsRead
+pub mod DevicesMade
 pub mod DesignExamples

@@ -4,7 +4,7 @@ use Rattle.rr_graph.specs.Problems.{RoutingProblem}
 use Rattle.pathfinder.specs.CheckRun.{PrintsVerdict, RunsCheck}
 use Rattle.pathfinder.specs.GraphRun.{fabric_with}
 use Rattle.pathfinder.specs.Inputs.{judged_for, judged_on}
-use Rattle.pathfinder.proofs.Designs.{numbers_kept}
+use Rattle.rr_graph.proofs.Designs.{numbers_kept}
 use Rattle.pathfinder.proofs.Judged.{ends_late, judged_on_fails, judged_on_goes}
 use Rattle.pathfinder.proofs.Stages.{meets_any, meets_so, stops}
 use Rattle.pathfinder.proofs.check_run.check_netlist.Goals as goal

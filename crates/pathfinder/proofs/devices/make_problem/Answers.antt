@@ -1,4 +1,4 @@
-use Rattle.pathfinder.proofs.Designs.{suits_read}
+use Rattle.rr_graph.proofs.DevicesMade.{suits_read}
 use Rattle.pathfinder.proofs.devices.make_problem.Goals as goal
 
 pub prove-unreachable-requires : goal.prove-unreachable-requires

@@ -1,31 +1,19 @@
 -- Designs that were read suit the devices that are made for them.
-use Rattle.std.proofs.Common.{◌≡◌, ℕ, Bool, true, List, [], ◌∷◌, map, refl, sym, ap, subst, ◌∙◌}
+use Rattle.std.proofs.Common.{◌≡◌, ℕ, Bool, true, List, sym, ap, subst, ◌∙◌}
 use Rattle.arch_file.specs.Architecture.{Architecture}
 use Rattle.net_file.specs.Netlist.{Netlist}
 use Rattle.net_file.specs.Reads.{ReadsBytes}
-use Rattle.net_file.specs.Routed.{routed_numbers}
 use Rattle.place_file.specs.Placement.{Placement, IsPlaced}
 use Rattle.rr_graph.specs.declared.parts.Mode.{Mode}
-use Rattle.rr_graph.specs.Designs.{net_of_design, problem_from}
 use Rattle.rr_graph.specs.Fabric.{Fabric}
-use Rattle.pathfinder.specs.GraphRun.{fabric_with}
 
 -- what is known of designs that were read holds on the device of their array
 pub suits_read : (d : Fabric) (a : Architecture) (nx ny width : ℕ) (mode : Mode) (netlist : Netlist) (p : Placement) (suits : Bool)
-    → d ≡ fabric_with nx ny width mode a → nx ≡ p.nx → ny ≡ p.ny → (bytes : List ℕ) × ReadsBytes a.pins bytes netlist → IsPlaced a.io_rat netlist.blocks p
+    → d ≡ record { architecture = a; nx = nx; ny = ny; width = width; mode = mode } → nx ≡ p.nx → ny ≡ p.ny
+    → (bytes : List ℕ) × ReadsBytes a.pins bytes netlist → IsPlaced a.io_rat netlist.blocks p
     → ((bytes : List ℕ) → ReadsBytes d.architecture.pins bytes netlist → IsPlaced d.architecture.io_rat netlist.blocks p → d.nx ≡ p.nx → d.ny ≡ p.ny → suits ≡ true)
     → suits ≡ true
 suits_read d a nx ny width mode netlist p suits made columns rows read placed known =
     known read.0 (subst (λ (f : Fabric). ReadsBytes f.architecture.pins read.0 netlist) (sym made) read.1)
     (subst (λ (f : Fabric). IsPlaced f.architecture.io_rat netlist.blocks p) (sym made) placed)
     (ap (λ (f : Fabric). f.nx) made ∙ columns) (ap (λ (f : Fabric). f.ny) made ∙ rows)
-
-numbers_of : (f : Fabric) (netlist : Netlist) (p : Placement) (ns : List ℕ) → map (λ n. n.number) (map (net_of_design f netlist p) ns) ≡ ns
-unfolding net_of_design
-numbers_of f netlist p [] = refl
-numbers_of f netlist p (n ∷ ns) = ap (λ (ms : List ℕ). n ∷ ms) (numbers_of f netlist p ns)
-
--- the nets of a design's problem are its routed nets
-pub numbers_kept : (f : Fabric) (netlist : Netlist) (p : Placement) → map (λ n. n.number) (problem_from f netlist p).nets ≡ routed_numbers netlist
-unfolding problem_from
-numbers_kept f netlist p = numbers_of f netlist p (routed_numbers netlist)
