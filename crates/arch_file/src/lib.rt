@@ -20,6 +20,3 @@ pub use arch::Arch;
 pub use fault::{ArchFault, Entry};
 pub use parts::{Direction, FcType, Pin, Segment, SegmentLength, Sides, Switch};
 pub use reading::parse;
-
-#[cfg(test)]
-mod tests;

@@ -2,10 +2,10 @@
 
 ghost use Rattle.std.specs.Prelude.{◌≤◌};
 
-use crate::devices::{ONE_BLOCK, arch};
 use net_file::Netlist;
 use place_file::Placement;
 use rr_graph::{Device, Mode, Problem};
+use samples::{ONE_BLOCK, arch};
 use std::process::Abort;
 use std::test::Fail;
 

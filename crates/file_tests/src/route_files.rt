@@ -1,22 +1,22 @@
 //! `.route` files of small designs: what is read of them, and which fault each has.
 
-use crate::devices::{CLOCKED, LONG_WIRES, ONE_BLOCK, arch, device_again};
 use crate::matching::is_for;
-use crate::problems::net;
 use net_file::Netlist;
 use route_file::RouteFileFault;
 use route_tree::{Pairs, Routing};
 use rr_graph::{Device, Mode, Problem, Terminals};
+use samples::{CLOCKED, LONG_WIRES, ONE_BLOCK, arch, device_again, net};
 use std::alloc::{AllocError, Global};
 use std::process::Abort;
 use std::test::Fail;
 use vpr_text::TextFault;
 
 /// A pad's net to a block, and the block's to another pad.
-const THREE: &str = ".input a\npinlist: a\n.clb c\npinlist: a open y\n.output out:y\npinlist: y\n";
+pub(crate) const THREE: &str =
+    ".input a\npinlist: a\n.clb c\npinlist: a open y\n.output out:y\npinlist: y\n";
 
 /// Its routing, line by line.
-const THREE_LINES: [&str; 20] = [
+pub(crate) const THREE_LINES: [&str; 20] = [
     "Array size: 1 x 1 logic blocks.",
     "",
     "Routing:",
@@ -44,7 +44,7 @@ const FIRST: [(u32, u32); 5] = [(0, 18), (18, 39), (39, 37), (37, 31), (31, 13)]
 const SECOND: [(u32, u32); 4] = [(4, 22), (22, 40), (40, 35), (35, 16)];
 
 /// A file of these lines, of which one has another text.
-fn with_line(
+pub(crate) fn with_line(
     alloc: Global,
     lines: &[&str],
     changed: usize,
@@ -385,10 +385,10 @@ fn refuses_a_file_twice(rt: HostRuntime) -> Result<(), Fail> {
 }
 
 /// A net from a logic block to another one and to a pad.
-const FORK: &str =
+pub(crate) const FORK: &str =
     ".clb u\npinlist: open open open open xor5 open\n.clb v\npinlist: xor5 open open open open open\n.output out:xor5\npinlist: xor5\n";
 
-const FORK_LINES: [&str; 18] = [
+pub(crate) const FORK_LINES: [&str; 18] = [
     "Array size: 2 x 2 logic blocks.",
     "",
     "Routing:",
@@ -449,9 +449,9 @@ fn refuses_another_joint(rt: HostRuntime) -> Result<(), Fail> {
 }
 
 /// A pad's net to a block.
-const TWO: &str = ".input a\npinlist: a\n.clb c\npinlist: a open open\n";
+pub(crate) const TWO: &str = ".input a\npinlist: a\n.clb c\npinlist: a open open\n";
 
-const LONG_LINES: [&str; 12] = [
+pub(crate) const LONG_LINES: [&str; 12] = [
     "Array size: 2 x 1 logic blocks.",
     "",
     "Routing:",
@@ -521,9 +521,10 @@ fn names_the_faults_of_long_wires(rt: HostRuntime) -> Result<(), Fail> {
 }
 
 /// Two pads' nets to a block.
-const PADS: &str = ".input a\npinlist: a\n.input b\npinlist: b\n.clb c\npinlist: a b open\n";
+pub(crate) const PADS: &str =
+    ".input a\npinlist: a\n.input b\npinlist: b\n.clb c\npinlist: a b open\n";
 
-const GLOBAL_LINES: [&str; 17] = [
+pub(crate) const GLOBAL_LINES: [&str; 17] = [
     "Array size: 1 x 1 logic blocks.",
     "Routing:",
     "Net 0 (a)",
@@ -579,10 +580,10 @@ fn finds_one_track_in_global_routings(rt: HostRuntime) -> Result<(), Fail> {
 }
 
 /// A net, a global one and another net.
-const CLOCK: &str =
+pub(crate) const CLOCK: &str =
     ".global clk\n.input a\npinlist: a\n.input clk\npinlist: clk\n.clb x\npinlist: a open open open x clk\n.output out:x\npinlist: x\n";
 
-const CLOCK_LINES: [&str; 13] = [
+pub(crate) const CLOCK_LINES: [&str; 13] = [
     "Array size: 1 x 1 logic blocks.",
     "",
     "Routing:",
@@ -641,7 +642,7 @@ fn names_the_faults_of_global_nets(rt: HostRuntime) -> Result<(), Fail> {
 }
 
 /// A net that nothing takes.
-const SINKLESS: &str = ".input a\npinlist: a\n";
+pub(crate) const SINKLESS: &str = ".input a\npinlist: a\n";
 
 const SINKLESS_LINES: [&str; 4] = [
     "Array size: 1 x 1 logic blocks.",

@@ -1,17 +1,10 @@
 //! The devices of one small architecture, by numbers that were worked out by hand.
 
-use arch_file::Arch;
 use rr_graph::{Device, DeviceFault, Kind, Label, Mode, Node, Span};
+use samples::{CLOCKED, LONG_WIRES, ONE_BLOCK, arch, device_again, node};
 use smallvec::SmallVec;
 use std::process::Abort;
 use std::test::Fail;
-
-/// A logic block of two inputs and an output.
-pub(crate) const ONE_BLOCK: &str =
-    "io_rat 2\nchan_width_io 1\nchan_width_x uniform 1\nchan_width_y uniform 1\ninpin class: 0 bottom\ninpin class: 0 top\noutpin class: 1 right\nswitch_block_type subset\nFc_type fractional\nFc_output 1\nFc_input 1\nFc_pad 1\nsegment frequency: 1 length: 1 wire_switch: 0 opin_switch: 0 Frac_cb: 1. Frac_sb: 1. Rmetal: 0 Cmetal: 81e-15\nswitch 0 buffered: yes R: 0 Cin: 0 Cout: 0 Tdel: 0\n";
-
-pub(crate) const LONG_WIRES: &str =
-    "io_rat 2\nchan_width_io 1\nchan_width_x uniform 1\nchan_width_y uniform 1\ninpin class: 0 bottom\ninpin class: 0 top\noutpin class: 1 right\nswitch_block_type subset\nFc_type fractional\nFc_output 1\nFc_input 1\nFc_pad 1\nsegment frequency: 1 length: 2 wire_switch: 0 opin_switch: 0 Frac_cb: 1. Frac_sb: 1. Rmetal: 0 Cmetal: 81e-15\nswitch 0 buffered: yes R: 0 Cin: 0 Cout: 0 Tdel: 0\n";
 
 const TWO_TYPES: &str =
     "io_rat 2\nchan_width_io 1\nchan_width_x uniform 1\nchan_width_y uniform 1\ninpin class: 0 bottom\ninpin class: 0 top\noutpin class: 1 right\nswitch_block_type subset\nFc_type fractional\nFc_output 1\nFc_input 1\nFc_pad 1\nsegment frequency: 0.5 length: 1 wire_switch: 0 opin_switch: 0 Frac_cb: 1. Frac_sb: 1. Rmetal: 0 Cmetal: 81e-15\nsegment frequency: 0.5 length: 2 wire_switch: 0 opin_switch: 0 Frac_cb: 1. Frac_sb: 1. Rmetal: 0 Cmetal: 81e-15\nswitch 0 buffered: yes R: 0 Cin: 0 Cout: 0 Tdel: 0\n";
@@ -21,18 +14,6 @@ const A_QUARTER: &str =
 
 const ONE_TRACK: &str =
     "io_rat 2\nchan_width_io 1\nchan_width_x uniform 1\nchan_width_y uniform 1\ninpin class: 0 bottom\ninpin class: 0 top\noutpin class: 1 right\nswitch_block_type subset\nFc_type absolute\nFc_output 1\nFc_input 1\nFc_pad 1\nsegment frequency: 1 length: 1 wire_switch: 0 opin_switch: 0 Frac_cb: 1. Frac_sb: 1. Rmetal: 0 Cmetal: 81e-15\nswitch 0 buffered: yes R: 0 Cin: 0 Cout: 0 Tdel: 0\n";
-
-/// Four inputs, an output, and a clock on a dedicated network.
-pub(crate) const CLOCKED: &str =
-    "io_rat 2\nchan_width_io 1\nchan_width_x uniform 1\nchan_width_y uniform 1\ninpin class: 0 bottom\ninpin class: 0 left\ninpin class: 0 top\ninpin class: 0 right\noutpin class: 1 bottom\ninpin class: 2 global top\nswitch_block_type subset\nFc_type fractional\nFc_output 1\nFc_input 1\nFc_pad 1\nsegment frequency: 1 length: 1 wire_switch: 0 opin_switch: 0 Frac_cb: 1. Frac_sb: 1. Rmetal: 0 Cmetal: 81e-15\nswitch 0 buffered: yes R: 0 Cin: 0 Cout: 0 Tdel: 0\n";
-
-pub(crate) fn arch(rt: &impl AllocGlobal, text: &str) -> Result<Arch, Fail> {
-    Ok(arch_file::parse(rt.alloc(), text.as_bytes())?)
-}
-
-pub(crate) fn node(kind: Kind, x: u32, y: u32, number: u32) -> Node {
-    Node { kind, x, y, number }
-}
 
 /// Looks a node up both ways, and at its label and capacity.
 fn check_node(rt: &impl Abort, device: &Device, id: u32, node: Node, label: Label, capacity: u32) {
@@ -327,21 +308,6 @@ fn global_devices_have_wide_wires(rt: HostRuntime) -> Result<(), Fail> {
     let device = Device::global(rt.alloc(), &arch(&rt, LONG_WIRES)?, 2, 1, 1)?;
     check_counts(&rt, &device, 65, 80);
     Ok(())
-}
-
-/// An architecture and its device, asked for again where memory was refused.
-pub(crate) fn device_again(rt: &(impl Abort + AllocGlobal), width: u32) -> Result<Device, Fail> {
-    let arch = match arch_file::parse(rt.alloc(), ONE_BLOCK.as_bytes()) {
-        Ok(arch) => arch,
-        Err(_) => arch_file::parse(rt.alloc(), ONE_BLOCK.as_bytes())?,
-    };
-    match Device::new(rt.alloc(), &arch, 1, 1, width) {
-        Ok(device) => Ok(device),
-        Err(fault) => {
-            assert!(rt; fault == DeviceFault::Memory);
-            Ok(Device::new(rt.alloc(), &arch, 1, 1, width)?)
-        }
-    }
 }
 
 /// Sixteen wires outgrow a list's eight places.

@@ -1,57 +1,9 @@
 //! Routing problems of one logic block: what is made of their parts, and what is refused.
 
-use crate::devices::{ONE_BLOCK, arch, device_again, node};
-use rr_graph::{Device, Kind, PartsFault, Problem, Terminals};
-use std::alloc::{AllocError, Global};
+use rr_graph::{Kind, PartsFault, Problem, Terminals};
+use samples::{ONE_BLOCK, arch, net, node, one_block, two_nets, two_nets_again};
 use std::process::Abort;
 use std::test::Fail;
-
-/// The parts of a net.
-pub(crate) fn net(
-    rt: &impl AllocGlobal,
-    number: u32,
-    source: u32,
-    sinks: &[u32],
-) -> Result<Terminals, Fail> {
-    Ok(Terminals {
-        number,
-        source,
-        sinks: Vec::from_slice(rt.alloc(), sinks)?,
-    })
-}
-
-/// One block, with channels of one track: 41 nodes, of which 0 to 8 are sources and 9 to 17 sinks.
-pub(crate) fn one_block(rt: &impl AllocGlobal) -> Result<Device, Fail> {
-    Ok(Device::new(rt.alloc(), &arch(rt, ONE_BLOCK)?, 1, 1, 1)?)
-}
-
-/// From the pads on the block's left to its inputs.
-fn two_parts(alloc: Global) -> Result<Vec<Terminals>, AllocError> {
-    let mut nets = Vec::new(alloc);
-    for number in 0..2 {
-        nets.push(Terminals {
-            number,
-            source: number,
-            sinks: Vec::from_slice(alloc, &[13])?,
-        })?;
-    }
-    Ok(nets)
-}
-
-/// Two nets of one block, from the pads on its left to its inputs.
-pub(crate) fn two_nets(rt: &impl AllocGlobal) -> Result<Problem, Fail> {
-    Ok(Problem::from_parts(one_block(rt)?, two_parts(rt.alloc())?)?)
-}
-
-/// The same, asked for again where memory was refused.
-pub(crate) fn two_nets_again(rt: &(impl Abort + AllocGlobal)) -> Result<Problem, Fail> {
-    let device = device_again(rt, 1)?;
-    let nets = match two_parts(rt.alloc()) {
-        Ok(nets) => nets,
-        Err(_) => two_parts(rt.alloc())?,
-    };
-    Ok(Problem::from_parts(device, nets)?)
-}
 
 /// The fault of two nets.
 fn fault_of(

@@ -1,5 +1,7 @@
-use super::*;
+//! Netlists: what is read of them, and which fault each has.
+
 use arch_file::{Arch, ArchFault};
+use net_file::{Block, BlockKind, Net, NetFault, Netlist, Terminal, parse};
 use std::alloc::{AllocError, Global};
 use std::process::Abort;
 use std::test::Fail;
@@ -46,6 +48,49 @@ fn fault_of(alloc: Global, text: &[u8]) -> Result<Option<NetFault>, ArchFault> {
     Ok(parse(alloc, text, &arch).err())
 }
 
+/// A netlist for blocks of these pins has this fault.
+fn expect_fault(
+    rt: &(impl Abort + AllocGlobal),
+    pins: &str,
+    text: &[u8],
+    want: NetFault,
+) -> Result<(), Fail> {
+    let arch = arch_with(rt.alloc(), pins)?;
+    assert!(rt; parse(rt.alloc(), text, &arch).err() == Some(want));
+    Ok(())
+}
+
+fn expect_block(
+    rt: &impl Abort,
+    block: &Block,
+    kind: BlockKind,
+    name: &[u8],
+    nets: &[Option<usize>],
+) {
+    assert!(rt; block.kind() == kind);
+    assert!(rt; block.name() == name);
+    assert!(rt; block.nets() == nets);
+}
+
+fn expect_net(
+    rt: &impl Abort,
+    net: &Net,
+    name: &[u8],
+    global: bool,
+    driver: Terminal,
+    sinks: &[Terminal],
+) {
+    assert!(rt; net.name() == name);
+    assert!(rt; net.is_global() == global);
+    assert!(rt; net.driver() == driver);
+    assert!(rt; net.sinks() == sinks);
+}
+
+fn expect_counts(rt: &impl Abort, netlist: &Netlist, blocks: usize, nets: usize) {
+    assert!(rt; netlist.blocks().len() == blocks);
+    assert!(rt; netlist.nets().len() == nets);
+}
+
 fn pad(block: usize) -> Terminal {
     Terminal { block, class: None }
 }
@@ -57,56 +102,57 @@ fn pin(block: usize, class: u32) -> Terminal {
     }
 }
 
+fn expect_three_blocks(rt: &impl Abort, blocks: &[Block]) {
+    assert!(rt; blocks.len() == 3);
+    expect_block(rt, &blocks[0], BlockKind::InputPad, b"a", &[Some(0)]);
+    expect_block(
+        rt,
+        &blocks[1],
+        BlockKind::LogicBlock,
+        b"c",
+        &[Some(0), None, Some(1)],
+    );
+    expect_block(rt, &blocks[2], BlockKind::OutputPad, b"out:y", &[Some(1)]);
+    assert!(rt; blocks[2].net(0) == Some(1));
+    assert!(rt; blocks[2].net(1) == None);
+}
+
+fn expect_two_nets(rt: &impl Abort, nets: &[Net]) {
+    assert!(rt; nets.len() == 2);
+    expect_net(rt, &nets[0], b"a", false, pad(0), &[pin(1, 0)]);
+    expect_net(rt, &nets[1], b"y", false, pin(1, 1), &[pad(2)]);
+}
+
+fn expect_names(rt: &impl Abort, netlist: &Netlist) {
+    assert!(rt; netlist.block_named(b"out:y") == Some(2));
+    assert!(rt; netlist.block_named(b"y") == None);
+    assert!(rt; netlist.net_named(b"y") == Some(1));
+    assert!(rt; netlist.net_named(b"c") == None);
+}
+
 #[test]
 fn reads_three_blocks(rt: HostRuntime) -> Result<(), Fail> {
     let arch = arch_with(rt.alloc(), TWO_INPUTS)?;
     let netlist = parse(rt.alloc(), THREE_BLOCKS.as_bytes(), &arch)?;
-    assert_eq!(rt; netlist.blocks().len(), 3);
-    assert_eq!(rt; netlist.nets().len(), 2);
-    if let [a, c, out] = netlist.blocks() {
-        assert_eq!(rt; a.kind(), BlockKind::InputPad);
-        assert_eq!(rt; a.nets(), [Some(0)].as_slice());
-        assert_eq!(rt; c.kind(), BlockKind::LogicBlock);
-        assert_eq!(rt; c.name(), b"c".as_slice());
-        assert_eq!(rt; c.nets(), [Some(0), None, Some(1)].as_slice());
-        assert_eq!(rt; out.kind(), BlockKind::OutputPad);
-        assert_eq!(rt; out.name(), b"out:y".as_slice());
-        assert_eq!(rt; out.net(0), Some(1));
-        assert_eq!(rt; out.net(1), None);
-    }
-    assert_eq!(rt; netlist.block_named(b"out:y"), Some(2));
-    assert_eq!(rt; netlist.block_named(b"y"), None);
-    assert_eq!(rt; netlist.net_named(b"y"), Some(1));
-    assert_eq!(rt; netlist.net_named(b"c"), None);
-    if let [a, y] = netlist.nets() {
-        assert_eq!(rt; a.name(), b"a".as_slice());
-        assert_eq!(rt; a.driver(), pad(0));
-        assert_eq!(rt; a.sinks(), [pin(1, 0)].as_slice());
-        assert_eq!(rt; y.driver(), pin(1, 1));
-        assert_eq!(rt; y.sinks(), [pad(2)].as_slice());
-        assert!(rt; !y.is_global());
-    }
+    expect_three_blocks(&rt, netlist.blocks());
+    expect_two_nets(&rt, netlist.nets());
+    expect_names(&rt, &netlist);
     Ok(())
+}
+
+fn expect_clocked(rt: &impl Abort, nets: &[Net]) {
+    assert!(rt; nets.len() == 3);
+    expect_net(rt, &nets[0], b"a", false, pad(0), &[pin(2, 0)]);
+    expect_net(rt, &nets[1], b"clk", true, pad(1), &[pin(2, 2)]);
+    expect_net(rt, &nets[2], b"x", false, pin(2, 1), &[pad(3)]);
 }
 
 #[test]
 fn reads_a_flip_flop(rt: HostRuntime) -> Result<(), Fail> {
     let arch = arch_with(rt.alloc(), FOUR_INPUTS)?;
     let netlist = parse(rt.alloc(), FLIP_FLOP.as_bytes(), &arch)?;
-    assert_eq!(rt; netlist.blocks().len(), 4);
-    assert_eq!(rt; netlist.nets().len(), 3);
-    if let [a, clk, x] = netlist.nets() {
-        assert_eq!(rt; a.name(), b"a".as_slice());
-        assert_eq!(rt; a.driver(), pad(0));
-        assert_eq!(rt; a.sinks(), [pin(2, 0)].as_slice());
-        assert!(rt; !a.is_global());
-        assert_eq!(rt; clk.name(), b"clk".as_slice());
-        assert_eq!(rt; clk.driver(), pad(1));
-        assert_eq!(rt; clk.sinks(), [pin(2, 2)].as_slice());
-        assert!(rt; clk.is_global());
-        assert_eq!(rt; x.driver(), pin(2, 1));
-        assert_eq!(rt; x.sinks(), [pad(3)].as_slice());
-    }
+    expect_counts(&rt, &netlist, 4, 3);
+    expect_clocked(&rt, netlist.nets());
     Ok(())
 }
 
@@ -227,61 +273,69 @@ fn names_the_second_of_a_file_and_itself(rt: HostRuntime) -> Result<(), Fail> {
     let mut text = String::new(rt.alloc());
     text.push_str(THREE_BLOCKS)?;
     text.push_str(THREE_BLOCKS)?;
-    let fault = fault_of(rt.alloc(), text.as_bytes())?;
-    assert_eq!(rt; fault, Some(NetFault::DoubleName(7)));
-    Ok(())
+    expect_fault(&rt, TWO_INPUTS, text.as_bytes(), NetFault::DoubleName(7))
 }
 
 #[test]
 fn refuses_a_routed_net_on_a_global_pin(rt: HostRuntime) -> Result<(), Fail> {
-    let arch = arch_with(rt.alloc(), FOUR_INPUTS)?;
     const LOCAL_CLOCK: &[u8] =
         b".input a\npinlist: a\n.input clk\npinlist: clk\n.clb x\npinlist: a open open open x clk\n\
     .output out:x\npinlist: x\n";
-    assert_eq!(rt;
-        parse(rt.alloc(), LOCAL_CLOCK, &arch).err(),
-        Some(NetFault::GlobalPin(4))
-    );
-    // A line behind the pins makes the net global as well.
+    expect_fault(&rt, FOUR_INPUTS, LOCAL_CLOCK, NetFault::GlobalPin(4))
+}
+
+#[test]
+fn a_line_behind_its_pins_makes_a_net_global(rt: HostRuntime) -> Result<(), Fail> {
     const LATE: &[u8] =
         b".input clk\npinlist: clk\n.clb x\npinlist: open open open open open clk\n.global other clk\n";
+    let arch = arch_with(rt.alloc(), FOUR_INPUTS)?;
     let netlist = parse(rt.alloc(), LATE, &arch)?;
-    assert_eq!(rt; netlist.nets().len(), 1);
+    expect_counts(&rt, &netlist, 2, 1);
     assert!(rt; netlist.nets().iter().all(|net| net.is_global()));
     Ok(())
 }
 
 #[test]
-fn reads_a_pinlist_over_ten_lines(rt: HostRuntime) -> Result<(), Fail> {
-    let arch = arch_with(rt.alloc(), TWO_INPUTS)?;
+fn counts_the_names_of_continued_lines(rt: HostRuntime) -> Result<(), Fail> {
     const LONG: &[u8] = b".clb c\npinlist: \\ # begins\n\\\n# only a comment \\\nx\n";
-    assert_eq!(rt;
-        parse(rt.alloc(), LONG, &arch).err(),
-        Some(NetFault::PinCount(2))
+    expect_fault(&rt, TWO_INPUTS, LONG, NetFault::PinCount(2))
+}
+
+fn expect_one_output(rt: &impl Abort, blocks: &[Block]) {
+    assert!(rt; blocks.len() == 2);
+    expect_block(
+        rt,
+        &blocks[0],
+        BlockKind::LogicBlock,
+        b"c",
+        &[None, None, Some(0)],
     );
+}
+
+#[test]
+fn reads_a_pinlist_over_ten_lines(rt: HostRuntime) -> Result<(), Fail> {
     const TEN: &[u8] =
         b".clb c\npinlist: \\ # 1\n\\# 2\n\\\n\\\n open \\ # 5\n\\\n\\\nopen\\\n\\# 9\n y\n.output o\npinlist: y\n";
+    let arch = arch_with(rt.alloc(), TWO_INPUTS)?;
     let netlist = parse(rt.alloc(), TEN, &arch)?;
-    if let [c, _] = netlist.blocks() {
-        assert_eq!(rt; c.nets(), [None, None, Some(0)].as_slice());
-    }
-    assert_eq!(rt; netlist.blocks().len(), 2);
+    expect_one_output(&rt, netlist.blocks());
     Ok(())
+}
+
+fn expect_bytes(rt: &impl Abort, nets: &[Net]) {
+    assert!(rt; nets.len() == 2);
+    expect_net(rt, &nets[0], b"\x80", false, pad(0), &[pad(2)]);
+    expect_net(rt, &nets[1], b"\x81", false, pad(1), &[pad(3)]);
 }
 
 #[test]
 fn compares_names_byte_by_byte(rt: HostRuntime) -> Result<(), Fail> {
-    let arch = arch_with(rt.alloc(), TWO_INPUTS)?;
     const BYTES: &[u8] =
         b".input \xff\npinlist: \x80\n.input \xfe\npinlist: \x81\n.output o\npinlist: \x80\n.output p\npinlist: \x81";
+    let arch = arch_with(rt.alloc(), TWO_INPUTS)?;
     let netlist = parse(rt.alloc(), BYTES, &arch)?;
-    assert_eq!(rt; netlist.blocks().len(), 4);
-    if let [first, second] = netlist.nets() {
-        assert_eq!(rt; first.name(), b"\x80".as_slice());
-        assert_eq!(rt; first.sinks(), [pad(2)].as_slice());
-        assert_eq!(rt; second.name(), b"\x81".as_slice());
-        assert_eq!(rt; second.sinks(), [pad(3)].as_slice());
-    }
+    expect_counts(&rt, &netlist, 4, 2);
+    expect_bytes(&rt, netlist.nets());
     Ok(())
 }
 
@@ -327,57 +381,83 @@ fn last_block(alloc: Global, nets: u32) -> Result<String, AllocError> {
 }
 
 #[test]
-fn keeps_the_limit_of_blocks(rt: HostRuntime) -> Result<(), Fail> {
+fn reads_the_most_blocks(rt: HostRuntime) -> Result<(), Fail> {
     let arch = arch_with(rt.alloc(), TWO_INPUTS)?;
     let text = pads(rt.alloc(), 20_000)?;
     let netlist = parse(rt.alloc(), text.as_bytes(), &arch)?;
-    assert_eq!(rt; netlist.blocks().len(), 20_000);
-    assert_eq!(rt; netlist.nets().len(), 20_000);
-    let text = pads(rt.alloc(), 20_001)?;
-    assert_eq!(rt;
-        parse(rt.alloc(), text.as_bytes(), &arch).err(),
-        Some(NetFault::TooMany(40_001))
-    );
+    expect_counts(&rt, &netlist, 20_000, 20_000);
     Ok(())
 }
 
 #[test]
-fn keeps_the_limit_of_nets(rt: HostRuntime) -> Result<(), Fail> {
-    let mut pins = String::new(rt.alloc());
+fn refuses_one_block_more(rt: HostRuntime) -> Result<(), Fail> {
+    let text = pads(rt.alloc(), 20_001)?;
+    expect_fault(&rt, TWO_INPUTS, text.as_bytes(), NetFault::TooMany(40_001))
+}
+
+/// The pins of a logic block with 64 outputs.
+fn wide_pins(alloc: Global) -> Result<String, AllocError> {
+    let mut pins = String::new(alloc);
     for _ in 0..64 {
         pins.push_str("outpin class: 0 top\n")?;
     }
-    let arch = arch_with(rt.alloc(), &pins)?;
-    let mut text = wide_blocks(rt.alloc(), 1_023)?;
-    let last = last_block(rt.alloc(), 63)?;
+    Ok(pins)
+}
+
+/// A netlist of the most nets.
+fn most_nets(alloc: Global) -> Result<String, AllocError> {
+    let mut text = wide_blocks(alloc, 1_023)?;
+    let last = last_block(alloc, 63)?;
     text.push_str(&last)?;
+    Ok(text)
+}
+
+#[test]
+fn reads_the_most_nets(rt: HostRuntime) -> Result<(), Fail> {
+    let pins = wide_pins(rt.alloc())?;
+    let arch = arch_with(rt.alloc(), &pins)?;
+    let text = most_nets(rt.alloc())?;
     let netlist = parse(rt.alloc(), text.as_bytes(), &arch)?;
-    assert_eq!(rt; netlist.nets().len(), 65_535);
-    assert_eq!(rt; netlist.net_named(b"last_62"), Some(65_534));
-    let text = wide_blocks(rt.alloc(), 1_024)?;
-    assert_eq!(rt;
-        parse(rt.alloc(), text.as_bytes(), &arch).err(),
-        Some(NetFault::TooMany(2_048))
-    );
+    expect_counts(&rt, &netlist, 1_024, 65_535);
+    assert!(rt; netlist.net_named(b"last_62") == Some(65_534));
     Ok(())
+}
+
+#[test]
+fn refuses_one_net_more(rt: HostRuntime) -> Result<(), Fail> {
+    let pins = wide_pins(rt.alloc())?;
+    let text = wide_blocks(rt.alloc(), 1_024)?;
+    expect_fault(&rt, &pins, text.as_bytes(), NetFault::TooMany(2_048))
+}
+
+/// An architecture, asked for again where memory was refused.
+fn arch_again(alloc: Global) -> Result<Arch, ArchFault> {
+    match arch_with(alloc, TWO_INPUTS) {
+        Ok(arch) => Ok(arch),
+        Err(_) => arch_with(alloc, TWO_INPUTS),
+    }
+}
+
+/// The smallest netlist with a name in each of its lists, asked for again where memory was refused.
+fn netlist_again(
+    rt: &(impl Abort + AllocGlobal),
+    arch: &Arch,
+) -> Result<Netlist<'static>, NetFault> {
+    const SMALLEST: &[u8] = b".global a\n.input a\npinlist: a";
+    match parse(rt.alloc(), SMALLEST, arch) {
+        Ok(netlist) => Ok(netlist),
+        Err(fault) => {
+            assert!(rt; fault == NetFault::Memory);
+            parse(rt.alloc(), SMALLEST, arch)
+        }
+    }
 }
 
 // growths: 40
 #[test]
-fn parse_without_memory(rt: HostRuntime) -> Result<(), Fail> {
-    let arch = match arch_with(rt.alloc(), TWO_INPUTS) {
-        Ok(arch) => arch,
-        Err(_) => arch_with(rt.alloc(), TWO_INPUTS)?,
-    };
-    const SMALLEST: &[u8] = b".global a\n.input a\npinlist: a";
-    let netlist = match parse(rt.alloc(), SMALLEST, &arch) {
-        Ok(netlist) => netlist,
-        Err(fault) => {
-            assert_eq!(rt; fault, NetFault::Memory);
-            parse(rt.alloc(), SMALLEST, &arch)?
-        }
-    };
-    assert_eq!(rt; netlist.blocks().len(), 1);
-    assert_eq!(rt; netlist.nets().len(), 1);
+fn netlists_without_memory(rt: HostRuntime) -> Result<(), Fail> {
+    let arch = arch_again(rt.alloc())?;
+    let netlist = netlist_again(&rt, &arch)?;
+    expect_counts(&rt, &netlist, 1, 1);
     Ok(())
 }

@@ -1,4 +1,6 @@
-use super::*;
+//! Placements: what is read of them, and which fault each has.
+
+use place_file::{PlaceFault, Placement, Site, parse};
 use std::alloc::Global;
 use std::process::Abort;
 use std::test::Fail;
@@ -44,17 +46,22 @@ fn site(x: u32, y: u32, subblk: u32) -> Option<Site> {
     Some(Site { x, y, subblk })
 }
 
+/// The array's size, and the sites of the first blocks.
+fn expect_sites(rt: &impl Abort, placement: &Placement, nx: u32, ny: u32, sites: &[Option<Site>]) {
+    assert!(rt; placement.nx() == nx);
+    assert!(rt; placement.ny() == ny);
+    for (block, want) in sites.iter().enumerate() {
+        assert!(rt; placement.site(block) == *want, "block {block}");
+    }
+}
+
 #[test]
 fn reads_the_sites(rt: HostRuntime) -> Result<(), Fail> {
     let source = b"Netlist file: t.net  Architecture file: a.arch\nArray size: 1 x 1 logic blocks\n\
         a 0 1 0 #0\nb 0 1 1 #1\nc 1 1 0 #2\n";
     let placement = read(rt.alloc(), PADS, source)?;
-    assert_eq!(rt; placement.nx(), 1);
-    assert_eq!(rt; placement.ny(), 1);
-    assert_eq!(rt; placement.site(0), site(0, 1, 0));
-    assert_eq!(rt; placement.site(1), site(0, 1, 1));
-    assert_eq!(rt; placement.site(2), site(1, 1, 0));
-    assert_eq!(rt; placement.site(3), None);
+    let sites = [site(0, 1, 0), site(0, 1, 1), site(1, 1, 0), None];
+    expect_sites(&rt, &placement, 1, 1, &sites);
     Ok(())
 }
 
@@ -63,11 +70,8 @@ fn reads_rows_in_any_order(rt: HostRuntime) -> Result<(), Fail> {
     let source = b"Netlist file: t.net  Architecture file: a.arch\nArray size: 2 x 3 logic blocks\n\
         out:y 1 4 1\nc 2 3 0\na 3 2 0\n";
     let placement = read(rt.alloc(), THREE, source)?;
-    assert_eq!(rt; placement.nx(), 2);
-    assert_eq!(rt; placement.ny(), 3);
-    assert_eq!(rt; placement.site(0), site(3, 2, 0));
-    assert_eq!(rt; placement.site(1), site(2, 3, 0));
-    assert_eq!(rt; placement.site(2), site(1, 4, 1));
+    let sites = [site(3, 2, 0), site(2, 3, 0), site(1, 4, 1)];
+    expect_sites(&rt, &placement, 2, 3, &sites);
     Ok(())
 }
 
@@ -75,8 +79,7 @@ fn reads_rows_in_any_order(rt: HostRuntime) -> Result<(), Fail> {
 fn reads_two_lines_where_there_are_no_blocks(rt: HostRuntime) -> Result<(), Fail> {
     let source = b"Netlist file: t.net Architecture file: a.arch\nArray size: 100 x 1 logic blocks";
     let placement = read(rt.alloc(), b"", source)?;
-    assert_eq!(rt; placement.nx(), 100);
-    assert_eq!(rt; placement.site(0), None);
+    expect_sites(&rt, &placement, 100, 1, &[None]);
     Ok(())
 }
 
@@ -87,7 +90,7 @@ fn names_the_fault_of_the_text(rt: HostRuntime) -> Result<(), Fail> {
         TWO,
         b"Netlist file: a Architecture file: b\n\x01",
     );
-    assert_eq!(rt; bad, Some(PlaceFault::Text(TextFault::BadByte(2))));
+    assert!(rt; bad == Some(PlaceFault::Text(TextFault::BadByte(2))));
     Ok(())
 }
 
@@ -95,23 +98,23 @@ fn names_the_fault_of_the_text(rt: HostRuntime) -> Result<(), Fail> {
 fn names_the_fault_of_the_first_two_lines(rt: HostRuntime) -> Result<(), Fail> {
     let alloc = rt.alloc();
     let none = fault(alloc, TWO, b"");
-    assert_eq!(rt; none, Some(PlaceFault::BadLine(0)));
+    assert!(rt; none == Some(PlaceFault::BadLine(0)));
     let one = fault(alloc, TWO, b"Netlist file: a Architecture file: b\n");
-    assert_eq!(rt; one, Some(PlaceFault::BadLine(0)));
+    assert!(rt; one == Some(PlaceFault::BadLine(0)));
     let short = fault(alloc, TWO, b"\nNetlist file: Architecture file: b\n");
-    assert_eq!(rt; short, Some(PlaceFault::BadLine(2)));
+    assert!(rt; short == Some(PlaceFault::BadLine(2)));
     let shape = fault(
         alloc,
         TWO,
         b"Netlist file: a Architecture file: b\nArray size: 0 x 1 logic blocks.\n",
     );
-    assert_eq!(rt; shape, Some(PlaceFault::BadLine(2)));
+    assert!(rt; shape == Some(PlaceFault::BadLine(2)));
     let large = fault(
         alloc,
         TWO,
         b"Netlist file: a Architecture file: b\nArray size: 4294967296 x 1 logic blocks\n",
     );
-    assert_eq!(rt; large, Some(PlaceFault::BadLine(2)));
+    assert!(rt; large == Some(PlaceFault::BadLine(2)));
     Ok(())
 }
 
@@ -123,13 +126,13 @@ fn names_the_size_of_the_array(rt: HostRuntime) -> Result<(), Fail> {
         TWO,
         b"Netlist file: t.net  Architecture file: a.arch\nArray size: 0 x 1 logic blocks\na 0 1 0\nc 1 1 0\n",
     );
-    assert_eq!(rt; empty, Some(PlaceFault::ArraySize(2)));
+    assert!(rt; empty == Some(PlaceFault::ArraySize(2)));
     let large = fault(
         alloc,
         TWO,
         b"Netlist file: t.net  Architecture file: a.arch\nArray size: 1 x 101 logic blocks\na 0 1 0\nc 1 1 0\n",
     );
-    assert_eq!(rt; large, Some(PlaceFault::ArraySize(2)));
+    assert!(rt; large == Some(PlaceFault::ArraySize(2)));
     Ok(())
 }
 
@@ -141,20 +144,20 @@ fn names_the_fault_of_a_name(rt: HostRuntime) -> Result<(), Fail> {
         TWO,
         b"Netlist file: t.net  Architecture file: a.arch\nArray size: 1 x 1 logic blocks\na 0 1 0\na 0 1 1\n",
     );
-    assert_eq!(rt; twice, Some(PlaceFault::PlacedTwice(4)));
+    assert!(rt; twice == Some(PlaceFault::PlacedTwice(4)));
     let unknown = fault(
         alloc,
         THREE,
         b"Netlist file: t.net  Architecture file: a.arch\nArray size: 1 x 1 logic blocks\na 0 1 0\nc 1 1 0\nz 2 1 0\n",
     );
-    assert_eq!(rt; unknown, Some(PlaceFault::UnknownBlock(5)));
+    assert!(rt; unknown == Some(PlaceFault::UnknownBlock(5)));
     let again = fault(
         alloc,
         TWO,
         b"Netlist file: t.net  Architecture file: a.arch\nArray size: 1 x 1 logic blocks\na 0 1 0\nc 1 1 0\n\
         Netlist file: t.net  Architecture file: a.arch\nArray size: 1 x 1 logic blocks\na 0 1 0\nc 1 1 0\n",
     );
-    assert_eq!(rt; again, Some(PlaceFault::BadLine(5)));
+    assert!(rt; again == Some(PlaceFault::BadLine(5)));
     Ok(())
 }
 
@@ -166,41 +169,41 @@ fn names_the_fault_of_a_site(rt: HostRuntime) -> Result<(), Fail> {
         PADS,
         b"Netlist file: t.net  Architecture file: a.arch\nArray size: 1 x 1 logic blocks\na 0 1 0\nb 0 1 0\nc 1 1 0\n",
     );
-    assert_eq!(rt; taken, Some(PlaceFault::Occupied(4)));
+    assert!(rt; taken == Some(PlaceFault::Occupied(4)));
     let outside = fault(
         alloc,
         PADS,
         b"Netlist file: t.net  Architecture file: a.arch\nArray size: 1 x 1 logic blocks\na 0 1 0\nb 0 1 1\nc 0 1 0\n",
     );
-    assert_eq!(rt; outside, Some(PlaceFault::OffSite(5)));
+    assert!(rt; outside == Some(PlaceFault::OffSite(5)));
     let corner = fault(
         alloc,
         PADS,
         b"Netlist file: t.net  Architecture file: a.arch\nArray size: 1 x 1 logic blocks\na 0 0 0\nb 0 1 1\nc 1 1 0\n",
     );
-    assert_eq!(rt; corner, Some(PlaceFault::OffSite(3)));
+    assert!(rt; corner == Some(PlaceFault::OffSite(3)));
     let missing = fault(
         alloc,
         PADS,
         b"Netlist file: t.net  Architecture file: a.arch\nArray size: 1 x 1 logic blocks\na 0 1 0\nb 0 1 1\n",
     );
-    assert_eq!(rt; missing, Some(PlaceFault::Missing(2)));
+    assert!(rt; missing == Some(PlaceFault::Missing(2)));
     Ok(())
 }
 
 // growths: 40
 #[test]
-fn parse_without_memory(rt: HostRuntime) -> Result<(), Fail> {
+fn placements_without_memory(rt: HostRuntime) -> Result<(), Fail> {
     const PAD: &[u8] = b".input a\npinlist: a\n";
     const SMALLEST: &[u8] =
         b"Netlist file: a Architecture file: b\nArray size: 1 x 1 logic blocks\na 0 1 0\n";
     let placement = match read(rt.alloc(), PAD, SMALLEST) {
         Ok(placement) => placement,
         Err(fault) => {
-            assert_eq!(rt; fault, PlaceFault::Memory);
+            assert!(rt; fault == PlaceFault::Memory);
             read(rt.alloc(), PAD, SMALLEST)?
         }
     };
-    assert_eq!(rt; placement.site(0), site(0, 1, 0));
+    assert!(rt; placement.site(0) == site(0, 1, 0));
     Ok(())
 }

@@ -22,6 +22,3 @@ pub use net::Net;
 pub use netlist::Netlist;
 pub use parts::{BlockKind, Terminal};
 pub use reading::parse;
-
-#[cfg(test)]
-mod tests;

@@ -15,6 +15,3 @@ pub use fault::PlaceFault;
 pub use placement::Placement;
 pub use reading::parse;
 pub use site::Site;
-
-#[cfg(test)]
-mod tests;

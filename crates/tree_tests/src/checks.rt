@@ -1,9 +1,9 @@
 //! Routings of small problems, by lists of pairs: which route them, and why others don't.
 
-use crate::problems::{net, one_block, two_nets, two_nets_again};
 use route_check::{RouteFault, check_routing};
 use route_tree::{Pairs, Routing, TreeFault};
 use rr_graph::{Problem, Terminals};
+use samples::{net, one_block, two_nets, two_nets_again};
 use std::alloc::{AllocError, Global};
 use std::process::Abort;
 use std::test::Fail;

@@ -1,10 +1,9 @@
 //! Trees of a net with two sinks and of a block with two outputs, and routings of a problem.
 
-use crate::devices::{CLOCKED, ONE_BLOCK, arch, node};
-use crate::problems::{net, one_block, two_nets};
 use crate::trees::{chain, expect, hang};
 use route_tree::{Marks, Pairs, Routing, Tree, TreeFault, fits};
 use rr_graph::{Device, Kind, Problem};
+use samples::{CLOCKED, ONE_BLOCK, arch, net, node, one_block, two_nets};
 use std::process::Abort;
 use std::test::Fail;
 

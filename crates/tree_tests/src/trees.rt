@@ -1,8 +1,8 @@
 //! Trees of one small problem: which are legal, and why others are not.
 
-use crate::problems::{two_nets, two_nets_again};
 use route_tree::{Marks, Tree, TreeFault, check_tree};
 use rr_graph::Problem;
+use samples::{two_nets, two_nets_again};
 use std::alloc::AllocError;
 use std::process::Abort;
 use std::test::Fail;

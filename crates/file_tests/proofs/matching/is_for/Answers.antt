@@ -1,5 +1,5 @@
-use Rattle.worked.proofs.NetNumbers.{first_more}
-use Rattle.worked.proofs.matching.is_for.Goals as goal
+use Rattle.file_tests.proofs.NetNumbers.{first_more}
+use Rattle.file_tests.proofs.matching.is_for.Goals as goal
 
 pub loop-n-preserved : goal.loop-n-preserved
 loop-n-preserved c =
