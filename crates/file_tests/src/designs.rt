@@ -189,7 +189,6 @@ fn smallest(rt: &(impl Abort + AllocGlobal)) -> Option<Problem> {
     Problem::new(rt.alloc(), device, &netlist, &placement).ok()
 }
 
-// growths: 90
 #[test]
 fn new_without_memory(rt: HostRuntime) -> Result<(), Fail> {
     let problem = match smallest(&rt) {

@@ -717,7 +717,6 @@ fn two_again(rt: &(impl Abort + AllocGlobal)) -> Result<Design, Fail> {
 const SMALLEST: &[u8] =
     b"Array size: 1 x 1 logic blocks\nRouting:\nNet 0 (a)\nSOURCE 0 1 Pad: 0\nOPIN 0 1 Pad: 0\n";
 
-// growths: 60
 #[test]
 fn parse_without_memory(rt: HostRuntime) -> Result<(), Fail> {
     let design = two_again(&rt)?;

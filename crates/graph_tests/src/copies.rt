@@ -204,7 +204,6 @@ const SMALLEST: &str =
     "io_rat 1\nchan_width_io 1\nchan_width_x uniform 1\nchan_width_y uniform 1\noutpin class: 0 top\nswitch_block_type subset\nFc_type absolute\nFc_output 1\nFc_input 1\nFc_pad 1\nsegment frequency: 1 length: 1 wire_switch: 0 opin_switch: 0 Frac_cb: 1 Frac_sb: 1 Rmetal: 0 Cmetal: 0\nswitch 0 buffered: yes R: 0 Cin: 0 Cout: 0 Tdel: 0";
 
 /// Where memory is refused the device stands as it did, and is copied the second time.
-// growths: 61
 #[test]
 fn copies_without_memory(rt: HostRuntime) -> Result<(), Fail> {
     let device = device_again(&rt, SMALLEST)?;

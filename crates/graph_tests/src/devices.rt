@@ -311,7 +311,6 @@ fn global_devices_have_wide_wires(rt: HostRuntime) -> Result<(), Fail> {
 }
 
 /// Sixteen wires outgrow a list's eight places.
-// growths: 47
 #[test]
 fn successors_without_memory(rt: HostRuntime) -> Result<(), Fail> {
     let device = device_again(&rt, 16)?;
@@ -327,7 +326,6 @@ fn successors_without_memory(rt: HostRuntime) -> Result<(), Fail> {
 }
 
 /// Four successors fit a list's own places.
-// growths: 47
 #[test]
 fn few_successors_without_memory(rt: HostRuntime) -> Result<(), Fail> {
     let device = device_again(&rt, 1)?;

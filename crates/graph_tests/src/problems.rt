@@ -165,7 +165,6 @@ fn copy_again(rt: &(impl Abort + AllocGlobal), problem: &Problem) -> Result<(), 
     Ok(())
 }
 
-// growths: 61
 #[test]
 fn copy_without_memory(rt: HostRuntime) -> Result<(), Fail> {
     copy_again(&rt, &two_nets_again(&rt)?)

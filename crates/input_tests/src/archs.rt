@@ -650,7 +650,6 @@ fn smallest(rt: &(impl Abort + AllocGlobal)) -> Result<Arch, Fail> {
     }
 }
 
-// growths: 16
 #[test]
 fn architectures_without_memory(rt: HostRuntime) -> Result<(), Fail> {
     let arch = smallest(&rt)?;

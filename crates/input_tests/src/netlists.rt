@@ -453,7 +453,6 @@ fn netlist_again(
     }
 }
 
-// growths: 40
 #[test]
 fn netlists_without_memory(rt: HostRuntime) -> Result<(), Fail> {
     let arch = arch_again(rt.alloc())?;

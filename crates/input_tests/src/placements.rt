@@ -191,7 +191,6 @@ fn names_the_fault_of_a_site(rt: HostRuntime) -> Result<(), Fail> {
     Ok(())
 }
 
-// growths: 40
 #[test]
 fn placements_without_memory(rt: HostRuntime) -> Result<(), Fail> {
     const PAD: &[u8] = b".input a\npinlist: a\n";

@@ -294,7 +294,6 @@ fn a_sink_that_fails_received_a_front_of_the_verdict(rt: HostRuntime) {
     }
 }
 
-// growths: 100
 #[test]
 fn check_without_memory(rt: HostRuntime) {
     let mut out = CountingSink { count: 0 };

@@ -111,7 +111,6 @@ fn a_sink_that_fails_received_a_front(rt: HostRuntime) -> Result<(), Fail> {
     Ok(())
 }
 
-// growths: 24
 #[test]
 fn graph_without_memory(rt: HostRuntime) {
     let mut out = CountingSink { count: 0 };

@@ -338,7 +338,6 @@ fn check_again(
     Ok(())
 }
 
-// growths: 80
 #[test]
 fn checks_without_memory(rt: HostRuntime) -> Result<(), Fail> {
     check_again(&rt, &two_nets_again(&rt)?)

@@ -259,7 +259,6 @@ fn copy_again(rt: &(impl Abort + AllocGlobal), tree: &Tree) -> Result<(), Fail> 
 }
 
 /// A chain that finds no memory leaves the tree as it was.
-// growths: 6
 #[test]
 fn attach_without_memory(rt: HostRuntime) -> Result<(), Fail> {
     let mut tree = match Tree::start(rt.alloc(), 0) {
@@ -280,7 +279,6 @@ fn marks_again(rt: &(impl Abort + AllocGlobal), problem: &Problem) -> Result<(),
 }
 
 /// Marks that find no memory are asked for again.
-// growths: 47
 #[test]
 fn marks_without_memory(rt: HostRuntime) -> Result<(), Fail> {
     marks_again(&rt, &two_nets_again(&rt)?)

@@ -81,7 +81,6 @@ fn takes_so_many_bytes(rt: HostRuntime) -> Result<(), Fail> {
     Ok(())
 }
 
-// growths: 6
 #[test]
 fn splits_without_memory(rt: HostRuntime) -> Result<(), Fail> {
     let text = b"a b c d e\nf g\nh\ni\nj\nk\n";
@@ -230,7 +229,6 @@ fn reads_one_byte_more_than_a_text_has(rt: HostRuntime) -> Result<(), Fail> {
     Ok(())
 }
 
-// growths: 8
 #[test]
 fn reads_without_memory(rt: HostRuntime) -> Result<(), Fail> {
     let bytes = [b'x'; 40_000];
