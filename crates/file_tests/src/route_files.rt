@@ -200,15 +200,25 @@ fn expect_fault(
     assert!(rt; found == Some(want));
 }
 
+/// A file is read as two lists.
+fn expect_two(
+    rt: &(impl Abort + AllocGlobal),
+    design: &Design,
+    source: &[u8],
+    first: Option<&[(u32, u32)]>,
+    second: Option<&[(u32, u32)]>,
+) -> Result<(), Fail> {
+    let routing = read(rt, &design.netlist, &design.problem, source)?;
+    assert!(rt; routing.lists.len() == 2);
+    check_list(rt, &routing, 0, first);
+    check_list(rt, &routing, 1, second);
+    Ok(())
+}
+
 #[test]
 fn reads_the_pairs(rt: HostRuntime) -> Result<(), Fail> {
-    let design = three(&rt)?;
     let file = with_line(rt.alloc(), &THREE_LINES, 0, "")?;
-    let routing = read(&rt, &design.netlist, &design.problem, &file)?;
-    assert!(rt; routing.lists.len() == 2);
-    check_list(&rt, &routing, 0, Some(&FIRST));
-    check_list(&rt, &routing, 1, Some(&SECOND));
-    Ok(())
+    expect_two(&rt, &three(&rt)?, &file, Some(&FIRST), Some(&SECOND))
 }
 
 const HEAD_FAULTS: [(usize, &str, RouteFileFault); 10] = [
@@ -353,27 +363,31 @@ fn names_a_path_off_the_tree(rt: HostRuntime) -> Result<(), Fail> {
 
 const BLOCKS: &[u8] = b"Array size: 1 x 1 logic blocks.\n\nRouting:\n";
 
-#[test]
-fn names_the_ends_of_files(rt: HostRuntime) -> Result<(), Fail> {
-    let design = three(&rt)?;
-    expect_fault(&rt, &design, b"", RouteFileFault::BadLine(0));
+fn expect_ends(rt: &(impl Abort + AllocGlobal), design: &Design) {
+    expect_fault(rt, design, b"", RouteFileFault::BadLine(0));
     expect_fault(
-        &rt,
-        &design,
+        rt,
+        design,
         b"Array size: 1 x 1 logic blocks.\n\n",
         RouteFileFault::BadLine(0),
     );
     expect_fault(
-        &rt,
-        &design,
+        rt,
+        design,
         b"Array size: 1 x 1 logic blocks.\n\x01\nRouting:\n",
         RouteFileFault::Text(TextFault::BadByte(2)),
     );
-    let routing = read(&rt, &design.netlist, &design.problem, BLOCKS)?;
-    assert!(rt; routing.lists.len() == 2);
-    check_list(&rt, &routing, 0, None);
-    check_list(&rt, &routing, 1, None);
+}
+
+#[test]
+fn names_the_ends_of_files(rt: HostRuntime) -> Result<(), Fail> {
+    expect_ends(&rt, &three(&rt)?);
     Ok(())
+}
+
+#[test]
+fn reads_a_file_without_nets(rt: HostRuntime) -> Result<(), Fail> {
+    expect_two(&rt, &three(&rt)?, BLOCKS, None, None)
 }
 
 #[test]
@@ -561,17 +575,9 @@ fn pads(rt: &impl AllocGlobal) -> Result<Design, Fail> {
 
 #[test]
 fn reads_global_routings(rt: HostRuntime) -> Result<(), Fail> {
-    let design = pads(&rt)?;
     let file = with_line(rt.alloc(), &GLOBAL_LINES, 0, "")?;
-    let routing = read(&rt, &design.netlist, &design.problem, &file)?;
-    check_list(&rt, &routing, 0, Some(&FIRST));
-    check_list(
-        &rt,
-        &routing,
-        1,
-        Some(&[(1, 19), (19, 39), (39, 38), (38, 32), (32, 13)]),
-    );
-    Ok(())
+    let second = [(1, 19), (19, 39), (39, 38), (38, 32), (32, 13)];
+    expect_two(&rt, &pads(&rt)?, &file, Some(&FIRST), Some(&second))
 }
 
 #[test]
@@ -631,9 +637,12 @@ fn clock(rt: &impl AllocGlobal) -> Result<Design, Fail> {
 
 #[test]
 fn reads_sections_without_nodes(rt: HostRuntime) -> Result<(), Fail> {
-    let design = clock(&rt)?;
-    expect_list(&rt, &design, &CLOCK_LINES, &CLOCK_SAME, None)?;
-    expect_list(&rt, &design, &CLOCK_LINES, &ONE_NODE, Some(&[]))
+    expect_list(&rt, &clock(&rt)?, &CLOCK_LINES, &CLOCK_SAME, None)
+}
+
+#[test]
+fn reads_a_section_of_one_node(rt: HostRuntime) -> Result<(), Fail> {
+    expect_list(&rt, &clock(&rt)?, &CLOCK_LINES, &ONE_NODE, Some(&[]))
 }
 
 #[test]
@@ -656,13 +665,25 @@ const SINKLESS_FAULTS: [(usize, &str, RouteFileFault); 2] = [
     (4, "SOURCE (0,1)  Pad: 0", RouteFileFault::BadLine(4)),
 ];
 
+fn expect_none(rt: &(impl Abort + AllocGlobal), design: &Design) -> Result<(), Fail> {
+    let file = with_line(rt.alloc(), &SINKLESS_LINES, 0, "")?;
+    let routing = read(rt, &design.netlist, &design.problem, &file)?;
+    assert!(rt; routing.lists.is_empty());
+    Ok(())
+}
+
+fn sinkless(rt: &impl AllocGlobal) -> Result<Design, Fail> {
+    make_design(rt, ONE_BLOCK, ONE, SINKLESS, &[])
+}
+
 #[test]
 fn drops_nets_without_sinks(rt: HostRuntime) -> Result<(), Fail> {
-    let design = make_design(&rt, ONE_BLOCK, ONE, SINKLESS, &[])?;
-    let file = with_line(rt.alloc(), &SINKLESS_LINES, 0, "")?;
-    let routing = read(&rt, &design.netlist, &design.problem, &file)?;
-    assert!(rt; routing.lists.is_empty());
-    expect_faults(&rt, &design, &SINKLESS_LINES, &SINKLESS_FAULTS)
+    expect_none(&rt, &sinkless(&rt)?)
+}
+
+#[test]
+fn names_the_faults_of_nets_without_sinks(rt: HostRuntime) -> Result<(), Fail> {
+    expect_faults(&rt, &sinkless(&rt)?, &SINKLESS_LINES, &SINKLESS_FAULTS)
 }
 
 /// A net whose name has brackets.
@@ -717,16 +738,20 @@ fn two_again(rt: &(impl Abort + AllocGlobal)) -> Result<Design, Fail> {
 const SMALLEST: &[u8] =
     b"Array size: 1 x 1 logic blocks\nRouting:\nNet 0 (a)\nSOURCE 0 1 Pad: 0\nOPIN 0 1 Pad: 0\n";
 
-#[test]
-fn parse_without_memory(rt: HostRuntime) -> Result<(), Fail> {
-    let design = two_again(&rt)?;
-    let routing = match read(&rt, &design.netlist, &design.problem, SMALLEST) {
-        Ok(routing) => routing,
+/// What is read of the smallest file, asked for again where memory was refused.
+fn read_again(rt: &(impl Abort + AllocGlobal), design: &Design) -> Result<Routing, RouteFileFault> {
+    match read(rt, &design.netlist, &design.problem, SMALLEST) {
+        Ok(routing) => Ok(routing),
         Err(fault) => {
             assert!(rt; fault == RouteFileFault::Memory);
-            read(&rt, &design.netlist, &design.problem, SMALLEST)?
+            read(rt, &design.netlist, &design.problem, SMALLEST)
         }
-    };
+    }
+}
+
+#[test]
+fn parse_without_memory(rt: HostRuntime) -> Result<(), Fail> {
+    let routing = read_again(&rt, &two_again(&rt)?)?;
     check_list(&rt, &routing, 0, Some(&[(0, 18)]));
     Ok(())
 }

@@ -1,8 +1,12 @@
 //! The text of routings of small designs: what is written of them, and that it is read back.
 
-ghost use Rattle.std.specs.Prelude.{◌≡◌, IfOk, map};
+ghost use Rattle.std.specs.Prelude.{◌≡◌, IfOk, map, true};
 ghost use Rattle.net_file.specs.Routed.{routed_numbers};
+ghost use Rattle.rr_graph.specs.Designs.{suits_design};
+ghost use Rattle.route_tree.specs.Fits.{fits_problem};
 ghost use Rattle.route_file.specs.Design.{IsDesign};
+ghost use Rattle.route_file.specs.Text.{text_of};
+ghost use Rattle.route_check.specs.Routed.{IsRouted};
 
 use crate::route_files::{
     CLOCK, CLOCK_LINES, FORK, FORK_LINES, GLOBAL_LINES, LONG_LINES, PADS, SINKLESS, THREE,
@@ -14,9 +18,10 @@ use place_file::Placement;
 use route_check::check_routing;
 use route_file::laws::{one_reading, read_back};
 use route_file::{parse, write};
-use route_tree::fits;
+use route_tree::{Routing, fits};
 use rr_graph::{Device, Mode, Problem};
 use samples::{CLOCKED, LONG_WIRES, ONE_BLOCK, arch};
+use std::alloc::{AllocError, Global};
 use std::process::Abort;
 use std::test::Fail;
 use std::thread::Threads;
@@ -81,8 +86,36 @@ const FORK_PLACED: Placed = Placed {
     mode: Mode::Detailed,
 };
 
-/// The routing problem of a placed design.
+/// The routing problem of a design that suits the device.
 #[tactic(auto, using(route_file::proofs::Making::design_made))]
+fn problem_on(
+    alloc: Global,
+    device: Device,
+    netlist: &Netlist,
+    placement: &Placement,
+) -> Result<Problem, AllocError>
+    requires { suits_design device netlist.now placement.now ≡ true }
+    ensures design { IfOk result (λ p. IsDesign netlist.now placement.now p) }
+    ensures numbers { IfOk result (λ p. map (λ n. n.number) p.nets ≡ routed_numbers netlist.now) }
+{
+    Problem::new(alloc, device, netlist, placement)
+}
+
+/// The device of a placed design.
+fn device_of(
+    rt: &(impl Abort + AllocGlobal),
+    design: Placed,
+    arch: &Arch,
+    placement: &Placement,
+) -> Result<Device, Fail> {
+    let (nx, ny) = (placement.nx(), placement.ny());
+    match design.mode {
+        Mode::Detailed => Ok(Device::new(rt.alloc(), arch, nx, ny, design.width)?),
+        Mode::Global => Ok(Device::global(rt.alloc(), arch, nx, ny, design.width)?),
+    }
+}
+
+/// The routing problem of a placed design.
 fn problem_of(
     rt: &(impl Abort + AllocGlobal),
     design: Placed,
@@ -93,16 +126,43 @@ fn problem_of(
     ensures design { IfOk result (λ p. IsDesign netlist.now placement.now p) }
     ensures numbers { IfOk result (λ p. map (λ n. n.number) p.nets ≡ routed_numbers netlist.now) }
 {
-    let (nx, ny) = (placement.nx(), placement.ny());
-    let device = match design.mode {
-        Mode::Detailed => Device::new(rt.alloc(), arch, nx, ny, design.width)?,
-        Mode::Global => Device::global(rt.alloc(), arch, nx, ny, design.width)?,
-    };
+    let device = device_of(rt, design, arch, placement)?;
     assert!(rt; device.suits(netlist, placement));
-    Ok(Problem::new(rt.alloc(), device, netlist, placement)?)
+    Ok(problem_on(rt.alloc(), device, netlist, placement)?)
 }
 
-/// Reads a routing and writes it: whether the sink took all of it.
+/// Reads a routing of a problem and writes it: whether the sink took all of it.
+fn rewrite_routing<W: ByteSink>(
+    rt: &(impl Abort + AllocGlobal),
+    netlist: &Netlist,
+    placement: &Placement,
+    problem: &Problem,
+    source: &[u8],
+    sink: &mut W,
+) -> Result<bool, Fail>
+    requires numbers { map (λ n. n.number) problem.now.nets ≡ routed_numbers netlist.now }
+    requires design { IsDesign netlist.now placement.now problem.now }
+{
+    let routing = parse(rt.alloc(), source, netlist, problem)?;
+    assert!(rt; fits(problem, &routing));
+    Ok(write(netlist, placement, problem, &routing, sink).is_ok())
+}
+
+/// The same of a design whose netlist was read.
+fn rewrite_placed<W: ByteSink>(
+    rt: &(impl Abort + AllocGlobal),
+    design: Placed,
+    arch: &Arch,
+    netlist: &Netlist,
+    source: &[u8],
+    sink: &mut W,
+) -> Result<bool, Fail> {
+    let placement = place_file::parse(rt.alloc(), design.place.as_bytes(), arch, netlist)?;
+    let problem = problem_of(rt, design, arch, netlist, &placement)?;
+    rewrite_routing(rt, netlist, &placement, &problem, source, sink)
+}
+
+/// The same of a design.
 fn rewrite<W: ByteSink>(
     rt: &(impl Abort + AllocGlobal),
     design: Placed,
@@ -111,11 +171,7 @@ fn rewrite<W: ByteSink>(
 ) -> Result<bool, Fail> {
     let arch = arch(rt, design.arch)?;
     let netlist = net_file::parse(rt.alloc(), design.net.as_bytes(), &arch)?;
-    let placement = place_file::parse(rt.alloc(), design.place.as_bytes(), &arch, &netlist)?;
-    let problem = problem_of(rt, design, &arch, &netlist, &placement)?;
-    let routing = parse(rt.alloc(), source, &netlist, &problem)?;
-    assert!(rt; fits(&problem, &routing));
-    Ok(write(&netlist, &placement, &problem, &routing, sink).is_ok())
+    rewrite_placed(rt, design, &arch, &netlist, source, sink)
 }
 
 /// A routing that is read of lines is written as these others.
@@ -250,8 +306,84 @@ fn writes_a_front_where_the_sink_fails(rt: HostRuntime) -> Result<(), Fail> {
     Ok(())
 }
 
-/// A legal routing's text is read as the routing, by law and when run.
+/// A routing's text is read as the routing, by law and when run.
 #[tactic(auto, using(route_file::proofs::RoutesTold::told_routing))]
+fn expect_again(
+    rt: &(impl Abort + AllocGlobal),
+    netlist: &Netlist,
+    placement: &Placement,
+    problem: &Problem,
+    routing: &Routing,
+    text: &[u8],
+) -> Result<(), Fail>
+    requires numbers { map (λ n. n.number) problem.now.nets ≡ routed_numbers netlist.now }
+    requires design { IsDesign netlist.now placement.now problem.now }
+    requires fits { fits_problem problem.now routing.now ≡ true }
+    requires routed { IsRouted problem.now routing.now }
+    requires text { text.now ≡ text_of netlist.now placement.now problem.now routing.now }
+{
+    assert!(rt; text.len() <= 1 << 24);
+    let _nets = netlist.nets().len();
+    let _columns = problem.device().nx();
+    read_back(netlist, placement, problem, routing);
+    let again = parse(rt.alloc(), text, netlist, problem)?;
+    let lines = lines(rt.alloc(), text)?;
+    one_reading(&lines, netlist, problem, routing, &again);
+    assert!(rt; again.lists.len() == routing.lists.len());
+    Ok(())
+}
+
+/// The text of a routing.
+fn text_again(
+    rt: &(impl Abort + AllocGlobal),
+    netlist: &Netlist,
+    placement: &Placement,
+    problem: &Problem,
+    routing: &Routing,
+) -> Vec<u8>
+    requires design { IsDesign netlist.now placement.now problem.now }
+    requires fits { fits_problem problem.now routing.now ≡ true }
+    ensures { result.items ≡ text_of netlist.now placement.now problem.now routing.now }
+{
+    let mut sink = Adapted::new(Vec::new(rt.alloc()));
+    let written = write(netlist, placement, problem, routing, &mut sink);
+    assert!(rt; written.is_ok());
+    sink.into_inner()
+}
+
+/// A legal routing is read, written, and read again.
+fn expect_routing(
+    rt: &(impl Abort + AllocGlobal + Threads + Sync),
+    netlist: &Netlist,
+    placement: &Placement,
+    problem: &Problem,
+    source: &[u8],
+) -> Result<(), Fail>
+    requires numbers { map (λ n. n.number) problem.now.nets ≡ routed_numbers netlist.now }
+    requires design { IsDesign netlist.now placement.now problem.now }
+{
+    let routing = parse(rt.alloc(), source, netlist, problem)?;
+    let verdict = check_routing(rt, rt.alloc(), problem, &routing)?;
+    assert!(rt; verdict.is_none());
+    assert!(rt; fits(problem, &routing));
+    let text = text_again(rt, netlist, placement, problem, &routing);
+    expect_again(rt, netlist, placement, problem, &routing, &text)
+}
+
+/// The same of a design whose netlist was read.
+fn expect_placed(
+    rt: &(impl Abort + AllocGlobal + Threads + Sync),
+    design: Placed,
+    arch: &Arch,
+    netlist: &Netlist,
+    source: &[u8],
+) -> Result<(), Fail> {
+    let placement = place_file::parse(rt.alloc(), design.place.as_bytes(), arch, netlist)?;
+    let problem = problem_of(rt, design, arch, netlist, &placement)?;
+    expect_routing(rt, netlist, &placement, &problem, source)
+}
+
+/// The same of a design, and of its routing's lines.
 fn expect_read_back(
     rt: &(impl Abort + AllocGlobal + Threads + Sync),
     design: Placed,
@@ -260,23 +392,7 @@ fn expect_read_back(
     let source = with_line(rt.alloc(), source, 0, "")?;
     let arch = arch(rt, design.arch)?;
     let netlist = net_file::parse(rt.alloc(), design.net.as_bytes(), &arch)?;
-    let placement = place_file::parse(rt.alloc(), design.place.as_bytes(), &arch, &netlist)?;
-    let problem = problem_of(rt, design, &arch, &netlist, &placement)?;
-    let routing = parse(rt.alloc(), &source, &netlist, &problem)?;
-    assert!(rt; check_routing(rt, rt.alloc(), &problem, &routing)?.is_none());
-    assert!(rt; fits(&problem, &routing));
-    let mut sink = Adapted::new(Vec::new(rt.alloc()));
-    assert!(rt; write(&netlist, &placement, &problem, &routing, &mut sink).is_ok());
-    let text = sink.into_inner();
-    assert!(rt; text.len() <= 1 << 24);
-    let _nets = netlist.nets().len();
-    let _columns = problem.device().nx();
-    read_back(&netlist, &placement, &problem, &routing);
-    let again = parse(rt.alloc(), &text, &netlist, &problem)?;
-    let lines = lines(rt.alloc(), &text)?;
-    one_reading(&lines, &netlist, &problem, &routing, &again);
-    assert!(rt; again.lists.len() == routing.lists.len());
-    Ok(())
+    expect_placed(rt, design, &arch, &netlist, &source)
 }
 
 #[test]
