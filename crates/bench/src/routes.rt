@@ -109,17 +109,39 @@ fn count_pairs(routing: &Routing) -> u64 {
     count
 }
 
-/// Judges a routing, and tells how long that took; the check sum is 0 for a legal one.
+/// How often a routing is judged again.
+const TURNS: u64 = 10;
+
+/// Judges a routing so many times: how often it isn't legal.
+fn judge_again(
+    rt: &(impl Threads + Sync + AllocGlobal),
+    problem: &Problem,
+    routing: &Routing,
+) -> Result<u64, BenchFault> {
+    let mut faults: u64 = 0;
+    for _ in 0..TURNS {
+        let verdict = check_routing(rt, rt.alloc(), problem, routing)?;
+        faults = faults.saturating_add(u64::from(verdict.is_some()));
+    }
+    Ok(faults)
+}
+
+/// Judges a routing, and tells how long that took, once and then many times; the check sum is 0 for a legal one.
 fn judge(
     rt: &(impl Clock + Eprint + Threads + Sync + AllocGlobal),
     problem: &Problem,
     routing: &Routing,
 ) -> Result<(), BenchFault> {
+    let pairs = count_pairs(routing);
     let start = Instant::now(rt)?;
-    let verdict = check_routing(rt, rt.alloc(), problem, routing)?;
+    let _ = check_routing(rt, rt.alloc(), problem, routing)?;
     let time = start.elapsed(rt)?;
-    let sum = u64::from(verdict.is_some());
-    print_each(rt, "judged", time, count_pairs(routing), "pair", sum)
+    print_once(rt, "judged once", time, pairs, "pairs")?;
+    let start = Instant::now(rt)?;
+    let faults = judge_again(rt, problem, routing)?;
+    let time = start.elapsed(rt)?;
+    let count = pairs.saturating_mul(TURNS);
+    print_each(rt, "judged again", time, count, "pair", faults)
 }
 
 /// Writes a routing that fits its problem, and tells how long that took.
