@@ -98,7 +98,7 @@ fn read_routing(
     Ok(routing)
 }
 
-/// The pairs of a routing, none of them twice counted.
+/// How many pairs a routing has.
 fn count_pairs(routing: &Routing) -> u64 {
     let mut count: u64 = 0;
     for list in routing.lists.iter() {
