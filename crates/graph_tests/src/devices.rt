@@ -33,6 +33,10 @@ fn check_edge(rt: &impl Abort, device: &Device, from: u32, to: u32, want: bool) 
     assert!(rt; device.edge(from, to) == want, "{from} -> {to}");
 }
 
+fn check_pairs(rt: &impl Abort, device: &Device, pairs: &[(u32, u32)], lacks: bool) {
+    assert!(rt; device.lacks_edge(pairs) == lacks);
+}
+
 fn check_successors(
     rt: &(impl Abort + AllocGlobal),
     device: &Device,
@@ -116,6 +120,23 @@ fn joins_one_block(rt: HostRuntime) -> Result<(), Fail> {
     check_successors(&rt, &device, 39, &[27, 28, 37, 38])?;
     check_successors(&rt, &device, 40, &[35, 36, 37, 38])?;
     check_successors(&rt, &device, 41, &[])?;
+    Ok(())
+}
+
+#[test]
+fn looks_for_a_pair_that_is_no_edge(rt: HostRuntime) -> Result<(), Fail> {
+    let device = Device::new(rt.alloc(), &arch(&rt, ONE_BLOCK)?, 1, 1, 1)?;
+    check_pairs(&rt, &device, &[], false);
+    check_pairs(
+        &rt,
+        &device,
+        &[(39, 37), (37, 40), (40, 38), (39, 27)],
+        false,
+    );
+    // An edge leads from 37 to 40, and none from 39.
+    check_pairs(&rt, &device, &[(39, 37), (39, 40)], true);
+    check_pairs(&rt, &device, &[(39, 37), (37, 41)], true);
+    check_pairs(&rt, &device, &[(41, 37)], true);
     Ok(())
 }
 

@@ -6,17 +6,21 @@ use Rattle.std.specs.Prelude.{take, count_by}
 use Rattle.std.proofs.lemmas.Bool.{cases_eq, eq-eqb, ne_eqb}
 use Rattle.std.proofs.lemmas.List.{get_or-set_same, get_or-set_other, length-set, length-map, length-take-le, take_more}
 use Rattle.std.proofs.lemmas.List.{take_all, get_or_default, take-append-drop, map-append}
+use Rattle.std.proofs.lemmas.Option.{slice_get_cases}
 use Rattle.std.proofs.lemmas.List.Elements.{All-cons, Contains-get_or}
 use Rattle.std.proofs.lemmas.List.Sums.{sum_by-append, sum_by-cons}
+use Rattle.rr_graph.specs.Fabric.{Fabric, IsFabric}
+use Rattle.rr_graph.specs.Nodes.{nodes_of, node_count_of}
+use Rattle.rr_graph.proofs.Capacities.{some_capacity}
 use Rattle.rr_graph.specs.Problems.{Net, RoutingProblem, net_in, IsProblem}
 use Rattle.route_tree.specs.Paths.{Pair, ends_of}
-use Rattle.route_tree.specs.Usage.{covers, covers_by, use_of}
+use Rattle.route_tree.specs.Usage.{covers, covers_by, use_of, room_of}
 use Rattle.route_tree.specs.Faults.{IsRoute}
 use Rattle.route_tree.proofs.LegalLists.{counts_covered, covers_nodes, covers_source, covers_end}
 use Rattle.route_tree.proofs.Members.{end_at}
 use Rattle.route_check.specs.Routed.{Lists, list_in, IsNetRouted}
 use Rattle.route_check.specs.Ends.{end_in}
-use Rattle.route_check.specs.Counted.{Counts, HasRoom, AreUses}
+use Rattle.route_check.specs.Counted.{Counts, HasRoom, AreUses, excess_of}
 
 one_more : (a b : ℕ) (t : Bool) → (b == a) ≡ t → count_by (λ x. x == a) (b ∷ []) ≡ cond t 1 0
 one_more a b t e = sum_by-cons (λ x. cond (x == a) 1 0) b [] ∙ ap (λ t. cond t 1 0 + 0) e ∙ closed t
@@ -166,3 +170,14 @@ module _ (p : RoutingProblem) (keeps : IsProblem p) (lists : Lists) (i : ℕ) (t
           ∙ ap₂ (λ x y. x + y) (uses.each a) (counts_covered p.device n pairs route.legal a)
           ∙ sym (use_next p.nets lists i a there l ∙ ap (λ x. use_of (take i p.nets) (take i lists) a + (if covers_by n x a then 1 else 0)) e);
     }
+
+-- each node has room for one net
+pub room_for_one : (f : Fabric) → IsFabric f → (counts : List ℕ) → length counts ≡ node_count_of f → (a : ℕ) → a < length counts →
+    get_or counts a 0 ≤ 1 → 0 ≡ excess_of f counts a
+room_for_one f within counts each a there few = elim (slice_get_cases (nodes_of f) a).1 [
+  | inl found ↦ (
+      let room = some_capacity f within a found.0 found.2 in
+      let node = ap (room_of f) found.2 in
+      omega (arith, few, room, node))
+  | inr past ↦ (let beyond = past.0 in absurd (omega (arith, beyond, there, each)))
+]

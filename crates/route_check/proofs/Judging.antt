@@ -1,5 +1,5 @@
 -- The tests tell exactly which lists route a net, and which fault is the first.
-use Rattle.std.proofs.Common.{◌≡◌, ℕ, ◌<◌, Bool, true, false, not, cond, List, length, Option, Some, None, All, if◌then◌else◌, refl, sym, ap, ◌∙◌, subst, arith}
+use Rattle.std.proofs.Common.{◌≡◌, ℕ, ◌<◌, ◌≤◌, Bool, true, false, not, cond, List, [], ◌∷◌, length, Option, Some, None, All, if◌then◌else◌, refl, sym, ap, ◌∙◌, subst, arith}
 use Rattle.std.specs.Prelude.{MatchOption}
 use Rattle.std.specs.List.{find}
 use Rattle.std.specs.List.Sorted.{IsStrictlyIncreasing}
@@ -43,13 +43,25 @@ low false x rest l h y e = h y e
 none_low : (y : TreeFault) → None ≡ Some y → rank_of y < 7
 none_low y e = absurd (cc)
 
+some_pairs : (source : ℕ) (pairs : List Pair) → begins_elsewhere source pairs ≡ false → 1 ≤ length pairs
+some_pairs source [] e = absurd (both_ways true e refl)
+some_pairs source (p ∷ ps) e = omega arith
+
 module _ (f : Fabric) (source : ℕ) (sinks : List ℕ) (pairs : List Pair) where
-  pub once_early : early_fault_of f source sinks pairs ≡ None → reaches_twice source pairs ≡ false
+  -- what pairs without an early fault are
+  pub record IsEarlyFree : Type 0 where
+    pub some : 1 ≤ length pairs
+    pub once : reaches_twice source pairs ≡ false
+    pub own : has_foreign_sink f sinks pairs ≡ false
+
+  pub early_free : early_fault_of f source sinks pairs ≡ None → IsEarlyFree
   unfolding early_fault_of
-  once_early e =
+  early_free e =
       let first = failed (begins_elsewhere source pairs) WrongSource _ e in
       let second = failed (lacks_switch f pairs) NoSwitch _ first.1 in
-      (failed (reaches_twice source pairs) NodeTwice _ second.1).0
+      let third = failed (reaches_twice source pairs) NodeTwice _ second.1 in
+      let fourth = failed (leaves_twice source pairs) SecondOutput _ third.1 in
+      record { some = some_pairs source pairs first.0; once = third.0; own = (failed (has_foreign_sink f sinks pairs) ForeignSink None fourth.1).0 }
 
   early_low : (y : TreeFault) → early_fault_of f source sinks pairs ≡ Some y → rank_of y < 7
   unfolding early_fault_of

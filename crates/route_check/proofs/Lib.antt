@@ -8,3 +8,4 @@ pub mod Judging
 pub mod Counting
 pub mod RoutingFaults
 pub mod Answering
+pub mod InOrder

@@ -1,14 +1,15 @@
 -- Ends of pairs that are sorted by node: each pair's end stands among them, and a node that stands twice stands beside itself.
 use Rattle.std.proofs.Common.{◌≡◌, ◌≢◌, ℕ, ◌+◌, ◌-◌, ◌<◌, Bool, true, false, List, length, map, get_or, All, Some, inl, inr, refl, sym, ap, ◌∙◌, subst, arith}
 use Rattle.std.specs.Prelude.{Contains}
+use Rattle.std.specs.List.{list_any}
 use Rattle.std.specs.List.Sorted.{IsPermutation}
 use Rattle.std.proofs.lemmas.Bool.{both_ways, cases_lt, eqb-true, eq-eqb, false_from_ne_true, true_from_ne_false}
 use Rattle.std.proofs.lemmas.List.{length-map, get_or-map, same_lists}
 use Rattle.std.proofs.lemmas.List.Elements.{All-get_or, All-from_get_or, at_from_Contains}
-use Rattle.std.proofs.lemmas.List.Sorted.{All-permutation, Contains-permutation, IsPermutation-map}
+use Rattle.std.proofs.lemmas.List.Sorted.{All-permutation, Contains-permutation, IsPermutation-map, list_any-IsPermutation}
 use Rattle.std.proofs.lemmas.List.FromFn.{get_or-range_with_len, length-range_with_len}
 use Rattle.rr_graph.specs.Fabric.{numbers_below}
-use Rattle.rr_graph.proofs.Ranges.{get_below, length_below, some_below}
+use Rattle.rr_graph.proofs.Ranges.{get_below, length_below, list_any-map, some_below}
 use Rattle.route_tree.specs.Paths.{Pair, ends_of}
 use Rattle.route_tree.specs.Legality.{is_among, has_twice}
 use Rattle.route_tree.proofs.Members.{among_contains, among_ends, once_each, some_place}
@@ -79,6 +80,10 @@ module _ (pairs : List Pair) (ends : List End) (are : AreEnds pairs ends) where
 
   node_at : (k : ℕ) → k < length ends → get_or nodes k 0 ≡ (get_or ends k no_end).node
   node_at k l = get_or-map (λ (e : End). e.node) ends k no_end 0 l
+
+  -- a test of the nodes, in either order
+  pub some_end : (test : ℕ → Bool) → list_any test (ends_of pairs) ≡ list_any (λ e. test e.node) ends
+  some_end test = list_any-IsPermutation test (ends_of pairs) nodes permuted ∙ list_any-map test (λ (e : End). e.node) ends
 
   repeated_twice : is_repeated ends ≡ true → has_twice nodes ≡ true
   repeated_twice e =

@@ -6,10 +6,10 @@ ghost use Rattle.std.specs.List.Sorted.{IsStrictlyIncreasing};
 ghost use Rattle.rr_graph.specs.Edges.{edge_between};
 ghost use Rattle.rr_graph.specs.Problems.{is_sink};
 ghost use Rattle.route_tree.specs.Paths.{ends_of};
-ghost use Rattle.route_tree.specs.Legality.{is_among};
+ghost use Rattle.route_tree.specs.Legality.{is_among, is_listed};
 ghost use Rattle.route_tree.specs.Faults.{begins_elsewhere, lacks_switch, reaches_twice, leaves_twice, has_foreign_sink, misses_sink};
 ghost use Rattle.route_check.specs.Ends.{AreEnds};
-ghost use Rattle.route_check.specs.Judged.{early_fault_of, late_fault_of, TellsDangling, IsToldBy};
+ghost use Rattle.route_check.specs.Judged.{net_of, early_fault_of, late_fault_of, TellsDangling, IsToldBy};
 
 use crate::ends::{End, reaches_twice, row_of, sorted_ends};
 use crate::order::is_listed;
@@ -32,7 +32,7 @@ fn begins_elsewhere(source: u32, pairs: &[(u32, u32)]) -> bool
 fn lacks_switch(device: &Device, pairs: &[(u32, u32)]) -> bool
     ensures { result ≡ lacks_switch device.now pairs.now }
 {
-    pairs.iter().any(|pair| !device.edge(pair.0, pair.1))
+    device.lacks_edge(pairs)
 }
 
 /// How many pairs begin at the source.
@@ -65,20 +65,22 @@ fn is_foreign(device: &Device, sinks: &[u32], node: u32) -> bool
     device.is_sink(node) && !is_one_of(sinks, node)
 }
 
-/// Whether a pair ends in a sink of the device that is none of these.
-fn has_foreign_end(device: &Device, sinks: &[u32], pairs: &[(u32, u32)]) -> bool
+/// Whether a pair ends in a sink of the device that is none of these. Sinks stand together among the ends.
+fn has_foreign_end(device: &Device, sinks: &[u32], ends: &[End]) -> bool
     requires { IsStrictlyIncreasing sinks.now }
-    ensures { result ≡ list_any (λ p. is_sink device.now p.1 && not (is_among sinks.now p.1)) pairs.now }
+    ensures { result ≡ list_any (λ e. is_sink device.now e.node && not (is_among sinks.now e.node)) ends.now }
 {
-    pairs.iter().any(|pair| is_foreign(device, sinks, pair.1))
+    ends.iter().any(|end| is_foreign(device, sinks, end.node))
 }
 
 /// Whether among the nodes in which pairs end there is a sink of the device that is none of these.
-fn has_foreign_sink(device: &Device, sinks: &[u32], pairs: &[(u32, u32)]) -> bool
-    requires { IsStrictlyIncreasing sinks.now }
+fn has_foreign_sink(device: &Device, sinks: &[u32], pairs: &[(u32, u32)], ends: &[End]) -> bool
+    requires ends { AreEnds pairs.now ends.now }
+    requires ascending { IsStrictlyIncreasing sinks.now }
     ensures { result ≡ has_foreign_sink device.now sinks.now pairs.now }
 {
-    has_foreign_end(device, sinks, pairs)
+    let _ = pairs;
+    has_foreign_end(device, sinks, ends)
 }
 
 /// Whether no pair ends in a node.
@@ -125,16 +127,17 @@ fn early_fault(
     if leaves_twice(source, pairs) {
         return Some(TreeFault::SecondOutput);
     }
-    if has_foreign_sink(device, sinks, pairs) {
+    if has_foreign_sink(device, sinks, pairs, ends) {
         return Some(TreeFault::ForeignSink);
     }
     None
 }
 
-/// The first fault of the others, where it is known whether a pair dangles.
+/// The first fault of the others, where it is known whether a pair dangles, and whether the pairs are in order.
 #[tactic(auto, unfolding(crate::specs::Judged::late_fault_of))]
 fn late_fault(
     dangles: bool,
+    listed: bool,
     device: &Device,
     source: u32,
     sinks: &[u32],
@@ -142,16 +145,18 @@ fn late_fault(
     ends: &[End],
 ) -> Option<TreeFault>
     requires ends { AreEnds pairs.now ends.now }
-    requires once { reaches_twice source pairs.now ≡ false }
+    requires listed { listed ≡ is_listed device.now (net_of source sinks.now) pairs.now }
     ensures { result ≡ late_fault_of dangles device.now source sinks.now pairs.now }
 {
+    let _ = device;
+    let _ = source;
     if dangles {
         return Some(TreeFault::Dangling);
     }
     if misses_sink(sinks, pairs, ends) {
         return Some(TreeFault::MissingSink);
     }
-    if !is_listed(device, source, sinks, pairs, ends) {
+    if !listed {
         return Some(TreeFault::Order);
     }
     None
@@ -172,8 +177,9 @@ pub(crate) fn list_fault(
     match early_fault(device, source, sinks, pairs, &ends) {
         Some(fault) => Ok(Some(fault)),
         None => {
-            let told = dangles(alloc, source, sinks, pairs, &ends)?;
-            Ok(late_fault(told, device, source, sinks, pairs, &ends))
+            let listed = is_listed(device, source, sinks, pairs, &ends);
+            let told = dangles(alloc, listed, device, source, sinks, pairs, &ends)?;
+            Ok(late_fault(told, listed, device, source, sinks, pairs, &ends))
         }
     }
 }

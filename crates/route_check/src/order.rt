@@ -1,11 +1,11 @@
 //! Whether pairs are in the order in which routings are written.
 
-ghost use Rattle.std.specs.Prelude.{◌≡◌, ◌<◌, ◌∷◌, false, length};
+ghost use Rattle.std.specs.Prelude.{◌≡◌, ◌<◌, ◌≤◌, ◌∷◌, false, length};
 ghost use Rattle.route_tree.specs.Faults.{reaches_twice};
 ghost use Rattle.route_tree.specs.Legality.{is_among, is_listed, may_begin};
 ghost use Rattle.route_check.specs.Ends.{AreEnds, begin_in};
 ghost use Rattle.route_check.specs.Judged.{net_of};
-ghost use Rattle.route_check.specs.Listed.{earlier_ends};
+ghost use Rattle.route_check.specs.Listed.{earlier_ends, ends_in_sink};
 
 use crate::ends::{End, row_of};
 use rr_graph::Device;
@@ -61,4 +61,12 @@ pub(crate) fn is_listed(
         }
     }
     true
+}
+
+/// Whether the last pair ends in a sink.
+pub(crate) fn ends_in_sink(device: &Device, pairs: &[(u32, u32)]) -> bool
+    requires { 1 ≤ length pairs.now }
+    ensures { result ≡ ends_in_sink device.now pairs.now }
+{
+    device.is_sink(pairs[pairs.len() - 1].1)
 }

@@ -1,6 +1,7 @@
 //! How many nets use each node, and which node is used beyond its capacity.
 
 ghost use Rattle.std.specs.Prelude.{◌≡◌, ◌∷◌, [], ◌+◌, ◌<◌, ◌≤◌, ℕ, Some, IfOk, length, get_or, replicate};
+ghost use Rattle.rr_graph.specs.Fabric.{IsFabric};
 ghost use Rattle.rr_graph.specs.Problems.{IsProblem};
 ghost use Rattle.rr_graph.specs.Nodes.{node_count_of};
 ghost use Rattle.route_tree.specs.Paths.{ends_of};
@@ -72,13 +73,16 @@ fn uses(alloc: Global, problem: &Problem, lists: &[Option<Pairs>]) -> Result<Vec
     Ok(counts)
 }
 
-/// By how much the count of a node is above its capacity.
+/// By how much the count of a node is above its capacity, which is 1 at least.
+#[tactic(auto, using(crate::proofs::Counting::room_for_one))]
 fn excess(device: &Device, counts: &[u16], node: u32) -> u32
-    requires { node < length counts.now }
+    requires limits { IsFabric device.now }
+    requires each { length counts.now ≡ node_count_of device.now }
+    requires there { node < length counts.now }
     ensures { result ≡ excess_of device.now counts.now node }
 {
     let count = u32::from(counts[node as usize]);
-    if count == 0 {
+    if count <= 1 {
         return 0;
     }
     match device.capacity(node) {
@@ -92,6 +96,7 @@ fn least_overused(device: &Device, counts: &[u16]) -> Option<RouteFault>
     requires { length counts.now ≡ node_count_of device.now }
     ensures { TellsExcess device.now counts.now result }
 {
+    let _limits = device.nx();
     for node in 0..device.node_count() {
         let by = excess(device, counts, node);
         if by > 0 {

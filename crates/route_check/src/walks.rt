@@ -1,14 +1,17 @@
 //! Walks from the sinks of a net up to its source: what none of them meets dangles.
 
-ghost use Rattle.std.specs.Prelude.{◌≡◌, ◌≢◌, ◌+◌, ◌<◌, ◌==◌, false, length, get_or, IfOk, Contains, replicate};
+ghost use Rattle.std.specs.Prelude.{◌≡◌, ◌≢◌, ◌+◌, ◌<◌, ◌≤◌, ◌==◌, false, length, get_or, IfOk, Contains, replicate};
 ghost use Rattle.std.specs.Bool.{MatchBool};
 ghost use Rattle.std.specs.List.{list_any};
-ghost use Rattle.route_tree.specs.Faults.{reaches_twice};
+ghost use Rattle.route_tree.specs.Legality.{is_listed};
+ghost use Rattle.route_tree.specs.Faults.{reaches_twice, has_foreign_sink};
 ghost use Rattle.route_check.specs.Ends.{AreEnds, end_in};
-ghost use Rattle.route_check.specs.Judged.{Dangles, TellsDangling};
+ghost use Rattle.route_check.specs.Judged.{net_of, Dangles, TellsDangling};
 ghost use Rattle.route_check.specs.Walks.{AreWalked, IsWalkedFrom, AreAllWalked};
 
 use crate::ends::{End, parent_of, row_of};
+use crate::order::ends_in_sink;
+use rr_graph::Device;
 use std::alloc::{AllocError, Global};
 
 /// Walks from a pair up to the source, or to what an earlier walk met, and writes the walk's number to each pair that it meets.
@@ -111,8 +114,8 @@ fn has_unmet(
     is_one_unmet(walks)
 }
 
-/// Whether a pair is on no way from the source to a sink.
-pub(crate) fn dangles(
+/// Whether a pair is on no way from the source to a sink, by walks.
+fn is_unmet(
     alloc: Global,
     source: u32,
     sinks: &[u32],
@@ -125,4 +128,28 @@ pub(crate) fn dangles(
 {
     let mut walks = vec![in alloc; 0; pairs.len()]?;
     Ok(has_unmet(source, sinks, pairs, ends, &mut walks))
+}
+
+/// Whether a pair is on no way from the source to a sink, where it is known whether the pairs are in order. Of those that are, each is on
+/// a way where the last one ends in a sink: no walk is needed then.
+pub(crate) fn dangles(
+    alloc: Global,
+    listed: bool,
+    device: &Device,
+    source: u32,
+    sinks: &[u32],
+    pairs: &[(u32, u32)],
+    ends: &[End],
+) -> Result<bool, AllocError>
+    requires ends { AreEnds pairs.now ends.now }
+    requires once { reaches_twice source pairs.now ≡ false }
+    requires own { has_foreign_sink device.now sinks.now pairs.now ≡ false }
+    requires some { 1 ≤ length pairs.now }
+    requires listed { listed ≡ is_listed device.now (net_of source sinks.now) pairs.now }
+    ensures { IfOk result (λ told. TellsDangling told source sinks.now pairs.now) }
+{
+    if listed && ends_in_sink(device, pairs) {
+        return Ok(false);
+    }
+    is_unmet(alloc, source, sinks, pairs, ends)
 }

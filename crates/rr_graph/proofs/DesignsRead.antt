@@ -1,6 +1,6 @@
 -- A netlist and a placement that were read, for a device's architecture and array, suit the device.
 use Rattle.std.proofs.Common.{◌≡◌, ℕ, zero, suc, ◌+◌, ◌<◌, ◌≤◌, Bool, true, false, max, not, ◌&&◌, ◌||◌, List, [], ◌∷◌, length, All, Option, Some, None, refl, sym, ap, subst, ◌∙◌, arith, zero-add}
-use Rattle.std.specs.Prelude.{◌==◌, nat_le, nat_lt, is_some, slice_get, slice_index_or}
+use Rattle.std.specs.Prelude.{◌==◌, nat_le, nat_lt, is_some, slice_get}
 use Rattle.std.specs.List.{list_all, fold}
 use Rattle.std.proofs.lemmas.Bool.{and_parts, and_from, or_right, eq-eqb, ltb-true}
 use Rattle.std.proofs.lemmas.Bool.Decides.{nat_tests}

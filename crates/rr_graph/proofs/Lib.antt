@@ -32,6 +32,7 @@ pub mod TerminalPlaces
 pub mod OpinWires
 pub mod OpinDegrees
 pub mod NodeSuccessors
+pub mod Capacities
 pub mod FirstFaults
 pub mod Problems
 pub mod Ascending

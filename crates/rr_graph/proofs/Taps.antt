@@ -1,9 +1,9 @@
 -- Which tracks a pin taps, by arithmetic alone.
 use Rattle.std.proofs.Common.{◌≡◌, ℕ, ◌+◌, ◌-◌, ◌*◌, ◌/◌, ◌%◌, ◌<◌, ◌≤◌, ◌⊎◌, inl, inr, Bool, false, map, subst, sym, ap, ◌∙◌, arith}
-use Rattle.std.specs.Prelude.{◌==◌}
+use Rattle.std.specs.Prelude.{◌==◌, nat_lt}
 use Rattle.std.specs.List.{range_with_len, list_any}
 use Rattle.std.proofs.Math.Nat.{mul-le-mul_right, mod-eq_of_lt, mod-add-mod, add-mod_left, div-mul-le_self, lt-div-mul-add, div-lt_iff_lt-mul, div-eq_of_lt-le}
-use Rattle.std.proofs.lemmas.Bool.{cases_lt, cases_Bool, eq-eqb, ne_eqb, eqb-true}
+use Rattle.std.proofs.lemmas.Bool.{cases_lt, cases_Bool, eq-eqb, ne_eqb, eqb-true, le-ltb, lt-ltb}
 use Rattle.rr_graph.proofs.Ranges.{none_mapped, some_mapped}
 
 remainder : (n w : ℕ) → n < w + w → (n % w ≡ n) ⊎ (n % w + w ≡ n)
@@ -42,6 +42,13 @@ module _ (w p t : ℕ) (within : t < w) where
         | inr a ↦ elim (lands (steps w p t) less) [ inl b ↦ omega arith | inr b ↦ omega arith ]
       ]
 
+-- the steps by a comparison
+pub steps_ahead : (w p t : ℕ) → t < w → p % w ≤ t → t - p % w ≡ steps w p t
+steps_ahead w p t within low = elim (steps_are w p t within) [ inl e ↦ omega (arith, e, low) | inr e ↦ omega (arith, e, low) ]
+
+pub steps_around : (w p t : ℕ) → t < w → t < p % w → t + w - p % w ≡ steps w p t
+steps_around w p t within high = elim (steps_are w p t within) [ inl e ↦ omega (arith, e, high) | inr e ↦ omega (arith, e, high) ]
+
 -- the least i with d * count ≤ i * w
 abbrev first_tap : (count w d : ℕ) → ℕ
 first_tap count w d = (d * count + w - 1) / w
@@ -60,6 +67,18 @@ module _ (count w i : ℕ) (some : 0 < count) (wide : 0 < w) where
   pub step_below : i < count → (i * w) / count < w
   step_below l = (div-lt_iff_lt-mul some).1 (omega (arith, mul-le-mul_right {m = i + 1} {n = count} w (omega arith)))
 
+-- the first tap that reaches as far lies on that step exactly where it comes before the next one
+pub on_step : (count w d : ℕ) → 0 < count → 0 < w → nat_lt (first_tap count w d * w) ((d + 1) * count) ≡ ((first_tap count w d * w) / count == d)
+on_step count w d some wide =
+    let i = first_tap count w d in
+    let reach : d * count ≤ i * w = omega (arith, lt-div-mul-add {a = d * count + w - 1} wide) in
+    elim (cases_lt (i * w) ((d + 1) * count)) [
+      | inl l ↦ lt-ltb (i * w) ((d + 1) * count) l ∙ sym (eq-eqb ((i * w) / count) d (div-eq_of_lt-le {k = d} count reach l))
+      | inr h ↦
+          le-ltb (i * w) ((d + 1) * count) h
+          ∙ sym (ne_eqb ((i * w) / count) d (λ e. let same = ap (λ q. q * count) e in omega (arith, lt-div-mul-add {a = i * w} some, same, h)))
+    ]
+
 module _ (count w p t : ℕ) (some : 0 < count) (wide : 0 < w) where
   abbrev track_of : ℕ → ℕ
   track_of i = (p + (i * w) / count) % w
@@ -75,7 +94,7 @@ module _ (count w p t : ℕ) (some : 0 < count) (wide : 0 < w) where
       subst (λ d. (first_tap count w d ≤ k) × ((first_tap count w d * w) / count ≡ d)) step
       (first_tap_below count w k some wide, first_tap_same count w k some wide)
 
-  pub any_lands_within : t < w → first_tap count w (steps w p t) < count
+  any_lands_within : t < w → first_tap count w (steps w p t) < count
       → ((first_tap count w (steps w p t) * w) / count == steps w p t) ≡ any_lands
   any_lands_within l m =
       let d = steps w p t in
@@ -87,8 +106,17 @@ module _ (count w p t : ℕ) (some : 0 < count) (wide : 0 < w) where
             (λ k n. ne_eqb (track_of k) t (λ h. absurd (let q = eq-eqb ((i * w) / count) d (landing l k n h).1 in cc))))
       ]
 
-  pub none_lands_past : t < w → count ≤ first_tap count w (steps w p t) → any_lands ≡ false
+  none_lands_past : t < w → count ≤ first_tap count w (steps w p t) → any_lands ≡ false
   none_lands_past l m = none_mapped (λ k. k == t) track_of count (λ k n. ne_eqb (track_of k) t (λ h. omega (arith, (landing l k n h).0)))
+
+  -- where the steps were counted
+  pub lands_on_step : t < w → (d : ℕ) → d ≡ steps w p t → first_tap count w d < count → nat_lt (first_tap count w d * w) ((d + 1) * count) ≡ any_lands
+  lands_on_step l d e m =
+      on_step count w d some wide
+      ∙ subst (λ s. ((first_tap count w s * w) / count == s) ≡ any_lands) (sym e) (any_lands_within l (subst (λ s. first_tap count w s < count) e m))
+
+  pub lands_past : t < w → (d : ℕ) → d ≡ steps w p t → count ≤ first_tap count w d → any_lands ≡ false
+  lands_past l d e m = none_lands_past l (subst (λ s. count ≤ first_tap count w s) e m)
 
   pub none_lands_beyond : w ≤ t → any_lands ≡ false
   none_lands_beyond l = none_mapped (λ k. k == t) track_of count (λ k m. ne_eqb (track_of k) t (λ e. omega arith))

@@ -20,5 +20,6 @@ pub mod Terminals
 pub mod Problems
 pub mod Designs
 pub mod NodeSuccessors
+pub mod Found
 pub mod Same
 pub mod SameLaws

@@ -265,6 +265,7 @@ impl Device {
     }
 
     /// The node of a number.
+    #[inline(always)]
     #[tactic(auto, using(crate::proofs::Pieces::node_count_by_kinds, crate::proofs::NodesFound::none_past), unfolding(crate::specs::Starts::kind_start))]
     pub(crate) fn node_of(&self, id: u32) -> Option<Node>
         ensures { result ≡ node_at self.now id }
@@ -276,6 +277,7 @@ impl Device {
     }
 
     /// The node of a number that one has.
+    #[inline(always)]
     #[tactic(auto, using(crate::proofs::Pieces::node_count_by_kinds), unfolding(crate::specs::Starts::kind_start))]
     fn node_below(&self, id: u32) -> Node
         requires { id < node_count_of self.now }

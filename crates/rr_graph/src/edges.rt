@@ -54,6 +54,7 @@ fn columns_join(a: Node, a_last: u32, b: Node, b_last: u32) -> bool
 
 impl Layout {
     /// Whether an edge leads from a to b, whose last places are given, and how many tracks pins tap.
+    #[inline(always)]
     #[tactic(auto, using(crate::proofs::JoinTests::rows_join, crate::proofs::JoinTests::row_and_column_join, crate::proofs::JoinTests::column_and_row_join, crate::proofs::JoinTests::columns_join), unfolding(crate::specs::Edges::is_edge))]
     pub(crate) fn is_edge(
         &self,
@@ -70,10 +71,8 @@ impl Layout {
     {
         match (a.kind, b.kind) {
             (Kind::Source, Kind::Opin) => self.belongs(b, a),
-            (Kind::Opin, Kind::Chanx) => self.taps(counts, a, b, b_last),
-            (Kind::Opin, Kind::Chany) => self.taps(counts, a, b, b_last),
-            (Kind::Chanx, Kind::Ipin) => self.taps(counts, b, a, a_last),
-            (Kind::Chany, Kind::Ipin) => self.taps(counts, b, a, a_last),
+            (Kind::Opin, Kind::Chanx | Kind::Chany) => self.taps(counts, a, b, b_last),
+            (Kind::Chanx | Kind::Chany, Kind::Ipin) => self.taps(counts, b, a, a_last),
             (Kind::Ipin, Kind::Sink) => self.belongs(a, b),
             (Kind::Chanx, Kind::Chanx) => rows_join(a, a_last, b, b_last),
             (Kind::Chanx, Kind::Chany) => row_and_column_join(a, a_last, b, b_last),

@@ -11,6 +11,7 @@ mod device;
 mod edges;
 mod fanout;
 mod fault;
+mod found;
 mod ids;
 mod layout;
 mod nets;

@@ -1,6 +1,6 @@
 //! The pins of logic blocks and pads, and the tracks that they tap.
 
-ghost use Rattle.std.specs.Prelude.{◌≡◌, ℕ, ◌+◌, ◌*◌, ◌/◌, ◌%◌, ◌==◌, ◌≤◌, ◌<◌, slice_get};
+ghost use Rattle.std.specs.Prelude.{◌≡◌, ℕ, ◌+◌, ◌-◌, ◌*◌, ◌/◌, ◌%◌, ◌==◌, ◌≤◌, ◌<◌, slice_get};
 ghost use Rattle.std.specs.List.{list_any};
 ghost use Rattle.rr_graph.specs.Wires.{last_by, runs_through};
 ghost use Rattle.rr_graph.specs.Pins.{tap_count, tracks_by, fc_at, channels_of_pin, channel_of_pad, channels_beside, is_marked_global, has_class, taps, belongs};
@@ -41,6 +41,27 @@ pub(crate) fn has_class(pin: Option<Pin>, class: u32) -> bool
     }
 }
 
+/// How many tracks on from the first track of pin `number` a track lies, where track 0 comes after the last.
+#[tactic(auto, using(crate::proofs::Taps::steps_ahead, crate::proofs::Taps::steps_around))]
+fn steps_on(width: u32, number: u32, track: u32) -> u32
+    requires wide { 1 ≤ width }
+    requires narrow { width ≤ 256 }
+    requires within { track < width }
+    ensures steps { result ≡ (track + width - number % width) % width }
+    ensures few { result < width }
+{
+    let first = if number < width {
+        number
+    } else {
+        number % width
+    };
+    if first <= track {
+        track - first
+    } else {
+        track + width - first
+    }
+}
+
 /// Whether pin `number` taps the track of a detailed device, where it taps `count` of `width` tracks. Its tap `i` lies
 /// `i * width / count` tracks on from the first one: only the first tap that is as far on as the track can be on it.
 fn is_tapped(width: u32, count: u32, number: u32, track: u32) -> bool
@@ -53,9 +74,9 @@ fn is_tapped(width: u32, count: u32, number: u32, track: u32) -> bool
     if track >= width {
         return false;
     }
-    let steps = (track + width - number % width) % width;
+    let steps = steps_on(width, number, track);
     let tap = (steps * count + width - 1) / width;
-    tap < count && tap * width / count == steps
+    tap < count && tap * width < (steps + 1) * count
 }
 
 impl Layout {
@@ -170,6 +191,7 @@ impl Layout {
     }
 
     /// Whether the pin, a node of kind Opin or Ipin, taps the wire; `last` is the wire's last place.
+    #[inline(always)]
     #[tactic(auto, unfolding(crate::specs::Pins::taps, crate::specs::Pins::tapped_tracks))]
     pub(crate) fn taps(&self, counts: TapCounts, pin: Node, wire: Node, last: u32) -> bool
         requires counts { IsTapCounts self.now counts }

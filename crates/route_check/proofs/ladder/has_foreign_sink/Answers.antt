@@ -1,12 +1,11 @@
 use Rattle.std.proofs.Common.{sym, ◌∙◌, not, ◌&&◌}
-use Rattle.rr_graph.proofs.Ranges.{list_any-map}
 use Rattle.rr_graph.specs.Problems.{is_sink}
 use Rattle.route_tree.specs.Legality.{is_among}
-use Rattle.route_tree.specs.Paths.{Pair}
+use Rattle.route_check.proofs.SortedEnds.{some_end}
 use Rattle.route_check.proofs.ladder.has_foreign_sink.Goals as goal
 
 pub returns : goal.returns
 returns c =
     let f = c.args.device.now in
     let sinks = c.args.sinks.now in
-    c.has_foreign_end.ensures ∙ sym (list_any-map (λ b. is_sink f b && not (is_among sinks b)) (λ (p : Pair). p.1) c.args.pairs.now)
+    c.has_foreign_end.ensures ∙ sym (some_end c.args.pairs.now c.args.ends.now c.requires.ends (λ b. is_sink f b && not (is_among sinks b)))

@@ -1,0 +1,88 @@
+//! Nodes that were found by their numbers: of pairs that go on from each other each node is found once.
+
+ghost use Rattle.std.specs.Prelude.{◌≡◌, not};
+ghost use Rattle.std.specs.List.{list_any};
+ghost use Rattle.rr_graph.specs.Edges.{edge_between};
+ghost use Rattle.rr_graph.specs.Found.{IsFound, IsFoundAt, MayBeFound, TellsEdge};
+
+use crate::device::Device;
+use crate::parts::Node;
+
+/// A node of the device.
+#[derive(Clone, Copy, Debug)]
+pub(crate) struct Found {
+    pub(crate) id: u32,
+    pub(crate) node: Node,
+    /// Its last place along its channel; of no wire its x.
+    pub(crate) last: u32,
+}
+
+impl Device {
+    /// The node of a number.
+    #[inline(always)]
+    fn find(&self, id: u32) -> Option<Found>
+        ensures { IsFoundAt self.now id result }
+    {
+        match self.node_of(id) {
+            None => None,
+            Some(node) => Some(Found {
+                id,
+                node,
+                last: self.last_of(id, node),
+            }),
+        }
+    }
+
+    /// The node of a number, where it may be the one that was found before.
+    #[inline(always)]
+    fn find_again(&self, before: Option<Found>, id: u32) -> Option<Found>
+        requires { MayBeFound self.now before }
+        ensures { IsFoundAt self.now id result }
+    {
+        if let Some(found) = before {
+            if found.id == id {
+                return before;
+            }
+        }
+        self.find(id)
+    }
+
+    /// Whether an edge leads from one node to the other.
+    #[inline(always)]
+    #[tactic(auto, unfolding(crate::specs::Edges::edge_between))]
+    fn joins(&self, from: Found, to: Found) -> bool
+        requires from { IsFound self.now from }
+        requires to { IsFound self.now to }
+        ensures { result ≡ edge_between self.now from.id to.id }
+    {
+        self.layout
+            .is_edge(self.counts, from.node, from.last, to.node, to.last)
+    }
+
+    /// The node to which an edge leads by the pair, if one does.
+    #[inline(always)]
+    #[tactic(auto, unfolding(crate::specs::Edges::edge_between))]
+    fn follow(&self, before: Option<Found>, pair: (u32, u32)) -> Option<Found>
+        requires { MayBeFound self.now before }
+        ensures { TellsEdge self.now pair result }
+    {
+        match (self.find_again(before, pair.0), self.find(pair.1)) {
+            (Some(from), Some(to)) => { if self.joins(from, to) { Some(to) } else { None } }
+            _ => None,
+        }
+    }
+
+    /// Whether one of the pairs is no edge. It is quicker than `edge` for each where pairs begin in the node in which the one before ended.
+    pub fn lacks_edge(&self, pairs: &[(u32, u32)]) -> bool
+        ensures { result ≡ list_any (λ p. not (edge_between self.now p.0 p.1)) pairs.now }
+    {
+        let mut before = None;
+        for pair in pairs {
+            match self.follow(before, *pair) {
+                None => return true,
+                Some(found) => before = Some(found),
+            }
+        }
+        false
+    }
+}
