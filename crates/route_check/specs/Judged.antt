@@ -1,12 +1,13 @@
 -- What the judging of one net's list tells.
-use Rattle.std.specs.Prelude.{◌≡◌, ℕ, Bool, List, Option, Some, None, MatchOption, if◌then◌else◌, All}
+use Rattle.std.specs.Prelude.{◌≡◌, ℕ, Bool, ◌&&◌, not, List, Option, Some, None, MatchOption, if◌then◌else◌, All}
 use Rattle.std.specs.Bool.{MatchBool}
 use Rattle.rr_graph.specs.Fabric.{Fabric}
-use Rattle.rr_graph.specs.Problems.{RoutingProblem, Net}
+use Rattle.rr_graph.specs.Problems.{RoutingProblem, Net, is_sink}
 use Rattle.route_tree.specs.declared.fault.TreeFault.{TreeFault}
 use Rattle.route_tree.specs.declared.fault.TreeFault.TheVariants.{WrongSource, NoSwitch, NodeTwice, SecondOutput, ForeignSink, Dangling, MissingSink, Order}
 use Rattle.route_tree.specs.Paths.{Pair}
-use Rattle.route_tree.specs.Legality.{IsJoined, is_listed}
+use Rattle.route_check.specs.declared.ends.End.{End}
+use Rattle.route_tree.specs.Legality.{is_among, IsJoined, is_listed}
 use Rattle.route_tree.specs.Faults.{begins_elsewhere, lacks_switch, reaches_twice, leaves_twice, has_foreign_sink, misses_sink, IsFirstFault, IsRoute}
 
 -- the answer for a list: none where it routes the net, else its first fault
@@ -21,6 +22,10 @@ net_of source sinks = record { number = 0; source = source; sinks = sinks }
 -- a pair is on no way from the source to one of the sinks
 abbrev pub Dangles : (source : ℕ) → (sinks : List ℕ) → List Pair → Type 0
 Dangles source sinks pairs = ¬ All (IsJoined (net_of source sinks) pairs) pairs
+
+-- the end is in a sink of the device that is none of these
+abbrev pub is_foreign : Fabric → (sinks : List ℕ) → End → Bool
+is_foreign f sinks e = is_sink f e.node && not (is_among sinks e.node)
 
 -- the first fault of those that are seen pair by pair
 unfoldable pub early_fault_of : Fabric → (source : ℕ) → (sinks : List ℕ) → List Pair → Option TreeFault

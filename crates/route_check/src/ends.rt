@@ -57,6 +57,17 @@ pub(crate) fn row_of(pairs: &[(u32, u32)], ends: &[End], node: u32) -> Option<us
     None
 }
 
+/// A pair that ends in the node, which mostly stands at this place of the ends.
+pub(crate) fn row_at(pairs: &[(u32, u32)], ends: &[End], place: usize, node: u32) -> Option<usize>
+    requires { AreEnds pairs.now ends.now }
+    ensures { IsRowOf pairs.now node result }
+{
+    if place < ends.len() && ends[place].node == node {
+        return Some(ends[place].row);
+    }
+    row_of(pairs, ends, node)
+}
+
 /// A pair that ends where this one begins: mostly the one before.
 pub(crate) fn parent_of(pairs: &[(u32, u32)], ends: &[End], row: usize) -> Option<usize>
     requires ends { AreEnds pairs.now ends.now }

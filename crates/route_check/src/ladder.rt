@@ -1,6 +1,6 @@
 //! The tests of a net's list, one behind the other.
 
-ghost use Rattle.std.specs.Prelude.{◌≡◌, ◌==◌, ◌&&◌, not, false, None, length, IfOk, count_by};
+ghost use Rattle.std.specs.Prelude.{◌≡◌, ◌==◌, ◌&&◌, not, false, None, length, get_or, ◌<◌, IfOk, count_by};
 ghost use Rattle.std.specs.List.{list_any};
 ghost use Rattle.std.specs.List.Sorted.{IsStrictlyIncreasing};
 ghost use Rattle.rr_graph.specs.Edges.{edge_between};
@@ -8,10 +8,10 @@ ghost use Rattle.rr_graph.specs.Problems.{is_sink};
 ghost use Rattle.route_tree.specs.Paths.{ends_of};
 ghost use Rattle.route_tree.specs.Legality.{is_among, is_listed};
 ghost use Rattle.route_tree.specs.Faults.{begins_elsewhere, lacks_switch, reaches_twice, leaves_twice, has_foreign_sink, misses_sink};
-ghost use Rattle.route_check.specs.Ends.{AreEnds};
-ghost use Rattle.route_check.specs.Judged.{net_of, early_fault_of, late_fault_of, TellsDangling, IsToldBy};
+ghost use Rattle.route_check.specs.Ends.{AreEnds, no_end};
+ghost use Rattle.route_check.specs.Judged.{net_of, is_foreign, early_fault_of, late_fault_of, TellsDangling, IsToldBy};
 
-use crate::ends::{End, reaches_twice, row_of, sorted_ends};
+use crate::ends::{End, reaches_twice, row_at, sorted_ends};
 use crate::order::is_listed;
 use crate::walks::dangles;
 use route_tree::TreeFault;
@@ -49,28 +49,38 @@ fn leaves_twice(source: u32, pairs: &[(u32, u32)]) -> bool
     count_leaving(source, pairs) > 1
 }
 
-/// Whether a node is one of the sinks.
-fn is_one_of(sinks: &[u32], node: u32) -> bool
+/// Whether a node is one of the sinks, among which it mostly stands at this place.
+fn is_one_of(sinks: &[u32], place: usize, node: u32) -> bool
     requires { IsStrictlyIncreasing sinks.now }
     ensures { result ≡ is_among sinks.now node }
 {
+    if place < sinks.len() && sinks[place] == node {
+        return true;
+    }
     sinks.binary_search(&node).is_ok()
 }
 
-/// Whether a node is a sink of the device and none of these.
-fn is_foreign(device: &Device, sinks: &[u32], node: u32) -> bool
-    requires { IsStrictlyIncreasing sinks.now }
-    ensures { result ≡ (is_sink device.now node && not (is_among sinks.now node)) }
+/// Whether an end is in a sink of the device that is none of these.
+fn is_foreign(device: &Device, sinks: &[u32], ends: &[End], place: usize) -> bool
+    requires ascending { IsStrictlyIncreasing sinks.now }
+    requires there { place < length ends.now }
+    ensures { result ≡ is_foreign device.now sinks.now (get_or ends.now place no_end) }
 {
-    device.is_sink(node) && !is_one_of(sinks, node)
+    let node = ends[place].node;
+    device.is_sink(node) && !is_one_of(sinks, place, node)
 }
 
-/// Whether a pair ends in a sink of the device that is none of these. Sinks stand together among the ends.
+/// Whether a pair ends in a sink of the device that is none of these. By node sinks stand before wires and input pins.
 fn has_foreign_end(device: &Device, sinks: &[u32], ends: &[End]) -> bool
     requires { IsStrictlyIncreasing sinks.now }
-    ensures { result ≡ list_any (λ e. is_sink device.now e.node && not (is_among sinks.now e.node)) ends.now }
+    ensures { result ≡ list_any (is_foreign device.now sinks.now) ends.now }
 {
-    ends.iter().any(|end| is_foreign(device, sinks, end.node))
+    for place in 0..ends.len() {
+        if is_foreign(device, sinks, ends, place) {
+            return true;
+        }
+    }
+    false
 }
 
 /// Whether among the nodes in which pairs end there is a sink of the device that is none of these.
@@ -83,12 +93,13 @@ fn has_foreign_sink(device: &Device, sinks: &[u32], pairs: &[(u32, u32)], ends: 
     has_foreign_end(device, sinks, ends)
 }
 
-/// Whether no pair ends in a node.
-fn is_missed(pairs: &[(u32, u32)], ends: &[End], node: u32) -> bool
-    requires { AreEnds pairs.now ends.now }
-    ensures { result ≡ not (is_among (ends_of pairs.now) node) }
+/// Whether no pair ends in the sink of this place.
+fn is_missed(sinks: &[u32], pairs: &[(u32, u32)], ends: &[End], place: usize) -> bool
+    requires ends { AreEnds pairs.now ends.now }
+    requires there { place < length sinks.now }
+    ensures { result ≡ not (is_among (ends_of pairs.now) (get_or sinks.now place 0)) }
 {
-    match row_of(pairs, ends, node) {
+    match row_at(pairs, ends, place, sinks[place]) {
         None => true,
         Some(_) => false,
     }
@@ -99,7 +110,12 @@ fn misses_sink(sinks: &[u32], pairs: &[(u32, u32)], ends: &[End]) -> bool
     requires { AreEnds pairs.now ends.now }
     ensures { result ≡ misses_sink sinks.now pairs.now }
 {
-    sinks.iter().any(|sink| is_missed(pairs, ends, *sink))
+    for place in 0..sinks.len() {
+        if is_missed(sinks, pairs, ends, place) {
+            return true;
+        }
+    }
+    false
 }
 
 /// The first fault of those that are seen pair by pair.
