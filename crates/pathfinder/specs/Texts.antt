@@ -1,13 +1,13 @@
 -- The texts that the program prints of nodes (VPR and T-VPack manual 4.30, the routing file; the listing is ours).
-use Rattle.std.specs.Prelude.{ℕ, Bool, List, ◌++◌, ◌==◌, ◌&&◌, if◌then◌else◌, codes, decimal}
+use Rattle.std.specs.Prelude.{ℕ, List, ◌++◌, codes, decimal}
 use Rattle.rr_graph.specs.declared.parts.Kind.{Kind}
 use Rattle.rr_graph.specs.declared.parts.Kind.TheVariants.{Source, Sink, Opin, Ipin, Chanx, Chany}
 use Rattle.rr_graph.specs.declared.parts.Label.{Label}
-use Rattle.rr_graph.specs.declared.parts.Label.TheVariants.{Class, Pin, Pad, Track}
 use Rattle.rr_graph.specs.declared.parts.Node.{Node}
 use Rattle.rr_graph.specs.declared.parts.Span.{Span}
 use Rattle.rr_graph.specs.Fabric.{Fabric}
 use Rattle.rr_graph.specs.Nodes.{label_of, span_of, capacity_of}
+use Rattle.route_file.specs.TextLine.{label_text, span_text}
 
 abbrev pub kind_text : Kind → List ℕ
 kind_text Source = codes "SOURCE"
@@ -16,24 +16,6 @@ kind_text Opin = codes "OPIN"
 kind_text Ipin = codes "IPIN"
 kind_text Chanx = codes "CHANX"
 kind_text Chany = codes "CHANY"
-
-abbrev pub label_text : Label → List ℕ
-label_text Class = codes "Class: "
-label_text Pin = codes "Pin: "
-label_text Pad = codes "Pad: "
-label_text Track = codes "Track: "
-
--- a place, as `(1,2)`
-unfoldable pub place_text : (x y : ℕ) → List ℕ
-place_text x y = codes "(" ++ (decimal x ++ (codes "," ++ (decimal y ++ codes ")")))
-
-abbrev pub is_one_place : Span → Bool
-is_one_place s = s.x1 == s.x2 && s.y1 == s.y2
-
--- where a node stands: its place, or the two ends of a wire of several places, as `(1,2) to (4,2)`
-unfoldable pub span_text : Span → List ℕ
-span_text s =
-    if is_one_place s then place_text s.x1 s.y1 else (place_text s.x1 s.y1 ++ (codes " to " ++ place_text s.x2 s.y2))
 
 -- a node, as `CHANX (1,2) Track: 0`
 unfoldable pub node_text : Kind → Span → Label → ℕ → List ℕ

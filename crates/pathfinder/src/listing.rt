@@ -9,7 +9,8 @@ ghost use Rattle.rr_graph.specs.Edges.{successors_of};
 ghost use Rattle.pathfinder.specs.Texts.{counts_line, node_line, edge_line};
 ghost use Rattle.pathfinder.specs.Listing.{line_at, edge_lines_at, listing_of};
 
-use crate::text::{put_node, put_number};
+use crate::text::put_node;
+use route_file::text::put_number;
 use rr_graph::{Device, Node};
 use smallvec::SmallVec;
 use std::alloc::AllocError;

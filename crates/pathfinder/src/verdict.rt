@@ -7,9 +7,10 @@ ghost use Rattle.rr_graph.specs.Nodes.{node_at};
 ghost use Rattle.rr_graph.specs.Problems.{net_in};
 ghost use Rattle.pathfinder.specs.Verdict.{net_fault_text, overuse_text, status_of_verdict, text_of_net, text_of_node, tree_fault_text, verdict_text};
 
-use crate::text::{put_node, put_number};
+use crate::text::put_node;
 use net_file::Netlist;
 use route_check::RouteFault;
+use route_file::text::put_number;
 use route_tree::TreeFault;
 use rr_graph::{Device, Problem};
 use vpr_text::{ByteSink, OutputBuffer};

@@ -1,20 +1,17 @@
 -- Texts of routings that are known.
-use Rattle.std.proofs.Common.{◌≡◌, ℕ, true, false, List, [], ◌∷◌, Option, Some, None, codes, refl}
+use Rattle.std.proofs.Common.{◌≡◌, true, false, [], ◌∷◌, Some, None, codes, refl}
 use Rattle.std.specs.Fmt.{digits}
-use Rattle.arch_file.specs.Architecture.{Architecture}
 use Rattle.arch_file.specs.declared.parts.Direction.TheVariants.{Input, Output}
 use Rattle.arch_file.specs.declared.parts.FcType.TheVariants.{Fractional}
-use Rattle.arch_file.specs.declared.parts.Segment.{Segment}
 use Rattle.arch_file.specs.declared.parts.SegmentLength.TheVariants.{Places}
 use Rattle.net_file.specs.Netlist.{Netlist}
 use Rattle.net_file.specs.declared.parts.BlockKind.TheVariants.{InputPad, LogicBlock}
-use Rattle.net_file.specs.Routed.{routed_numbers}
 use Rattle.place_file.specs.Placement.{Placement}
 use Rattle.rr_graph.specs.declared.parts.Kind.TheVariants.{Chanx}
 use Rattle.rr_graph.specs.declared.parts.Label.TheVariants.{Track}
 use Rattle.rr_graph.specs.declared.parts.Mode.TheVariants.{Detailed}
 use Rattle.rr_graph.specs.Fabric.{Fabric}
-use Rattle.rr_graph.specs.Problems.{RoutingProblem, is_sink}
+use Rattle.rr_graph.specs.Problems.{is_sink}
 use Rattle.rr_graph.specs.Nodes.{nodes_of, numbers_at}
 use Rattle.rr_graph.specs.Wires.{begins, length_of, rank_of, type_of, weight_of_first, steps_of}
 use Rattle.rr_graph.specs.Pins.{classes_of, pins_of}

@@ -1,5 +1,5 @@
 -- Problems that are made of placed designs.
-use Rattle.std.proofs.Common.{◌≡◌, true, refl, sym, ap, subst, ◌∙◌}
+use Rattle.std.proofs.Common.{◌≡◌, true, refl, sym, subst}
 use Rattle.net_file.specs.Netlist.{Netlist}
 use Rattle.place_file.specs.Placement.{Placement}
 use Rattle.rr_graph.specs.Fabric.{Fabric}

@@ -1,7 +1,7 @@
 -- The lines of nets.
-use Rattle.std.proofs.Common.{◌≡◌, ℕ, ◌+◌, ◌≤◌, ◌<◌, Bool, true, false, not, List, [], ◌∷◌, ◌++◌, length, map, get_or, drop, Option, Some, None, if◌then◌else◌, refl, sym, ap, ◌∙◌, zero-add, arith, length-append}
+use Rattle.std.proofs.Common.{◌≡◌, ℕ, ◌+◌, ◌≤◌, ◌<◌, Bool, true, false, not, List, [], ◌∷◌, ◌++◌, length, map, get_or, drop, Option, None, if◌then◌else◌, refl, sym, ap, ◌∙◌, zero-add, arith, length-append}
 use Rattle.std.specs.Prelude.{slice_index_or}
-use Rattle.std.specs.List.{flat_map, range_with_len}
+use Rattle.std.specs.List.{flat_map}
 use Rattle.std.proofs.lemmas.Option.{slice_get_read, get_or_from_slice_get}
 use Rattle.std.proofs.lemmas.List.{drop_all}
 use Rattle.std.proofs.lemmas.List.Filters.{length-filter_both}
@@ -17,7 +17,7 @@ use Rattle.rr_graph.specs.Fabric.{Fabric}
 use Rattle.rr_graph.specs.Problems.{RoutingProblem}
 use Rattle.rr_graph.proofs.ChannelTables.{count_next}
 use Rattle.route_tree.specs.Paths.{Pair}
-use Rattle.route_file.specs.TextLine.{TextLine, Size, line_text, bytes_on}
+use Rattle.route_file.specs.TextLine.{TextLine, line_text, bytes_on}
 use Rattle.route_file.specs.Text.{block_line, routed_net_lines, global_net_lines, lines_of_net, net_lines, routed_before, text_lines, text_of}
 use Rattle.route_file.proofs.Sending.{drop_next}
 

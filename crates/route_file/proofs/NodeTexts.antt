@@ -10,7 +10,7 @@ use Rattle.rr_graph.specs.declared.parts.Span.{Span}
 use Rattle.rr_graph.specs.Fabric.{Fabric}
 use Rattle.rr_graph.specs.Nodes.{node_at, label_of, span_of}
 use Rattle.route_tree.specs.Paths.{Pair}
-use Rattle.route_file.specs.TextLine.{TextLine, NodeLine, line_text}
+use Rattle.route_file.specs.TextLine.{NodeLine, line_text}
 use Rattle.route_file.specs.PrintedNodes.{nodes_for, nodes_behind}
 use Rattle.route_file.specs.Text.{node_lines, lines_of_node}
 use Rattle.route_file.proofs.Sending.{drop_next}

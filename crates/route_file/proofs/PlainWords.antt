@@ -1,5 +1,5 @@
 -- The words of a line of which the words are known.
-use Rattle.std.proofs.Common.{◌≡◌, ℕ, suc, ◌+◌, ◌^◌, ◌<◌, ◌≤◌, Bool, true, false, cond, not, ◌&&◌, ◌||◌, List, [], ◌∷◌, ◌++◌, length, take, get_or, All, decimal, codes, refl, sym, ap, ◌∙◌, arith, one-add, append-nil, ◌==◌}
+use Rattle.std.proofs.Common.{◌≡◌, ℕ, suc, ◌+◌, ◌^◌, ◌<◌, ◌≤◌, Bool, true, false, cond, not, ◌&&◌, ◌||◌, List, [], ◌∷◌, ◌++◌, length, take, get_or, All, decimal, refl, sym, ap, ◌∙◌, arith, one-add, append-nil, ◌==◌}
 use Rattle.std.specs.Prelude.{filter}
 use Rattle.std.specs.List.{AllByRecursion, slice_split, before_first, list_all, position_or_len}
 use Rattle.std.proofs.lemmas.Bool.{false≢true}
@@ -9,7 +9,7 @@ use Rattle.std.proofs.lemmas.Str.Parse.{digit_at}
 use Rattle.std.proofs.lemmas.List.Elements.{All-from_recursion}
 use Rattle.std.proofs.lemmas.List.Folds.{list_all-append}
 use Rattle.std.proofs.lemmas.List.Splits.{slice_split_at, slice_split_none}
-use Rattle.vpr_text.specs.Words.{is_line_feed, is_comment_sign, is_separator, is_filled, words_between, words_on, ends_in_backslash, goes_on}
+use Rattle.vpr_text.specs.Words.{is_line_feed, is_comment_sign, is_separator, is_filled, words_between, words_on, ends_in_backslash}
 use Rattle.vpr_text.specs.Text.{is_bad}
 
 -- a byte that neither separates words nor ends a line nor begins a comment, and isn't bad

@@ -1,14 +1,14 @@
 -- The nodes that are named for a list of pairs are read as these pairs.
-use Rattle.std.proofs.Common.{◌≡◌, ℕ, Bool, true, false, cond, eqb, not, ◌&&◌, ◌||◌, List, [], ◌∷◌, ◌++◌, Option, Some, None, refl, sym, ap, subst, ◌∙◌, append_assoc}
+use Rattle.std.proofs.Common.{◌≡◌, ℕ, Bool, true, false, cond, eqb, not, ◌&&◌, ◌||◌, List, [], ◌∷◌, ◌++◌, Option, Some, None, refl, sym, ap, subst, ◌∙◌}
 use Rattle.std.specs.Prelude.{filter}
-use Rattle.std.specs.List.{AllByRecursion, last_or, list_any}
+use Rattle.std.specs.List.{AllByRecursion, last_or}
 use Rattle.std.specs.Option.{option_map_or}
 use Rattle.std.proofs.lemmas.Bool.{false≢true, eqb-true, eq-eqb}
 use Rattle.rr_graph.specs.Fabric.{Fabric}
 use Rattle.rr_graph.specs.Problems.{is_sink}
 use Rattle.route_tree.specs.Paths.{Pair}
 use Rattle.route_tree.specs.Legality.{is_among, may_begin, is_listed_behind}
-use Rattle.route_file.specs.PrintedNodes.{goes_on, nodes_for, nodes_behind, printed_nodes}
+use Rattle.route_file.specs.PrintedNodes.{nodes_for, nodes_behind, printed_nodes}
 use Rattle.route_file.specs.Sections.{neighbours, pairs_along}
 use Rattle.route_file.specs.Judge.{is_detached}
 use Rattle.route_file.proofs.PlainWords.{both_true}

@@ -1,33 +1,30 @@
 -- What was written is read back.
-use Rattle.std.proofs.Common.{◌≡◌, ℕ, zero, suc, ◌+◌, ◌^◌, ◌<◌, ◌≤◌, Bool, true, false, eqb, ◌&&◌, List, [], ◌∷◌, ◌++◌, length, map, get_or, drop, Option, Some, None, Ok, refl, sym, ap, subst, ◌∙◌, arith}
+use Rattle.std.proofs.Common.{◌≡◌, ℕ, ◌^◌, ◌<◌, ◌≤◌, true, eqb, List, [], length, map, get_or, Option, Some, None, refl, sym, ap, subst, ◌∙◌, arith}
 use Rattle.std.specs.Prelude.{filter, slice_index_or}
 use Rattle.std.specs.List.{flat_map, list_all, range_with_len}
-use Rattle.std.proofs.lemmas.Bool.{eqb-true, false≢true}
+use Rattle.std.proofs.lemmas.Bool.{eqb-true}
 use Rattle.std.proofs.lemmas.List.{get_or-map, length-map}
 use Rattle.std.proofs.lemmas.List.Sums.{AllPass-from_list_all}
 use Rattle.vpr_text.specs.Words.{Line, has_words}
-use Rattle.vpr_text.specs.Text.{lines_of}
 use Rattle.net_file.specs.Facts.{IsNetlist, names_of_nets}
 use Rattle.net_file.specs.Names.{number_among}
 use Rattle.net_file.specs.Netlist.{Netlist}
 use Rattle.net_file.specs.Netlist as net_file
 use Rattle.net_file.specs.Routed.{no_net, is_routed_at, routed_numbers}
 use Rattle.place_file.specs.Placement.{Placement}
-use Rattle.rr_graph.specs.Fabric.{Fabric, IsFabric}
+use Rattle.rr_graph.specs.Fabric.{IsFabric}
 use Rattle.rr_graph.specs.Problems as problems
 use Rattle.rr_graph.specs.Problems.{Net, RoutingProblem, net_in}
-use Rattle.rr_graph.specs.Designs.{problem_from}
 use Rattle.rr_graph.proofs.Designs.{numbers_kept}
 use Rattle.route_tree.specs.Paths.{Pair}
 use Rattle.route_tree.specs.Fits.{fits_problem, are_nodes}
-use Rattle.route_file.specs.TextLine.{TextLine, Size, Blank, Heading, line_text}
-use Rattle.route_file.specs.Text.{routed_before, list_of, lines_of_net, net_lines, text_lines, text_of}
+use Rattle.route_file.specs.TextLine.{TextLine}
+use Rattle.route_file.specs.Text.{routed_before, list_of, net_lines, text_lines, text_of}
 use Rattle.route_file.specs.Design.{IsDesign}
-use Rattle.route_file.specs.ReadBack.{tells_whole, TellsWhole}
-use Rattle.route_file.specs.Sections.{had_line, section_of, nodes_in, list_in}
+use Rattle.route_file.specs.ReadBack.{TellsWhole}
+use Rattle.route_file.specs.Sections.{had_line, list_in}
 use Rattle.route_file.specs.Reads.{ReadsRoute, ReadsBytes}
 use Rattle.route_file.proofs.PlainWords.{both_true}
-use Rattle.route_file.proofs.LineWords.{line_words}
 use Rattle.route_file.proofs.TextWords.{AreClear, numbered, lines_of_text}
 use Rattle.route_file.proofs.ReadNets.{IsNamed}
 use Rattle.route_file.proofs.ReadSections.{AreDone}

@@ -1,7 +1,7 @@
 -- All lines of a routing's text are such as are read.
-use Rattle.std.proofs.Common.{◌≡◌, ℕ, zero, suc, ◌+◌, ◌^◌, ◌<◌, ◌≤◌, Bool, true, false, not, ◌&&◌, List, [], ◌∷◌, ◌++◌, length, map, get_or, All, Option, Some, None, inl, inr, refl, sym, ap, subst, ◌∙◌, arith}
+use Rattle.std.proofs.Common.{◌≡◌, ℕ, zero, suc, ◌+◌, ◌^◌, ◌<◌, true, false, ◌&&◌, List, [], ◌∷◌, ◌++◌, length, map, All, Option, Some, None, inl, inr, refl, sym, ap, subst, ◌∙◌, arith}
 use Rattle.std.specs.Prelude.{slice_index_or}
-use Rattle.std.specs.List.{AllByRecursion, flat_map, list_all, range_with_len}
+use Rattle.std.specs.List.{AllByRecursion, flat_map, range_with_len}
 use Rattle.std.proofs.lemmas.Bool.{cases_Bool}
 use Rattle.std.proofs.lemmas.List.{get_or-map, length-map}
 use Rattle.std.proofs.lemmas.List.Elements.{All-get_or, recursion_from_All}
@@ -12,18 +12,16 @@ use Rattle.net_file.specs.Netlist.{Netlist, Net, Block}
 use Rattle.net_file.specs.Routed.{no_net, is_routed_net}
 use Rattle.net_file.specs.declared.parts.Terminal.{Terminal}
 use Rattle.place_file.specs.Placement.{Placement}
-use Rattle.rr_graph.specs.declared.parts.Node.{Node}
 use Rattle.rr_graph.specs.Fabric.{Fabric}
-use Rattle.rr_graph.specs.Nodes.{node_at, label_of, span_of}
+use Rattle.rr_graph.specs.Nodes.{node_at}
 use Rattle.route_tree.specs.Paths.{Pair}
-use Rattle.route_file.specs.TextLine.{TextLine, NodeLine}
+use Rattle.route_file.specs.TextLine.{TextLine}
 use Rattle.route_file.specs.PrintedNodes.{printed_nodes}
 use Rattle.route_file.specs.Text.{node_lines, lines_of_node, routed_net_lines, block_line, global_net_lines, lines_of_net}
 use Rattle.route_file.proofs.PlainWords.{is_plain, are_plain, IsPlain}
-use Rattle.route_file.proofs.LineWords.{IsClear}
 use Rattle.route_file.proofs.TextWords.{AreClear}
 use Rattle.route_file.proofs.NetTexts.{lines_of_global, lines_of_other}
-use Rattle.route_file.proofs.ReadTold.{IsSmall, clear_span}
+use Rattle.route_file.proofs.ReadTold.{clear_span}
 use Rattle.route_file.proofs.ReadWalk.{AreNodes, IsReadable}
 
 pub clear_append : (xs ys : List TextLine) → AreClear xs → AreClear ys → AreClear (xs ++ ys)

@@ -1,5 +1,5 @@
 -- Worked examples of reading that compute: a netlist of the nets a and y, of which y is global, on no particular device.
-use Rattle.std.proofs.Common.{◌≡◌, ℕ, Bool, true, false, List, [], ◌∷◌, Option, Some, None, Ok, Err, refl}
+use Rattle.std.proofs.Common.{◌≡◌, ℕ, Bool, true, false, List, [], ◌∷◌, Some, None, Ok, Err, refl}
 use Rattle.std.specs.Prelude.{codes, ◌==◌}
 use Rattle.vpr_text.specs.Words.{Line}
 use Rattle.arch_file.specs.Keyword.{is_text}
@@ -9,7 +9,6 @@ use Rattle.rr_graph.specs.declared.parts.Kind.TheVariants.{Ipin, Chanx}
 use Rattle.rr_graph.specs.declared.parts.Label.TheVariants.{Pin, Track}
 use Rattle.route_file.specs.declared.entry.Entry.TheVariants.{NetLine}
 use Rattle.route_file.specs.declared.fault.RouteFileFault.TheVariants.{BadLine, UnknownNet, NetTwice}
-use Rattle.route_file.specs.declared.node_line.NodeText.{NodeText}
 use Rattle.route_file.specs.Judge.{net_entry}
 use Rattle.route_file.specs.NetLine.{before_ending, enclosed, is_plain_form, is_global_form, name_on, net_on}
 use Rattle.route_file.specs.NodeLine.{kind_of, label_from, takes, is_wire, is_place_line, is_span_line, place_text, span_text, text_of}

@@ -1,5 +1,5 @@
 -- The first lines of a routing's text are read as its head.
-use Rattle.std.proofs.Common.{◌≡◌, ℕ, ◌+◌, ◌^◌, ◌<◌, Bool, true, false, eqb, ◌&&◌, List, [], ◌∷◌, decimal, codes, refl, ap, ◌∙◌}
+use Rattle.std.proofs.Common.{◌≡◌, ℕ, ◌^◌, ◌<◌, true, refl}
 use Rattle.std.proofs.lemmas.Bool.{eq-eqb}
 use Rattle.arch_file.specs.Keyword.{is_text}
 use Rattle.rr_graph.specs.Fabric.{Fabric}

@@ -1,14 +1,13 @@
 -- The line of a net is read as the net.
-use Rattle.std.proofs.Common.{◌≡◌, ℕ, ◌+◌, ◌-◌, ◌^◌, ◌<◌, Bool, true, false, cond, not, ◌&&◌, ◌||◌, List, [], ◌∷◌, ◌++◌, length, map, take, drop, Option, Some, None, decimal, codes, refl, sym, ap, ◌∙◌, arith, length-append}
-use Rattle.std.specs.Prelude.{is_some, option_and_then, unwrap_or, slice_index_or}
+use Rattle.std.proofs.Common.{◌≡◌, ℕ, ◌-◌, ◌^◌, ◌<◌, true, false, cond, List, ◌++◌, length, map, Some, None, codes, refl, ap, arith, length-append}
+use Rattle.std.specs.Prelude.{slice_index_or}
 use Rattle.std.proofs.lemmas.List.{drop_at, take_at}
-use Rattle.vpr_text.specs.Words.{Line}
 use Rattle.arch_file.specs.Keyword.{is_text}
 use Rattle.net_file.specs.Names.{number_among}
-use Rattle.net_file.specs.Netlist.{Netlist, Net}
+use Rattle.net_file.specs.Netlist.{Netlist}
 use Rattle.net_file.specs.Routed.{no_net}
 use Rattle.route_file.specs.TextLine.{RoutedNet, GlobalNet}
-use Rattle.route_file.specs.NetLine.{is_net_line, before_ending, enclosed, is_plain_form, is_global_form, name_on, is_global_at, if_global, same_answer, net_on}
+use Rattle.route_file.specs.NetLine.{before_ending, enclosed, is_plain_form, is_global_form, name_on, is_global_at, same_answer, net_on}
 use Rattle.route_file.proofs.LineWords.{in_brackets, line_words}
 use Rattle.route_file.proofs.ReadNumbers.{number_read}
 

@@ -1,5 +1,5 @@
 -- What the words of a node's line say.
-use Rattle.std.proofs.Common.{◌≡◌, ℕ, ◌^◌, ◌<◌, Bool, true, false, List, [], ◌∷◌, Option, Some, None, decimal, codes, refl}
+use Rattle.std.proofs.Common.{◌≡◌, ℕ, ◌^◌, ◌<◌, true, [], ◌∷◌, Some, decimal, codes, refl}
 use Rattle.arch_file.specs.Keyword.{is_text}
 use Rattle.rr_graph.specs.declared.parts.Kind.{Kind}
 use Rattle.rr_graph.specs.declared.parts.Label.{Label}

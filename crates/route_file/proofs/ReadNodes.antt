@@ -1,8 +1,8 @@
 -- A node's line is read as its node.
-use Rattle.std.proofs.Common.{◌≡◌, ℕ, ◌^◌, ◌<◌, ◌≤◌, Bool, true, false, cond, eqb, min, not, ◌&&◌, ◌||◌, List, [], ◌∷◌, ◌++◌, length, All, Option, Some, None, if◌then◌else◌, decimal, codes, refl, sym, ap, subst, ◌∙◌, arith}
+use Rattle.std.proofs.Common.{◌≡◌, ℕ, ◌^◌, ◌<◌, ◌≤◌, Bool, true, false, cond, not, List, [], ◌∷◌, ◌++◌, All, Some, if◌then◌else◌, decimal, codes, refl, ap, ◌∙◌, arith}
 use Rattle.std.specs.Prelude.{filter}
 use Rattle.std.specs.List.{AllByRecursion, flat_map, slice_split, list_all}
-use Rattle.std.proofs.lemmas.Bool.{eqb-true, eq-eqb, false≢true}
+use Rattle.std.proofs.lemmas.Bool.{false≢true}
 use Rattle.std.proofs.lemmas.Bool.Decides.{nat_tests}
 use Rattle.std.proofs.lemmas.List.Elements.{All-from_recursion}
 use Rattle.std.proofs.lemmas.List.Splits.{slice_split_at, slice_split_none}
@@ -12,13 +12,12 @@ use Rattle.rr_graph.specs.declared.parts.Kind.{Kind}
 use Rattle.rr_graph.specs.declared.parts.Kind.TheVariants as kind
 use Rattle.rr_graph.specs.declared.parts.Label.{Label}
 use Rattle.rr_graph.specs.declared.parts.Label.TheVariants as label
-use Rattle.rr_graph.specs.declared.parts.Node.{Node}
 use Rattle.rr_graph.specs.declared.parts.Span.{Span}
 use Rattle.rr_graph.specs.Nodes.{label_by}
 use Rattle.route_file.specs.TextLine.{NodeLine, place_text, is_one_place}
 use Rattle.route_file.specs.NodeWords.{is_mark, pieces_of, node_words}
-use Rattle.route_file.specs.NodeLine.{kind_of, label_from, takes, is_wire, same_label, rank_of_label}
-use Rattle.route_file.proofs.PlainWords.{IsPlain, both_true, plain_number, all_of_number}
+use Rattle.route_file.specs.NodeLine.{kind_of, label_from, takes}
+use Rattle.route_file.proofs.PlainWords.{both_true, plain_number, all_of_number}
 use Rattle.route_file.proofs.LineWords.{IsClearSpan, kind_word, label_word, line_words}
 
 digit_unmarked : (b : ℕ) → 48 ≤ b → b ≤ 57 → not (is_mark b) ≡ true

@@ -1,5 +1,5 @@
 -- The numbers of a node are small.
-use Rattle.std.proofs.Common.{◌≡◌, ℕ, zero, suc, ◌+◌, ◌-◌, ◌*◌, ◌^◌, ◌<◌, ◌≤◌, not, List, [], ◌∷◌, length, get_or, Some, refl, sym, ap, subst, ◌∙◌, arith}
+use Rattle.std.proofs.Common.{◌≡◌, ℕ, zero, suc, ◌+◌, ◌-◌, ◌^◌, ◌<◌, ◌≤◌, not, List, [], ◌∷◌, length, get_or, Some, subst, arith}
 use Rattle.std.specs.List.{range_with_len}
 use Rattle.std.proofs.lemmas.Option.{slice_get_within, get_or_from_slice_get}
 use Rattle.std.proofs.lemmas.List.FromFn.{length-range_with_len}
@@ -9,7 +9,7 @@ use Rattle.rr_graph.specs.declared.parts.Kind.TheVariants as kind
 use Rattle.rr_graph.specs.declared.parts.Node.{Node}
 use Rattle.rr_graph.specs.declared.parts.Span.{Span}
 use Rattle.rr_graph.specs.Fabric.{Fabric, IsFabric}
-use Rattle.rr_graph.specs.Nodes.{nodes_of, node_at, rank_of_kind, span_of, span_by}
+use Rattle.rr_graph.specs.Nodes.{nodes_of, node_at, span_by}
 use Rattle.rr_graph.specs.Wires.{begins, steps_of, last_of}
 use Rattle.rr_graph.proofs.Order.{code_of, Ascends, nodes-ascend}
 use Rattle.route_file.proofs.ReadTold.{IsSmall}

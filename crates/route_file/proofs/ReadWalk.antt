@@ -1,12 +1,12 @@
 -- The lines of a routing's text are read one by one.
-use Rattle.std.proofs.Common.{◌≡◌, ℕ, zero, suc, ◌+◌, ◌≤◌, ◌<◌, ◌^◌, Bool, true, false, cond, eqb, not, ◌&&◌, ◌||◌, List, [], ◌∷◌, ◌++◌, length, map, Option, Some, None, if◌then◌else◌, inl, inr, refl, sym, ap, subst, ◌∙◌, arith, append_assoc, append-nil, codes, decimal}
+use Rattle.std.proofs.Common.{◌≡◌, ℕ, zero, suc, ◌+◌, ◌<◌, ◌^◌, true, false, not, ◌&&◌, ◌||◌, List, [], ◌∷◌, ◌++◌, length, map, Option, Some, None, inl, inr, refl, sym, ap, subst, ◌∙◌, arith, append_assoc, append-nil, decimal}
 use Rattle.std.specs.Prelude.{filter, nat_lt, slice_index_or}
 use Rattle.std.specs.List.{AllByRecursion, flat_map, range_with_len}
 use Rattle.std.proofs.lemmas.Bool.{cases_Bool, false≢true}
 use Rattle.vpr_text.specs.Words.{Line, has_words}
 use Rattle.arch_file.specs.Keyword.{is_text}
 use Rattle.net_file.specs.Netlist.{Netlist, Net}
-use Rattle.net_file.specs.Routed.{no_net, is_routed_net, is_routed_at}
+use Rattle.net_file.specs.Routed.{no_net, is_routed_at}
 use Rattle.net_file.specs.declared.parts.Terminal.{Terminal}
 use Rattle.place_file.specs.Placement.{Placement}
 use Rattle.rr_graph.specs.declared.parts.Kind.{Kind}
@@ -18,12 +18,12 @@ use Rattle.rr_graph.specs.Fabric.{Fabric, IsFabric}
 use Rattle.rr_graph.specs.Nodes.{node_at, label_of, span_of}
 use Rattle.route_tree.specs.Paths.{Pair}
 use Rattle.route_tree.specs.Legality.{is_listed_behind}
-use Rattle.route_file.specs.TextLine.{TextLine, Blank, RoutedNet, GlobalNet, Block, NodeLine}
+use Rattle.route_file.specs.TextLine.{TextLine, RoutedNet, GlobalNet, NodeLine}
 use Rattle.route_file.specs.PrintedNodes.{printed_nodes}
-use Rattle.route_file.specs.Text.{lines_of_node, node_lines, routed_net_lines, block_line, global_net_lines, list_of, lines_of_net, net_lines}
+use Rattle.route_file.specs.Text.{lines_of_node, node_lines, routed_net_lines, block_line, global_net_lines, lines_of_net}
 use Rattle.route_file.specs.NetLine.{is_net_line, is_global_at, is_plain_form, is_global_form}
 use Rattle.route_file.specs.NodeLine.{node_on}
-use Rattle.route_file.specs.Sections.{nodes_in, pairs_along, list_along}
+use Rattle.route_file.specs.Sections.{nodes_in, list_along}
 use Rattle.route_file.specs.Judge.{line_fault}
 use Rattle.route_file.specs.Reads.{AreAccepted}
 use Rattle.route_file.proofs.LineWords.{line_words, kind_word, label_word, span_words}

@@ -6,7 +6,7 @@ use Rattle.std.proofs.lemmas.List.{append-nil}
 use Rattle.vpr_text.specs.Output.{Buffer, Stream, stream, Sends}
 use Rattle.vpr_text.proofs.Printing.{sends_then, sends_none}
 use Rattle.route_file.specs.declared.writing.WriteFault.TheVariants.{Failed}
-use Rattle.route_file.specs.Writes.{TakesFront, Writes}
+use Rattle.route_file.specs.Writes.{Writes}
 
 -- of a whole text the rest is still to be sent
 pub record Lacks (old now : Stream) (rest whole : List ℕ) : Type 0 where

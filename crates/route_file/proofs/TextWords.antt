@@ -1,12 +1,12 @@
 -- The lines that the text of a routing is read as.
-use Rattle.std.proofs.Common.{◌≡◌, ℕ, ◌+◌, ◌^◌, ◌≤◌, Bool, true, false, cond, not, ◌||◌, List, [], ◌∷◌, ◌++◌, length, map, All, Option, Some, None, Ok, if◌then◌else◌, codes, refl, sym, ap, ◌∙◌, append_assoc}
+use Rattle.std.proofs.Common.{◌≡◌, ℕ, ◌+◌, ◌^◌, ◌≤◌, Bool, true, false, cond, not, ◌||◌, List, [], ◌∷◌, length, Some, None, Ok, if◌then◌else◌, codes, refl, ap, ◌∙◌, append_assoc}
 use Rattle.std.specs.Prelude.{filter}
-use Rattle.std.specs.List.{AllByRecursion, flat_map, slice_split, list_all, list_any, position_from}
+use Rattle.std.specs.List.{AllByRecursion, flat_map, slice_split, list_any, position_from}
 use Rattle.std.proofs.lemmas.Bool.{false≢true, le-ltb}
 use Rattle.std.proofs.lemmas.List.Elements.{All-from_recursion}
 use Rattle.std.proofs.lemmas.List.Splits.{slice_split_at}
-use Rattle.vpr_text.specs.Words.{Line, is_line_feed, words_on, goes_on, given_up, continued, lines_from, has_words, words_of}
-use Rattle.vpr_text.specs.Text.{is_bad, bad_line_from, lines_or_bad, lines_of}
+use Rattle.vpr_text.specs.Words.{Line, is_line_feed, goes_on, given_up, continued, lines_from, has_words, words_of}
+use Rattle.vpr_text.specs.Text.{is_bad, bad_line_from, lines_of}
 use Rattle.route_file.specs.TextLine.{TextLine, bytes_on, line_text}
 use Rattle.route_file.proofs.PlainWords.{is_fine, are_fine, both_true}
 use Rattle.route_file.proofs.LineWords.{IsClear, line_words, words_on_line, ends_there, fine_line}

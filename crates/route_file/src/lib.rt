@@ -15,7 +15,7 @@ mod node_words;
 mod nodes;
 mod reading;
 mod seen;
-mod text;
+pub mod text;
 mod words;
 mod writing;
 

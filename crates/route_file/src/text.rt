@@ -1,4 +1,4 @@
-//! Pieces of text, printed through a buffer.
+//! Pieces of text, printed through a buffer: those of nodes serve the texts of other crates too.
 
 ghost use Rattle.std.specs.Prelude.{◌≡◌};
 ghost use Rattle.vpr_text.specs.Output.{Sends, stream};
@@ -22,8 +22,8 @@ pub(crate) fn kind_name(kind: Kind) -> &'static [u8]
     }
 }
 
-/// What a node's number counts, as it stands before the number.
-pub(crate) fn label_name(label: Label) -> &'static [u8]
+/// What a node's number counts, as it stands before the number: `Track: ` and the like.
+pub fn label_name(label: Label) -> &'static [u8]
     ensures { result.now ≡ label_text label }
 {
     match label {
@@ -34,8 +34,8 @@ pub(crate) fn label_name(label: Label) -> &'static [u8]
     }
 }
 
-/// Prints a number.
-pub(crate) fn put_number<W: ByteSink, I: Integer>(out: &mut OutputBuffer, sink: &mut W, number: I)
+/// Prints a number in decimal digits.
+pub fn put_number<W: ByteSink, I: Integer>(out: &mut OutputBuffer, sink: &mut W, number: I)
     ensures { Sends (stream (W.taken sink.old) (W.failed sink.old) out.old) (stream (W.taken sink.new) (W.failed sink.new) out.new) (I.text number) }
 {
     let mut digits = Buffer::new();
@@ -43,7 +43,7 @@ pub(crate) fn put_number<W: ByteSink, I: Integer>(out: &mut OutputBuffer, sink: 
 }
 
 /// Prints a place, as `(1,2)`.
-pub(crate) fn put_place<W: ByteSink>(out: &mut OutputBuffer, sink: &mut W, x: u32, y: u32)
+pub fn put_place<W: ByteSink>(out: &mut OutputBuffer, sink: &mut W, x: u32, y: u32)
     ensures { Sends (stream (W.taken sink.old) (W.failed sink.old) out.old) (stream (W.taken sink.new) (W.failed sink.new) out.new) (place_text x y) }
 {
     out.push(sink, b"(");
@@ -59,8 +59,8 @@ fn is_one_place(span: Span) -> bool
     span.x1 == span.x2 && span.y1 == span.y2
 }
 
-/// Prints where a node stands: its place, or the two ends of a wire of several places.
-pub(crate) fn put_span<W: ByteSink>(out: &mut OutputBuffer, sink: &mut W, span: Span)
+/// Prints where a node stands: its place, or the two ends of a wire of several places, as `(1,2) to (4,2)`.
+pub fn put_span<W: ByteSink>(out: &mut OutputBuffer, sink: &mut W, span: Span)
     ensures { Sends (stream (W.taken sink.old) (W.failed sink.old) out.old) (stream (W.taken sink.new) (W.failed sink.new) out.new) (span_text span) }
 {
     put_place(out, sink, span.x1, span.y1);

@@ -1,9 +1,7 @@
-use Rattle.std.proofs.Common.{◌≡◌, true, false, sym, ap, subst, ◌∙◌}
+use Rattle.std.proofs.Common.{true, false, sym, ◌∙◌}
 use Rattle.std.specs.Prelude.{slice_index_or, None}
-use Rattle.std.specs.List.{flat_map}
-use Rattle.vpr_text.specs.Output.{Sends, stream}
+use Rattle.vpr_text.specs.Output.{stream}
 use Rattle.vpr_text.proofs.Printing.{sends_none}
-use Rattle.route_file.specs.TextLine.{line_text}
 use Rattle.route_file.proofs.NetTexts.{lines_of_global, lines_of_other}
 use Rattle.route_file.proofs.writing.put_net.Goals as goal
 

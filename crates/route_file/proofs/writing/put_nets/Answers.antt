@@ -1,11 +1,8 @@
-use Rattle.std.proofs.Common.{◌≡◌, ℕ, ◌+◌, ◌<◌, ◌≤◌, length, if◌then◌else◌, get_or, List, sym, ap, subst, ◌∙◌, arith}
-use Rattle.std.specs.Prelude.{None, slice_index_or}
-use Rattle.std.specs.List.{flat_map}
-use Rattle.vpr_text.specs.Output.{Sends, stream}
+use Rattle.std.proofs.Common.{◌≡◌, ℕ, ◌<◌, ◌≤◌, length, if◌then◌else◌, get_or, List, sym, ap, subst, ◌∙◌, arith}
+use Rattle.vpr_text.specs.Output.{stream}
 use Rattle.net_file.specs.Netlist.{Net}
-use Rattle.net_file.specs.Routed.{no_net, is_routed_net, is_routed_at}
-use Rattle.route_file.specs.TextLine.{line_text}
-use Rattle.route_file.specs.Text.{net_lines, routed_before}
+use Rattle.net_file.specs.Routed.{is_routed_net, is_routed_at}
+use Rattle.route_file.specs.Text.{net_lines}
 use Rattle.route_file.proofs.Sending.{Lacks, lacks_all, lacks_next, lacks_nothing, lacks_for_good}
 use Rattle.route_file.proofs.NetTexts.{nets_text, nets_next, nets_end, net_there, net_text, routed_next, few_routed, none_routed}
 use Rattle.route_file.proofs.writing.put_nets.Goals as goal
