@@ -204,12 +204,8 @@ impl Device {
     pub fn edge(&self, from: u32, to: u32) -> bool
         ensures { result ≡ edge_between self.now from to }
     {
-        match (self.node(from), self.node(to)) {
-            (Some(a), Some(b)) => {
-                let a_last = self.last_of(from, a);
-                let b_last = self.last_of(to, b);
-                self.layout.is_edge(self.counts, a, a_last, b, b_last)
-            }
+        match (self.find(from), self.find(to)) {
+            (Some(a), Some(b)) => self.joins(a, b),
             _ => false,
         }
     }

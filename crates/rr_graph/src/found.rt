@@ -20,7 +20,7 @@ pub(crate) struct Found {
 impl Device {
     /// The node of a number.
     #[inline(always)]
-    fn find(&self, id: u32) -> Option<Found>
+    pub(crate) fn find(&self, id: u32) -> Option<Found>
         ensures { IsFoundAt self.now id result }
     {
         match self.node_of(id) {
@@ -50,7 +50,7 @@ impl Device {
     /// Whether an edge leads from one node to the other.
     #[inline(always)]
     #[tactic(auto, unfolding(crate::specs::Edges::edge_between))]
-    fn joins(&self, from: Found, to: Found) -> bool
+    pub(crate) fn joins(&self, from: Found, to: Found) -> bool
         requires from { IsFound self.now from }
         requires to { IsFound self.now to }
         ensures { result ≡ edge_between self.now from.id to.id }
