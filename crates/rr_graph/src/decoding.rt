@@ -138,6 +138,7 @@ impl Layout {
     }
 
     /// The terminal or pin in a column of blocks, before which `rest` stand there.
+    #[inline(always)]
     fn in_block_column(&self, block: &Block, kind: Kind, x: u32, rest: u32) -> Node
         requires block { IsBlock self.now block.now }
         requires terminal { is_terminal kind ≡ true }
@@ -156,6 +157,7 @@ impl Layout {
     }
 
     /// The pad in a column beside the blocks, before which `rest` stand there.
+    #[inline(always)]
     fn in_side_column(&self, kind: Kind, x: u32, rest: u32) -> Node
         requires terminal { is_terminal kind ≡ true }
         requires column { x ≤ self.now.nx + 1 }
@@ -186,6 +188,7 @@ impl Layout {
     }
 
     /// The terminal or pin of a kind before which `at` of the kind stand.
+    #[inline(always)]
     #[tactic(auto, using(crate::proofs::NodesFound::inner_column_length, crate::proofs::NodesFound::side_column_length))]
     fn terminal_found(&self, block: &Block, kind: Kind, at: u32) -> Node
         requires block { IsBlock self.now block.now }
@@ -222,6 +225,7 @@ impl Device {
     }
 
     /// The wire above a row before which `at` such wires stand.
+    #[inline(always)]
     fn above_found(&self, at: u32) -> Node
         requires { at < kind_length self.now Kind.Chanx }
         ensures { node_at self.now (kind_start self.now Kind.Chanx + at) ≡ Some result }
@@ -241,6 +245,7 @@ impl Device {
     }
 
     /// The wire right of a column before which `at` such wires stand.
+    #[inline(always)]
     fn right_found(&self, at: u32) -> Node
         requires { at < kind_length self.now Kind.Chany }
         ensures { node_at self.now (kind_start self.now Kind.Chany + at) ≡ Some result }
@@ -256,6 +261,7 @@ impl Device {
     }
 
     /// The terminal or pin of a kind before which `at` of the kind stand.
+    #[inline(always)]
     fn terminal_of(&self, kind: Kind, at: u32) -> Node
         requires terminal { is_terminal kind ≡ true }
         requires within { at < kind_length self.now kind }

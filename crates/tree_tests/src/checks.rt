@@ -15,6 +15,9 @@ const LEFT: &[(u32, u32)] = &[(0, 18), (18, 39), (39, 37), (37, 31), (31, 13)];
 /// From the other pad there, through the same wire on the left and then above the block.
 const ABOVE: &[(u32, u32)] = &[(1, 19), (19, 39), (39, 38), (38, 32), (32, 13)];
 
+/// As `ABOVE`, but for the sink.
+const SHORT: &[(u32, u32)] = &[(1, 19), (19, 39), (39, 38), (38, 32)];
+
 fn list(alloc: Global, pairs: &[(u32, u32)]) -> Result<Pairs, AllocError> {
     Ok(Pairs {
         items: Vec::from_slice(alloc, pairs)?,
@@ -87,7 +90,7 @@ fn names_the_node_that_both_nets_use(rt: HostRuntime) -> Result<(), Fail> {
 
 #[test]
 fn names_a_tree_before_the_overused_node(rt: HostRuntime) -> Result<(), Fail> {
-    let routing = two_lists(rt.alloc(), LEFT, &[(1, 19), (19, 39), (39, 38), (38, 32)])?;
+    let routing = two_lists(rt.alloc(), LEFT, SHORT)?;
     let fault = RouteFault::Tree(1, TreeFault::Dangling);
     expect(&rt, &two_nets(&rt)?, &routing, Some(fault))
 }
@@ -318,27 +321,37 @@ fn names_the_least_net_each_time(rt: HostRuntime) -> Result<(), Fail> {
 }
 
 /// Two lists, again where memory was refused.
-fn two_lists_again(alloc: Global) -> Result<Routing, AllocError> {
-    match two_lists(alloc, LEFT, ABOVE) {
+fn two_lists_again(alloc: Global, second: &[(u32, u32)]) -> Result<Routing, AllocError> {
+    match two_lists(alloc, LEFT, second) {
         Ok(routing) => Ok(routing),
-        Err(_) => two_lists(alloc, LEFT, ABOVE),
+        Err(_) => two_lists(alloc, LEFT, second),
     }
 }
 
 fn check_again(
     rt: &(impl Abort + AllocGlobal + Threads + Sync),
     problem: &Problem,
+    second: &[(u32, u32)],
+    want: RouteFault,
 ) -> Result<(), Fail> {
-    let routing = two_lists_again(rt.alloc())?;
+    let routing = two_lists_again(rt.alloc(), second)?;
     let found = match check_routing(rt, rt.alloc(), problem, &routing) {
         Ok(found) => found,
         Err(_) => check_routing(rt, rt.alloc(), problem, &routing)?,
     };
-    assert!(rt; found == Some(RouteFault::Overused(39, 1)));
+    assert!(rt; found == Some(want));
     Ok(())
 }
 
 #[test]
 fn checks_without_memory(rt: HostRuntime) -> Result<(), Fail> {
-    check_again(&rt, &two_nets_again(&rt)?)
+    let fault = RouteFault::Overused(39, 1);
+    check_again(&rt, &two_nets_again(&rt)?, ABOVE, fault)
+}
+
+/// The second list ends short of its sink, and so is walked.
+#[test]
+fn walks_without_memory(rt: HostRuntime) -> Result<(), Fail> {
+    let fault = RouteFault::Tree(1, TreeFault::Dangling);
+    check_again(&rt, &two_nets_again(&rt)?, SHORT, fault)
 }
