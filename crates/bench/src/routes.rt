@@ -8,6 +8,7 @@ ghost use Rattle.rr_graph.specs.Designs.{suits_design};
 ghost use Rattle.route_file.specs.Design.{IsDesign};
 ghost use Rattle.route_file.specs.Reads.{ReadsBytes};
 ghost use Rattle.bench.specs.Faults.{IsRouteFault, IsWidthFault};
+ghost use Rattle.bench.specs.Routes.{pairs_in, pair_count};
 
 use crate::fault::BenchFault;
 use crate::figure::{print_each, print_once};
@@ -16,7 +17,7 @@ use net_file::Netlist;
 use place_file::Placement;
 use route_check::check_routing;
 use route_file::{parse, write};
-use route_tree::{Routing, fits};
+use route_tree::{Pairs, Routing, fits};
 use rr_graph::{Device, Problem};
 use std::alloc::{AllocError, Global};
 use std::rt::Clock;
@@ -98,13 +99,24 @@ fn read_routing(
     Ok(routing)
 }
 
-/// How many pairs a routing has.
-fn count_pairs(routing: &Routing) -> u64 {
-    let mut count: u64 = 0;
-    for list in routing.lists.iter() {
-        if let Some(pairs) = list {
-            count = count.saturating_add(pairs.items.len() as u64);
-        }
+/// How many pairs a net's list has.
+fn count_list(list: &Option<Pairs>) -> u64
+    ensures { result ≡ pairs_in list.now }
+{
+    match list {
+        None => 0,
+        Some(pairs) => pairs.items.len() as u64,
+    }
+}
+
+/// How many pairs the lists of a routing have.
+#[tactic(auto, using(std::proofs::lemmas::List::Sums::sum_by_more))]
+fn count_pairs(lists: &[Option<Pairs>]) -> u64
+    ensures { result ≡ pair_count lists.now }
+{
+    let mut count = 0u64;
+    for list in lists {
+        count = count.saturating_add(count_list(list));
     }
     count
 }
@@ -132,7 +144,7 @@ fn judge(
     problem: &Problem,
     routing: &Routing,
 ) -> Result<(), BenchFault> {
-    let pairs = count_pairs(routing);
+    let pairs = count_pairs(&routing.lists);
     let start = Instant::now(rt)?;
     let _ = check_routing(rt, rt.alloc(), problem, routing)?;
     let time = start.elapsed(rt)?;
