@@ -21,7 +21,7 @@ abbrev pub MayBeFound : Fabric → Option Found → Type 0
 MayBeFound f (Some n) = IsFound f n
 MayBeFound f None = Unit {0}
 
--- the node to which an edge leads by the pair; none where it is no edge
+-- the node in which the pair ends, where it is an edge; none where it is not
 abbrev pub TellsEdge : Fabric → ℕ × ℕ → Option Found → Type 0
-TellsEdge f pair (Some n) = IsFound f n × (edge_between f pair.0 pair.1 ≡ true)
+TellsEdge f pair (Some n) = (n.id ≡ pair.1) × IsFound f n × (edge_between f pair.0 pair.1 ≡ true)
 TellsEdge f pair None = edge_between f pair.0 pair.1 ≡ false

@@ -1,4 +1,4 @@
-//! The node of a number, and its kind alone, by arithmetic.
+//! The node of a number, and its kind alone, by arithmetic. What makes a node is inlined: through a call it would pass through memory.
 
 ghost use Rattle.std.specs.Prelude.{◌≡◌, ◌+◌, ◌-◌, ◌*◌, ◌≤◌, ◌<◌, true, false, length, slice_get, Some};
 ghost use Rattle.std.specs.Option.{option_map};

@@ -1,4 +1,5 @@
-//! Nodes that were found by their numbers: of pairs that go on from each other each node is found once.
+//! Nodes that were found by their numbers: of pairs that go on from each other each node is found once. What is called once a pair is
+//! inlined, since a node passes through memory at a call, and is waited for there.
 
 ghost use Rattle.std.specs.Prelude.{◌≡◌, not};
 ghost use Rattle.std.specs.List.{list_any};
@@ -59,7 +60,7 @@ impl Device {
             .is_edge(self.counts, from.node, from.last, to.node, to.last)
     }
 
-    /// The node to which an edge leads by the pair, if one does.
+    /// The node in which the pair ends, where it is an edge.
     #[inline(always)]
     #[tactic(auto, unfolding(crate::specs::Edges::edge_between))]
     fn follow(&self, before: Option<Found>, pair: (u32, u32)) -> Option<Found>
