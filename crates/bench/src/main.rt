@@ -1,9 +1,6 @@
 //! `bench`: measures the libraries of the router. Without words it does nothing; a word says what is measured.
 #![tactic(auto)]
 
-ghost use Rattle.std.specs.Prelude.{◌≡◌, ◌≤◌, ◌↔◌, None, false, is_ok, map, string_bytes, true};
-ghost use Rattle.bench.specs.Sizes.{size_of_words};
-
 mod archs;
 mod device;
 mod edges;
@@ -14,6 +11,7 @@ mod reading;
 mod routes;
 mod size;
 mod spread;
+mod trees;
 
 use archs::{LONG_ARCH, SMALL_ARCH};
 use device::measure_device;
@@ -36,9 +34,7 @@ fn main(rt: HostRuntime) -> ExitCode {
 }
 
 /// Measures what the command line names, and answers the exit status.
-fn run(rt: &(impl Runtime + Threads + Sync + AllocGlobal)) -> u8
-    ensures { result ≤ 2 }
-{
+fn run(rt: &(impl Runtime + Threads + Sync + AllocGlobal)) -> u8 {
     let words = match words(rt) {
         Ok(words) => words,
         Err(error) => return failed(rt, BenchFault::Io(error)),
@@ -61,9 +57,7 @@ fn words(rt: &(impl Runtime + AllocGlobal)) -> io::Result<Vec<String>> {
 }
 
 /// Says what the words may be.
-fn usage(rt: &impl Runtime) -> u8
-    ensures { result ≡ BAD_WORDS }
-{
+fn usage(rt: &impl Runtime) -> u8 {
     let _ = eprintln!(rt;
         "usage: bench [device|long [NX NY W]], bench read ARCH NET [PLACE], or bench route ARCH NET PLACE ROUTE W"
     );
@@ -71,18 +65,13 @@ fn usage(rt: &impl Runtime) -> u8
 }
 
 /// Says why a measurement ended early.
-fn failed(rt: &impl Runtime, fault: BenchFault) -> u8
-    ensures { result ≡ ENDED_EARLY }
-{
+fn failed(rt: &impl Runtime, fault: BenchFault) -> u8 {
     let _ = eprintln!(rt; "error: {fault}");
     ENDED_EARLY
 }
 
 /// The status of a measurement. Where it ended early, it is said why.
-fn status(rt: &impl Runtime, measured: Result<(), BenchFault>) -> u8
-    ensures measured { is_ok measured ≡ true → result ≡ 0 }
-    ensures ended_early { is_ok measured ≡ false → result ≡ ENDED_EARLY }
-{
+fn status(rt: &impl Runtime, measured: Result<(), BenchFault>) -> u8 {
     match measured {
         Ok(()) => 0,
         Err(fault) => failed(rt, fault),
@@ -90,20 +79,15 @@ fn status(rt: &impl Runtime, measured: Result<(), BenchFault>) -> u8
 }
 
 /// Measures the device of an architecture's text and of the size that is given.
-fn run_device(rt: &(impl Runtime + AllocGlobal), text: &str, given: &[String]) -> u8
-    ensures status { result ≤ 2 }
-    ensures bad_words { (result ≡ BAD_WORDS) ↔ (size_of_words (map string_bytes given.now) ≡ None) }
-{
+fn run_device(rt: &(impl Runtime + AllocGlobal), text: &str, given: &[String]) -> u8 {
     let Some(size) = size_of_words(given) else {
         return usage(rt);
     };
-    status(rt, measure_device(rt, text, size.nx, size.ny, size.width))
+    status(rt, measure_device(rt, text, size))
 }
 
 /// Measures the reading of the files that are given.
-fn run_reading(rt: &(impl Runtime + AllocGlobal), given: &[String]) -> u8
-    ensures { result ≤ 2 }
-{
+fn run_reading(rt: &(impl Runtime + AllocGlobal), given: &[String]) -> u8 {
     match given {
         [arch, net] => {
             let measured = measure_reading(rt, arch.as_str(), net.as_str(), None);
@@ -134,9 +118,7 @@ fn routed_design(given: &[String]) -> Option<(RoutedDesign<'_>, u32)> {
 }
 
 /// Measures what is done with the routing of the files that are given.
-fn run_routing(rt: &(impl Runtime + Threads + Sync + AllocGlobal), given: &[String]) -> u8
-    ensures { result ≤ 2 }
-{
+fn run_routing(rt: &(impl Runtime + Threads + Sync + AllocGlobal), given: &[String]) -> u8 {
     match routed_design(given) {
         Some((design, width)) => status(rt, measure_routed(rt, design, width)),
         None => usage(rt),

@@ -1,12 +1,5 @@
 //! Measures the reading of a placed design's three files.
 
-ghost use Rattle.std.specs.Prelude.{◌≡◌, ℕ, List, IfOk, IfErr, Ok};
-ghost use Rattle.arch_file.specs.Reads as arch;
-ghost use Rattle.net_file.specs.Reads as net;
-ghost use Rattle.place_file.specs.Placement.{IsPlaced};
-ghost use Rattle.place_file.specs.Reading.{placement_of};
-ghost use Rattle.bench.specs.Faults.{IsArchFault, IsNetFault, IsPlaceFault};
-
 use crate::fault::BenchFault;
 use crate::figure::print_once;
 use crate::routes::measure_routing;
@@ -27,10 +20,7 @@ fn bytes_of(rt: &(impl Runtime + AllocGlobal), name: &str) -> Result<Vec<u8>, Be
 }
 
 /// Reads an architecture, and tells how long that took.
-fn read_arch(rt: &(impl Clock + Eprint + AllocGlobal), bytes: &[u8]) -> Result<Arch, BenchFault>
-    ensures architecture { IfOk result (λ a. arch.ReadsBytes bytes.now a) }
-    ensures refused { IfErr result (IsArchFault bytes.now) }
-{
+fn read_arch(rt: &(impl Clock + Eprint + AllocGlobal), bytes: &[u8]) -> Result<Arch, BenchFault> {
     let start = Instant::now(rt)?;
     let arch = arch_file::parse(rt.alloc(), bytes)?;
     let time = start.elapsed(rt)?;
@@ -43,10 +33,7 @@ fn read_netlist<'a>(
     rt: &(impl Clock + Eprint + AllocGlobal),
     bytes: &'a [u8],
     arch: &Arch,
-) -> Result<Netlist<'a>, BenchFault>
-    ensures netlist { IfOk result (λ n. net.ReadsBytes arch.now.pins bytes.now n) }
-    ensures refused { IfErr result (IsNetFault arch.now.pins bytes.now) }
-{
+) -> Result<Netlist<'a>, BenchFault> {
     let start = Instant::now(rt)?;
     let netlist = net_file::parse(rt.alloc(), bytes, arch)?;
     let time = start.elapsed(rt)?;
@@ -60,11 +47,7 @@ fn read_placement(
     bytes: &[u8],
     arch: &Arch,
     netlist: &Netlist,
-) -> Result<Placement, BenchFault>
-    ensures placement { IfOk result (λ p. placement_of arch.now.io_rat netlist.now.blocks bytes.now ≡ Ok p) }
-    ensures placed { IfOk result (IsPlaced arch.now.io_rat netlist.now.blocks) }
-    ensures refused { IfErr result (IsPlaceFault arch.now.io_rat netlist.now.blocks bytes.now) }
-{
+) -> Result<Placement, BenchFault> {
     let start = Instant::now(rt)?;
     let placement = place_file::parse(rt.alloc(), bytes, arch, netlist)?;
     let time = start.elapsed(rt)?;
@@ -102,9 +85,7 @@ fn measure_placed(
     netlist: &Netlist,
     given: RoutedDesign<'_>,
     width: u32,
-) -> Result<(), BenchFault>
-    requires { (bytes : List ℕ) × net.ReadsBytes arch.now.pins bytes netlist.now }
-{
+) -> Result<(), BenchFault> {
     let placement_bytes = bytes_of(rt, given.placement)?;
     let routing_bytes = bytes_of(rt, given.routing)?;
     let placement = read_placement(rt, &placement_bytes, arch, netlist)?;

@@ -1,12 +1,9 @@
 //! The size of a device, by the words of the command line.
 
-ghost use Rattle.std.specs.Prelude.{◌≡◌, ◌≤◌, IfSome, map, string_bytes};
-ghost use Rattle.bench.specs.Sizes.{number_within, size_of, size_of_words};
-
 use vpr_text::number;
 
 /// The greatest array size on each side, in logic blocks.
-const MOST_BLOCKS: u32 = 100;
+const MOST_ROWS: u32 = 100;
 
 /// The greatest channel width, in tracks.
 const MOST_TRACKS: u32 = 256;
@@ -19,11 +16,17 @@ pub struct Size {
     pub width: u32,
 }
 
+impl Size {
+    /// The greatest size of a device.
+    const GREATEST: Size = Size {
+        nx: MOST_ROWS,
+        ny: MOST_ROWS,
+        width: MOST_TRACKS,
+    };
+}
+
 /// The number of a word, None where it isn't one in 1 to `most`.
-fn number_within(word: &str, most: u32) -> Option<u32>
-    ensures number { result ≡ number_within most word.now }
-    ensures limits { IfSome result (λ n. (1 ≤ n) × (n ≤ most)) }
-{
+fn number_within(word: &str, most: u32) -> Option<u32> {
     let number = number(word.as_bytes())?;
     if number >= 1 && number <= most {
         Some(number)
@@ -33,40 +36,23 @@ fn number_within(word: &str, most: u32) -> Option<u32>
 }
 
 /// The tracks of a word, None where no channel has so many.
-pub fn tracks(word: &str) -> Option<u32>
-    ensures number { result ≡ number_within 256 word.now }
-    ensures limits { IfSome result (λ n. (1 ≤ n) × (n ≤ 256)) }
-{
+pub fn tracks(word: &str) -> Option<u32> {
     number_within(word, MOST_TRACKS)
 }
 
 /// The size of three words, None where one is out of its range.
-fn size_of(nx: &str, ny: &str, width: &str) -> Option<Size>
-    ensures size { result ≡ size_of nx.now ny.now width.now }
-    ensures columns { IfSome result (λ s. (1 ≤ s.nx) × (s.nx ≤ 100)) }
-    ensures rows { IfSome result (λ s. (1 ≤ s.ny) × (s.ny ≤ 100)) }
-    ensures tracks { IfSome result (λ s. (1 ≤ s.width) × (s.width ≤ 256)) }
-{
+fn size_of(nx: &str, ny: &str, width: &str) -> Option<Size> {
     Some(Size {
-        nx: number_within(nx, MOST_BLOCKS)?,
-        ny: number_within(ny, MOST_BLOCKS)?,
+        nx: number_within(nx, MOST_ROWS)?,
+        ny: number_within(ny, MOST_ROWS)?,
         width: tracks(width)?,
     })
 }
 
 /// The size that is given, the greatest where none is. None for words that give no size of a device.
-pub fn size_of_words(words: &[String]) -> Option<Size>
-    ensures size { result ≡ size_of_words (map string_bytes words.now) }
-    ensures columns { IfSome result (λ s. (1 ≤ s.nx) × (s.nx ≤ 100)) }
-    ensures rows { IfSome result (λ s. (1 ≤ s.ny) × (s.ny ≤ 100)) }
-    ensures tracks { IfSome result (λ s. (1 ≤ s.width) × (s.width ≤ 256)) }
-{
+pub fn size_of_words(words: &[String]) -> Option<Size> {
     match words {
-        [] => Some(Size {
-            nx: MOST_BLOCKS,
-            ny: MOST_BLOCKS,
-            width: MOST_TRACKS,
-        }),
+        [] => Some(Size::GREATEST),
         [nx, ny, width] => size_of(nx.as_str(), ny.as_str(), width.as_str()),
         _ => None,
     }
