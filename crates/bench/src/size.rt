@@ -3,7 +3,7 @@
 use vpr_text::number;
 
 /// The greatest array size on each side, in logic blocks.
-const MOST_ROWS: u32 = 100;
+const GREATEST_SIDE: u32 = 100;
 
 /// The greatest channel width, in tracks.
 const MOST_TRACKS: u32 = 256;
@@ -19,8 +19,8 @@ pub struct Size {
 impl Size {
     /// The greatest size of a device.
     const GREATEST: Size = Size {
-        nx: MOST_ROWS,
-        ny: MOST_ROWS,
+        nx: GREATEST_SIDE,
+        ny: GREATEST_SIDE,
         width: MOST_TRACKS,
     };
 }
@@ -43,8 +43,8 @@ pub fn tracks(word: &str) -> Option<u32> {
 /// The size of three words, None where one is out of its range.
 fn size_of(nx: &str, ny: &str, width: &str) -> Option<Size> {
     Some(Size {
-        nx: number_within(nx, MOST_ROWS)?,
-        ny: number_within(ny, MOST_ROWS)?,
+        nx: number_within(nx, GREATEST_SIDE)?,
+        ny: number_within(ny, GREATEST_SIDE)?,
         width: tracks(width)?,
     })
 }

@@ -6,7 +6,7 @@ use clap::{Arg, ArgAction, ArgMatches, Command, value_parser};
 use std::alloc::{AllocError, Global};
 
 /// The greatest array size on each side, in logic blocks.
-const MOST_BLOCKS: u32 = 100;
+const GREATEST_SIDE: u32 = 100;
 
 /// The greatest channel width, in tracks.
 const MOST_TRACKS: u32 = 256;
@@ -54,8 +54,8 @@ fn graph_command<'a>(alloc: Global) -> Result<Command<'a>, AllocError> {
             "ARCH",
             "The architecture file; `stdin` is standard input",
         ))?
-        .arg(number(alloc, "NX", MOST_BLOCKS, "Logic blocks in a row"))?
-        .arg(number(alloc, "NY", MOST_BLOCKS, "Logic blocks in a column"))?
+        .arg(number(alloc, "NX", GREATEST_SIDE, "Logic blocks in a row"))?
+        .arg(number(alloc, "NY", GREATEST_SIDE, "Logic blocks in a column"))?
         .arg(number(alloc, "W", MOST_TRACKS, "Tracks in a channel"))?;
     command.arg(global_flag(alloc))
 }
@@ -125,8 +125,8 @@ pub fn graph_words<'a>(matches: &ArgMatches<'a>) -> Option<GraphWords<'a>>
 {
     Some(GraphWords {
         arch: matches.get_str("ARCH")?,
-        nx: number_within(matches, "NX", MOST_BLOCKS)?,
-        ny: number_within(matches, "NY", MOST_BLOCKS)?,
+        nx: number_within(matches, "NX", GREATEST_SIDE)?,
+        ny: number_within(matches, "NY", GREATEST_SIDE)?,
         width: number_within(matches, "W", MOST_TRACKS)?,
         global: matches.get_flag("global"),
     })
