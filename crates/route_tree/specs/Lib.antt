@@ -2,6 +2,8 @@ pub mod Paths
 pub mod Legality
 pub mod Faults
 pub mod Rows
+pub mod Same
+pub mod SameLaws
 pub mod Usage
 pub mod Fits
 pub mod Ladder
