@@ -5,6 +5,7 @@ pub mod Rows
 pub mod Same
 pub mod SameLaws
 pub mod Usage
+pub mod TreeLists
 pub mod Fits
 pub mod Ladder
 pub mod Marked
