@@ -4,6 +4,7 @@ pub mod Chains
 pub mod RowTests
 pub mod DeadEnds
 pub mod Bounds
+pub mod Uses
 pub mod Grown
 pub mod Members
 pub mod Ways
