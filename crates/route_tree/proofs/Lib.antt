@@ -5,7 +5,7 @@ pub mod RowTests
 pub mod DeadEnds
 pub mod Bounds
 pub mod Uses
-pub mod Grown
+pub mod Hanging
 pub mod Members
 pub mod Ways
 pub mod Joined
