@@ -1,5 +1,5 @@
 -- Counting the nodes of nets.
-use Rattle.std.proofs.Common.{◌≡◌, ℕ, ◌+◌, ◌<◌, ◌≤◌, ◌==◌, zero, suc, Bool, true, false, cond, if◌then◌else◌, List, []}
+use Rattle.std.proofs.Common.{◌≡◌, ℕ, ◌+◌, ◌<◌, ◌≤◌, ◌==◌, zero, suc, Bool, true, false, cond, List, []}
 use Rattle.std.proofs.Common.{◌∷◌, ◌++◌, length, get_or, set, Option, Some, None}
 use Rattle.std.proofs.Common.{inl, inr, refl, sym, ap, ap₂, ◌∙◌, subst, arith, add-one, add_assoc, drop}
 use Rattle.std.specs.Prelude.{take, count_by}
@@ -14,8 +14,9 @@ use Rattle.rr_graph.specs.Nodes.{nodes_of, node_count_of}
 use Rattle.rr_graph.proofs.Capacities.{some_capacity}
 use Rattle.rr_graph.specs.Problems.{Net, RoutingProblem, net_in, IsProblem}
 use Rattle.route_tree.specs.Paths.{Pair, ends_of}
-use Rattle.route_tree.specs.Usage.{covers, covers_by, use_of, room_of}
+use Rattle.route_tree.specs.Usage.{covers, use_by, use_of, room_of}
 use Rattle.route_tree.specs.Faults.{IsRoute}
+use Rattle.route_tree.proofs.Uses.{few_uses}
 use Rattle.route_tree.proofs.LegalLists.{counts_covered, covers_nodes, covers_source, covers_end}
 use Rattle.route_tree.proofs.Members.{end_at}
 use Rattle.route_check.specs.Routed.{Lists, list_in, IsNetRouted}
@@ -100,27 +101,15 @@ module _ (source : ℕ) (pairs : List Pair) where
 
 -- ---- one net more
 use_next : (nets : List Net) (lists : Lists) (i a : ℕ) → i < length nets → i < length lists →
-    use_of (take (i + 1) nets) (take (i + 1) lists) a ≡ use_of (take i nets) (take i lists) a + (if covers_by (net_in nets i) (list_in lists i) a then 1 else 0)
+    use_of (take (i + 1) nets) (take (i + 1) lists) a ≡ use_of (take i nets) (take i lists) a + use_by (net_in nets i) (list_in lists i) a
 use_next [] lists i a l m = absurd (omega arith)
 use_next (n ∷ ns) [] i a l m = absurd (omega arith)
 use_next (n ∷ ns) (x ∷ xs) zero a l m = omega arith
 use_next (n ∷ ns) (x ∷ xs) (suc i) a l m =
     let next : suc i + 1 ≡ suc (i + 1) = omega arith in
     ap (λ k. use_of (take k (n ∷ ns)) (take k (x ∷ xs)) a) next
-    ∙ ap (λ k. (if covers_by n x a then 1 else 0) + k) (use_next ns xs i a (omega arith) (omega arith))
-    ∙ sym (add_assoc (if covers_by n x a then 1 else 0) (use_of (take i ns) (take i xs) a) (if covers_by (net_in ns i) (list_in xs i) a then 1 else 0))
-
-few_uses : (nets : List Net) (lists : Lists) (a : ℕ) → use_of nets lists a ≤ length nets
-few_uses [] lists a = omega arith
-few_uses (n ∷ ns) [] a = omega arith
-few_uses (n ∷ ns) (x ∷ xs) a =
-    let more = few_uses ns xs a in
-    let one = at_most (covers_by n x a) in
-    omega (arith, more, one)
-  where
-    at_most : (b : Bool) → (if b then 1 else 0) ≤ 1
-    at_most true = omega arith
-    at_most false = omega arith
+    ∙ ap (λ k. use_by n x a + k) (use_next ns xs i a (omega arith) (omega arith))
+    ∙ sym (add_assoc (use_by n x a) (use_of (take i ns) (take i xs) a) (use_by (net_in ns i) (list_in xs i) a))
 
 -- a list that was read is that of its net
 pub list_read : (lists : Lists) (i : ℕ) (x : Option (List Pair)) (pairs : List Pair) → i < length lists → x ≡ get_or lists i x → x ≡ Some pairs →
@@ -168,7 +157,7 @@ module _ (p : RoutingProblem) (keeps : IsProblem p) (lists : Lists) (i : ℕ) (t
       each = λ a.
           counted.each a
           ∙ ap₂ (λ x y. x + y) (uses.each a) (counts_covered p.device n pairs route.legal a)
-          ∙ sym (use_next p.nets lists i a there l ∙ ap (λ x. use_of (take i p.nets) (take i lists) a + (if covers_by n x a then 1 else 0)) e);
+          ∙ sym (use_next p.nets lists i a there l ∙ ap (λ x. use_of (take i p.nets) (take i lists) a + use_by n x a) e);
     }
 
 -- each node has room for one net

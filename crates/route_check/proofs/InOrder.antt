@@ -9,7 +9,7 @@ use Rattle.route_tree.specs.Legality.{is_among, IsJoined, may_begin, is_listed_b
 use Rattle.route_tree.specs.Faults.{has_foreign_sink}
 use Rattle.route_tree.specs.Ladder.{has_dead_end}
 use Rattle.route_tree.proofs.Joined.{all_joined}
-use Rattle.route_tree.proofs.Listings.{grown_listed}
+use Rattle.route_tree.proofs.Listings.{listed_hang}
 use Rattle.route_check.specs.Ends.{end_in}
 use Rattle.route_check.specs.Judged.{net_of}
 use Rattle.route_check.specs.Listed.{ends_in_sink}
@@ -54,5 +54,5 @@ pub joined_in_order : (f : Fabric) (source : ℕ) (sinks : List ℕ) (pairs : Li
     has_foreign_sink f sinks pairs ≡ false → 1 ≤ length pairs → ends_in_sink f pairs ≡ true → All (IsJoined (net_of source sinks) pairs) pairs
 unfolding is_listed
 joined_in_order f source sinks pairs listed own some sink =
-    all_joined (net_of source sinks) pairs (grown_listed f (net_of source sinks) pairs listed)
+    all_joined (net_of source sinks) pairs (listed_hang f (net_of source sinks) pairs listed)
     (no_dead_end f sinks source [] pairs (length pairs - 1) (omega (arith, some)) listed own sink)

@@ -9,3 +9,4 @@ pub mod Counting
 pub mod RoutingFaults
 pub mod Answering
 pub mod InOrder
+pub mod Fitting

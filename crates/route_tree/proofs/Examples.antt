@@ -5,7 +5,8 @@ use Rattle.route_tree.specs.Paths.{Pair}
 use Rattle.route_tree.specs.Faults.{begins_elsewhere, reaches_twice, leaves_twice, misses_sink}
 use Rattle.route_tree.specs.Ladder.{has_dead_end}
 use Rattle.route_tree.specs.Rows.{pairs_of, chain, pairs_along}
-use Rattle.route_tree.specs.Usage.{covers, use_of}
+use Rattle.route_tree.specs.TreeLists.{lists_of_trees}
+use Rattle.route_tree.specs.Usage.{covers, use_of, use_by_others}
 
 abbrev pub one : Net
 one = record { number = 0; source = 0; sinks = 8 ∷ 9 ∷ [] }
@@ -45,6 +46,21 @@ repeated_counts_once = refl
 pub unrouted_uses_nothing : use_of (one ∷ two ∷ []) (None ∷ Some other ∷ []) 0 ≡ 0
 unfolding covers
 unrouted_uses_nothing = refl
+
+-- of the two uses of node 4 the first net sees the other's, and of its own sink none
+pub others_use_the_joint : use_by_others (one ∷ two ∷ []) (Some both ∷ Some other ∷ []) 0 4 ≡ 1
+unfolding covers
+others_use_the_joint = refl
+
+pub others_leave_the_sink : use_by_others (one ∷ two ∷ []) (Some both ∷ Some other ∷ []) 0 8 ≡ 0
+unfolding covers
+others_leave_the_sink = refl
+
+-- a tree of two nodes, and a net without a tree
+pub trees_and_lists :
+    lists_of_trees (Some (record { node = 0; parent = 0 } ∷ chain 1 0 (4 ∷ [])) ∷ None ∷ []) ≡ Some ((0, 4) ∷ []) ∷ None ∷ []
+unfolding pairs_of
+trees_and_lists = refl
 
 pub begins_at_the_source : begins_elsewhere 0 both ≡ false
 begins_at_the_source = refl

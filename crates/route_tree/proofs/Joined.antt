@@ -11,7 +11,7 @@ use Rattle.route_tree.specs.Paths.{Pair, Path, ends_of}
 use Rattle.route_tree.specs.Paths.Path.{here, along}
 use Rattle.route_tree.specs.Legality.{is_among, LeadsToSink, IsJoined}
 use Rattle.route_tree.specs.Faults.{reaches_twice}
-use Rattle.route_tree.specs.Ladder.{IsGrown, has_dead_end}
+use Rattle.route_tree.specs.Ladder.{HangOnEarlier, has_dead_end}
 use Rattle.route_tree.proofs.Members.{among_contains, contains_among, end_at, once_each, some_place}
 use Rattle.route_tree.proofs.Ways.{begins, reached}
 
@@ -43,10 +43,10 @@ module _ (n : Net) (pairs : List Pair) where
       behind ps (All-tail (Contains pairs) p ps kept)
       (or_parts (not (is_among n.sinks p.1 || list_any (λ q. q.0 == p.1) ps)) (has_dead_end n.sinks ps) none).1 k (omega arith)
 
-  pub all_joined : IsGrown n.source pairs → has_dead_end n.sinks pairs ≡ false → All (IsJoined n pairs) pairs
-  all_joined grown none =
+  pub all_joined : HangOnEarlier n.source pairs → has_dead_end n.sinks pairs ≡ false → All (IsJoined n pairs) pairs
+  all_joined hang none =
       All-from_get_or (IsJoined n pairs) pairs (0, 0)
-      (λ k l. record { from_source = reached n.source pairs grown k l; to_sink = behind pairs (All-contains_itself pairs) none k l })
+      (λ k l. record { from_source = reached n.source pairs hang k l; to_sink = behind pairs (All-contains_itself pairs) none k l })
 
 -- ---- with a dead end
 -- pair k ends in no sink, and no later pair begins there
@@ -79,13 +79,13 @@ stuck sinks (p ∷ ps) e = elim (or_cases (not (is_among sinks p.1 || list_any (
         both_ways (list_any (λ q. q.0 == a) ps) none
         (list_any_at (λ q. q.0 == a) ps j (0, 0) (omega arith) (eq-eqb (get_or ps j (0, 0)).0 a same))
 
-module _ (n : Net) (pairs : List Pair) (grown : IsGrown n.source pairs) (once : reaches_twice n.source pairs ≡ false) where
+module _ (n : Net) (pairs : List Pair) (hang : HangOnEarlier n.source pairs) (once : reaches_twice n.source pairs ≡ false) where
   -- where an earlier pair begins, or this one: not where pair k ends
   no_earlier : (k j : ℕ) → k < length pairs → j ≤ k → (get_or pairs j (0, 0)).0 ≢ (get_or pairs k (0, 0)).1
   no_earlier k j l le = λ same.
       let nodes = n.source ∷ ends_of pairs in
       let high : suc k < length nodes = omega (arith, length-map pairs (λ p. p.1)) in
-      elim (begins n.source pairs grown j (omega arith)) [
+      elim (begins n.source pairs hang j (omega arith)) [
         | inl e ↦ once_each nodes zero (suc k) once (omega arith) high (e ∙ same ∙ sym (end_at pairs k l))
         | inr b ↦ (
             let early : b.place < k = let h = b.before in omega arith in

@@ -9,13 +9,13 @@ use Rattle.route_tree.specs.declared.fault.TreeFault.TheVariants.{NoNet, WrongSo
 use Rattle.route_tree.specs.Paths.{Pair}
 use Rattle.route_tree.specs.Legality.{IsJoined, is_listed}
 use Rattle.route_tree.specs.Faults.{begins_elsewhere, reaches_twice, rank_of, HasFault, IsFirstFault, IsRoute}
-use Rattle.route_tree.specs.Ladder.{IsGrown, has_dead_end, breaks_off, fault_of}
+use Rattle.route_tree.specs.Ladder.{HangOnEarlier, has_dead_end, breaks_off, fault_of}
 use Rattle.route_tree.proofs.Clauses.{all_edges, no_lack, one_leaves, not_twice, begins_there, exact_sinks, none_foreign, none_missed}
 use Rattle.route_tree.proofs.Joined.{all_joined, not_all_joined}
 use Rattle.route_tree.proofs.FirstTests.{IsFirstTest, all_faults, test_of, by_tests, first_found, none_found, none_from, same_rank}
 use Rattle.route_tree.proofs.Listings.{listed}
 
-module _ (p : RoutingProblem) (keeps : IsProblem p) (i : ℕ) (pairs : List Pair) (grown : begins_elsewhere (net_in p.nets i).source pairs ≡ false → IsGrown (net_in p.nets i).source pairs) where
+module _ (p : RoutingProblem) (keeps : IsProblem p) (i : ℕ) (pairs : List Pair) (hang : begins_elsewhere (net_in p.nets i).source pairs ≡ false → HangOnEarlier (net_in p.nets i).source pairs) where
   abbrev n : Net
   n = net_in p.nets i
 
@@ -30,13 +30,13 @@ module _ (p : RoutingProblem) (keeps : IsProblem p) (i : ℕ) (pairs : List Pair
   no_dead_end : begins_elsewhere n.source pairs ≡ false → reaches_twice n.source pairs ≡ false → All (IsJoined n pairs) pairs →
       has_dead_end n.sinks pairs ≡ false
   no_dead_end first once joined =
-      false_from_ne_true (has_dead_end n.sinks pairs) (λ e. not_all_joined n pairs (grown first) once e joined)
+      false_from_ne_true (has_dead_end n.sinks pairs) (λ e. not_all_joined n pairs (hang first) once e joined)
 
   dead_end : begins_elsewhere n.source pairs ≡ false → (All (IsJoined n pairs) pairs → ⊥) → has_dead_end n.sinks pairs ≡ true
-  dead_end first apart = true_from_ne_false (has_dead_end n.sinks pairs) (λ e. apart (all_joined n pairs (grown first) e))
+  dead_end first apart = true_from_ne_false (has_dead_end n.sinks pairs) (λ e. apart (all_joined n pairs (hang first) e))
 
   order : begins_elsewhere n.source pairs ≡ false → is_listed p.device n pairs ≡ not (breaks_off p.device pairs)
-  order first = listed p.device n pairs first (grown first)
+  order first = listed p.device n pairs first (hang first)
 
   passes : (fault : TreeFault) → NoneBefore fault → HasFault p i pairs fault → test fault ≡ true
   passes NoNet none h = le-leb (length p.nets) i h
@@ -56,7 +56,7 @@ module _ (p : RoutingProblem) (keeps : IsProblem p) (i : ℕ) (pairs : List Pair
   has NodeTwice none e = e
   has SecondOutput none e = e
   has ForeignSink none e = e
-  has Dangling none e = not_all_joined n pairs (grown (none WrongSource (omega arith))) (none NodeTwice (omega arith)) e
+  has Dangling none e = not_all_joined n pairs (hang (none WrongSource (omega arith))) (none NodeTwice (omega arith)) e
   has MissingSink none e = e
   has Order none e = order (none WrongSource (omega arith)) ∙ not_from_true (breaks_off p.device pairs) e
 
@@ -73,7 +73,7 @@ module _ (p : RoutingProblem) (keeps : IsProblem p) (i : ℕ) (pairs : List Pair
           once = fails NodeTwice;
           one_output = one_leaves n.source pairs first (fails SecondOutput);
           sinks = exact_sinks p.device n.sinks pairs net.sinks (fails ForeignSink) (fails MissingSink);
-          joined = all_joined n pairs (grown first) (fails Dangling);
+          joined = all_joined n pairs (hang first) (fails Dangling);
         };
         listed = order first ∙ not_from_false (breaks_off p.device pairs) (fails Order);
       }

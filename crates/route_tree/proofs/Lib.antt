@@ -4,7 +4,8 @@ pub mod Chains
 pub mod RowTests
 pub mod DeadEnds
 pub mod Bounds
-pub mod Grown
+pub mod Uses
+pub mod Hanging
 pub mod Members
 pub mod Ways
 pub mod Joined

@@ -1,4 +1,4 @@
--- Grown pairs are listed exactly where no pair breaks off.
+-- Pairs that hang on earlier ones are listed exactly where none breaks off.
 use Rattle.std.proofs.Common.{◌≡◌, ℕ, ◌+◌, ◌-◌, ◌<◌, ◌==◌, zero, suc, Bool, true, false, not, ◌&&◌, ◌||◌, List, [], ◌∷◌, length, get_or, inl, inr, refl, sym, ap, ap₂, ◌∙◌, arith, add-one}
 use Rattle.std.specs.Prelude.{take}
 use Rattle.std.specs.List.{list_any, range_with_len}
@@ -9,7 +9,7 @@ use Rattle.rr_graph.specs.Problems.{Net, is_sink}
 use Rattle.route_tree.specs.Paths.{Pair, ends_of}
 use Rattle.route_tree.specs.Legality.{is_among, may_begin, is_listed_behind, is_listed}
 use Rattle.route_tree.specs.Faults.{begins_elsewhere}
-use Rattle.route_tree.specs.Ladder.{IsGrown, breaks_at, breaks_off}
+use Rattle.route_tree.specs.Ladder.{HangOnEarlier, breaks_at, breaks_off}
 
 any_later : (test shifted : ℕ → Bool) → ((k : ℕ) → test (k + 1) ≡ shifted k) → (a m : ℕ) → list_any test (range_with_len (a + 1) m) ≡ list_any shifted (range_with_len a m)
 any_later test shifted same a zero = refl
@@ -59,36 +59,36 @@ module _ (f : Fabric) where
   begins_behind source earlier ps a = source == a || (is_among earlier a || is_among (ends_of ps) a)
 
   -- behind pairs with these ends each pair begins at the source or at an end
-  abbrev GrowsBehind : (source : ℕ) (earlier : List ℕ) → List Pair → Type 0
-  GrowsBehind source earlier ps =
+  abbrev HangBehind : (source : ℕ) (earlier : List ℕ) → List Pair → Type 0
+  HangBehind source earlier ps =
       (k : ℕ) → k < length ps → begins_behind source earlier (take k ps) (get_or ps k (0, 0)).0 ≡ true
 
-  grows_on : (source : ℕ) (earlier : List ℕ) (p : Pair) (ps : List Pair) →
-      GrowsBehind source earlier (p ∷ ps) → GrowsBehind source (p.1 ∷ earlier) ps
-  grows_on source earlier p ps grows k l =
+  hang_on : (source : ℕ) (earlier : List ℕ) (p : Pair) (ps : List Pair) →
+      HangBehind source earlier (p ∷ ps) → HangBehind source (p.1 ∷ earlier) ps
+  hang_on source earlier p ps hang k l =
       let a = (get_or ps k (0, 0)).0 in
-      sym (swapped (source == a) (p.1 == a) (is_among earlier a) (is_among (ends_of (take k ps)) a)) ∙ grows (suc k) (omega arith)
+      sym (swapped (source == a) (p.1 == a) (is_among earlier a) (is_among (ends_of (take k ps)) a)) ∙ hang (suc k) (omega arith)
 
-  listed_behind : (source e : ℕ) (earlier : List ℕ) (ps : List Pair) → GrowsBehind source (e ∷ earlier) ps →
+  listed_behind : (source e : ℕ) (earlier : List ℕ) (ps : List Pair) → HangBehind source (e ∷ earlier) ps →
       is_listed_behind f source (e ∷ earlier) ps ≡ not (breaks_behind e ps)
-  listed_behind source e earlier [] grows = refl
-  listed_behind source e earlier (p ∷ ps) grows =
+  listed_behind source e earlier [] hang = refl
+  listed_behind source e earlier (p ∷ ps) hang =
       ap₂ (λ u v. (e == p.0 || (is_sink f e && u)) && v)
-      (allowed (source == p.0) (is_among (e ∷ earlier) p.0) (grows 0 (omega arith)))
-      (listed_behind source p.1 (e ∷ earlier) ps (grows_on source (e ∷ earlier) p ps grows))
+      (allowed (source == p.0) (is_among (e ∷ earlier) p.0) (hang 0 (omega arith)))
+      (listed_behind source p.1 (e ∷ earlier) ps (hang_on source (e ∷ earlier) p ps hang))
       ∙ joint (e == p.0) (is_sink f e) (breaks_behind p.1 ps)
       ∙ ap (λ b. not (not (b || is_sink f e) || breaks_behind p.1 ps)) (same_test e p.0)
 
-  pub listed : (n : Net) (pairs : List Pair) → begins_elsewhere n.source pairs ≡ false → IsGrown n.source pairs →
+  pub listed : (n : Net) (pairs : List Pair) → begins_elsewhere n.source pairs ≡ false → HangOnEarlier n.source pairs →
       is_listed f n pairs ≡ not (breaks_off f pairs)
   unfolding is_listed
-  listed n [] first grown = refl
-  listed n (p ∷ ps) first grown =
+  listed n [] first hang = refl
+  listed n (p ∷ ps) first hang =
       let all : suc (length ps) - 1 ≡ length ps = omega arith in
-      ap₂ (λ u v. u && v) (not-false (p.0 == n.source) first) (listed_behind n.source p.1 [] ps (grows_on n.source [] p ps grown))
+      ap₂ (λ u v. u && v) (not-false (p.0 == n.source) first) (listed_behind n.source p.1 [] ps (hang_on n.source [] p ps hang))
       ∙ ap not (sym (ap (λ m. list_any (breaks_at f (p ∷ ps)) (range_with_len 0 m)) all ∙ breaks_first p ps))
 
-  -- ---- listed pairs grow
+  -- ---- listed pairs hang on earlier ones
   may_begin_behind : (source : ℕ) (earlier : List ℕ) (a : ℕ) → may_begin f source earlier a ≡ true → begins_behind source earlier [] a ≡ true
   may_begin_behind source [] a h = or_left (source == a) false (same_test source a ∙ h)
   may_begin_behind source (e ∷ es) a h = elim (or_cases (e == a) (is_sink f e && (source == a || is_among (e ∷ es) a)) h) [
@@ -96,16 +96,16 @@ module _ (f : Fabric) where
     | inr behind ↦ widened (source == a) (is_among (e ∷ es) a) (and_parts (is_sink f e) (source == a || is_among (e ∷ es) a) behind).1
   ]
 
-  grows_listed : (source : ℕ) (earlier : List ℕ) (ps : List Pair) → is_listed_behind f source earlier ps ≡ true → GrowsBehind source earlier ps
-  grows_listed source earlier [] h k l = absurd (omega arith)
-  grows_listed source earlier (p ∷ ps) h zero l =
+  listed_hang_behind : (source : ℕ) (earlier : List ℕ) (ps : List Pair) → is_listed_behind f source earlier ps ≡ true → HangBehind source earlier ps
+  listed_hang_behind source earlier [] h k l = absurd (omega arith)
+  listed_hang_behind source earlier (p ∷ ps) h zero l =
       may_begin_behind source earlier p.0 (and_parts (may_begin f source earlier p.0) (is_listed_behind f source (p.1 ∷ earlier) ps) h).0
-  grows_listed source earlier (p ∷ ps) h (suc k) l =
+  listed_hang_behind source earlier (p ∷ ps) h (suc k) l =
       let a = (get_or ps k (0, 0)).0 in
       let later = (and_parts (may_begin f source earlier p.0) (is_listed_behind f source (p.1 ∷ earlier) ps) h).1 in
       swapped (source == a) (p.1 == a) (is_among earlier a) (is_among (ends_of (take k ps)) a)
-      ∙ grows_listed source (p.1 ∷ earlier) ps later k (omega arith)
+      ∙ listed_hang_behind source (p.1 ∷ earlier) ps later k (omega arith)
 
-  pub grown_listed : (n : Net) (pairs : List Pair) → is_listed f n pairs ≡ true → IsGrown n.source pairs
+  pub listed_hang : (n : Net) (pairs : List Pair) → is_listed f n pairs ≡ true → HangOnEarlier n.source pairs
   unfolding is_listed
-  grown_listed n pairs h = grows_listed n.source [] pairs h
+  listed_hang n pairs h = listed_hang_behind n.source [] pairs h

@@ -1,11 +1,11 @@
--- Ways along pairs that grew from the source: it reaches where each pair ends.
+-- Ways along pairs that hang on earlier ones: the source reaches where each pair ends.
 use Rattle.std.proofs.Common.{◌≡◌, ℕ, ◌<◌, ◌⊎◌, ◌==◌, zero, suc, List, length, get_or, inl, inr, refl, subst, arith}
 use Rattle.std.specs.Prelude.{Contains, take}
 use Rattle.std.proofs.lemmas.Bool.{eqb-true, or_cases}
 use Rattle.route_tree.specs.Paths.{Pair, Path, ends_of}
 use Rattle.route_tree.specs.Paths.Path.{here, along}
 use Rattle.route_tree.specs.Legality.{is_among}
-use Rattle.route_tree.specs.Ladder.{IsGrown}
+use Rattle.route_tree.specs.Ladder.{HangOnEarlier}
 use Rattle.route_tree.proofs.Members.{EndsBefore, ends_before, pair_among}
 
 -- one pair more
@@ -32,10 +32,10 @@ last_step pairs (along a b c h way) = elim (last_step pairs way) [
   | inr last ↦ inr (record { begin = last.begin; there = last.there; before = along a b last.begin h last.before })
 ]
 
-module _ (source : ℕ) (pairs : List Pair) (grown : IsGrown source pairs) where
+module _ (source : ℕ) (pairs : List Pair) (hang : HangOnEarlier source pairs) where
   -- where pair k begins: at the source, or where an earlier one ends
   pub begins : (k : ℕ) → k < length pairs → (source ≡ (get_or pairs k (0, 0)).0) ⊎ EndsBefore pairs k (get_or pairs k (0, 0)).0
-  begins k l = elim (or_cases (source == (get_or pairs k (0, 0)).0) (is_among (ends_of (take k pairs)) (get_or pairs k (0, 0)).0) (grown k l)) [
+  begins k l = elim (or_cases (source == (get_or pairs k (0, 0)).0) (is_among (ends_of (take k pairs)) (get_or pairs k (0, 0)).0) (hang k l)) [
     | inl e ↦ inl (eqb-true source (get_or pairs k (0, 0)).0 e)
     | inr e ↦ inr (ends_before pairs k (get_or pairs k (0, 0)).0 l e)
   ]

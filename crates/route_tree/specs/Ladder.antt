@@ -11,8 +11,8 @@ use Rattle.route_tree.specs.Legality.{is_among}
 use Rattle.route_tree.specs.Faults.{begins_elsewhere, lacks_switch, reaches_twice, leaves_twice, has_foreign_sink, misses_sink}
 
 -- each pair begins at the source or where an earlier one ends, as those of a tree do
-abbrev pub IsGrown : (source : ℕ) → List Pair → Type 0
-IsGrown source pairs = (k : ℕ) → k < length pairs → is_among (source ∷ ends_of (take k pairs)) (get_or pairs k (0, 0)).0 ≡ true
+abbrev pub HangOnEarlier : (source : ℕ) → List Pair → Type 0
+HangOnEarlier source pairs = (k : ℕ) → k < length pairs → is_among (source ∷ ends_of (take k pairs)) (get_or pairs k (0, 0)).0 ≡ true
 
 -- a pair ends neither in one of the sinks nor where a later pair begins
 abbrev pub has_dead_end : (sinks : List ℕ) → List Pair → Bool

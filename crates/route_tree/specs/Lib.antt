@@ -2,7 +2,10 @@ pub mod Paths
 pub mod Legality
 pub mod Faults
 pub mod Rows
+pub mod Same
+pub mod SameLaws
 pub mod Usage
+pub mod TreeLists
 pub mod Fits
 pub mod Ladder
 pub mod Marked

@@ -1,5 +1,5 @@
 -- Which nodes the nets of a routing use, and how often (McMurchie and Ebeling 1995, "occupancy").
-use Rattle.std.specs.Prelude.{ℕ, ◌+◌, ◌-◌, ◌==◌, Bool, false, ◌||◌, if◌then◌else◌, List, [], ◌∷◌, Option, Some, None}
+use Rattle.std.specs.Prelude.{ℕ, ◌+◌, ◌-◌, ◌==◌, Bool, false, ◌||◌, if◌then◌else◌, List, [], ◌∷◌, set, Option, Some, None}
 use Rattle.rr_graph.specs.Fabric.{Fabric}
 use Rattle.rr_graph.specs.Nodes.{node_at, capacity_of}
 use Rattle.rr_graph.specs.declared.parts.Node.{Node}
@@ -16,11 +16,19 @@ abbrev pub covers_by : Net → Option (List Pair) → ℕ → Bool
 covers_by n (Some pairs) a = covers n.source pairs a
 covers_by n None a = false
 
+-- what a net adds to the use of a node: 1 where it covers it
+abbrev pub use_by : Net → Option (List Pair) → ℕ → ℕ
+use_by n l a = if covers_by n l a then 1 else 0
+
 -- how many nets cover a node: each net counts once, however often its pairs name the node
 abbrev pub use_of : List Net → List (Option (List Pair)) → ℕ → ℕ
 use_of [] lists a = 0
 use_of (n ∷ ns) [] a = 0
-use_of (n ∷ ns) (l ∷ ls) a = (if covers_by n l a then 1 else 0) + use_of ns ls a
+use_of (n ∷ ns) (l ∷ ls) a = use_by n l a + use_of ns ls a
+
+-- how many nets other than net i cover a node: its use where net i has no list
+abbrev pub use_by_others : List Net → List (Option (List Pair)) → (i : ℕ) → ℕ → ℕ
+use_by_others nets lists i a = use_of nets (set lists i None) a
 
 -- how many nets a node has room for; none for what is no node
 abbrev pub room_of : Fabric → Option Node → ℕ

@@ -6,6 +6,7 @@ mod fault;
 mod marks;
 mod passes;
 mod routing;
+mod same;
 mod stamps;
 mod tree;
 
@@ -13,7 +14,7 @@ pub use check::check_tree;
 pub use fault::TreeFault;
 pub use marks::Marks;
 pub use routing::{Pairs, Routing, fits};
-pub use tree::Tree;
+pub use tree::{Row, Tree};
 
 #[cfg(test)]
 mod tests;

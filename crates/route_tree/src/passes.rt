@@ -13,7 +13,7 @@ ghost use Rattle.route_tree.specs.Marked.{IsMarked, nodes_of};
 
 use crate::stamps::Stamps;
 use crate::tree::{Row, count_pairs, pair_at};
-use rr_graph::Device;
+use rr_graph::{Device, EdgeFinder};
 
 /// Whether there is no pair, or the first one begins elsewhere than at the source.
 #[tactic(auto, using(crate::proofs::RowTests::begins))]
@@ -25,20 +25,15 @@ pub(crate) fn begins_elsewhere(rows: &[Row], source: u32) -> bool
 }
 
 /// Whether a pair is no edge of the device.
-fn is_no_switch(device: &Device, pair: (u32, u32)) -> bool
-    ensures { result ≡ not (edge_between device.now pair.0 pair.1) }
-{
-    !device.edge(pair.0, pair.1)
-}
-
-/// Whether a pair is no edge of the device.
 #[tactic(auto, using(crate::proofs::RowTests::none_passes))]
 pub(crate) fn lacks_switch(device: &Device, rows: &[Row]) -> bool
     requires { IsTree rows.now }
     ensures { result ≡ lacks_switch device.now (pairs_of rows.now) }
 {
+    let mut finder = EdgeFinder::new(device);
     for index in 0..count_pairs(rows) {
-        if is_no_switch(device, pair_at(rows, index)) {
+        let pair = pair_at(rows, index);
+        if !finder.joins(pair.0, pair.1) {
             return true;
         }
     }

@@ -1,10 +1,14 @@
 //! Routings: a list of pairs for each net, or none.
 
-ghost use Rattle.std.specs.Prelude.{◌≡◌};
+ghost use Rattle.std.specs.Prelude.{◌≡◌, IfOk};
 ghost use Rattle.std.specs.List.{list_all};
 ghost use Rattle.route_tree.specs.Fits.{fits_problem, are_nodes, is_below};
+ghost use Rattle.route_tree.specs.Rows.{pairs_of};
+ghost use Rattle.route_tree.specs.TreeLists.{list_of_tree, lists_of_trees};
 
+use crate::tree::Tree;
 use rr_graph::{Device, Problem};
+use std::alloc::{AllocError, Global};
 use std::marker::Model;
 
 /// The pairs that route a net: each leads from a node to another one. Contracts see the list.
@@ -39,6 +43,42 @@ impl Model for Routing {
     ghost use Rattle.route_tree.specs.Fields.{lists_of};
 
     ghost view = { lists_of };
+}
+
+impl Pairs {
+    /// The pairs of a tree, in the order of its rows.
+    fn of_tree(alloc: Global, tree: &Tree) -> Result<Pairs, AllocError>
+        ensures { IfOk result (λ p. p ≡ pairs_of tree.now) }
+    {
+        let mut items = Vec::with_capacity(alloc, tree.pairs())?;
+        for index in 0..tree.pairs() {
+            items.push(tree.pair(index))?;
+        }
+        Ok(Pairs { items })
+    }
+}
+
+/// The pairs of a tree, where there is one.
+fn list_of_tree(alloc: Global, tree: &Option<Tree>) -> Result<Option<Pairs>, AllocError>
+    ensures { IfOk result (λ l. l ≡ list_of_tree tree.now) }
+{
+    match tree {
+        None => Ok(None),
+        Some(tree) => Ok(Some(Pairs::of_tree(alloc, tree)?)),
+    }
+}
+
+impl Routing {
+    /// The routing of a list of trees, one entry a net: the pairs of its tree, or none where it has no tree.
+    pub fn of_trees(alloc: Global, trees: &[Option<Tree>]) -> Result<Routing, AllocError>
+        ensures { IfOk result (λ r. r ≡ lists_of_trees trees.now) }
+    {
+        let mut lists = Vec::with_capacity(alloc, trees.len())?;
+        for tree in trees {
+            lists.push(list_of_tree(alloc, tree)?)?;
+        }
+        Ok(Routing { lists })
+    }
 }
 
 /// Whether both numbers of each pair are below a count.

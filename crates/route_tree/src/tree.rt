@@ -9,10 +9,12 @@ use std::alloc::{AllocError, Global};
 use std::marker::Model;
 
 /// A node of a tree, and the row of the node before it.
-#[derive(Clone, Copy, Debug)]
-pub(crate) struct Row {
-    pub(crate) node: u32,
-    pub(crate) parent: usize,
+#[derive(Clone, Copy, Debug, PartialEq, Eq)]
+pub struct Row {
+    /// The node's number in the device.
+    pub node: u32,
+    /// The row of the node before it, counted from 0; the first row is its own.
+    pub parent: usize,
 }
 
 /// A tree of nodes. Contracts see the list of its rows: each but the first is one pair, from its parent's node to its own.
@@ -69,6 +71,14 @@ impl Tree {
         ensures { result ≡ node_in self.now row }
     {
         self.rows[row].node
+    }
+
+    /// Its rows, for a caller that goes over them: each parent stands before its row.
+    pub fn as_slice(&self) -> &[Row]
+        ensures rows { result.now ≡ self.now }
+        ensures tree { IsTree self.now }
+    {
+        &self.rows
     }
 
     /// How many pairs it has: one less than nodes.

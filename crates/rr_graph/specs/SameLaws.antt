@@ -5,7 +5,8 @@ use Rattle.std.specs.Cmp.{IsEquivalence, IsPartialEquivalence, partial_equiv_fro
 use Rattle.std.specs.Cmp.Lexicographic.{pointwise_decides}
 use Rattle.std.proofs.lemmas.Bool.{false≢true}
 use Rattle.std.proofs.lemmas.Bool.Decides.{Decides-and, Decides-like}
-use Rattle.arch_file.specs.SameLaws.{decides_from_tests, equivalence_from_decides, same_architecture}
+use Rattle.arch_file.specs.SameLaws.{decides_from_tests, same_architecture}
+pub use Rattle.arch_file.specs.SameLaws.{equivalence_from_decides}
 use Rattle.rr_graph.specs.declared.parts.Mode.{Mode}
 use Rattle.rr_graph.specs.declared.parts.Mode.TheVariants.{Detailed, Global}
 use Rattle.rr_graph.specs.Fabric.{Fabric}

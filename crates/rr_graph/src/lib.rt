@@ -32,6 +32,7 @@ mod wires;
 
 pub use device::Device;
 pub use fault::DeviceFault;
+pub use found::EdgeFinder;
 pub use nets::Terminals;
 pub use parts::{Kind, Label, Mode, Node, Span};
 pub use parts_fault::PartsFault;

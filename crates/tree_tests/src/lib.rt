@@ -4,6 +4,8 @@
 #[cfg(test)]
 mod checks;
 #[cfg(test)]
+mod rows;
+#[cfg(test)]
 mod tree_shapes;
 #[cfg(test)]
 mod trees;

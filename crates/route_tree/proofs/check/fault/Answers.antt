@@ -1,6 +1,6 @@
 use Rattle.std.proofs.Common.{◌∙◌, arith}
 use Rattle.route_tree.specs.Rows.{pairs_of}
-use Rattle.route_tree.proofs.Grown.{there}
+use Rattle.route_tree.proofs.Hanging.{there}
 use Rattle.route_tree.proofs.check.fault.Goals as goal
 
 pub returns-clause-fault : goal.returns-clause-fault

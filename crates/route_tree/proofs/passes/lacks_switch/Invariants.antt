@@ -5,4 +5,5 @@ use Rattle.route_tree.proofs.passes.lacks_switch.Given as goal
 
 abbrev pub invariant-loop-index : goal.invariant-loop-index
 invariant-loop-index l =
-    (k : ℕ) → k < l.index → not (edge_between l.device (get_or (pairs_of l.rows) k (0, 0)).0 (get_or (pairs_of l.rows) k (0, 0)).1) ≡ false
+    (l.finder ≡ l.device)
+    × ((k : ℕ) → k < l.index → not (edge_between l.device (get_or (pairs_of l.rows) k (0, 0)).0 (get_or (pairs_of l.rows) k (0, 0)).1) ≡ false)

@@ -1,4 +1,4 @@
--- The pairs of a tree grow from its first node, and the answers of the ladder.
+-- The pairs of a tree hang on earlier ones, and the answers of the ladder.
 use Rattle.std.proofs.Common.{◌≡◌, ℕ, ◌+◌, ◌<◌, ◌≤◌, ◌==◌, ◌↔◌, zero, suc, true, false, not, nat_lt, nat_le, if◌then◌else◌, List, ◌∷◌, length, take, get_or, Option, Some, None, Err, IsOk, refl, sym, ap, ap₂, ◌∙◌, subst, arith}
 use Rattle.std.specs.Result.{result_err}
 use Rattle.std.proofs.lemmas.Bool.{or_left, or_right, or_parts, not-false, eq-eqb, eqb-true, false≢true}
@@ -15,7 +15,7 @@ use Rattle.route_tree.specs.Paths.{Pair, ends_of}
 use Rattle.route_tree.specs.Legality.{is_among}
 use Rattle.route_tree.specs.Rows.{no_row, node_in, pairs_of, IsTree}
 use Rattle.route_tree.specs.Faults.{begins_elsewhere}
-use Rattle.route_tree.specs.Ladder.{IsGrown, net_fault_of, fault_of, or_ok}
+use Rattle.route_tree.specs.Ladder.{HangOnEarlier, net_fault_of, fault_of, or_ok}
 use Rattle.route_tree.proofs.Trees.{length_pairs, pair_at}
 use Rattle.route_tree.proofs.RowTests.{begins}
 
@@ -28,8 +28,8 @@ end_among pairs k j within l =
     let at : get_or ends j 0 ≡ end = get_or-map (λ (p : Pair). p.1) (take k pairs) j (0, 0) 0 (omega (arith, few)) ∙ ap (λ p. p.1) (get_or-take k pairs j (0, 0) l) in
     list_any_at (λ x. x == end) ends j 0 (omega (arith, few, length-map (take k pairs) (λ (p : Pair). p.1))) (eq-eqb (get_or ends j 0) end at)
 
-pub grown : (rows : List Row) (source : ℕ) → IsTree rows → begins_elsewhere source (pairs_of rows) ≡ false → IsGrown source (pairs_of rows)
-grown rows source t e k l = from_parent (get_or rows (k + 1) no_row).parent refl
+pub rows_hang : (rows : List Row) (source : ℕ) → IsTree rows → begins_elsewhere source (pairs_of rows) ≡ false → HangOnEarlier source (pairs_of rows)
+rows_hang rows source t e k l = from_parent (get_or rows (k + 1) no_row).parent refl
   where
     pairs : List Pair
     pairs = pairs_of rows
