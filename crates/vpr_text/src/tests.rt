@@ -39,6 +39,7 @@ fn splits_lines_and_words(rt: HostRuntime) -> Result<(), Fail> {
     assert_eq!(rt; text.len(), 2);
     expect_line(&rt, &text, 0, 1, &[b"a", b"b", b"c"]);
     expect_line(&rt, &text, 1, 4, &[b"d"]);
+    assert!(rt; text.word(2, 0).is_none());
 
     let text = lines(
         rt.alloc(),
