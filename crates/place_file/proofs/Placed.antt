@@ -31,7 +31,7 @@ record IsSound (array : Array) (blocks : List Block) (rows : List Line) : Type 0
   fitting : (b : ℕ) (s : Site) → site_in blocks rows b ≡ Some s → is_site array (kind_at blocks b) s ≡ true
   apart : (a b : ℕ) (s : Site) → site_in blocks rows a ≡ Some s → site_in blocks rows b ≡ Some s → a ≡ b
 
-none_some : {X P : Type 0} (x : X) → None ≡ Some x → P
+pub none_some : {X P : Type 0} (x : X) → None ≡ Some x → P
 none_some x e = absurd cc
 
 some_from : (t s : Site) → Some t ≡ Some s → t ≡ s
@@ -41,7 +41,7 @@ some_from t s e = ap (λ r. option_map_site t r) e
     option_map_site d None = d
     option_map_site d (Some x) = x
 
-by_row : {P : Type 0} (r : Option Site) (one : Bool) (t s : Site) → option_or r (cond one (Some t) None) ≡ Some s → (r ≡ Some s → P) → (one ≡ true → t ≡ s → P) → P
+pub by_row : {P : Type 0} (r : Option Site) (one : Bool) (t s : Site) → option_or r (cond one (Some t) None) ≡ Some s → (r ≡ Some s → P) → (one ≡ true → t ≡ s → P) → P
 by_row (Some x) one t s e f g = f e
 by_row None true t s e f g = g refl (some_from t s e)
 by_row None false t s e f g = none_some s e
@@ -85,7 +85,7 @@ sound_more array blocks rows l h good =
           (λ one same. by_row (site_in blocks rows b) (eqb k b) t s (here b s f) (λ old. clash (a ≡ b) b s old same) (λ two also. sym (eqb-true k a one) ∙ eqb-true k b two));
     }
 
-both_none : (a b : Option PlaceFault) → option_or a b ≡ None → (a ≡ None) × (b ≡ None)
+pub both_none : (a b : Option PlaceFault) → option_or a b ≡ None → (a ≡ None) × (b ≡ None)
 both_none None b e = (refl, e)
 both_none (Some x) b e = absurd cc
 
@@ -99,16 +99,16 @@ sound_from array blocks before (l ∷ ls) e h =
 
 -- ---- the sites of all blocks
 
-all_some : (k : ℕ) (sites : List (Option Site)) → position_from (λ s. not (is_some s)) k sites ≡ None → sites ≡ map Some (filter_map (λ s. s) sites)
+pub all_some : (k : ℕ) (sites : List (Option Site)) → position_from (λ s. not (is_some s)) k sites ≡ None → sites ≡ map Some (filter_map (λ s. s) sites)
 all_some k [] e = refl
 all_some k (None ∷ xs) e = absurd cc
 all_some k (Some x ∷ xs) e = ap (λ ys. Some x ∷ ys) (all_some (k + 1) xs e)
 
-not_faulty : {X : Type 0} (fault : Option PlaceFault) (r : Result X PlaceFault) (p : X) → unless_faulty fault r ≡ Ok p → (fault ≡ None) × (r ≡ Ok p)
+pub not_faulty : {X : Type 0} (fault : Option PlaceFault) (r : Result X PlaceFault) (p : X) → unless_faulty fault r ≡ Ok p → (fault ≡ None) × (r ≡ Ok p)
 not_faulty None r p e = (refl, e)
 not_faulty (Some f) r p e = absurd cc
 
-not_missing : (r : Option ℕ) → option_map place.Missing r ≡ None → r ≡ None
+pub not_missing : (r : Option ℕ) → option_map place.Missing r ≡ None → r ≡ None
 not_missing None e = refl
 not_missing (Some b) e = absurd cc
 
@@ -116,10 +116,10 @@ abbrev value : {X : Type 0} → X → Result X PlaceFault → X
 value d (Ok y) = y
 value d (Err f) = d
 
-ok_from : {X : Type 0} (d y : X) (r : Result X PlaceFault) → r ≡ Ok y → value d r ≡ y
+pub ok_from : {X : Type 0} (d y : X) (r : Result X PlaceFault) → r ≡ Ok y → value d r ≡ y
 ok_from d y r e = ap (value d) e
 
-site_of : (ys : List Site) (sites : List (Option Site)) (b : ℕ) (s : Site) → sites ≡ map Some ys → slice_get ys b ≡ Some s → site_at sites b ≡ Some s
+pub site_of : (ys : List Site) (sites : List (Option Site)) (b : ℕ) (s : Site) → sites ≡ map Some ys → slice_get ys b ≡ Some s → site_at sites b ≡ Some s
 site_of ys sites b s are e =
     ap (λ xs. site_at xs b) are ∙ get_or-map Some ys b s None (slice_get_within ys b s e) ∙ ap Some (get_or_from_slice_get ys b s s e)
 
@@ -136,7 +136,7 @@ placed_sites array blocks rows ys are h =
       apart = λ a b s e f. h.apart a b s (site a s e) (site b s f);
     }
 
-placed_rows : (array : Array) (blocks : List Block) (rows : List Line) (p : Placement) → placing array blocks rows ≡ Ok p → IsPlaced array.io_rat blocks p
+pub placed_rows : (array : Array) (blocks : List Block) (rows : List Line) (p : Placement) → placing array blocks rows ≡ Ok p → IsPlaced array.io_rat blocks p
 unfolding placing completed
 placed_rows array blocks rows p e =
     let sites = sites_in blocks rows in

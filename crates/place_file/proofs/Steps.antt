@@ -1,10 +1,11 @@
 -- Rows judged one by one.
-use Rattle.std.proofs.Common.{◌≡◌, ℕ, ◌+◌, ◌<◌, ◌≤◌, Bool, true, false, cond, not, eqb, List, [], ◌∷◌, ◌++◌, length, map, get_or, set, take, drop, Option, None, Some, Result, Err, refl, sym, ap, subst, ◌∙◌, arith, zero-add, add-one}
+use Rattle.std.proofs.Common.{◌≡◌, ℕ, ◌+◌, ◌<◌, ◌≤◌, Bool, true, false, cond, not, ◌&&◌, eqb, ltb, List, [], ◌∷◌, ◌++◌, length, map, get_or, set, take, drop, Option, None, Some, Result, Err, refl, sym, ap, subst, ◌∙◌, arith, zero-add, add-one}
 use Rattle.std.specs.Prelude.{is_some, find}
 use Rattle.std.specs.Option.{option_or, option_map}
 use Rattle.std.specs.List.{range_with_len}
+use Rattle.std.proofs.Math.Bool.{and-false}
 use Rattle.std.proofs.Math.Seq.{drop-cons}
-use Rattle.std.proofs.lemmas.Bool.{eqb-true, eqb-false, ltb-false}
+use Rattle.std.proofs.lemmas.Bool.{eqb-true, eqb-false, ltb-false, lt-ltb, le-ltb}
 use Rattle.std.proofs.lemmas.Bool.Decides.{nat_tests}
 use Rattle.std.proofs.lemmas.List.{get_or-drop, drop_all, take_all, length-map, length-set, get_or-set_same, get_or-set_other, ext_get_or}
 use Rattle.std.proofs.lemmas.List.Folds.{find-append}
@@ -15,9 +16,9 @@ use Rattle.place_file.specs.declared.fault.PlaceFault.{PlaceFault}
 use Rattle.place_file.specs.declared.fault.PlaceFault.TheVariants as place
 use Rattle.place_file.specs.declared.site.Array.{Array}
 use Rattle.place_file.specs.declared.site.Site.{Site}
-use Rattle.place_file.specs.Judge.{first_fault, row_fault, rows_fault_from, header_fault}
+use Rattle.place_file.specs.Judge.{is_size, first_fault, row_fault, rows_fault_from, header_fault}
 use Rattle.place_file.specs.Kept.{IsFit}
-use Rattle.place_file.specs.Lines.{array_on, block_named, block_on, site_on}
+use Rattle.place_file.specs.Lines.{is_title, is_size_line, array_on, is_row, block_named, block_on, site_on}
 use Rattle.place_file.specs.Placement.{is_site, kind_at}
 use Rattle.place_file.specs.Reading.{Fails}
 use Rattle.place_file.specs.Sites.{is_row_of, site_in, sites_in, site_at, is_occupied}
@@ -51,6 +52,7 @@ none_from_not (Some x) e = absurd cc
 
 -- what is known of a row without a fault, behind these sites
 pub record IsGood (array : Array) (blocks : List Block) (sites : List (Option Site)) (words : List (List ℕ)) : Type 0 where
+  pub form : is_row words ≡ true
   pub known : is_some (block_named blocks words) ≡ true
   pub once : site_at sites (block_on blocks words) ≡ None
   pub fitting : is_site array (kind_at blocks (block_on blocks words)) (site_on words) ≡ true
@@ -60,7 +62,11 @@ pub good_row : (array : Array) (blocks : List Block) (sites : List (Option Site)
 unfolding row_fault
 good_row array blocks sites n words e =
     let h = has_none n _ _ _ _ _ e in
-    record { known = true_from_not _ h.known; once = none_from_not _ h.once; fitting = true_from_not _ h.fitting; alone = h.alone }
+    record { form = true_from_not _ h.good; known = true_from_not _ h.known; once = none_from_not _ h.once; fitting = true_from_not _ h.fitting; alone = h.alone }
+
+pub row_faultless : (array : Array) (blocks : List Block) (sites : List (Option Site)) (n : ℕ) (words : List (List ℕ)) → IsGood array blocks sites words → row_fault array blocks sites n words ≡ None
+unfolding row_fault
+row_faultless array blocks sites n words h = rw (h.form, h.known, h.once, h.fitting, h.alone) refl
 
 within_by : (blocks : List Block) (words : List (List ℕ)) (r : Option ℕ) → block_named blocks words ≡ r → is_some r ≡ true → block_on blocks words < length blocks
 within_by blocks words None is e = absurd cc
@@ -94,7 +100,7 @@ pub count_sites : (blocks : List Block) (rows : List Line) → length (sites_in 
 unfolding sites_in
 count_sites blocks rows = length-map (range_with_len 0 (length blocks)) (site_in blocks rows) ∙ length-range_with_len 0 (length blocks)
 
-or_none : (a : Option Site) → option_or a None ≡ a
+pub or_none : (a : Option Site) → option_or a None ≡ a
 or_none None = refl
 or_none (Some x) = refl
 
@@ -128,13 +134,13 @@ sites_more blocks rows l free =
 
 module _ (array : Array) (blocks : List Block) (rows : List Line) where
   -- the fault of row i, and the first from row i on
-  abbrev fault_of : ℕ → Option PlaceFault
+  abbrev pub fault_of : ℕ → Option PlaceFault
   fault_of i = row_fault array blocks (sites_in blocks (take i rows)) (number_at rows i) (words_at rows i)
 
-  abbrev first_from : ℕ → Option PlaceFault
+  abbrev pub first_from : ℕ → Option PlaceFault
   first_from i = rows_fault_from array blocks (take i rows) (drop i rows)
 
-  opens : (i : ℕ) → i < length rows → first_from i ≡ option_or (fault_of i) (first_from (i + 1))
+  pub opens : (i : ℕ) → i < length rows → first_from i ≡ option_or (fault_of i) (first_from (i + 1))
   unfolding rows_fault_from
   opens i lt =
       let rest : drop i rows ≡ get_or rows i no_line ∷ drop (i + 1) rows = rw add-one (drop-cons rows i no_line lt) in
@@ -183,22 +189,55 @@ fails_is place.Memory given e = tt
 
 -- ---- what the first two lines tell
 
+-- what is known of the first two lines where they have no fault
+pub record IsHead (io_rat : ℕ) (lines : List Line) : Type 0 where
+  pub long : 2 ≤ length lines
+  pub title : is_title (words_at lines 0) ≡ true
+  pub size_line : is_size_line (words_at lines 1) ≡ true
+  pub size : is_size (array_on io_rat lines) ≡ true
+
+record HasNoFault (title short size_line size : Bool) : Type 0 where
+  titled : title ≡ false
+  long : short ≡ false
+  sized : size_line ≡ false
+  fitting : size ≡ false
+
 header_by : (io_rat : ℕ) (lines : List Line) (bad short line size : Bool) → (cond bad (Some (place.BadLine (number_at lines 0))) (cond short (Some (place.BadLine 0)) (cond line (Some (place.BadLine (number_at lines 1))) (cond size (Some (place.ArraySize (number_at lines 1))) None)))) ≡ None
-    → (short ≡ false) × (size ≡ false)
+    → HasNoFault bad short line size
 header_by io_rat lines true b c d e = absurd cc
 header_by io_rat lines false true c d e = absurd cc
 header_by io_rat lines false false true d e = absurd cc
 header_by io_rat lines false false false true e = absurd cc
-header_by io_rat lines false false false false e = (refl, refl)
+header_by io_rat lines false false false false e = record { titled = refl; long = refl; sized = refl; fitting = refl }
+
+second_true : (a b : Bool) → a ≡ true → (a && not b) ≡ false → b ≡ true
+second_true true b e f = true_from_not b f
+second_true false b e f = absurd cc
+
+pub header_good : (io_rat : ℕ) (lines : List Line) → header_fault io_rat lines ≡ None → IsHead io_rat lines
+unfolding header_fault
+header_good io_rat lines e =
+    let h = header_by io_rat lines _ _ _ _ e in
+    let long = ltb-false (length lines) 2 h.long in
+    record {
+      long = long;
+      title = second_true (ltb 0 (length lines)) (is_title (words_at lines 0)) (lt-ltb 0 (length lines) (omega (arith, long))) h.titled;
+      size_line = true_from_not _ h.sized;
+      size = true_from_not _ h.fitting;
+    }
+
+pub header_faultless : (io_rat : ℕ) (lines : List Line) → IsHead io_rat lines → header_fault io_rat lines ≡ None
+unfolding header_fault
+header_faultless io_rat lines h =
+    let titled : (ltb 0 (length lines) && not (is_title (words_at lines 0))) ≡ false = rw h.title (and-false (ltb 0 (length lines))) in
+    rw (titled, le-ltb (length lines) 2 h.long, h.size_line, h.size) refl
 
 pub header_long : (io_rat : ℕ) (lines : List Line) → header_fault io_rat lines ≡ None → 2 ≤ length lines
-unfolding header_fault
-header_long io_rat lines e = ltb-false (length lines) 2 (header_by io_rat lines _ _ _ _ e).0
+header_long io_rat lines e = (header_good io_rat lines e).long
 
 pub header_fit : (io_rat : ℕ) (lines : List Line) → io_rat ≤ 16 → header_fault io_rat lines ≡ None → IsFit (array_on io_rat lines)
-unfolding header_fault
 header_fit io_rat lines few e =
-    let size = true_from_not _ (header_by io_rat lines _ _ _ _ e).1 in
+    let size = (header_good io_rat lines e).size in
     record { pads = few; some_columns = grind (arith, nat_tests, size); columns = grind (arith, nat_tests, size); some_rows = grind (arith, nat_tests, size); rows = grind (arith, nat_tests, size) }
 
 -- ---- the rows behind the first two lines

@@ -3,5 +3,6 @@ pub mod Lines
 pub mod Sites
 pub mod Judge
 pub mod Reading
+pub mod Reads
 pub mod Kept
 pub mod Fields

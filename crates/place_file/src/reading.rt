@@ -1,8 +1,10 @@
 //! The reader of a placement file.
 
-ghost use Rattle.std.specs.Prelude.{◌≡◌, ◌≤◌, IfOk};
+ghost use Rattle.std.specs.Prelude.{◌≡◌, ◌≤◌, IfOk, Ok};
+ghost use Rattle.place_file.specs.Placement as placement;
 ghost use Rattle.place_file.specs.Placement.{IsPlaced};
 ghost use Rattle.place_file.specs.Reading.{Gives, reading, placement_of};
+ghost use Rattle.place_file.specs.Reads.{ReadsBytes};
 
 use crate::fault::PlaceFault;
 use crate::header::{array_on, header_fault};
@@ -53,15 +55,21 @@ fn placement_in(
 ///
 /// A fault of the text comes first, then that of the first faulty line, then the least block that no line places. Of the
 /// faults of one line it is the first in the order of `PlaceFault`.
-#[tactic(auto, using(crate::proofs::Placed::placed_given))]
+#[tactic(auto, using(crate::proofs::Placed::placed_given, crate::proofs::Related::found, crate::proofs::Related::only))]
 pub fn parse(
     alloc: Global,
     source: &[u8],
     arch: &Arch,
     netlist: &Netlist,
 ) -> Result<Placement, PlaceFault>
-    // Which placement or fault it is.
-    ensures exact { Gives (λ p. p) result (placement_of arch.now.io_rat netlist.now.blocks source.now) }
+    // What is read is the placement of the text.
+    ensures found { IfOk result (λ p. ReadsBytes arch.now.io_rat netlist.now.blocks source.now p) }
+    // A text has no other placement, and one that has a placement is read, unless memory runs out.
+    ensures only { (p : placement.Placement)
+        → ReadsBytes arch.now.io_rat netlist.now.blocks source.now p → Gives (λ q. q) result (Ok p) }
+    // Which fault it is.
+    ensures exact { Gives (λ p. p) result
+        (placement_of arch.now.io_rat netlist.now.blocks source.now) }
     // All blocks stand on sites of their kind, and different blocks on different sites.
     ensures placed { IfOk result (λ p. IsPlaced arch.now.io_rat netlist.now.blocks p) }
 {

@@ -1,6 +1,7 @@
 //! Whether a routing routes a problem.
 
-ghost use Rattle.std.specs.Prelude.{◌≡◌, ◌↔◌, ◌<◌, ℕ, Some, None, IfOk, length};
+ghost use Rattle.std.specs.Prelude.{◌≡◌, ◌≢◌, ◌↔◌, ◌<◌, ℕ, Some, None, Ok, IfOk, length};
+ghost use Rattle.route_check.specs.declared.fault.RouteFault.TheVariants.{Length};
 ghost use Rattle.route_check.specs.Routed.{IsRouted};
 ghost use Rattle.route_check.specs.Faults.{IsFirstRouteFault};
 ghost use Rattle.route_check.specs.Nets.{JudgesNet};
@@ -57,7 +58,8 @@ fn lists_fault(
     problem: &Problem,
     lists: &[Option<Pairs>],
 ) -> Result<Option<RouteFault>, AllocError>
-    ensures { IfOk result (JudgesRouting problem.now lists.now) }
+    ensures told { IfOk result (JudgesRouting problem.now lists.now) }
+    ensures length { length lists.now ≢ length problem.now.nets → result ≡ Ok (Some Length) }
 {
     if lists.len() != problem.nets() as usize {
         return Ok(Some(RouteFault::Length));
@@ -69,9 +71,11 @@ fn lists_fault(
     }
 }
 
-/// Whether a routing routes a problem: none where it does, else its first fault in the order of `RouteFault`. It judges the lists of
-/// pairs alone, which need not be those of trees. The nets are judged side by side, in as many threads as the runtime gives; the answer
-/// is that of one thread. A growth that is refused for any net is answered ahead of every fault.
+/// Whether a routing routes a problem: none where it does, else its first fault in the order of
+/// `RouteFault`. It judges the lists of pairs alone, which need not be those of trees. The nets are
+/// judged side by side, in as many threads as the runtime gives; the answer is that of one thread. A
+/// growth that is refused for any net is answered ahead of every fault but `Length`.
+///
 /// It takes time of the order of n log n for a net of n pairs, and memory of the order of the nodes.
 pub fn check_routing(
     rt: &(impl Threads + Sync),
@@ -80,7 +84,10 @@ pub fn check_routing(
     routing: &Routing,
 ) -> Result<Option<RouteFault>, AllocError>
     ensures routed { IfOk result (λ o. (o ≡ None) ↔ IsRouted problem.now routing.now) }
-    ensures first { (fault : RouteFault) → IfOk result (λ o. (o ≡ Some fault) ↔ IsFirstRouteFault problem.now routing.now fault) }
+    ensures first { (fault : RouteFault)
+        → IfOk result (λ o. (o ≡ Some fault) ↔ IsFirstRouteFault problem.now routing.now fault) }
+    // Another number of entries than of nets is told whatever memory there is.
+    ensures length { length routing.now ≢ length problem.now.nets → result ≡ Ok (Some Length) }
 {
     lists_fault(rt, alloc, problem, &routing.lists)
 }

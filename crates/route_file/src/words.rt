@@ -17,17 +17,6 @@ fn word_count(lines: &Lines, i: usize) -> usize
     if i < lines.len() { lines.words(i) } else { 0 }
 }
 
-/// Word `j` of line `i`, if there is one.
-fn word_in<'a>(lines: &Lines<'a>, i: usize, j: usize) -> Option<&'a [u8]>
-    ensures { option_copied result ≡ slice_get (words_at lines.now i) j }
-{
-    if i < lines.len() {
-        lines.word(i, j)
-    } else {
-        None
-    }
-}
-
 /// The number of line `i`; 0 past the last line.
 pub(crate) fn line_number(lines: &Lines, i: usize) -> u32
     ensures { result ≡ number_at lines.now i }
@@ -97,7 +86,7 @@ impl<'t, 'a> Words<'t, 'a> {
     {
         let total = word_count(self.lines, self.line);
         if j < total - self.from {
-            word_in(self.lines, self.line, self.from + j)
+            self.lines.word(self.line, self.from + j)
         } else {
             None
         }

@@ -1,14 +1,16 @@
 //! Readers and writers of std as sources and sinks.
 
-ghost use Rattle.std.specs.Prelude.{◌≡◌, false};
+ghost use Rattle.std.specs.Prelude.{◌≡◌, ◌<◌, ◌≤◌, false, length, take, IsTrue, IsErr, IfOk, OnErr, is_err};
+ghost use Rattle.std.specs.Io.KnownBytes.{Appends, Consumes, IsAtEnd, Keeps};
 ghost use Rattle.vpr_text.specs.Adapters.{inner_of, has_failed};
 
 use crate::sink::ByteSink;
 use crate::source::{Broken, ByteSource};
 use std::io::{Read, Write};
 
-/// A reader of std as a source of bytes, or a writer as a sink. Each error is `Broken`, that of an interrupted call
-/// too, and so is a writer's 0.
+/// A reader of std as a source of bytes, or a writer as a sink. Each error is `Broken`, that of an
+/// interrupted call too, and so is a writer's 0. A `Broken` call took no byte, and after it the reader
+/// or writer isn't called again.
 #[derive(Debug, Drop)]
 pub struct Adapted<T> {
     inner: T,
@@ -45,7 +47,20 @@ impl<R: Read> ByteSource for Adapted<R> {
 
     ghost failed = { has_failed };
 
-    fn take(&mut self, buffer: &mut [u8]) -> Result<usize, Broken> {
+    fn take(&mut self, buffer: &mut [u8]) -> Result<usize, Broken>
+        requires { 0 < length buffer.old }
+        ensures count { IfOk result (λ n. n ≤ length buffer.new) }
+        ensures bytes { IfOk result (λ n. Consumes (R.remaining (inner_of self.old))
+            (R.remaining (inner_of self.new)) (take n buffer.new)) }
+        ensures end { IfOk result (λ n. n ≡ 0 → IsAtEnd (R.remaining (inner_of self.new))) }
+        // A call that fails took no byte.
+        ensures none { OnErr result
+            (Keeps (R.remaining (inner_of self.old)) (R.remaining (inner_of self.new))) }
+        ensures breaks { has_failed self.new ≡ is_err result }
+        ensures for_good { IsTrue (has_failed self.old) → IsErr result }
+        // After a failure the reader is left alone.
+        ensures untouched { IsTrue (has_failed self.old) → inner_of self.new ≡ inner_of self.old }
+    {
         if self.failed {
             return Err(Broken);
         }
@@ -64,7 +79,20 @@ impl<W: Write> ByteSink for Adapted<W> {
 
     ghost failed = { has_failed };
 
-    fn put(&mut self, bytes: &[u8]) -> Result<usize, Broken> {
+    fn put(&mut self, bytes: &[u8]) -> Result<usize, Broken>
+        requires { 0 < length bytes.now }
+        ensures some { IfOk result (λ n. 0 < n) }
+        ensures count { IfOk result (λ n. n ≤ length bytes.now) }
+        ensures bytes { IfOk result (λ n. Appends (W.contents (inner_of self.old))
+            (W.contents (inner_of self.new)) (take n bytes.now)) }
+        // A call that fails took no byte.
+        ensures none { OnErr result
+            (Keeps (W.contents (inner_of self.old)) (W.contents (inner_of self.new))) }
+        ensures breaks { has_failed self.new ≡ is_err result }
+        ensures for_good { IsTrue (has_failed self.old) → IsErr result }
+        // After a failure the writer is left alone.
+        ensures untouched { IsTrue (has_failed self.old) → inner_of self.new ≡ inner_of self.old }
+    {
         if self.failed {
             return Err(Broken);
         }

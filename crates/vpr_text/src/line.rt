@@ -85,12 +85,11 @@ impl<'a> Lines<'a> {
         self.entries[i].count as usize
     }
 
-    /// Word `j` of line `i`, if the line has one.
+    /// Word `j` of line `i`, if there is that line and it has one.
     pub fn word(&self, i: usize, j: usize) -> Option<&'a [u8]>
-        requires { i < length self.now }
         ensures { option_copied result ≡ slice_get (words_at self.now i) j }
     {
-        let entry = self.entries[i];
+        let entry = *self.entries.get(i)?;
         if j < entry.count as usize {
             let range = self.ranges[entry.first as usize + j];
             let source = self.source;

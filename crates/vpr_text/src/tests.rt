@@ -1,13 +1,13 @@
 //! What no clause says: known texts and numbers, memory that runs out, and readers and writers that fail.
 
-ghost use Rattle.std.specs.Prelude.{Some};
+ghost use Rattle.std.specs.Prelude.{◌≡◌, Some};
 
 use crate::{
     Adapted, Broken, ByteSink, ByteSource, Lines, OutputBuffer, ReadFault, TextFault, fixed,
     is_decimal, lines, number, read_all,
 };
 use std::alloc::Global;
-use std::io::Cursor;
+use std::io::{self, Cursor, ErrorKind, Read, Write};
 use std::process::Abort;
 use std::test::Fail;
 
@@ -39,6 +39,7 @@ fn splits_lines_and_words(rt: HostRuntime) -> Result<(), Fail> {
     assert_eq!(rt; text.len(), 2);
     expect_line(&rt, &text, 0, 1, &[b"a", b"b", b"c"]);
     expect_line(&rt, &text, 1, 4, &[b"d"]);
+    assert!(rt; text.word(2, 0).is_none());
 
     let text = lines(
         rt.alloc(),
@@ -329,4 +330,101 @@ fn a_writer_that_takes_nothing_is_broken(rt: HostRuntime) {
     assert!(rt; sink.put(b"abc") == Ok(2));
     assert!(rt; sink.put(b"c") == Err(Broken));
     assert!(rt; sink.put(b"c") == Err(Broken));
+}
+
+/// A reader or a writer of which one call is interrupted; those before and behind it succeed.
+#[derive(Drop)]
+struct InterruptedOnce<T> {
+    inner: T,
+    calls: u32,
+    interrupted: u32,
+}
+
+impl<T> InterruptedOnce<T> {
+    /// Counts a call, and fails where it is the one.
+    fn call(&mut self) -> io::Result<()>
+        ensures { self.new.inner ≡ self.old.inner }
+    {
+        let call = self.calls;
+        self.calls = call.saturating_add(1);
+        if call == self.interrupted {
+            return Err(io::Error::from(ErrorKind::Interrupted));
+        }
+        Ok(())
+    }
+}
+
+impl Read for InterruptedOnce<&[u8]> {
+    ghost remaining = { λ r. Some r.inner.now };
+
+    fn read(&mut self, buffer: &mut [u8]) -> io::Result<usize> {
+        self.call()?;
+        self.inner.read(buffer)
+    }
+}
+
+impl Write for InterruptedOnce<Vec<u8>> {
+    ghost contents = { λ w. Some w.inner.items };
+
+    fn write(&mut self, bytes: &[u8]) -> io::Result<usize> {
+        self.call()?;
+        self.inner.write(bytes)
+    }
+
+    fn flush(&mut self) -> io::Result<()> {
+        Ok(())
+    }
+}
+
+#[test]
+fn an_interrupted_reader_is_broken_for_good(rt: HostRuntime) {
+    for interrupted in 0..3 {
+        let mut source = Adapted::new(InterruptedOnce {
+            inner: b"abcde".as_slice(),
+            calls: 0,
+            interrupted,
+        });
+        let mut buffer = [0u8; 1];
+        for call in 0..6 {
+            let taken = if call < interrupted {
+                Ok(1)
+            } else {
+                Err(Broken)
+            };
+            assert!(rt;
+                source.take(&mut buffer) == taken,
+                "{call} of {interrupted}"
+            );
+        }
+        assert!(rt;
+            read_all(rt.alloc(), &mut source).err() == Some(ReadFault::Failed),
+            "{interrupted}"
+        );
+        let reader = source.into_inner();
+        assert_eq!(rt; reader.calls, interrupted + 1);
+        assert_eq!(rt; reader.inner.len(), 5 - interrupted as usize);
+    }
+}
+
+#[test]
+fn an_interrupted_writer_is_broken_for_good(rt: HostRuntime) {
+    for interrupted in 0..3 {
+        let mut sink = Adapted::new(InterruptedOnce {
+            inner: Vec::new(rt.alloc()),
+            calls: 0,
+            interrupted,
+        });
+        for call in 0..6 {
+            let taken = if call < interrupted {
+                Ok(1)
+            } else {
+                Err(Broken)
+            };
+            assert!(rt; sink.put(b"a") == taken, "{call} of {interrupted}");
+        }
+        assert!(rt; write_text(&mut sink, b"-").is_err(), "{interrupted}");
+        let writer = sink.into_inner();
+        assert_eq!(rt; writer.calls, interrupted + 1);
+        assert_eq!(rt; writer.inner.len(), interrupted as usize);
+    }
 }

@@ -11,7 +11,7 @@ returns-clause-routed g c =
     let lists = c.args.routing.now in
     let answer = c.lists_fault.result in
     IfOk-weaker answer _ _ (told_routed p lists)
-    (subst (λ ls. IfOk answer (JudgesRouting p ls)) (c.deref.ensures.value ∙ c.routing.view_is) c.lists_fault.ensures)
+    (subst (λ ls. IfOk answer (JudgesRouting p ls)) (c.deref.ensures.value ∙ c.routing.view_is) c.lists_fault.ensures.told)
 
 pub returns-clause-first : goal.returns-clause-first
 returns-clause-first g c = λ fault.
@@ -19,4 +19,4 @@ returns-clause-first g c = λ fault.
     let lists = c.args.routing.now in
     let answer = c.lists_fault.result in
     IfOk-weaker answer _ _ (λ o is. told_first p lists o fault is)
-    (subst (λ ls. IfOk answer (JudgesRouting p ls)) (c.deref.ensures.value ∙ c.routing.view_is) c.lists_fault.ensures)
+    (subst (λ ls. IfOk answer (JudgesRouting p ls)) (c.deref.ensures.value ∙ c.routing.view_is) c.lists_fault.ensures.told)
