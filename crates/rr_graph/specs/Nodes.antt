@@ -88,14 +88,18 @@ label_by Chany block = Track
 abbrev pub label_of : Fabric → Node → Label
 label_of f n = label_by n.kind (is_block f n.x n.y)
 
+-- the pins of a block's class; at a pad one
+abbrev pub terminal_capacity : Fabric → Node → ℕ
+terminal_capacity f n = if is_block f n.x n.y then class_size f.architecture n.number else 1
+
 -- a track is used by one net; the one node of a global channel's place stands for all its tracks
 abbrev pub wire_capacity : Mode → ℕ → ℕ
 wire_capacity Detailed width = 1
 wire_capacity Global width = width
 
 abbrev pub capacity_by : Kind → Fabric → Node → ℕ
-capacity_by Source f n = if is_block f n.x n.y then class_size f.architecture n.number else 1
-capacity_by Sink f n = if is_block f n.x n.y then class_size f.architecture n.number else 1
+capacity_by Source f n = terminal_capacity f n
+capacity_by Sink f n = terminal_capacity f n
 capacity_by Opin f n = 1
 capacity_by Ipin f n = 1
 capacity_by Chanx f n = wire_capacity f.mode f.width

@@ -182,11 +182,19 @@ impl Device {
         self.id_of(node)
     }
 
-    /// How many nets may use a node.
+    /// How many nets may use a node. The node is looked for only where it is a source or a sink.
     pub fn capacity(&self, id: u32) -> Option<u32>
         ensures { result ≡ option_map (capacity_of self.now) (node_at self.now id) }
     {
-        self.node(id).map(|node| self.layout.capacity_of(node))
+        match self.kind(id) {
+            None => None,
+            Some(Kind::Source | Kind::Sink) => {
+                self.node(id)
+                    .map(|node| self.layout.terminal_capacity(node))
+            }
+            Some(Kind::Opin | Kind::Ipin) => Some(1),
+            Some(Kind::Chanx | Kind::Chany) => Some(self.layout.wire_capacity()),
+        }
     }
 
     /// The first and the last place of a node; only those of a wire may differ.
