@@ -1,6 +1,7 @@
 -- The nodes of a device in their order (Betz, Rose and Marquardt 1999, "routing-resource graph"; the order is this project's).
-use Rattle.std.specs.Prelude.{ℕ, ◌+◌, ◌==◌, Bool, ◌&&◌, nat_le, if◌then◌else◌, List, [], ◌∷◌, length, map, slice_get, Option}
+use Rattle.std.specs.Prelude.{ℕ, ◌+◌, ◌==◌, Bool, true, false, ◌&&◌, nat_le, if◌then◌else◌, List, [], ◌∷◌, length, map, slice_get, Option}
 use Rattle.std.specs.List.{flat_map, filter, position}
+use Rattle.std.specs.Option.{option_map, option_map_or}
 use Rattle.arch_file.specs.Architecture.{class_size}
 use Rattle.arch_file.specs.declared.parts.Direction.TheVariants.{Input, Output}
 use Rattle.rr_graph.specs.declared.parts.Mode.{Mode}
@@ -58,6 +59,23 @@ node_count_of f = length (nodes_of f)
 -- the node of a number
 abbrev pub node_at : Fabric → ℕ → Option Node
 node_at f i = slice_get (nodes_of f) i
+
+-- the kind of node i; none where there is no node
+abbrev pub kind_of_node : Fabric → ℕ → Option Kind
+kind_of_node f i = option_map (λ n. n.kind) (node_at f i)
+
+-- a node of the kind is a wire
+abbrev pub is_wire : Kind → Bool
+is_wire Source = false
+is_wire Sink = false
+is_wire Opin = false
+is_wire Ipin = false
+is_wire Chanx = true
+is_wire Chany = true
+
+-- node i is a wire
+abbrev pub is_wire_at : Fabric → ℕ → Bool
+is_wire_at f i = option_map_or is_wire (kind_of_node f i) false
 
 -- a kind's place among the kinds
 abbrev pub rank_of_kind : Kind → ℕ

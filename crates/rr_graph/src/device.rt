@@ -1,10 +1,10 @@
 //! The device and its look-ups.
 
-ghost use Rattle.std.specs.Prelude.{◌≡◌, ℕ, ◌+◌, ◌^◌, ◌<◌, ◌≤◌, ◌↔◌, ◌⊎◌, [], length, Contains, true, IfOk, IfSome, OnOk, OnErr, IsOk, Option, Result};
+ghost use Rattle.std.specs.Prelude.{◌≡◌, ℕ, ◌+◌, ◌^◌, ◌<◌, ◌≤◌, ◌↔◌, ◌⊎◌, [], ◌∷◌, length, nat_le, Contains, true, IfOk, IfSome, IsSome, Some, OnOk, OnErr, IsOk, Option, Result};
 ghost use Rattle.std.specs.List.Sorted.{IsStrictlyIncreasing};
 ghost use Rattle.std.specs.Option.{option_map};
 ghost use Rattle.rr_graph.specs.Fabric.{Fabric, IsFabric};
-ghost use Rattle.rr_graph.specs.Nodes.{node_count_of, node_at, number_of, label_of, capacity_of, span_of};
+ghost use Rattle.rr_graph.specs.Nodes.{node_count_of, node_at, kind_of_node, is_wire_at, number_of, label_of, capacity_of, span_of};
 ghost use Rattle.rr_graph.specs.Edges.{edge_between, successors_of, edge_count_of};
 
 use crate::block::Block;
@@ -151,6 +151,15 @@ impl Device {
         self.starts.end
     }
 
+    /// The number of the first wire: all nodes from there on are wires, and none before is one.
+    #[tactic(auto, using(crate::proofs::FirstWire::wires_from, crate::proofs::FirstWire::few_before_wires))]
+    pub fn first_wire(&self) -> u32
+        ensures wires { (i : ℕ) → i < node_count_of self.now → is_wire_at self.now i ≡ nat_le result i }
+        ensures within { result ≤ node_count_of self.now }
+    {
+        self.kind_start(Kind::Chanx)
+    }
+
     /// The node of a number.
     pub fn node(&self, id: u32) -> Option<Node>
         ensures node { result ≡ node_at self.now id }
@@ -162,7 +171,7 @@ impl Device {
 
     /// The kind of the node of a number, found without the node.
     pub fn kind(&self, id: u32) -> Option<Kind>
-        ensures { result ≡ option_map (λ n. n.kind) (node_at self.now id) }
+        ensures { result ≡ kind_of_node self.now id }
     {
         self.kind_of(id)
     }
@@ -215,6 +224,21 @@ impl Device {
         match (self.find(from), self.find(to)) {
             (Some(a), Some(b)) => self.joins(a, b),
             _ => false,
+        }
+    }
+
+    /// The sink to which an input pin leads, and to nothing else; None for what is no input pin.
+    pub fn sink_of(&self, id: u32) -> Option<u32>
+        ensures sink { IfSome result (λ sink. successors_of self.now id ≡ sink ∷ []) }
+        ensures pin { IsSome result ↔ (kind_of_node self.now id ≡ Some Kind.Ipin) }
+    {
+        let _limits = self.nx();
+        match self.kind(id) {
+            Some(Kind::Ipin) => match self.node(id) {
+                Some(pin) => self.sink_beside(pin),
+                None => None,
+            },
+            _ => None,
         }
     }
 
