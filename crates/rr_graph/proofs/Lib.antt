@@ -36,6 +36,7 @@ pub mod Capacities
 pub mod Classes
 pub mod SinksOfPins
 pub mod FirstWire
+pub mod Degrees
 pub mod FirstFaults
 pub mod Problems
 pub mod Ascending

@@ -267,6 +267,19 @@ impl Device {
         count
     }
 
+    /// The most edges that lead from a node: for so many numbers a list of successors needs room.
+    pub fn most_successors(&self) -> usize
+        ensures most { (i : ℕ) → length (successors_of self.now i) ≤ result }
+        ensures reached { (i : ℕ) × (length (successors_of self.now i) ≡ result) }
+        ensures few { result < 2 ^ 23 }
+    {
+        let mut most = 0u32;
+        for id in 0..self.node_count() {
+            most = most.max(self.degree(id));
+        }
+        most as usize
+    }
+
     /// The numbers of the nodes to which an edge leads from node `id`, ascending; none for what is no node.
     /// The list is cleared first; where memory is refused it is left empty.
     #[tactic(auto, using(crate::proofs::NodeSuccessors::no_successors, crate::proofs::NodeSuccessors::node_listed, crate::proofs::NodeSuccessors::node_placed, crate::proofs::Graph::successors_contain, crate::proofs::Graph::successors_ascend))]
