@@ -99,8 +99,7 @@ impl Device {
         if width == 0 || width > 256 {
             return Err(DeviceFault::Width);
         }
-        let layout = Layout::new(alloc, arch, nx, ny, width, mode)?;
-        let device = Device::of_layout(alloc, layout)?;
+        let device = Device::with_mode(alloc, arch, nx, ny, width, mode)?;
         Ok(device)
     }
 
