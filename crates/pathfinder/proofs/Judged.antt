@@ -4,13 +4,14 @@ use Rattle.arch_file.specs.Architecture.{Architecture}
 use Rattle.net_file.specs.Netlist.{Netlist}
 use Rattle.place_file.specs.Placement.{Placement}
 use Rattle.rr_graph.specs.declared.parts.Mode.{Mode}
+use Rattle.rr_graph.specs.Designs.{problem_with}
 use Rattle.rr_graph.specs.Problems.{RoutingProblem}
 use Rattle.route_tree.specs.Paths.{Pair}
 use Rattle.pathfinder.specs.declared.fault.InputFile.TheVariants as file
 use Rattle.pathfinder.specs.declared.fault.AppFault.{AppFault}
 use Rattle.pathfinder.specs.declared.fault.AppFault.TheVariants.{Arch, Net, Place, Route, Unread, Unwritten, Memory}
 use Rattle.pathfinder.specs.Runs.{Input, bytes_in}
-use Rattle.pathfinder.specs.Inputs.{arch_in, netlist_from, netlist_in, placement_in, routing_in, problem_with, judged_for, judged_on, judged_with, judged_in, ends_before}
+use Rattle.pathfinder.specs.Inputs.{arch_in, netlist_from, netlist_in, placement_in, routing_in, judged_for, judged_on, judged_with, judged_in, ends_before}
 
 module _ (netlist : Netlist) (p : RoutingProblem) (route : Input) where
   pub judged_for_fails : (e : AppFault) → routing_in netlist p route ≡ Err e → judged_for netlist p route ≡ Err e

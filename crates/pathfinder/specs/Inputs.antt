@@ -8,7 +8,7 @@ use Rattle.net_file.specs.Reading.{netlist_of}
 use Rattle.place_file.specs.Placement.{Placement}
 use Rattle.place_file.specs.Reading.{placement_of}
 use Rattle.rr_graph.specs.declared.parts.Mode.{Mode}
-use Rattle.rr_graph.specs.Designs.{problem_from}
+use Rattle.rr_graph.specs.Designs.{problem_with}
 use Rattle.rr_graph.specs.Problems.{RoutingProblem}
 use Rattle.route_tree.specs.Paths.{Pair}
 use Rattle.route_file.specs.Reading.{routing_of}
@@ -16,7 +16,6 @@ use Rattle.pathfinder.specs.declared.fault.InputFile.{InputFile}
 use Rattle.pathfinder.specs.declared.fault.InputFile.TheVariants as file
 use Rattle.pathfinder.specs.declared.fault.AppFault.{AppFault}
 use Rattle.pathfinder.specs.declared.fault.AppFault.TheVariants.{Arch, Net, Place, Route, Unread, Unwritten, Memory}
-use Rattle.pathfinder.specs.GraphRun.{fabric_with}
 use Rattle.pathfinder.specs.Runs.{Input, bytes_in, with_fault, ◌>>=◌}
 
 -- ---- what the bytes of a file say
@@ -60,9 +59,6 @@ judged_for netlist problem route =
     routing_in netlist problem route >>= λ routing. Ok (record { netlist = netlist; problem = problem; routing = routing })
 
 -- the device has the size of the placement's array
-abbrev pub problem_with : (width : ℕ) → Mode → Architecture → Netlist → Placement → RoutingProblem
-problem_with width mode a netlist p = problem_from (fabric_with p.nx p.ny width mode a) netlist p
-
 unfoldable pub judged_on : (width : ℕ) → Mode → Architecture → Netlist → (place route : Input) → Result Judged AppFault
 judged_on width mode a netlist place route =
     placement_in a netlist place >>= λ p. judged_for netlist (problem_with width mode a netlist p) route

@@ -9,7 +9,6 @@ ghost use Rattle.pathfinder.specs.Inputs.{ends_before, judged_for, judged_in, ju
 ghost use Rattle.pathfinder.specs.CheckRun.{PrintsVerdict, RunsCheck};
 ghost use Rattle.pathfinder.specs.Verdict.{verdict_text};
 
-use crate::devices::make_problem;
 use crate::fault::{AppFault, InputFile};
 use crate::inputs::{parse_netlist, read_arch, read_input, read_placement, read_routing};
 use crate::verdict::put_verdict;
@@ -101,10 +100,7 @@ fn check_netlist<P: ByteSource, R: ByteSource, W: ByteSink>(
         Ok(placement) => placement,
         Err(fault) => return Err(fault),
     };
-    let problem = match make_problem(rt.alloc(), arch, netlist, &placement, width, mode) {
-        Ok(problem) => problem,
-        Err(fault) => return Err(fault),
-    };
+    let problem = Problem::from_design(rt.alloc(), arch, netlist, &placement, width, mode)?;
     check_problem(rt, netlist, &problem, route, out)
 }
 

@@ -5,9 +5,9 @@ ghost use Rattle.std.specs.Io.KnownBytes.{Keeps};
 ghost use Rattle.pathfinder.specs.Inputs.{arch_in};
 ghost use Rattle.pathfinder.specs.Listing.{listing_of};
 ghost use Rattle.pathfinder.specs.Runs.{Meets, PrintsText};
-ghost use Rattle.pathfinder.specs.GraphRun.{RunsGraph, fabric_with};
+ghost use Rattle.rr_graph.specs.Fabric.{fabric_with};
+ghost use Rattle.pathfinder.specs.GraphRun.{RunsGraph};
 
-use crate::devices::make_device;
 use crate::fault::AppFault;
 use crate::inputs::read_arch;
 use crate::listing::{make_room, put_listing};
@@ -55,9 +55,6 @@ pub fn graph_run<S: ByteSource, W: ByteSink>(
         Ok(arch) => arch,
         Err(fault) => return Err(fault),
     };
-    let device = match make_device(alloc, &arch, nx, ny, width, mode) {
-        Ok(device) => device,
-        Err(fault) => return Err(fault),
-    };
+    let device = Device::with_mode(alloc, &arch, nx, ny, width, mode)?;
     print_listing(alloc, &device, out)
 }

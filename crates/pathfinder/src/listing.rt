@@ -1,6 +1,6 @@
 //! The listing of a device.
 
-ghost use Rattle.std.specs.Prelude.{◌≡◌, ℕ, ◌<◌, ◌≤◌, length, OnOk, Some};
+ghost use Rattle.std.specs.Prelude.{◌≡◌, ℕ, ◌≤◌, length, OnOk, Some};
 ghost use Rattle.std.specs.List.{flat_map};
 ghost use Rattle.vpr_text.specs.Output.{Sends, stream};
 ghost use Rattle.rr_graph.specs.Fabric.{numbers_below};
@@ -103,12 +103,9 @@ fn put_edges_of<W: ByteSink>(
 
 /// Makes room in a list for the successors of any node, so that no later call needs memory.
 pub(crate) fn make_room(device: &Device, list: &mut SmallVec<u32, 8>) -> Result<(), AllocError>
-    ensures { OnOk result ((i : ℕ) → i < node_count_of device.now → length (successors_of device.now i) ≤ list.new.capacity) }
+    ensures { OnOk result ((i : ℕ) → length (successors_of device.now i) ≤ list.new.capacity) }
 {
-    for id in 0..device.node_count() {
-        device.successors(id, list)?;
-        list.reserve(0)?;
-    }
+    list.reserve(device.most_successors())?;
     Ok(())
 }
 
@@ -119,7 +116,7 @@ fn put_edges<W: ByteSink>(
     device: &Device,
     list: &mut SmallVec<u32, 8>,
 )
-    requires { (i : ℕ) → i < node_count_of device.now → length (successors_of device.now i) ≤ list.old.capacity }
+    requires { (i : ℕ) → length (successors_of device.now i) ≤ list.old.capacity }
     ensures { Sends (stream (W.taken sink.old) (W.failed sink.old) out.old) (stream (W.taken sink.new) (W.failed sink.new) out.new) (flat_map (edge_lines_at device.now) (numbers_below (node_count_of device.now))) }
 {
     for id in 0..device.node_count() {
@@ -137,7 +134,7 @@ pub(crate) fn put_listing<W: ByteSink>(
     device: &Device,
     list: &mut SmallVec<u32, 8>,
 )
-    requires { (i : ℕ) → i < node_count_of device.now → length (successors_of device.now i) ≤ list.old.capacity }
+    requires { (i : ℕ) → length (successors_of device.now i) ≤ list.old.capacity }
     ensures { Sends (stream (W.taken sink.old) (W.failed sink.old) out.old) (stream (W.taken sink.new) (W.failed sink.new) out.new) (listing_of device.now) }
 {
     put_counts(out, sink, device.node_count(), device.edge_count());

@@ -6,7 +6,6 @@ mod check_run;
 #[cfg(test)]
 mod check_tests;
 mod command;
-mod devices;
 #[cfg(test)]
 mod fakes;
 mod fault;

@@ -27,7 +27,7 @@ kept_here test m kept n rest true h zero e = subst (λ k. test k ≡ true) (same
 kept_here test m kept n rest true h (suc j) e = rest j e
 kept_here test m kept n rest false h j e = rest j e
 
-kept_passes : (test : ℕ → Bool) (ns : List ℕ) (j n : ℕ) → slice_get (filter test ns) j ≡ Some n → test n ≡ true
+pub kept_passes : (test : ℕ → Bool) (ns : List ℕ) (j n : ℕ) → slice_get (filter test ns) j ≡ Some n → test n ≡ true
 kept_passes test [] j n e = absurd (none-some n e)
 kept_passes test (m ∷ ns) j n e = kept_here test m (filter test ns) n (λ i h. kept_passes test ns i n h) (test m) refl j e
 

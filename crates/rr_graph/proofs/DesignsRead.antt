@@ -1,17 +1,15 @@
 -- A netlist and a placement that were read, for a device's architecture and array, suit the device.
-use Rattle.std.proofs.Common.{◌≡◌, ℕ, zero, suc, ◌+◌, ◌<◌, ◌≤◌, Bool, true, false, max, not, ◌&&◌, ◌||◌, List, [], ◌∷◌, length, All, Option, Some, None, refl, sym, ap, subst, ◌∙◌, arith, zero-add}
+use Rattle.std.proofs.Common.{◌≡◌, ℕ, ◌+◌, ◌<◌, Bool, true, false, not, ◌&&◌, ◌||◌, List, length, All, Option, Some, None, refl, sym, ap, ◌∙◌, arith, zero-add}
 use Rattle.std.specs.Prelude.{◌==◌, nat_le, nat_lt, is_some, slice_get}
-use Rattle.std.specs.List.{list_all, fold}
+use Rattle.std.specs.List.{list_all}
 use Rattle.std.proofs.lemmas.Bool.{and_parts, and_from, or_right, eq-eqb, ltb-true}
 use Rattle.std.proofs.lemmas.Bool.Decides.{nat_tests}
 use Rattle.std.proofs.lemmas.List.Elements.{All-weaker}
 use Rattle.std.proofs.lemmas.List.FromFn.{length-range_with_len, get_or-range_with_len}
 use Rattle.std.proofs.lemmas.List.Sums.{list_all-from_AllPass}
-use Rattle.std.proofs.lemmas.Option.{slice_get-get_or, slice_get_within, get_or_from_slice_get}
-use Rattle.arch_file.specs.Architecture.{Architecture, IsWithinLimits, class_count, class_direction}
+use Rattle.std.proofs.lemmas.Option.{slice_get-get_or}
 use Rattle.arch_file.specs.declared.parts.Direction.{Direction}
 use Rattle.arch_file.specs.declared.parts.Direction.TheVariants.{Input, Output}
-use Rattle.arch_file.specs.declared.parts.Pin.{Pin}
 use Rattle.net_file.specs.declared.parts.BlockKind.{BlockKind}
 use Rattle.net_file.specs.declared.parts.BlockKind.TheVariants.{InputPad, OutputPad, LogicBlock}
 use Rattle.net_file.specs.declared.parts.Terminal.{Terminal}
@@ -27,34 +25,9 @@ use Rattle.rr_graph.specs.declared.parts.Kind.TheVariants.{Source, Sink}
 use Rattle.rr_graph.specs.Designs.{label_on, terminal_node, has_node, has_nodes, has_size_of, are_on_sites, suits_design}
 use Rattle.rr_graph.specs.Fabric.{Fabric, IsFabric, numbers_below, is_block, is_pad}
 use Rattle.rr_graph.specs.Nodes.{numbers_at, terminals_at}
-use Rattle.rr_graph.specs.Pins.{has_direction, classes_of}
-use Rattle.rr_graph.proofs.NodeNumbers.{number_at_place, kept_at, block_within, pad_within, number_itself}
-
--- ---- the classes of an architecture
-
-counted_below : (pins : List Pin) (n : ℕ) → n ≤ fold (λ m p. max m (p.class + 1)) n pins
-counted_below [] n = omega arith
-counted_below (p ∷ pins) n = omega (arith, counted_below pins (max n (p.class + 1)))
-
-class_counted : (pins : List Pin) (n place : ℕ) (pin : Pin) → slice_get pins place ≡ Some pin → pin.class < fold (λ m p. max m (p.class + 1)) n pins
-class_counted [] n place pin e = absurd cc
-class_counted (p ∷ pins) n zero pin e = omega (arith, counted_below pins (max n (p.class + 1)), class_of p pin e)
-  where
-    class_of : (p q : Pin) → Some p ≡ Some q → p.class ≡ q.class
-    class_of p q e = cc
-class_counted (p ∷ pins) n (suc place) pin e = class_counted pins (max n (p.class + 1)) place pin e
-
-same_direction : (d : Direction) → has_direction d (Some d) ≡ true
-same_direction Input = refl
-same_direction Output = refl
-
--- a pin's class is among those of its direction
-class_listed : (a : Architecture) → IsWithinLimits a → (place : ℕ) (pin : Pin) → slice_get a.pins place ≡ Some pin → (j : ℕ) × (slice_get (classes_of a pin.direction) j ≡ Some pin.class)
-unfolding classes_of
-class_listed a limits place pin e =
-    let direction : class_direction a pin.class ≡ Some pin.direction =
-    subst (λ p. class_direction a p.class ≡ Some p.direction) (get_or_from_slice_get a.pins place pin pin e) (limits.one_direction place pin (slice_get_within a.pins place pin e)) in
-    (_, kept_at (λ c. has_direction pin.direction (class_direction a c)) (class_count a) pin.class (ap (has_direction pin.direction) direction ∙ same_direction pin.direction) (class_counted a.pins 0 place pin e))
+use Rattle.rr_graph.specs.Pins.{classes_of}
+use Rattle.rr_graph.proofs.Classes.{class_listed}
+use Rattle.rr_graph.proofs.NodeNumbers.{number_at_place, block_within, pad_within, number_itself}
 
 -- ---- sites on a device
 
@@ -108,7 +81,7 @@ module _ (f : Fabric) (within : IsFabric f) (placement : Placement) (columns : f
   at_block : (drives : Bool) (class : Option ℕ) (s : Site) → IsPin f.architecture.pins (direction_for drives) LogicBlock class → (is_within (array_of f.architecture.io_rat placement) s && s.subblk == 0) ≡ true → Stands drives class s
   at_block drives class s (p, pin, there, directed, is) e =
       let block = block_there s (and_parts (is_within (array_of f.architecture.io_rat placement) s) (s.subblk == 0) e).0 in
-      let listed = class_listed f.architecture within.limits p pin there in
+      let listed = class_listed f.architecture p pin there within.limits in
       let numbers : terminals_at f s.x s.y (classes_of f.architecture (direction_for drives)) ≡ classes_of f.architecture pin.direction = rw block (ap (classes_of f.architecture) (sym directed)) in
       record {
         label = pin.class;

@@ -33,6 +33,10 @@ pub mod OpinWires
 pub mod OpinDegrees
 pub mod NodeSuccessors
 pub mod Capacities
+pub mod Classes
+pub mod SinksOfPins
+pub mod FirstWire
+pub mod Degrees
 pub mod FirstFaults
 pub mod Problems
 pub mod Ascending

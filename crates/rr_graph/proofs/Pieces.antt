@@ -105,13 +105,13 @@ module _ (f : Fabric) where
       ap (λ j. option_map (λ n. n.kind) (node_at f j)) e ∙ ap (option_map (λ n. n.kind)) (kind_at k rest a here) ∙ ap Some (sym (kind_of_member k rest a here))
 
   -- the node is the j-th at the place that its fields name, and i is its number
-  abbrev pub IsPlaced : ℕ → Node → Type 0
-  IsPlaced i a =
+  abbrev pub IsNumbered : ℕ → Node → Type 0
+  IsNumbered i a =
       (j : ℕ) × (a.x < f.nx + 2) × (a.y < f.ny + 2) × (slice_get (numbers_at f a.kind a.x a.y) j ≡ Some a.number)
       × (i ≡ place_start f a.kind a.x a.y + j)
 
   -- a node stands where its own fields say
-  pub place_of_node : (i : ℕ) (a : Node) → node_at f i ≡ Some a → IsPlaced i a
+  pub place_of_node : (i : ℕ) (a : Node) → node_at f i ≡ Some a → IsNumbered i a
   unfolding nodes_of place_start column_start
   place_of_node i a h =
       let of_kind = kind_found 0 kinds i a kinds-follow h in
@@ -122,7 +122,7 @@ module _ (f : Fabric) where
       let y = place.0 in
       let number = slice_get_from_map (node_of k x y) (numbers_at f k x y) place.1 a place.3 in
       let e : i ≡ place_start f k x y + place.1 = omega (arith, of_kind.3, column.4, place.4) in
-      subst (IsPlaced i) {x = node_of k x y number.0} number.2 (place.1, column.2, place.2, number.1, e)
+      subst (IsNumbered i) {x = node_of k x y number.0} number.2 (place.1, column.2, place.2, number.1, e)
 
   -- ---- the successors of a node
   module _ (a : Node) where

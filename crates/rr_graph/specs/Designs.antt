@@ -3,6 +3,7 @@
 use Rattle.std.specs.Prelude.{ℕ, nat_eq, ◌==◌, Bool, true, false, not, ◌&&◌, ◌||◌, List, length, map, filter, Option, Some, None, is_some, unwrap_or, option_and_then, slice_get, slice_index_or}
 use Rattle.std.specs.List.{list_any, list_all}
 use Rattle.std.specs.Option.{option_eq}
+use Rattle.arch_file.specs.Architecture.{Architecture}
 use Rattle.net_file.specs.declared.parts.Terminal.{Terminal}
 use Rattle.net_file.specs.Netlist as netlist
 use Rattle.net_file.specs.Routed.{no_net, is_routed_net, routed_numbers}
@@ -10,7 +11,8 @@ use Rattle.place_file.specs.declared.site.Site.{Site}
 use Rattle.place_file.specs.Placement.{Placement}
 use Rattle.rr_graph.specs.declared.parts.Kind.{Kind}
 use Rattle.rr_graph.specs.declared.parts.Kind.TheVariants.{Source, Sink}
-use Rattle.rr_graph.specs.Fabric.{Fabric, numbers_below, is_block}
+use Rattle.rr_graph.specs.declared.parts.Mode.{Mode}
+use Rattle.rr_graph.specs.Fabric.{Fabric, fabric_with, numbers_below, is_block}
 use Rattle.rr_graph.specs.Nodes.{node_of, node_count_of, number_of}
 use Rattle.rr_graph.specs.Problems.{Net, RoutingProblem}
 
@@ -76,3 +78,7 @@ net_of_design f netlist placement n = net_on_device f placement n (slice_index_o
 -- the routing problem of a placed design: its routed nets, by number
 unfoldable pub problem_from : Fabric → netlist.Netlist → Placement → RoutingProblem
 problem_from f netlist placement = record { device = f; nets = map (net_of_design f netlist placement) (routed_numbers netlist) }
+
+-- the routing problem of a placed design on the device of its array
+abbrev pub problem_with : (width : ℕ) → Mode → Architecture → netlist.Netlist → Placement → RoutingProblem
+problem_with width mode a netlist p = problem_from (fabric_with p.nx p.ny width mode a) netlist p

@@ -14,6 +14,10 @@ pub record Fabric : Type 0 where
   pub width : ℕ
   pub mode : Mode
 
+-- the device of an architecture
+abbrev pub fabric_with : (nx ny width : ℕ) → Mode → Architecture → Fabric
+fabric_with nx ny width mode a = record { architecture = a; nx = nx; ny = ny; width = width; mode = mode }
+
 -- the limits that every device keeps (this project's profile)
 pub record IsFabric (f : Fabric) : Type 0 where
   pub some_columns : 1 ≤ f.nx

@@ -1,6 +1,7 @@
 -- The nodes of a device in their order (Betz, Rose and Marquardt 1999, "routing-resource graph"; the order is this project's).
-use Rattle.std.specs.Prelude.{ℕ, ◌+◌, ◌==◌, Bool, ◌&&◌, nat_le, if◌then◌else◌, List, [], ◌∷◌, length, map, slice_get, Option}
+use Rattle.std.specs.Prelude.{ℕ, ◌+◌, ◌==◌, Bool, true, false, ◌&&◌, nat_le, if◌then◌else◌, List, [], ◌∷◌, length, map, slice_get, Option}
 use Rattle.std.specs.List.{flat_map, filter, position}
+use Rattle.std.specs.Option.{option_map, option_map_or}
 use Rattle.arch_file.specs.Architecture.{class_size}
 use Rattle.arch_file.specs.declared.parts.Direction.TheVariants.{Input, Output}
 use Rattle.rr_graph.specs.declared.parts.Mode.{Mode}
@@ -59,6 +60,23 @@ node_count_of f = length (nodes_of f)
 abbrev pub node_at : Fabric → ℕ → Option Node
 node_at f i = slice_get (nodes_of f) i
 
+-- the kind of node i; none where there is no node
+abbrev pub kind_of_node : Fabric → ℕ → Option Kind
+kind_of_node f i = option_map (λ n. n.kind) (node_at f i)
+
+-- a node of the kind is a wire
+abbrev pub is_wire : Kind → Bool
+is_wire Source = false
+is_wire Sink = false
+is_wire Opin = false
+is_wire Ipin = false
+is_wire Chanx = true
+is_wire Chany = true
+
+-- node i is a wire
+abbrev pub is_wire_at : Fabric → ℕ → Bool
+is_wire_at f i = option_map_or is_wire (kind_of_node f i) false
+
 -- a kind's place among the kinds
 abbrev pub rank_of_kind : Kind → ℕ
 rank_of_kind Source = 0
@@ -88,14 +106,18 @@ label_by Chany block = Track
 abbrev pub label_of : Fabric → Node → Label
 label_of f n = label_by n.kind (is_block f n.x n.y)
 
+-- the pins of a block's class; at a pad one
+abbrev pub terminal_capacity : Fabric → Node → ℕ
+terminal_capacity f n = if is_block f n.x n.y then class_size f.architecture n.number else 1
+
 -- a track is used by one net; the one node of a global channel's place stands for all its tracks
 abbrev pub wire_capacity : Mode → ℕ → ℕ
 wire_capacity Detailed width = 1
 wire_capacity Global width = width
 
 abbrev pub capacity_by : Kind → Fabric → Node → ℕ
-capacity_by Source f n = if is_block f n.x n.y then class_size f.architecture n.number else 1
-capacity_by Sink f n = if is_block f n.x n.y then class_size f.architecture n.number else 1
+capacity_by Source f n = terminal_capacity f n
+capacity_by Sink f n = terminal_capacity f n
 capacity_by Opin f n = 1
 capacity_by Ipin f n = 1
 capacity_by Chanx f n = wire_capacity f.mode f.width

@@ -1,13 +1,15 @@
 -- The places of sources, sinks and pins, and how an output pin reaches wires.
-use Rattle.std.specs.Prelude.{◌≡◌, ℕ, ◌+◌, ◌-◌, ◌≤◌, ◌<◌, ◌==◌, false, true, if◌then◌else◌, List, [], ◌++◌, slice_get, Option, Some, None}
+use Rattle.std.specs.Prelude.{◌≡◌, ℕ, ◌+◌, ◌-◌, ◌≤◌, ◌<◌, ◌==◌, false, true, if◌then◌else◌, List, [], ◌++◌, slice_get, option_and_then, Option, Some, None}
+use Rattle.std.specs.Option.{option_map}
 use Rattle.arch_file.specs.declared.parts.Sides.{Sides}
 use Rattle.arch_file.specs.declared.parts.Pin.{Pin}
 use Rattle.rr_graph.specs.declared.parts.Node.{Node}
 use Rattle.rr_graph.specs.declared.opins.Tapper.{Tapper}
-use Rattle.rr_graph.specs.declared.parts.Kind.TheVariants.{Chanx, Chany}
+use Rattle.rr_graph.specs.declared.parts.Kind.TheVariants.{Sink, Chanx, Chany}
 use Rattle.rr_graph.specs.Fabric.{Fabric, numbers_below, is_block, is_pad}
 use Rattle.rr_graph.specs.Wires.{tracks_in}
 use Rattle.rr_graph.specs.Pins.{tap_count, when}
+use Rattle.rr_graph.specs.Nodes.{node_of, number_of}
 use Rattle.rr_graph.specs.Channels.{first_of}
 use Rattle.rr_graph.specs.WireSuccessors.{wire_id}
 use Rattle.rr_graph.specs.PinSuccessors.{taps_track, tapped_chanx, tapped_rows, tapped_column}
@@ -18,6 +20,14 @@ pub record IsTerminal (f : Fabric) (x y number : ℕ) : Type 0 where
   pub row : y ≤ f.ny + 1
   pub small : number < 256
   pub around : is_block f x y ≡ false → is_pad f x y ≡ true
+
+-- what the sink of an input pin, a node of kind Ipin, is numbered by: the pin's class at a block, its position at a pad
+abbrev pub sink_label : Fabric → Node → Option ℕ
+sink_label f pin = if is_block f pin.x pin.y then option_map (λ p. p.class) (slice_get f.architecture.pins pin.number) else Some pin.number
+
+-- the sink of that number at the pin's place
+abbrev pub sink_beside : Fabric → Node → Option ℕ
+sink_beside f pin = option_and_then (λ number. number_of f (node_of Sink pin.x pin.y number)) (sink_label f pin)
 
 -- count is how many tracks a pin taps by Fc
 pub record IsTapper (f : Fabric) (t : Tapper) : Type 0 where

@@ -15,9 +15,9 @@ use crate::device::Device;
 use crate::layout::Layout;
 use crate::parts::{Kind, Node};
 
-/// A column or a row, and how many nodes stand before a node there.
+/// A place in a column or a row: the line, and how many nodes stand before it there.
 #[derive(Clone, Copy, Debug)]
-struct Found {
+struct LinePlace {
     line: u32,
     rest: u32,
 }
@@ -25,7 +25,7 @@ struct Found {
 impl Layout {
     /// The column of a terminal or pin, before which `at` stand, where a block has `count`.
     #[tactic(auto, unfolding(crate::specs::Numbering::columns_length, crate::specs::Numbering::column_length, crate::specs::Numbering::terminals_length))]
-    fn column_found(&self, count: u32, at: u32) -> Found
+    fn column_found(&self, count: u32, at: u32) -> LinePlace
         requires few { count ≤ 64 }
         requires within { at < terminals_length self.now count }
         ensures within { result.line ≤ self.now.nx + 1 }
@@ -36,17 +36,17 @@ impl Layout {
         let side = self.ny * pads;
         let inner = 2 * pads + self.ny * count;
         if at < side {
-            return Found { line: 0, rest: at };
+            return LinePlace { line: 0, rest: at };
         }
         let behind = at - side;
         let passed = behind / inner;
         if passed < self.nx {
-            Found {
+            LinePlace {
                 line: passed + 1,
                 rest: behind % inner,
             }
         } else {
-            Found {
+            LinePlace {
                 line: self.nx + 1,
                 rest: behind - self.nx * inner,
             }
@@ -54,7 +54,7 @@ impl Layout {
     }
 
     /// The row of a terminal or pin in a column of blocks, before which `rest` stand there.
-    fn inner_row_found(&self, count: u32, rest: u32) -> Found
+    fn inner_row_found(&self, count: u32, rest: u32) -> LinePlace
         requires few { count ≤ 64 }
         requires within { rest < 2 * self.now.architecture.io_rat + self.now.ny * count }
         ensures within { result.line ≤ self.now.ny + 1 }
@@ -63,16 +63,16 @@ impl Layout {
     {
         let pads = self.arch.io_rat();
         if rest < pads {
-            return Found { line: 0, rest };
+            return LinePlace { line: 0, rest };
         }
         let behind = rest - pads;
         if behind < self.ny * count {
-            Found {
+            LinePlace {
                 line: behind / count + 1,
                 rest: behind % count,
             }
         } else {
-            Found {
+            LinePlace {
                 line: self.ny + 1,
                 rest: behind - self.ny * count,
             }
@@ -80,7 +80,7 @@ impl Layout {
     }
 
     /// The row of a pad in a column beside the blocks.
-    fn side_row_found(&self, rest: u32) -> Found
+    fn side_row_found(&self, rest: u32) -> LinePlace
         requires { rest < self.now.ny * self.now.architecture.io_rat }
         ensures from { 1 ≤ result.line }
         ensures within { result.line ≤ self.now.ny }
@@ -88,7 +88,7 @@ impl Layout {
         ensures rest { result.rest < self.now.architecture.io_rat }
     {
         let pads = self.arch.io_rat();
-        Found {
+        LinePlace {
             line: rest / pads + 1,
             rest: rest % pads,
         }
@@ -176,7 +176,7 @@ impl Layout {
 
     /// The column of a terminal or pin of a kind before which `at` of the kind stand.
     #[tactic(auto, using(crate::proofs::PlaceStarts::terminal_length, crate::proofs::NodesFound::terminal_column))]
-    fn column_of(&self, block: &Block, kind: Kind, at: u32) -> Found
+    fn column_of(&self, block: &Block, kind: Kind, at: u32) -> LinePlace
         requires block { IsBlock self.now block.now }
         requires terminal { is_terminal kind ≡ true }
         requires within { at < kind_length self.now kind }

@@ -1,10 +1,10 @@
 //! The device and its look-ups.
 
-ghost use Rattle.std.specs.Prelude.{◌≡◌, ℕ, ◌+◌, ◌^◌, ◌<◌, ◌≤◌, ◌↔◌, ◌⊎◌, [], length, Contains, true, IfOk, IfSome, OnOk, OnErr, IsOk, Option, Result};
+ghost use Rattle.std.specs.Prelude.{◌≡◌, ℕ, ◌+◌, ◌^◌, ◌<◌, ◌≤◌, ◌↔◌, ◌⊎◌, [], ◌∷◌, length, nat_le, Contains, true, IfOk, IfSome, IsSome, Some, OnOk, OnErr, IsOk, Option, Result};
 ghost use Rattle.std.specs.List.Sorted.{IsStrictlyIncreasing};
 ghost use Rattle.std.specs.Option.{option_map};
 ghost use Rattle.rr_graph.specs.Fabric.{Fabric, IsFabric};
-ghost use Rattle.rr_graph.specs.Nodes.{node_count_of, node_at, number_of, label_of, capacity_of, span_of};
+ghost use Rattle.rr_graph.specs.Nodes.{node_count_of, node_at, kind_of_node, is_wire_at, number_of, label_of, capacity_of, span_of};
 ghost use Rattle.rr_graph.specs.Edges.{edge_between, successors_of, edge_count_of};
 
 use crate::block::Block;
@@ -99,8 +99,7 @@ impl Device {
         if width == 0 || width > 256 {
             return Err(DeviceFault::Width);
         }
-        let layout = Layout::new(alloc, arch, nx, ny, width, mode)?;
-        let device = Device::of_layout(alloc, layout)?;
+        let device = Device::with_mode(alloc, arch, nx, ny, width, mode)?;
         Ok(device)
     }
 
@@ -151,6 +150,15 @@ impl Device {
         self.starts.end
     }
 
+    /// The number of the first wire: all nodes from there on are wires, and none before is one.
+    #[tactic(auto, using(crate::proofs::FirstWire::wires_from, crate::proofs::FirstWire::few_before_wires))]
+    pub fn first_wire(&self) -> u32
+        ensures wires { (i : ℕ) → i < node_count_of self.now → is_wire_at self.now i ≡ nat_le result i }
+        ensures within { result ≤ node_count_of self.now }
+    {
+        self.kind_start(Kind::Chanx)
+    }
+
     /// The node of a number.
     pub fn node(&self, id: u32) -> Option<Node>
         ensures node { result ≡ node_at self.now id }
@@ -162,7 +170,7 @@ impl Device {
 
     /// The kind of the node of a number, found without the node.
     pub fn kind(&self, id: u32) -> Option<Kind>
-        ensures { result ≡ option_map (λ n. n.kind) (node_at self.now id) }
+        ensures { result ≡ kind_of_node self.now id }
     {
         self.kind_of(id)
     }
@@ -182,11 +190,19 @@ impl Device {
         self.id_of(node)
     }
 
-    /// How many nets may use a node.
+    /// How many nets may use a node. The node is looked for only where it is a source or a sink.
     pub fn capacity(&self, id: u32) -> Option<u32>
         ensures { result ≡ option_map (capacity_of self.now) (node_at self.now id) }
     {
-        self.node(id).map(|node| self.layout.capacity_of(node))
+        match self.kind(id) {
+            None => None,
+            Some(Kind::Source | Kind::Sink) => {
+                self.node(id)
+                    .map(|node| self.layout.terminal_capacity(node))
+            }
+            Some(Kind::Opin | Kind::Ipin) => Some(1),
+            Some(Kind::Chanx | Kind::Chany) => Some(self.layout.wire_capacity()),
+        }
     }
 
     /// The first and the last place of a node; only those of a wire may differ.
@@ -207,6 +223,21 @@ impl Device {
         match (self.find(from), self.find(to)) {
             (Some(a), Some(b)) => self.joins(a, b),
             _ => false,
+        }
+    }
+
+    /// The sink to which an input pin leads, and to nothing else; None for what is no input pin.
+    pub fn sink_of(&self, id: u32) -> Option<u32>
+        ensures sink { IfSome result (λ sink. successors_of self.now id ≡ sink ∷ []) }
+        ensures pin { IsSome result ↔ (kind_of_node self.now id ≡ Some Kind.Ipin) }
+    {
+        let _limits = self.nx();
+        match self.kind(id) {
+            Some(Kind::Ipin) => match self.node(id) {
+                Some(pin) => self.sink_beside(pin),
+                None => None,
+            },
+            _ => None,
         }
     }
 
@@ -233,6 +264,19 @@ impl Device {
             count += u64::from(self.degree(id));
         }
         count
+    }
+
+    /// The most edges that lead from a node: for so many numbers a list of successors needs room.
+    pub fn most_successors(&self) -> usize
+        ensures most { (i : ℕ) → length (successors_of self.now i) ≤ result }
+        ensures reached { (i : ℕ) × (length (successors_of self.now i) ≡ result) }
+        ensures few { result < 2 ^ 23 }
+    {
+        let mut most = 0u32;
+        for id in 0..self.node_count() {
+            most = most.max(self.degree(id));
+        }
+        most as usize
     }
 
     /// The numbers of the nodes to which an edge leads from node `id`, ascending; none for what is no node.

@@ -14,6 +14,7 @@ mod fault;
 mod found;
 mod ids;
 mod layout;
+mod making;
 mod nets;
 mod nodes;
 mod numbering;

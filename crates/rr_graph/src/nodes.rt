@@ -1,10 +1,8 @@
-//! What a node is: its label, its capacity and its span.
+//! What a node is: its label, its capacity by its kind, and its span.
 
-ghost use Rattle.std.specs.Prelude.{◌≡◌, if◌then◌else◌};
-ghost use Rattle.arch_file.specs.Architecture.{class_size};
-ghost use Rattle.rr_graph.specs.Fabric.{is_block};
+ghost use Rattle.std.specs.Prelude.{◌≡◌};
 ghost use Rattle.rr_graph.specs.Wires.{last_by};
-ghost use Rattle.rr_graph.specs.Nodes.{label_of, wire_capacity, capacity_of, span_of};
+ghost use Rattle.rr_graph.specs.Nodes.{label_of, terminal_capacity, wire_capacity, span_of};
 
 use crate::layout::Layout;
 use crate::parts::{Kind, Label, Mode, Node, Span};
@@ -25,10 +23,9 @@ impl Layout {
         }
     }
 
-    /// The pins of a block's class; 1 at a pad.
-    fn terminal_capacity(&self, node: Node) -> u32
-        ensures { result
-            ≡ (if is_block self.now node.x node.y then class_size self.now.architecture node.number else 1) }
+    /// How many nets may use a source or a sink: the pins of a block's class; 1 at a pad.
+    pub(crate) fn terminal_capacity(&self, node: Node) -> u32
+        ensures { result ≡ terminal_capacity self.now node }
     {
         if self.is_block(node.x, node.y) {
             self.arch.class_size(node.number) as u32
@@ -37,26 +34,13 @@ impl Layout {
         }
     }
 
-    fn wire_capacity(&self) -> u32
+    /// How many nets may use a wire.
+    pub(crate) fn wire_capacity(&self) -> u32
         ensures { result ≡ wire_capacity self.now.mode self.now.width }
     {
         match self.mode {
             Mode::Detailed => 1,
             Mode::Global => self.width,
-        }
-    }
-
-    /// How many nets may use the node.
-    pub(crate) fn capacity_of(&self, node: Node) -> u32
-        ensures { result ≡ capacity_of self.now node }
-    {
-        match node.kind {
-            Kind::Source => self.terminal_capacity(node),
-            Kind::Sink => self.terminal_capacity(node),
-            Kind::Opin => 1,
-            Kind::Ipin => 1,
-            Kind::Chanx => self.wire_capacity(),
-            Kind::Chany => self.wire_capacity(),
         }
     }
 

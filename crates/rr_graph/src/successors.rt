@@ -5,7 +5,7 @@ ghost use Rattle.std.specs.List.{range_with_len, flat_map};
 ghost use Rattle.smallvec.specs.SmallVec.{HasRoomFor};
 ghost use Rattle.rr_graph.specs.Fabric.{IsFabric};
 ghost use Rattle.rr_graph.specs.Pushes.{Pushes};
-ghost use Rattle.rr_graph.specs.NodeSuccessors.{node_successors, IsPlaced};
+ghost use Rattle.rr_graph.specs.NodeSuccessors.{node_successors, IsAtPlace};
 ghost use Rattle.rr_graph.specs.Wires.{tracks_in, begins, steps_of, last_of, places_of};
 ghost use Rattle.rr_graph.specs.Channels.{first_of, meeting_of, beside_of};
 ghost use Rattle.rr_graph.specs.Starts.{place_start};
@@ -334,7 +334,7 @@ impl Device {
     /// How many successors a node has.
     #[tactic(auto)]
     pub(crate) fn degree_of(&self, node: Node) -> u32
-        requires { IsPlaced self.now node }
+        requires { IsAtPlace self.now node }
         ensures { result ≡ length (node_successors self.now node) }
     {
         match node.kind {
@@ -351,7 +351,7 @@ impl Device {
     #[tactic(auto, using(crate::proofs::Pushes::pushed_none))]
     pub(crate) fn push_successors(&self, list: &mut SmallVec<u32, 8>, node: Node)
         requires room { HasRoomFor list.old (length (node_successors self.now node)) }
-        requires place { IsPlaced self.now node }
+        requires place { IsAtPlace self.now node }
         ensures { Pushes list.old (node_successors self.now node) list.new }
     {
         match node.kind {
@@ -413,7 +413,7 @@ impl Device {
     /// Pushes the successors of a node, if memory is found for all of them.
     #[tactic(auto)]
     pub(crate) fn fill(&self, list: &mut SmallVec<u32, 8>, node: Node) -> Result<(), AllocError>
-        requires { IsPlaced self.now node }
+        requires { IsAtPlace self.now node }
         ensures filled { OnOk result (list.new.items ≡ list.old.items ++ node_successors self.now node) }
         ensures refused { OnErr result (list.new ≡ list.old) }
         ensures room { HasRoomFor list.old (length (node_successors self.now node)) → IsOk result }

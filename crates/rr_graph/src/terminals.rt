@@ -8,7 +8,7 @@ ghost use Rattle.rr_graph.specs.Picks.{picks};
 ghost use Rattle.rr_graph.specs.Starts.{place_start};
 ghost use Rattle.rr_graph.specs.PinSuccessors.{source_successors, sink_of_pin, ipin_successors};
 ghost use Rattle.rr_graph.specs.Pushes.{Pushes};
-ghost use Rattle.rr_graph.specs.Terminals.{IsTerminal};
+ghost use Rattle.rr_graph.specs.Terminals.{IsTerminal, sink_label, sink_beside};
 
 use crate::device::Device;
 use crate::fanout::push_if;
@@ -160,5 +160,29 @@ impl Device {
         } else {
             1
         }
+    }
+
+    /// What the sink of an input pin is numbered by: the pin's class at a block, its position at a pad.
+    fn sink_label(&self, pin: Node) -> Option<u32>
+        ensures { result ≡ sink_label self.now pin }
+    {
+        if self.layout.is_block(pin.x, pin.y) {
+            self.layout.pin(pin.number).map(|pin| pin.class)
+        } else {
+            Some(pin.number)
+        }
+    }
+
+    /// The sink of an input pin, at the pin's place.
+    pub(crate) fn sink_beside(&self, pin: Node) -> Option<u32>
+        ensures { result ≡ sink_beside self.now pin }
+    {
+        let number = self.sink_label(pin)?;
+        self.id_of(Node {
+            kind: Kind::Sink,
+            x: pin.x,
+            y: pin.y,
+            number,
+        })
     }
 }

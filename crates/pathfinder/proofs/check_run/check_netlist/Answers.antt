@@ -1,10 +1,7 @@
-use Rattle.std.proofs.Common.{◌≡◌, Err, ap, map, subst, sym, ◌∙◌}
-use Rattle.net_file.specs.Routed.{routed_numbers}
+use Rattle.std.proofs.Common.{Err, ap, subst, sym, ◌∙◌}
 use Rattle.rr_graph.specs.Problems.{RoutingProblem}
 use Rattle.pathfinder.specs.CheckRun.{PrintsVerdict, RunsCheck}
-use Rattle.pathfinder.specs.GraphRun.{fabric_with}
 use Rattle.pathfinder.specs.Inputs.{judged_for, judged_on}
-use Rattle.rr_graph.proofs.Designs.{numbers_kept}
 use Rattle.pathfinder.proofs.Judged.{ends_late, judged_on_fails, judged_on_goes}
 use Rattle.pathfinder.proofs.Stages.{meets_any, meets_so, stops}
 use Rattle.pathfinder.proofs.check_run.check_netlist.Goals as goal
@@ -23,10 +20,7 @@ returns-in-Err-clause-runs g c =
     (judged_on_fails c.args.width c.args.mode a netlist p r c.in-Err.fault (h (λ e. ne (ap Err e))))))
 
 pub check_problem-requires-after_bounds : goal.check_problem-requires-after_bounds
-check_problem-requires-after_bounds g c =
-    let p = c.in-Ok.placement in
-    λ bounds lives. subst (λ (q : RoutingProblem). map (λ n. n.number) q.nets ≡ routed_numbers c.args.netlist.now) (sym c.in-Ok-make_problem.ensures.made)
-    (numbers_kept (fabric_with p.nx p.ny c.args.width c.args.mode c.args.arch.now) c.args.netlist.now p)
+check_problem-requires-after_bounds g c = λ bounds lives. c.in_ok-problem.ensures.numbers
 
 pub returns-clause-runs : goal.returns-clause-runs
 returns-clause-runs g c =
@@ -38,7 +32,7 @@ returns-clause-runs g c =
     λ ne. meets_so (place.remaining c.args.place.now) (place.failed c.read_placement.new.source) c.in-Ok.ensures.given
     (λ p h. meets_so (route.remaining c.args.route.now) (route.failed c.check_problem.new.route) (c.check_problem.ensures.runs ne)
     (λ r runs. subst (λ given. RunsCheck (sink.failed c.check_problem.new.out) (sink.taken c.args.out.now) (sink.taken c.check_problem.new.out) given c.check_problem.result)
-    (sym (judged_on_goes c.args.width c.args.mode a netlist p r c.in-Ok.placement h ∙ ap (λ (q : RoutingProblem). judged_for netlist q r) (sym c.in-Ok-make_problem.ensures.made))) runs))
+    (sym (judged_on_goes c.args.width c.args.mode a netlist p r c.in-Ok.placement h ∙ ap (λ (q : RoutingProblem). judged_for netlist q r) (sym c.in_ok-problem.ensures.made))) runs))
 
 pub returns-clause-turn : goal.returns-clause-turn
 returns-clause-turn g c = ends_late c.check_problem.result c.check_problem.ensures.turn
