@@ -12,7 +12,7 @@ use std::marker::Model;
 
 /// A node of the device.
 #[derive(Clone, Copy, Debug)]
-pub(crate) struct Found {
+pub(crate) struct FoundNode {
     pub(crate) id: u32,
     pub(crate) node: Node,
     /// Its last place along its channel; of no wire its x.
@@ -22,12 +22,12 @@ pub(crate) struct Found {
 impl Device {
     /// The node of a number.
     #[inline(always)]
-    pub(crate) fn find(&self, id: u32) -> Option<Found>
+    pub(crate) fn find(&self, id: u32) -> Option<FoundNode>
         ensures { IsFoundAt self.now id result }
     {
         match self.node_of(id) {
             None => None,
-            Some(node) => Some(Found {
+            Some(node) => Some(FoundNode {
                 id,
                 node,
                 last: self.last_of(id, node),
@@ -37,7 +37,7 @@ impl Device {
 
     /// The node of a number, where it may be the one that was found before.
     #[inline(always)]
-    fn find_again(&self, before: Option<Found>, id: u32) -> Option<Found>
+    fn find_again(&self, before: Option<FoundNode>, id: u32) -> Option<FoundNode>
         requires { MayBeFound self.now before }
         ensures { IsFoundAt self.now id result }
     {
@@ -52,7 +52,7 @@ impl Device {
     /// Whether an edge leads from one node to the other.
     #[inline(always)]
     #[tactic(auto, unfolding(crate::specs::Edges::edge_between))]
-    pub(crate) fn joins(&self, from: Found, to: Found) -> bool
+    pub(crate) fn joins(&self, from: FoundNode, to: FoundNode) -> bool
         requires from { IsFound self.now from }
         requires to { IsFound self.now to }
         ensures { result ≡ edge_between self.now from.id to.id }
@@ -64,7 +64,7 @@ impl Device {
     /// The node in which the pair ends, where it is an edge.
     #[inline(always)]
     #[tactic(auto, unfolding(crate::specs::Edges::edge_between))]
-    fn follow(&self, before: Option<Found>, pair: (u32, u32)) -> Option<Found>
+    fn follow(&self, before: Option<FoundNode>, pair: (u32, u32)) -> Option<FoundNode>
         requires { MayBeFound self.now before }
         ensures { TellsEdge self.now pair result }
     {
