@@ -8,6 +8,8 @@ mod copies;
 #[cfg(test)]
 mod devices;
 #[cfg(test)]
+mod finders;
+#[cfg(test)]
 mod plain;
 #[cfg(test)]
 mod plain_edges;
