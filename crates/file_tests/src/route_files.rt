@@ -1,4 +1,4 @@
-//! `.route` files of small designs: what is read of them, and which fault each has.
+//! `.route` files of small designs: what is read of them.
 
 use crate::matching::is_for;
 use net_file::Netlist;
@@ -9,7 +9,6 @@ use samples::{CLOCKED, LONG_WIRES, ONE_BLOCK, arch, device_again, net};
 use std::alloc::{AllocError, Global};
 use std::process::Abort;
 use std::test::Fail;
-use vpr_text::TextFault;
 
 /// A pad's net to a block, and the block's to another pad.
 pub(crate) const THREE: &str =
@@ -72,19 +71,6 @@ fn read(
 ) -> Result<Routing, RouteFileFault> {
     assert!(rt; is_for(netlist, problem));
     route_file::parse(rt.alloc(), source, netlist, problem)
-}
-
-/// The fault of a file, if it has one.
-fn fault(
-    rt: &(impl Abort + AllocGlobal),
-    netlist: &Netlist,
-    problem: &Problem,
-    source: &[u8],
-) -> Option<RouteFileFault> {
-    match read(rt, netlist, problem, source) {
-        Ok(_) => None,
-        Err(fault) => Some(fault),
-    }
 }
 
 /// Whether the list is this one, or none where that is wanted.
@@ -159,21 +145,6 @@ fn three(rt: &impl AllocGlobal) -> Result<Design, Fail> {
     make_design(rt, ONE_BLOCK, ONE, THREE, &[(0, 0, &[13]), (1, 4, &[16])])
 }
 
-/// Each change of one line makes this fault.
-fn expect_faults(
-    rt: &(impl Abort + AllocGlobal),
-    design: &Design,
-    lines: &[&str],
-    changes: &[(usize, &str, RouteFileFault)],
-) -> Result<(), Fail> {
-    for (line, text, want) in changes {
-        let file = with_line(rt.alloc(), lines, *line, text)?;
-        let found = fault(rt, &design.netlist, &design.problem, &file);
-        assert!(rt; found == Some(*want), "line {line}: {text}");
-    }
-    Ok(())
-}
-
 /// Each change of one line leaves the first list as it is wanted.
 fn expect_list(
     rt: &(impl Abort + AllocGlobal),
@@ -188,16 +159,6 @@ fn expect_list(
         check_list(rt, &routing, 0, want);
     }
     Ok(())
-}
-
-fn expect_fault(
-    rt: &(impl Abort + AllocGlobal),
-    design: &Design,
-    source: &[u8],
-    want: RouteFileFault,
-) {
-    let found = fault(rt, &design.netlist, &design.problem, source);
-    assert!(rt; found == Some(want));
 }
 
 /// A file is read as two lists.
@@ -221,181 +182,11 @@ fn reads_the_pairs(rt: HostRuntime) -> Result<(), Fail> {
     expect_two(&rt, &three(&rt)?, &file, Some(&FIRST), Some(&SECOND))
 }
 
-const HEAD_FAULTS: [(usize, &str, RouteFileFault); 10] = [
-    (
-        1,
-        "Array size: 2 x 1 logic blocks.",
-        RouteFileFault::ArraySize(1),
-    ),
-    (
-        1,
-        "Array size: 1 x 2 logic blocks",
-        RouteFileFault::ArraySize(1),
-    ),
-    (
-        1,
-        "Array size: 1 x 1 logic blocks .",
-        RouteFileFault::BadLine(1),
-    ),
-    (
-        1,
-        "Array size: 1 x 1 logic blocks..",
-        RouteFileFault::BadLine(1),
-    ),
-    (
-        1,
-        "Array size: 4294967296 x 1 logic blocks.",
-        RouteFileFault::BadLine(1),
-    ),
-    (1, "Array size: 1 x 1 logic", RouteFileFault::BadLine(1)),
-    (1, "", RouteFileFault::BadLine(3)),
-    (3, "Routing", RouteFileFault::BadLine(3)),
-    (3, "Routing: 1", RouteFileFault::BadLine(3)),
-    (3, "", RouteFileFault::BadLine(5)),
-];
-
-const NET_FAULTS: [(usize, &str, RouteFileFault); 14] = [
-    (5, "Net 0 (q)", RouteFileFault::UnknownNet(5)),
-    (5, "Net 0 ()", RouteFileFault::UnknownNet(5)),
-    (5, "Net 0 (a))", RouteFileFault::UnknownNet(5)),
-    (
-        5,
-        "Net 0 (a): global net connecting:",
-        RouteFileFault::UnknownNet(5),
-    ),
-    (14, "Net 1 (a)", RouteFileFault::NetTwice(14)),
-    (14, "Net 1 (b)", RouteFileFault::UnknownNet(14)),
-    (5, "Net x (a)", RouteFileFault::BadLine(5)),
-    (5, "Net 0 a", RouteFileFault::BadLine(5)),
-    (5, "Net 0 (", RouteFileFault::BadLine(5)),
-    (5, "Net 0 (a):", RouteFileFault::BadLine(5)),
-    (5, "Net 0 (a) b", RouteFileFault::BadLine(5)),
-    (5, "Net", RouteFileFault::BadLine(5)),
-    (
-        5,
-        "Block a (0) at (0,1), pinclass -1.",
-        RouteFileFault::BadLine(5),
-    ),
-    (5, "", RouteFileFault::BadLine(7)),
-];
-
-const NODE_FAULTS: [(usize, &str, RouteFileFault); 16] = [
-    (9, " CHANY (0,1)  Track: 1", RouteFileFault::NoNode(9)),
-    (9, " CHANY (0,2)  Track: 0", RouteFileFault::NoNode(9)),
-    (
-        9,
-        " CHANY (0,1) to (0,2)  Track: 0",
-        RouteFileFault::NoNode(9),
-    ),
-    (7, "SOURCE (0,1)  Class: 0", RouteFileFault::NoNode(7)),
-    (12, "  SINK (1,1)  Pad: 0", RouteFileFault::NoNode(12)),
-    (8, "  OPIN (0,1)  Pin: 0", RouteFileFault::NoNode(8)),
-    (11, "  IPIN (1,1)  Pad: 0", RouteFileFault::NoNode(11)),
-    (7, "SOURCE (0,1)  Pin: 0", RouteFileFault::BadLine(7)),
-    (8, "  OPIN (0,1)  Class: 0", RouteFileFault::BadLine(8)),
-    (9, " CHANY (0,1)  Pad: 0", RouteFileFault::BadLine(9)),
-    (
-        11,
-        "  IPIN (1,1) to (1,1)  Pin: 0",
-        RouteFileFault::BadLine(11),
-    ),
-    (
-        9,
-        " CHANY (0,1) too (0,1)  Track: 0",
-        RouteFileFault::BadLine(9),
-    ),
-    (9, " CHANY (0,1)  Track: 0 0", RouteFileFault::BadLine(9)),
-    (
-        9,
-        " CHANY (0,1,1) to (0,1)  Track: 0",
-        RouteFileFault::BadLine(9),
-    ),
-    (9, " CHANZ (0,1)  Track: 0", RouteFileFault::BadLine(9)),
-    (
-        9,
-        "Block a (0) at (0,1), pinclass -1.",
-        RouteFileFault::BadLine(9),
-    ),
-];
-
-/// Forms that are read as the lines that they stand for.
-const SAME: [(usize, &str); 9] = [
-    (1, "Array size: 1 x 1 logic blocks"),
-    (5, "Net 4294967295 (a)"),
-    (9, " CHANY (0,1) to (0,1)  Track: 0"),
-    (9, "CHANY(0,1)to(0,1)Track: 0"),
-    (9, "CHANY 0 1 Track: 00"),
-    (9, "(CHANY,(0,,1))Track:)0 # a comment"),
-    (13, "  SINK (1,1)  Class: 0"),
-    (13, " CHANY (0,1)  Track: 0"),
-    (13, "SOURCE (0,1)  Pad: 0"),
-];
-
-#[test]
-fn names_the_faults_of_the_head(rt: HostRuntime) -> Result<(), Fail> {
-    expect_faults(&rt, &three(&rt)?, &THREE_LINES, &HEAD_FAULTS)
-}
-
-#[test]
-fn names_the_faults_of_nets(rt: HostRuntime) -> Result<(), Fail> {
-    expect_faults(&rt, &three(&rt)?, &THREE_LINES, &NET_FAULTS)
-}
-
-#[test]
-fn names_the_faults_of_nodes(rt: HostRuntime) -> Result<(), Fail> {
-    expect_faults(&rt, &three(&rt)?, &THREE_LINES, &NODE_FAULTS)
-}
-
-#[test]
-fn reads_other_forms(rt: HostRuntime) -> Result<(), Fail> {
-    expect_list(&rt, &three(&rt)?, &THREE_LINES, &SAME, Some(&FIRST))
-}
-
-const OFF_THE_TREE: [(usize, &str, RouteFileFault); 2] = [
-    (13, " CHANY (1,1)  Track: 0", RouteFileFault::Detached(13)),
-    (13, " CHANY (1,1)  Track: 1", RouteFileFault::NoNode(13)),
-];
-
-#[test]
-fn names_a_path_off_the_tree(rt: HostRuntime) -> Result<(), Fail> {
-    expect_faults(&rt, &three(&rt)?, &THREE_LINES, &OFF_THE_TREE)
-}
-
-const BLOCKS: &[u8] = b"Array size: 1 x 1 logic blocks.\n\nRouting:\n";
-
-fn expect_ends(rt: &(impl Abort + AllocGlobal), design: &Design) {
-    expect_fault(rt, design, b"", RouteFileFault::BadLine(0));
-    expect_fault(
-        rt,
-        design,
-        b"Array size: 1 x 1 logic blocks.\n\n",
-        RouteFileFault::BadLine(0),
-    );
-    expect_fault(
-        rt,
-        design,
-        b"Array size: 1 x 1 logic blocks.\n\x01\nRouting:\n",
-        RouteFileFault::Text(TextFault::BadByte(2)),
-    );
-}
-
-#[test]
-fn names_the_ends_of_files(rt: HostRuntime) -> Result<(), Fail> {
-    expect_ends(&rt, &three(&rt)?);
-    Ok(())
-}
+const HEAD: &[u8] = b"Array size: 1 x 1 logic blocks.\n\nRouting:\n";
 
 #[test]
 fn reads_a_file_without_nets(rt: HostRuntime) -> Result<(), Fail> {
-    expect_two(&rt, &three(&rt)?, BLOCKS, None, None)
-}
-
-#[test]
-fn refuses_a_file_twice(rt: HostRuntime) -> Result<(), Fail> {
-    let mut file = with_line(rt.alloc(), &THREE_LINES, 0, "")?;
-    file.extend_from_slice(&with_line(rt.alloc(), &THREE_LINES, 0, "")?)?;
-    expect_fault(&rt, &three(&rt)?, &file, RouteFileFault::BadLine(21));
-    Ok(())
+    expect_two(&rt, &three(&rt)?, HEAD, None, None)
 }
 
 /// A net from a logic block to another one and to a pad.
@@ -437,11 +228,6 @@ const FORK_PAIRS: [(u32, u32); 10] = [
     (81, 31),
 ];
 
-const FORK_FAULTS: [(usize, &str, RouteFileFault); 2] = [
-    (13, "CHANY (0,1)  Track: 0", RouteFileFault::Detached(13)),
-    (13, "  SINK (1,3)  Pad: 1", RouteFileFault::Detached(13)),
-];
-
 fn fork(rt: &impl AllocGlobal) -> Result<Design, Fail> {
     let array = Array {
         nx: 2,
@@ -455,11 +241,6 @@ fn fork(rt: &impl AllocGlobal) -> Result<Design, Fail> {
 #[test]
 fn reads_a_joint(rt: HostRuntime) -> Result<(), Fail> {
     expect_list(&rt, &fork(&rt)?, &FORK_LINES, &[(0, "")], Some(&FORK_PAIRS))
-}
-
-#[test]
-fn refuses_another_joint(rt: HostRuntime) -> Result<(), Fail> {
-    expect_faults(&rt, &fork(&rt)?, &FORK_LINES, &FORK_FAULTS)
 }
 
 /// A pad's net to a block.
@@ -482,36 +263,6 @@ pub(crate) const LONG_LINES: [&str; 12] = [
 
 const LONG_PAIRS: [(u32, u32); 5] = [(0, 28), (28, 60), (60, 58), (58, 52), (52, 23)];
 
-const LONG_FAULTS: [(usize, &str, RouteFileFault); 7] = [
-    (10, " CHANX (1,0)  Track: 0", RouteFileFault::NoNode(10)),
-    (10, " CHANX (2,0)  Track: 0", RouteFileFault::NoNode(10)),
-    (
-        10,
-        " CHANX (1,0) to (1,0)  Track: 0",
-        RouteFileFault::NoNode(10),
-    ),
-    (
-        10,
-        " CHANX (2,0) to (2,0)  Track: 0",
-        RouteFileFault::NoNode(10),
-    ),
-    (
-        10,
-        " CHANX (1,0) to (2,1)  Track: 0",
-        RouteFileFault::NoNode(10),
-    ),
-    (
-        10,
-        " CHANX (1,0) to (3,0)  Track: 0",
-        RouteFileFault::NoNode(10),
-    ),
-    (
-        10,
-        " CHANX (1,0) to (2,0)  Pin: 0",
-        RouteFileFault::BadLine(10),
-    ),
-];
-
 fn long_wires(rt: &impl AllocGlobal) -> Result<Design, Fail> {
     let array = Array { nx: 2, ..ONE };
     make_design(rt, LONG_WIRES, array, TWO, &[(0, 0, &[23])])
@@ -527,11 +278,6 @@ fn reads_long_wires(rt: HostRuntime) -> Result<(), Fail> {
         &ends,
         Some(&LONG_PAIRS),
     )
-}
-
-#[test]
-fn names_the_faults_of_long_wires(rt: HostRuntime) -> Result<(), Fail> {
-    expect_faults(&rt, &long_wires(&rt)?, &LONG_LINES, &LONG_FAULTS)
 }
 
 /// Two pads' nets to a block.
@@ -558,12 +304,6 @@ pub(crate) const GLOBAL_LINES: [&str; 17] = [
     "  SINK (1,1)  Class: 0",
 ];
 
-const GLOBAL_FAULTS: [(usize, &str, RouteFileFault); 1] = [(
-    6,
-    " CHANY (0,1)  Track: 1",
-    RouteFileFault::NoNode(6),
-)];
-
 fn pads(rt: &impl AllocGlobal) -> Result<Design, Fail> {
     let array = Array {
         width: 2,
@@ -578,11 +318,6 @@ fn reads_global_routings(rt: HostRuntime) -> Result<(), Fail> {
     let file = with_line(rt.alloc(), &GLOBAL_LINES, 0, "")?;
     let second = [(1, 19), (19, 39), (39, 38), (38, 32), (32, 13)];
     expect_two(&rt, &pads(&rt)?, &file, Some(&FIRST), Some(&second))
-}
-
-#[test]
-fn finds_one_track_in_global_routings(rt: HostRuntime) -> Result<(), Fail> {
-    expect_faults(&rt, &pads(&rt)?, &GLOBAL_LINES, &GLOBAL_FAULTS)
 }
 
 /// A net, a global one and another net.
@@ -605,27 +340,6 @@ pub(crate) const CLOCK_LINES: [&str; 13] = [
     "Net 2 (x)",
 ];
 
-const CLOCK_FAULTS: [(usize, &str, RouteFileFault); 6] = [
-    (8, "Net 1 (clk)", RouteFileFault::UnknownNet(8)),
-    (
-        8,
-        "Net 1 (x): global net connecting:",
-        RouteFileFault::UnknownNet(8),
-    ),
-    (8, "Net 1 (clk): global net", RouteFileFault::BadLine(8)),
-    (
-        8,
-        "Net 1 (clk) global net connecting:",
-        RouteFileFault::BadLine(8),
-    ),
-    (10, " CHANX (1,0)  Track: 0", RouteFileFault::BadLine(10)),
-    (
-        13,
-        "Net 1 (clk): global net connecting:",
-        RouteFileFault::NetTwice(13),
-    ),
-];
-
 /// Lines without nodes give no list, one node an empty one.
 const CLOCK_SAME: [(usize, &str); 3] = [(0, ""), (10, "Block"), (5, "")];
 
@@ -645,11 +359,6 @@ fn reads_a_section_of_one_node(rt: HostRuntime) -> Result<(), Fail> {
     expect_list(&rt, &clock(&rt)?, &CLOCK_LINES, &ONE_NODE, Some(&[]))
 }
 
-#[test]
-fn names_the_faults_of_global_nets(rt: HostRuntime) -> Result<(), Fail> {
-    expect_faults(&rt, &clock(&rt)?, &CLOCK_LINES, &CLOCK_FAULTS)
-}
-
 /// A net that nothing takes.
 pub(crate) const SINKLESS: &str = ".input a\npinlist: a\n";
 
@@ -658,11 +367,6 @@ const SINKLESS_LINES: [&str; 4] = [
     "Routing:",
     "Net 0 (a)",
     "",
-];
-
-const SINKLESS_FAULTS: [(usize, &str, RouteFileFault); 2] = [
-    (4, "Net 0 (a)", RouteFileFault::NetTwice(4)),
-    (4, "SOURCE (0,1)  Pad: 0", RouteFileFault::BadLine(4)),
 ];
 
 fn expect_none(rt: &(impl Abort + AllocGlobal), design: &Design) -> Result<(), Fail> {
@@ -679,11 +383,6 @@ fn sinkless(rt: &impl AllocGlobal) -> Result<Design, Fail> {
 #[test]
 fn drops_nets_without_sinks(rt: HostRuntime) -> Result<(), Fail> {
     expect_none(&rt, &sinkless(&rt)?)
-}
-
-#[test]
-fn names_the_faults_of_nets_without_sinks(rt: HostRuntime) -> Result<(), Fail> {
-    expect_faults(&rt, &sinkless(&rt)?, &SINKLESS_LINES, &SINKLESS_FAULTS)
 }
 
 /// A net whose name has brackets.

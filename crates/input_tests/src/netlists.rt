@@ -1,11 +1,10 @@
-//! Netlists: what is read of them, and which fault each has.
+//! Netlists: what is read of them.
 
 use arch_file::{Arch, ArchFault};
 use net_file::{Block, BlockKind, Net, NetFault, Netlist, Terminal, parse};
 use std::alloc::{AllocError, Global};
 use std::process::Abort;
 use std::test::Fail;
-use vpr_text::TextFault;
 
 /// The lines of an architecture around those of its pins.
 const BEFORE_PINS: &str =
@@ -40,12 +39,6 @@ fn arch_with(alloc: Global, pins: &str) -> Result<Arch, ArchFault> {
     text.push_str(pins)?;
     text.push_str(BEHIND_PINS)?;
     arch_file::parse(alloc, text.as_bytes())
-}
-
-/// The fault of a netlist for blocks of two inputs.
-fn fault_of(alloc: Global, text: &[u8]) -> Result<Option<NetFault>, ArchFault> {
-    let arch = arch_with(alloc, TWO_INPUTS)?;
-    Ok(parse(alloc, text, &arch).err())
 }
 
 /// A netlist for blocks of these pins has this fault.
@@ -156,134 +149,6 @@ fn reads_a_flip_flop(rt: HostRuntime) -> Result<(), Fail> {
     Ok(())
 }
 
-/// Texts for blocks of two inputs, and their faults.
-const FAULTS: [(&str, Option<NetFault>); 30] = [
-    ("", None),
-    (
-        ".input a\npinlist: a\n.clb c\npinlist: a a y\n.output out:y\npinlist: y\n",
-        Some(NetFault::DoubleSink(2)),
-    ),
-    (
-        ".input a\npinlist: a\n.clb c\npinlist: a open\n.output out:y\npinlist: y\n",
-        Some(NetFault::PinCount(4)),
-    ),
-    (
-        ".input a\npinlist: a\n.clb c\npinlist: a open y\n.output c\npinlist: y\n",
-        Some(NetFault::DoubleName(5)),
-    ),
-    (
-        ".clb c\npinlist: a open open\n",
-        Some(NetFault::NoDriver(2)),
-    ),
-    (
-        ".input a\npinlist: a\n.input b\npinlist: a\n.clb c\npinlist: a open y\n.output out:y\npinlist: y\n",
-        Some(NetFault::TwoDrivers(2)),
-    ),
-    (
-        ".input a\npinlist: a\n.clb c\npinlist: a open y\n.output out:y\n",
-        Some(NetFault::BadLine(0)),
-    ),
-    // A line between an element and its pinlist, and lines that can't stand where they do.
-    (
-        ".input a\n.global a\npinlist: a\n",
-        Some(NetFault::BadLine(2)),
-    ),
-    (
-        ".input a\n.input b\npinlist: b\n",
-        Some(NetFault::BadLine(2)),
-    ),
-    ("pinlist: a\n", Some(NetFault::BadLine(1))),
-    (
-        ".input a\npinlist: a\npinlist: a\n",
-        Some(NetFault::BadLine(3)),
-    ),
-    (".input\npinlist: a\n", Some(NetFault::BadLine(1))),
-    (".input a b\npinlist: a\n", Some(NetFault::BadLine(1))),
-    (".global\n", Some(NetFault::BadLine(1))),
-    (".latch a\n", Some(NetFault::BadLine(1))),
-    ("subblock: a\n", Some(NetFault::BadLine(1))),
-    (
-        ".input a\npinlist: a\nsubblock: a\n",
-        Some(NetFault::BadLine(3)),
-    ),
-    (".input a\npinlist:\n", Some(NetFault::PinCount(2))),
-    (".input a\npinlist: a b\n", Some(NetFault::PinCount(2))),
-    (
-        ".clb c\npinlist: open open open open\n",
-        Some(NetFault::PinCount(2)),
-    ),
-    // Subblocks, with names of global nets between.
-    (
-        ".clb c\npinlist: open open y\nsubblock: \n.global y z\nsubblock: c 0 1\n.global open\n",
-        None,
-    ),
-    // A pad without a net, a block named `open`, and a net without a sink.
-    (
-        ".output o\npinlist: open\n.input open\npinlist: open\n",
-        None,
-    ),
-    (".input a\npinlist: a\n", None),
-    // A fault of a line comes before one of a net, and the least faulty net first.
-    (
-        ".output o\npinlist: a\n.input o\npinlist: a\n",
-        Some(NetFault::DoubleName(3)),
-    ),
-    (
-        ".input a\npinlist: a\n.input b\npinlist: a\n.output o\npinlist: z\n",
-        Some(NetFault::TwoDrivers(2)),
-    ),
-    (
-        ".output o\npinlist: z\n.input a\npinlist: a\n.input b\npinlist: a\n",
-        Some(NetFault::NoDriver(2)),
-    ),
-    // Without a driver and twice on a class.
-    (".clb c\npinlist: a a open\n", Some(NetFault::NoDriver(2))),
-    // A global net may be on two pins of a class, and is without a driver like any other.
-    (
-        ".global a\n.input a\npinlist: a\n.clb c\npinlist: a a open\n",
-        None,
-    ),
-    (
-        ".clb c\npinlist: a open open\n.global a\n",
-        Some(NetFault::NoDriver(2)),
-    ),
-    // A control byte comes before all else.
-    (".latch\n\x01", Some(NetFault::Text(TextFault::BadByte(2)))),
-];
-
-/// Whether each text has its fault.
-fn all_have_faults(alloc: Global, cases: &[(&str, Option<NetFault>)]) -> Result<bool, ArchFault> {
-    for (text, wanted) in cases {
-        let found = fault_of(alloc, text.as_bytes())?;
-        if found != *wanted {
-            return Ok(false);
-        }
-    }
-    Ok(true)
-}
-
-#[test]
-fn names_each_fault(rt: HostRuntime) -> Result<(), Fail> {
-    assert!(rt; all_have_faults(rt.alloc(), &FAULTS)?);
-    Ok(())
-}
-
-#[test]
-fn names_the_second_of_a_file_and_itself(rt: HostRuntime) -> Result<(), Fail> {
-    let mut text = String::new(rt.alloc());
-    text.push_str(THREE_BLOCKS)?;
-    text.push_str(THREE_BLOCKS)?;
-    expect_fault(&rt, TWO_INPUTS, text.as_bytes(), NetFault::DoubleName(7))
-}
-
-#[test]
-fn refuses_a_routed_net_on_a_global_pin(rt: HostRuntime) -> Result<(), Fail> {
-    const LOCAL_CLOCK: &[u8] =
-        b".input a\npinlist: a\n.input clk\npinlist: clk\n.clb x\npinlist: a open open open x clk\n\
-    .output out:x\npinlist: x\n";
-    expect_fault(&rt, FOUR_INPUTS, LOCAL_CLOCK, NetFault::GlobalPin(4))
-}
-
 #[test]
 fn a_line_behind_its_pins_makes_a_net_global(rt: HostRuntime) -> Result<(), Fail> {
     const LATE: &[u8] =
@@ -293,12 +158,6 @@ fn a_line_behind_its_pins_makes_a_net_global(rt: HostRuntime) -> Result<(), Fail
     expect_counts(&rt, &netlist, 2, 1);
     assert!(rt; netlist.nets().iter().all(|net| net.is_global()));
     Ok(())
-}
-
-#[test]
-fn counts_the_names_of_continued_lines(rt: HostRuntime) -> Result<(), Fail> {
-    const LONG: &[u8] = b".clb c\npinlist: \\ # begins\n\\\n# only a comment \\\nx\n";
-    expect_fault(&rt, TWO_INPUTS, LONG, NetFault::PinCount(2))
 }
 
 fn expect_one_output(rt: &impl Abort, blocks: &[Block]) {
@@ -387,12 +246,6 @@ fn reads_the_most_blocks(rt: HostRuntime) -> Result<(), Fail> {
     let netlist = parse(rt.alloc(), text.as_bytes(), &arch)?;
     expect_counts(&rt, &netlist, 20_000, 20_000);
     Ok(())
-}
-
-#[test]
-fn refuses_one_block_more(rt: HostRuntime) -> Result<(), Fail> {
-    let text = pads(rt.alloc(), 20_001)?;
-    expect_fault(&rt, TWO_INPUTS, text.as_bytes(), NetFault::TooMany(40_001))
 }
 
 /// The pins of a logic block with 64 outputs.

@@ -1,10 +1,9 @@
-//! Placements: what is read of them, and which fault each has.
+//! Placements: what is read of them, and which block has no row.
 
 use place_file::{PlaceFault, Placement, Site, parse};
 use std::alloc::Global;
 use std::process::Abort;
 use std::test::Fail;
-use vpr_text::TextFault;
 
 /// An architecture with two pads at a place, and a logic block of two input pins and an output pin.
 const ARCH: &[u8] = b"io_rat 2\nchan_width_io 1\nchan_width_x uniform 1\nchan_width_y uniform 1\n\
@@ -12,9 +11,6 @@ const ARCH: &[u8] = b"io_rat 2\nchan_width_io 1\nchan_width_x uniform 1\nchan_wi
     switch_block_type subset\nFc_type fractional\nFc_output 1\nFc_input 1\nFc_pad 1\n\
     segment frequency: 1 length: 1 wire_switch: 0 opin_switch: 0 Frac_cb: 1. Frac_sb: 1. Rmetal: 0 Cmetal: 81e-15\n\
     switch 0 buffered: yes R: 0 Cin: 0 Cout: 0 Tdel: 0\n";
-
-/// A pad and a logic block.
-const TWO: &[u8] = b".input a\npinlist: a\n.clb c\npinlist: a open open\n";
 
 /// Two pads, one of each kind, and a logic block.
 const THREE: &[u8] =
@@ -84,110 +80,13 @@ fn reads_two_lines_where_there_are_no_blocks(rt: HostRuntime) -> Result<(), Fail
 }
 
 #[test]
-fn names_the_fault_of_the_text(rt: HostRuntime) -> Result<(), Fail> {
-    let bad = fault(
-        rt.alloc(),
-        TWO,
-        b"Netlist file: a Architecture file: b\n\x01",
-    );
-    assert!(rt; bad == Some(PlaceFault::Text(TextFault::BadByte(2))));
-    Ok(())
-}
-
-#[test]
-fn names_the_fault_of_the_first_two_lines(rt: HostRuntime) -> Result<(), Fail> {
-    let alloc = rt.alloc();
-    let none = fault(alloc, TWO, b"");
-    assert!(rt; none == Some(PlaceFault::BadLine(0)));
-    let one = fault(alloc, TWO, b"Netlist file: a Architecture file: b\n");
-    assert!(rt; one == Some(PlaceFault::BadLine(0)));
-    let short = fault(alloc, TWO, b"\nNetlist file: Architecture file: b\n");
-    assert!(rt; short == Some(PlaceFault::BadLine(2)));
-    let shape = fault(
-        alloc,
-        TWO,
-        b"Netlist file: a Architecture file: b\nArray size: 0 x 1 logic blocks.\n",
-    );
-    assert!(rt; shape == Some(PlaceFault::BadLine(2)));
-    let large = fault(
-        alloc,
-        TWO,
-        b"Netlist file: a Architecture file: b\nArray size: 4294967296 x 1 logic blocks\n",
-    );
-    assert!(rt; large == Some(PlaceFault::BadLine(2)));
-    Ok(())
-}
-
-#[test]
-fn names_the_size_of_the_array(rt: HostRuntime) -> Result<(), Fail> {
-    let alloc = rt.alloc();
-    let empty = fault(
-        alloc,
-        TWO,
-        b"Netlist file: t.net  Architecture file: a.arch\nArray size: 0 x 1 logic blocks\na 0 1 0\nc 1 1 0\n",
-    );
-    assert!(rt; empty == Some(PlaceFault::ArraySize(2)));
-    let large = fault(
-        alloc,
-        TWO,
-        b"Netlist file: t.net  Architecture file: a.arch\nArray size: 1 x 101 logic blocks\na 0 1 0\nc 1 1 0\n",
-    );
-    assert!(rt; large == Some(PlaceFault::ArraySize(2)));
-    Ok(())
-}
-
-#[test]
-fn names_the_fault_of_a_name(rt: HostRuntime) -> Result<(), Fail> {
-    let alloc = rt.alloc();
-    let twice = fault(
-        alloc,
-        TWO,
-        b"Netlist file: t.net  Architecture file: a.arch\nArray size: 1 x 1 logic blocks\na 0 1 0\na 0 1 1\n",
-    );
-    assert!(rt; twice == Some(PlaceFault::PlacedTwice(4)));
-    let unknown = fault(
-        alloc,
-        THREE,
-        b"Netlist file: t.net  Architecture file: a.arch\nArray size: 1 x 1 logic blocks\na 0 1 0\nc 1 1 0\nz 2 1 0\n",
-    );
-    assert!(rt; unknown == Some(PlaceFault::UnknownBlock(5)));
-    let again = fault(
-        alloc,
-        TWO,
-        b"Netlist file: t.net  Architecture file: a.arch\nArray size: 1 x 1 logic blocks\na 0 1 0\nc 1 1 0\n\
-        Netlist file: t.net  Architecture file: a.arch\nArray size: 1 x 1 logic blocks\na 0 1 0\nc 1 1 0\n",
-    );
-    assert!(rt; again == Some(PlaceFault::BadLine(5)));
-    Ok(())
-}
-
-#[test]
-fn names_the_fault_of_a_site(rt: HostRuntime) -> Result<(), Fail> {
-    let alloc = rt.alloc();
-    let taken = fault(
-        alloc,
-        PADS,
-        b"Netlist file: t.net  Architecture file: a.arch\nArray size: 1 x 1 logic blocks\na 0 1 0\nb 0 1 0\nc 1 1 0\n",
-    );
-    assert!(rt; taken == Some(PlaceFault::Occupied(4)));
-    let outside = fault(
-        alloc,
-        PADS,
-        b"Netlist file: t.net  Architecture file: a.arch\nArray size: 1 x 1 logic blocks\na 0 1 0\nb 0 1 1\nc 0 1 0\n",
-    );
-    assert!(rt; outside == Some(PlaceFault::OffSite(5)));
-    let corner = fault(
-        alloc,
-        PADS,
-        b"Netlist file: t.net  Architecture file: a.arch\nArray size: 1 x 1 logic blocks\na 0 0 0\nb 0 1 1\nc 1 1 0\n",
-    );
-    assert!(rt; corner == Some(PlaceFault::OffSite(3)));
-    let missing = fault(
-        alloc,
-        PADS,
-        b"Netlist file: t.net  Architecture file: a.arch\nArray size: 1 x 1 logic blocks\na 0 1 0\nb 0 1 1\n",
-    );
-    assert!(rt; missing == Some(PlaceFault::Missing(2)));
+fn names_the_least_block_without_a_row(rt: HostRuntime) -> Result<(), Fail> {
+    let last =
+        b"Netlist file: t.net  Architecture file: a.arch\nArray size: 1 x 1 logic blocks\na 0 1 0\nb 0 1 1\n";
+    assert!(rt; fault(rt.alloc(), PADS, last) == Some(PlaceFault::Missing(2)));
+    let two =
+        b"Netlist file: t.net  Architecture file: a.arch\nArray size: 1 x 1 logic blocks\na 0 1 0\n";
+    assert!(rt; fault(rt.alloc(), PADS, two) == Some(PlaceFault::Missing(1)));
     Ok(())
 }
 

@@ -3,7 +3,7 @@
 use route_check::{RouteFault, check_routing};
 use route_tree::{Pairs, Routing, TreeFault};
 use rr_graph::{Problem, Terminals};
-use samples::{net, one_block, two_nets, two_nets_again};
+use samples::{net, one_block, two_nets_again};
 use std::alloc::{AllocError, Global};
 use std::process::Abort;
 use std::test::Fail;
@@ -82,20 +82,6 @@ fn accepts_one_net(rt: HostRuntime) -> Result<(), Fail> {
 }
 
 #[test]
-fn names_the_node_that_both_nets_use(rt: HostRuntime) -> Result<(), Fail> {
-    let routing = two_lists(rt.alloc(), LEFT, ABOVE)?;
-    let fault = RouteFault::Overused(39, 1);
-    expect(&rt, &two_nets(&rt)?, &routing, Some(fault))
-}
-
-#[test]
-fn names_a_tree_before_the_overused_node(rt: HostRuntime) -> Result<(), Fail> {
-    let routing = two_lists(rt.alloc(), LEFT, SHORT)?;
-    let fault = RouteFault::Tree(1, TreeFault::Dangling);
-    expect(&rt, &two_nets(&rt)?, &routing, Some(fault))
-}
-
-#[test]
 fn wants_one_entry_a_net(rt: HostRuntime) -> Result<(), Fail> {
     let none = Routing {
         lists: Vec::new(rt.alloc()),
@@ -115,54 +101,9 @@ fn wants_no_more_entries_than_nets(rt: HostRuntime) -> Result<(), Fail> {
 }
 
 #[test]
-fn wants_a_list(rt: HostRuntime) -> Result<(), Fail> {
-    let mut routing = Routing {
-        lists: Vec::new(rt.alloc()),
-    };
-    routing.lists.push(None)?;
-    expect(
-        &rt,
-        &one_net(&rt, &[13])?,
-        &routing,
-        Some(RouteFault::Unrouted(0)),
-    )
-}
-
-#[test]
-fn wants_a_pair(rt: HostRuntime) -> Result<(), Fail> {
-    expect_list(&rt, &[13], &[], Some(TreeFault::WrongSource))
-}
-
-#[test]
 fn wants_the_source_first(rt: HostRuntime) -> Result<(), Fail> {
     let pairs = [(18, 39), (0, 18), (39, 37), (37, 31), (31, 13)];
     expect_list(&rt, &[13], &pairs, Some(TreeFault::WrongSource))
-}
-
-#[test]
-fn wants_switches(rt: HostRuntime) -> Result<(), Fail> {
-    let pairs = [(0, 18), (18, 37), (37, 31), (31, 13)];
-    expect_list(&rt, &[13], &pairs, Some(TreeFault::NoSwitch))
-}
-
-#[test]
-fn wants_each_node_once(rt: HostRuntime) -> Result<(), Fail> {
-    let pairs = [(0, 18), (18, 39), (39, 37), (37, 31), (31, 13), (39, 37)];
-    expect_list(&rt, &[13], &pairs, Some(TreeFault::NodeTwice))
-}
-
-#[test]
-fn wants_no_other_sink(rt: HostRuntime) -> Result<(), Fail> {
-    let pairs = [
-        (0, 18),
-        (18, 39),
-        (39, 37),
-        (37, 31),
-        (31, 13),
-        (39, 27),
-        (27, 9),
-    ];
-    expect_list(&rt, &[13], &pairs, Some(TreeFault::ForeignSink))
 }
 
 /// Two wires in a circle, which the tree doesn't touch.
@@ -210,32 +151,6 @@ fn refuses_a_chain_from_nowhere(rt: HostRuntime) -> Result<(), Fail> {
         (35, 16),
     ];
     expect_list(&rt, &[13, 16], &pairs, Some(TreeFault::Dangling))
-}
-
-#[test]
-fn refuses_a_stub(rt: HostRuntime) -> Result<(), Fail> {
-    let pairs = [(0, 18), (18, 39), (39, 37), (37, 31), (31, 13), (39, 38)];
-    expect_list(&rt, &[13], &pairs, Some(TreeFault::Dangling))
-}
-
-#[test]
-fn wants_all_sinks(rt: HostRuntime) -> Result<(), Fail> {
-    expect_list(&rt, &[13, 16], LEFT, Some(TreeFault::MissingSink))
-}
-
-#[test]
-fn accepts_two_paths(rt: HostRuntime) -> Result<(), Fail> {
-    let pairs = [
-        (0, 18),
-        (18, 39),
-        (39, 37),
-        (37, 31),
-        (31, 13),
-        (37, 40),
-        (40, 35),
-        (35, 16),
-    ];
-    expect_list(&rt, &[13, 16], &pairs, None)
 }
 
 /// Both paths, with the second one's first pair before the first path ends.
