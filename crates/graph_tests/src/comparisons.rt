@@ -40,6 +40,17 @@ fn compare_node(rt: &impl Abort, device: &Device, plan: Plan<'_>, item: Item, id
         id,
     );
     check(rt, device, device.span(id) == Some(item.span), "span", id);
+    let is_wire = match node.kind {
+        Kind::Chanx | Kind::Chany => true,
+        _ => false,
+    };
+    check(
+        rt,
+        device,
+        (id >= device.first_wire()) == is_wire,
+        "wire",
+        id,
+    );
 }
 
 fn compare_nodes(rt: &impl Abort, device: &Device, plan: Plan<'_>, items: &[Item]) {
@@ -58,6 +69,7 @@ fn compare_absent(rt: &impl Abort, device: &Device, id: u32) {
     check(rt, device, device.label(id).is_none(), "no label", id);
     check(rt, device, device.capacity(id).is_none(), "no capacity", id);
     check(rt, device, device.span(id).is_none(), "no span", id);
+    check(rt, device, device.sink_of(id).is_none(), "no sink of", id);
     check(rt, device, !device.edge(id, 0), "no edge from", id);
     check(rt, device, !device.edge(0, id), "no edge to", id);
 }
@@ -100,28 +112,48 @@ fn compare_kinds(rt: &impl Abort, device: &Device, plan: Plan<'_>) {
     compare_kind(rt, device, plan, Kind::Chany);
 }
 
-/// Looks at the successors of all nodes, and counts them. One list serves for all, so that each call finds the one before in it.
+/// The successors of a node are those wanted; of an input pin they are its sink.
+fn compare_list(
+    rt: &impl Abort,
+    device: &Device,
+    kind: Kind,
+    id: u32,
+    wanted: &[u32],
+    found: &[u32],
+) {
+    check(rt, device, found == wanted, "successors of", id);
+    let good = match (device.sink_of(id), kind) {
+        (Some(sink), Kind::Ipin) => wanted == [sink].as_slice(),
+        (None, Kind::Ipin) => false,
+        (sink, _) => sink.is_none(),
+    };
+    check(rt, device, good, "sink of", id);
+}
+
+/// Looks at the successors of all nodes: how many there are, and the most that a node has.
+/// One list serves for all, so that each call finds the one before in it.
 fn compare_successors(
     rt: &(impl Abort + AllocGlobal),
     device: &Device,
     plan: Plan<'_>,
     items: &[Item],
-) -> Result<u64, AllocError> {
+) -> Result<(u64, usize), AllocError> {
     let mut wanted = Vec::new(rt.alloc());
     let mut found = SmallVec::new(rt.alloc());
     let mut count = 0u64;
+    let mut most = 0;
     let mut id = 0u32;
     for from in items {
         plan.list_successors(items, *from, &mut wanted)?;
         device.successors(id, &mut found)?;
-        let good = found.as_slice() == wanted.as_slice();
-        check(rt, device, good, "successors of", id);
+        compare_list(rt, device, from.node.kind, id, &wanted, found.as_slice());
         count = count.saturating_add(wanted.len() as u64);
+        most = wanted.len().max(most);
         id = id.saturating_add(1);
     }
     device.successors(id, &mut found)?;
     check(rt, device, found.is_empty(), "no successors of", id);
-    Ok(count)
+    Ok((count, most))
 }
 
 fn compare_pairs_from(
@@ -159,8 +191,15 @@ fn compare_device(
     compare_absent(rt, device, device.node_count());
     compare_absent(rt, device, u32::MAX);
     compare_kinds(rt, device, plan);
-    let edges = compare_successors(rt, device, plan, items)?;
+    let (edges, most) = compare_successors(rt, device, plan, items)?;
     check(rt, device, device.edge_count() == edges, "edge count", 0);
+    check(
+        rt,
+        device,
+        device.most_successors() == most,
+        "most successors",
+        0,
+    );
     if items.len() < MOST_FOR_PAIRS {
         compare_pairs(rt, device, plan, items);
     }

@@ -313,6 +313,24 @@ fn types_share_the_tracks(rt: HostRuntime) -> Result<(), Fail> {
     Ok(())
 }
 
+/// Pins 0 and 1 of the block are of one class; at each pad the two of a kind have one place.
+#[test]
+fn input_pins_lead_to_sinks(rt: HostRuntime) -> Result<(), Fail> {
+    let device = Device::new(rt.alloc(), &arch(&rt, ONE_BLOCK)?, 1, 1, 1)?;
+    assert!(rt; device.sink_of(27) == Some(9) && device.sink_of(28) == Some(10));
+    assert!(rt; device.sink_of(31) == Some(13) && device.sink_of(32) == Some(13));
+    assert!(rt; device.sink_of(33) == Some(14) && device.sink_of(36) == Some(17));
+    assert!(rt; device.sink_of(26).is_none() && device.sink_of(37).is_none());
+    Ok(())
+}
+
+#[test]
+fn wires_stand_last(rt: HostRuntime) -> Result<(), Fail> {
+    let device = Device::new(rt.alloc(), &arch(&rt, ONE_BLOCK)?, 1, 1, 1)?;
+    assert!(rt; device.first_wire() == 37 && device.node_count() == 41);
+    Ok(())
+}
+
 #[test]
 fn global_devices_have_wide_wires(rt: HostRuntime) -> Result<(), Fail> {
     let device = Device::global(rt.alloc(), &arch(&rt, ONE_BLOCK)?, 1, 1, 2)?;
