@@ -93,7 +93,7 @@ impl Device {
 #[derive(Drop)]
 pub struct EdgeFinder<'a> {
     device: &'a Device,
-    before: Option<Found>,
+    before: Option<FoundNode>,
 }
 
 impl<'a> Model for EdgeFinder<'a> {
