@@ -69,7 +69,8 @@ fn list_of_tree(alloc: Global, tree: &Option<Tree>) -> Result<Option<Pairs>, All
 }
 
 impl Routing {
-    /// The routing of a list of trees, one entry a net: the pairs of its tree, or none where it has no tree.
+    /// The routing of a list of trees, one entry a net: the pairs of its tree, or none where it has
+    /// no tree.
     pub fn of_trees(alloc: Global, trees: &[Option<Tree>]) -> Result<Routing, AllocError>
         ensures { IfOk result (λ r. r ≡ lists_of_trees trees.now) }
     {

@@ -88,8 +88,9 @@ impl Device {
     }
 }
 
-/// Tells of one pair of nodes after the other whether an edge of a device leads from the first to the second. It keeps the node in which
-/// the latest edge ended, and is quicker than `Device::edge` where the next pair begins there. Contracts see the device.
+/// Tells of one pair of nodes after the other whether an edge of a device leads from the first to
+/// the second. It keeps the node in which the latest edge ended, and is quicker than `Device::edge`
+/// where the next pair begins there. Contracts see the device.
 #[derive(Drop)]
 pub struct EdgeFinder<'a> {
     device: &'a Device,
