@@ -15,6 +15,3 @@ pub use fault::TreeFault;
 pub use marks::Marks;
 pub use routing::{Pairs, Routing, fits};
 pub use tree::{Row, Tree};
-
-#[cfg(test)]
-mod tests;

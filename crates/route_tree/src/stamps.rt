@@ -9,8 +9,8 @@ use std::marker::Model;
 /// Marks on the numbers below a count. Contracts see the list of which numbers are marked.
 #[derive(Debug, Drop)]
 pub(crate) struct Stamps {
-    pub(crate) marks: Vec<u32>,
-    pub(crate) stamp: u32,
+    marks: Vec<u32>,
+    stamp: u32,
 }
 
 impl Model for Stamps {
