@@ -1,0 +1,4 @@
+pub mod Costs
+pub mod Options
+pub mod Views
+pub mod Fields

@@ -1,0 +1,62 @@
+-- What a user chooses of the negotiation (VPR and T-VPack manual 4.30, "Router Options"), and the present-congestion factors that
+-- follow from it.
+use Rattle.std.specs.Prelude.{◌≡◌, ℕ, ◌+◌, ◌-◌, ◌*◌, ◌/◌, ◌^◌, ◌≤◌, zero, suc, Bool, ◌&&◌, nat_le, not, min, if◌then◌else◌, Result, Ok, Err}
+use Rattle.node_cost.specs.declared.settings.Range.{Range}
+use Rattle.node_cost.specs.declared.settings.Range.TheVariants.{First, Init, Mult, Acc, Bb, Iterations}
+
+pub record RouterOptions : Type 0 where
+  -- the present-congestion factor of the first iteration, and of the second
+  pub first : ℕ
+  pub init : ℕ
+  -- by how many sixteenths it grows from then on
+  pub mult : ℕ
+  -- how much a history grows for each net of overuse
+  pub acc : ℕ
+  -- how far from its terminals a net may be routed
+  pub bb : ℕ
+  -- the most iterations
+  pub iterations : ℕ
+
+abbrev pub greatest_present : ℕ
+greatest_present = 1048576
+
+-- the factor of the next iteration
+abbrev pub next_present : (mult present : ℕ) → ℕ
+next_present mult present = min greatest_present (present * mult / 16)
+
+-- the factor n iterations later
+abbrev pub present_after : (mult : ℕ) → ℕ → (present : ℕ) → ℕ
+present_after mult zero present = present
+present_after mult (suc n) present = next_present mult (present_after mult n present)
+
+-- the present-congestion factor of iteration k, counted from 1
+unfoldable pub present_of : RouterOptions → ℕ → ℕ
+present_of o k = if nat_le k 1 then o.first else present_after o.mult (k - 2) o.init
+
+abbrev pub is_within : (least greatest : ℕ) → ℕ → Bool
+is_within least greatest n = nat_le least n && nat_le n greatest
+
+-- these options, or the first of them that is out of range
+unfoldable pub options_within : RouterOptions → Result RouterOptions Range
+options_within o =
+    if not (is_within 0 greatest_present o.first) then Err First
+    else (if not (is_within 0 greatest_present o.init) then Err Init
+    else (if not (is_within 16 256 o.mult) then Err Mult
+    else (if not (is_within 0 65535 o.acc) then Err Acc
+    else (if not (is_within 1 255 o.bb) then Err Bb
+    else (if not (is_within 1 500 o.iterations) then Err Iterations else Ok o)))))
+
+abbrev pub standard_options : RouterOptions
+standard_options = record { first = 8; init = 8; mult = 32; acc = 20; bb = 3; iterations = 30 }
+
+-- what all settings keep
+pub record AreWithinLimits (o : RouterOptions) : Type 0 where
+  pub first : o.first ≤ greatest_present
+  pub init : o.init ≤ greatest_present
+  pub mult_least : 16 ≤ o.mult
+  pub mult : o.mult ≤ 256
+  pub acc : o.acc ≤ 65535
+  pub bb_least : 1 ≤ o.bb
+  pub bb : o.bb ≤ 255
+  pub iterations_least : 1 ≤ o.iterations
+  pub iterations : o.iterations ≤ 500

@@ -1,0 +1,16 @@
+//! What a net pays for a node, and what a net sees of the others when it is routed
+//! (McMurchie and Ebeling 1995; Betz, Rose and Marquardt 1999).
+#![tactic(auto)]
+
+mod counts;
+mod entry_cost;
+mod histories;
+mod settings;
+mod shared;
+mod view;
+
+pub use counts::Counts;
+pub use entry_cost::{GREATEST_HISTORY, GREATEST_OTHERS, GREATEST_PRESENT, cost};
+pub use histories::Histories;
+pub use settings::{Range, Settings};
+pub use view::View;

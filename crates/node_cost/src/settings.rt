@@ -1,0 +1,193 @@
+//! What a user chooses of the negotiation.
+
+ghost use Rattle.std.specs.Prelude.{◌≡◌, ◌≤◌};
+ghost use Rattle.node_cost.specs.Options.{AreWithinLimits, options_within, standard_options, present_of, present_after, next_present};
+
+use crate::entry_cost::GREATEST_PRESENT;
+use std::marker::Model;
+use thiserror::Error;
+
+/// The first setting that is out of range.
+#[derive(Clone, Copy, Debug, PartialEq, Eq, Error)]
+pub enum Range {
+    /// The first factor is above 2^20.
+    #[error("the first present-congestion factor is out of range")]
+    First,
+    /// The initial factor is above 2^20.
+    #[error("the initial present-congestion factor is out of range")]
+    Init,
+    /// The multiplier is not within 16 to 256.
+    #[error("the multiplier is out of range")]
+    Mult,
+    /// The history factor is above 65,535.
+    #[error("the history factor is out of range")]
+    Acc,
+    /// The distance from the terminals is not within 1 to 255.
+    #[error("the bounding box's margin is out of range")]
+    Bb,
+    /// The limit of iterations is not within 1 to 500.
+    #[error("the limit of iterations is out of range")]
+    Iterations,
+}
+
+/// What a user chooses of the negotiation, all within its ranges. Contracts see the record of the options.
+#[derive(Clone, Copy, Debug, PartialEq, Eq)]
+pub struct Settings {
+    first: u32,
+    init: u32,
+    mult: u32,
+    acc: u16,
+    bb: u32,
+    iterations: u32,
+}
+
+impl Model for Settings {
+    ghost use Rattle.node_cost.specs.Options.{RouterOptions, AreWithinLimits};
+
+    ghost Value = { RouterOptions };
+
+    ghost use Rattle.node_cost.specs.Fields.{options_of};
+
+    ghost view = { options_of };
+
+    ghost inverse = { λ o. record { first = o.first; init = o.init; mult = o.mult; acc = o.acc; bb = o.bb; iterations = o.iterations } };
+
+    ghost invariant = { λ s. AreWithinLimits (options_of s) };
+}
+
+impl Settings {
+    /// These settings, or the first of them that is out of range.
+    #[tactic(auto, unfolding(crate::specs::Options::options_within))]
+    pub fn new(
+        first: u32,
+        init: u32,
+        mult: u32,
+        acc: u32,
+        bb: u32,
+        iterations: u32,
+    ) -> Result<Settings, Range>
+        ensures { result ≡ options_within (record { first = first; init = init; mult = mult; acc = acc; bb = bb; iterations = iterations }) }
+    {
+        if first > GREATEST_PRESENT {
+            return Err(Range::First);
+        }
+        if init > GREATEST_PRESENT {
+            return Err(Range::Init);
+        }
+        if !(16..=256).contains(&mult) {
+            return Err(Range::Mult);
+        }
+        if acc > 65535 {
+            return Err(Range::Acc);
+        }
+        if !(1..=255).contains(&bb) {
+            return Err(Range::Bb);
+        }
+        if !(1..=500).contains(&iterations) {
+            return Err(Range::Iterations);
+        }
+        Ok(Settings {
+            first,
+            init,
+            mult,
+            acc: acc as u16,
+            bb,
+            iterations,
+        })
+    }
+
+    /// What is chosen where nothing else is said.
+    pub fn standard() -> Settings
+        ensures { result ≡ standard_options }
+    {
+        Settings {
+            first: 8,
+            init: 8,
+            mult: 32,
+            acc: 20,
+            bb: 3,
+            iterations: 30,
+        }
+    }
+
+    /// The present-congestion factor of the first iteration.
+    pub fn first(&self) -> u32
+        ensures exact { result ≡ self.now.first }
+        ensures limits { AreWithinLimits self.now }
+    {
+        self.first
+    }
+
+    /// The present-congestion factor of the second iteration.
+    pub fn init(&self) -> u32
+        ensures { result ≡ self.now.init }
+    {
+        self.init
+    }
+
+    /// By how many sixteenths the factor grows from then on.
+    pub fn mult(&self) -> u32
+        ensures { result ≡ self.now.mult }
+    {
+        self.mult
+    }
+
+    /// How much a node's history grows for each net of overuse.
+    pub fn acc(&self) -> u16
+        ensures { result ≡ self.now.acc }
+    {
+        self.acc
+    }
+
+    /// How far from its terminals' bounding box a net may be routed.
+    pub fn bb(&self) -> u32
+        ensures exact { result ≡ self.now.bb }
+        ensures limits { AreWithinLimits self.now }
+    {
+        self.bb
+    }
+
+    /// The most iterations.
+    pub fn iterations(&self) -> u32
+        ensures exact { result ≡ self.now.iterations }
+        ensures limits { AreWithinLimits self.now }
+    {
+        self.iterations
+    }
+
+    /// The present-congestion factor of an iteration, counted from 1.
+    #[tactic(auto, unfolding(crate::specs::Options::present_of))]
+    pub fn present(&self, iteration: u32) -> u32
+        requires least { 1 ≤ iteration }
+        requires greatest { iteration ≤ 500 }
+        ensures exact { result ≡ present_of self.now iteration }
+        ensures bounded { result ≤ GREATEST_PRESENT }
+    {
+        if iteration == 1 {
+            return self.first;
+        }
+        self.present_after(iteration - 2)
+    }
+
+    /// The factor so many iterations behind the second.
+    fn present_after(&self, iterations: u32) -> u32
+        ensures exact { result ≡ present_after self.now.mult iterations self.now.init }
+        ensures bounded { result ≤ GREATEST_PRESENT }
+    {
+        let mut present = self.init;
+        for _ in 0..iterations {
+            present = next_present(self.mult, present);
+        }
+        present
+    }
+}
+
+/// The present-congestion factor of the next iteration.
+fn next_present(mult: u32, present: u32) -> u32
+    requires mult { mult ≤ 256 }
+    requires present { present ≤ GREATEST_PRESENT }
+    ensures exact { result ≡ next_present mult present }
+    ensures bounded { result ≤ GREATEST_PRESENT }
+{
+    (present * mult / 16).min(GREATEST_PRESENT)
+}

@@ -1,0 +1,79 @@
+//! Histories that may be another's.
+
+ghost use Rattle.std.specs.Prelude.{◌≡◌, ◌≤◌, ◌<◌, length, get_or, set, replicate, IfOk};
+ghost use Rattle.std.specs.Arc.{arc_value};
+
+use crate::entry_cost::GREATEST_HISTORY;
+use crate::histories::Histories;
+use std::alloc::{AllocError, Global};
+use std::marker::Model;
+use std::sync::Arc;
+
+/// Histories that are shared with others, or its own. Contracts see the list of the histories.
+#[derive(Drop)]
+pub(crate) struct SharedHistories {
+    shared: Option<Arc<Histories, Global>>,
+    /// Histories of as many nodes, in use where nothing is shared.
+    own: Histories,
+}
+
+impl Model for SharedHistories {
+    ghost use Rattle.std.specs.Prelude.{List, ℕ, ◌≡◌, length};
+
+    ghost Value = { List ℕ };
+
+    ghost use Rattle.node_cost.specs.Fields.{histories_of};
+
+    ghost view = { histories_of };
+
+    ghost invariant = { λ h. length h.own ≡ length (histories_of h) };
+}
+
+impl SharedHistories {
+    /// Zero for each of the nodes.
+    pub(crate) fn new(alloc: Global, nodes: usize) -> Result<SharedHistories, AllocError>
+        ensures { IfOk result (λ h. h ≡ replicate nodes 0) }
+    {
+        let own = Histories::new(alloc, nodes)?;
+        Ok(SharedHistories { shared: None, own })
+    }
+
+    /// The history of a node.
+    pub(crate) fn get(&self, id: u32) -> u64
+        requires { id < length self.now }
+        ensures exact { result ≡ get_or self.now id 0 }
+        ensures bounded { result ≤ GREATEST_HISTORY }
+    {
+        match &self.shared {
+            Some(shared) => shared.get(id),
+            None => self.own.get(id),
+        }
+    }
+
+    /// Gives a node a history, which others don't see.
+    pub(crate) fn set(&mut self, id: u32, history: u64)
+        requires there { id < length self.old }
+        requires bounded { history ≤ GREATEST_HISTORY }
+        ensures { self.new ≡ set self.old id history }
+    {
+        if let Some(shared) = &self.shared {
+            self.own.copy_from(shared);
+            self.shared = None;
+        }
+        self.own.set(id, history);
+    }
+
+    /// Becomes what these histories of as many nodes are: it shares them, or where that can't be had copies them.
+    pub(crate) fn share(&mut self, histories: &Arc<Histories, Global>)
+        requires { length self.old ≡ length (arc_value histories.now) }
+        ensures { self.new ≡ arc_value histories.now }
+    {
+        match Arc::try_clone(histories) {
+            Ok(shared) => self.shared = Some(shared),
+            Err(_) => {
+                self.own.copy_from(histories);
+                self.shared = None;
+            }
+        }
+    }
+}
