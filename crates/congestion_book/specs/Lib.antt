@@ -1,0 +1,4 @@
+pub mod Turns
+pub mod Usage
+pub mod Recorded
+pub mod Fields

@@ -1,0 +1,54 @@
+-- What is kept of the recorded trees: how many nets use each node, how many nodes are overused, and how many nets have no tree.
+use Rattle.std.specs.Prelude.{◌≡◌, ℕ, ◌+◌, List, length, get_or, Option, Some, None, is_none, count_by}
+use Rattle.rr_graph.specs.Nodes.{node_count_of}
+use Rattle.rr_graph.specs.Problems.{RoutingProblem, net_in}
+use Rattle.route_tree.specs.Paths.{Pair}
+use Rattle.route_tree.specs.Faults.{IsRoute}
+use Rattle.route_tree.specs.Usage.{use_by, use_of}
+use Rattle.congestion_book.specs.Usage.{overused_by}
+
+-- for each net a list of pairs, or none
+abbrev pub Lists : Type 0
+Lists = List (Option (List Pair))
+
+-- the list of net i
+abbrev pub list_in : Lists → ℕ → Option (List Pair)
+list_in lists i = get_or lists i None
+
+-- each recorded list routes its net
+abbrev pub AreRoutes : RoutingProblem → Lists → Type 0
+AreRoutes p lists = (i : ℕ) (pairs : List Pair) → list_in lists i ≡ Some pairs → IsRoute p i pairs
+
+-- how many nets have no list
+unfoldable pub unrouted_in : Lists → ℕ
+unrouted_in lists = count_by is_none lists
+
+-- the list routes its net, where there is one
+abbrev pub RoutesOrNone : RoutingProblem → (net : ℕ) → Option (List Pair) → Type 0
+RoutesOrNone p i (Some pairs) = IsRoute p i pairs
+RoutesOrNone p i None = Unit {0}
+
+-- net i, with this list, is one that uses its nodes more
+pub record GainsNet (p : RoutingProblem) (i : ℕ) (list : Option (List Pair)) (old new : List ℕ) : Type 0 where
+  pub size : length new ≡ length old
+  pub each : (a : ℕ) → get_or new a 0 ≡ get_or old a 0 + use_by (net_in p.nets i) list a
+
+-- net i, with this list, is one that uses its nodes no more
+pub record LosesNet (p : RoutingProblem) (i : ℕ) (list : Option (List Pair)) (old new : List ℕ) : Type 0 where
+  pub size : length new ≡ length old
+  pub each : (a : ℕ) → get_or new a 0 + use_by (net_in p.nets i) list a ≡ get_or old a 0
+
+-- net i uses the nodes of its new list in place of those of its old one
+pub record ChangesNet (p : RoutingProblem) (i : ℕ) (before after : Option (List Pair)) (old new : List ℕ) : Type 0 where
+  pub size : length new ≡ length old
+  pub each : (a : ℕ) → get_or new a 0 + use_by (net_in p.nets i) before a ≡ get_or old a 0 + use_by (net_in p.nets i) after a
+
+-- What is kept is exact: of the lists, which route their nets, how many nets use each node, how many nodes are overused, and how many
+-- nets have no list.
+pub record AreRecorded (p : RoutingProblem) (lists : Lists) (counts : List ℕ) (overused unrouted : ℕ) : Type 0 where
+  pub one_each : length lists ≡ length p.nets
+  pub routes : AreRoutes p lists
+  pub size : length counts ≡ node_count_of p.device
+  pub uses : (a : ℕ) → get_or counts a 0 ≡ use_of p.nets lists a
+  pub over : overused ≡ overused_by p.device counts
+  pub without : unrouted ≡ unrouted_in lists

@@ -1,0 +1,10 @@
+//! The congestion book: the recorded trees of nets, how many of them use each node, and the histories that their overuse leaves
+//! (McMurchie and Ebeling 1995).
+#![tactic(auto)]
+
+mod routes;
+mod turn;
+mod turns;
+mod usage;
+
+pub use turn::Turn;

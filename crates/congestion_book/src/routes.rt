@@ -1,0 +1,158 @@
+//! The recorded trees, and what is counted of them.
+
+ghost use Rattle.std.specs.Prelude.{◌≡◌, ◌<◌, ◌≤◌, ◌+◌, ℕ, length, get_or, set, replicate, Some, None, is_none, IfOk};
+ghost use Rattle.rr_graph.specs.Nodes.{node_count_of};
+ghost use Rattle.rr_graph.specs.Problems.{net_in};
+ghost use Rattle.route_tree.specs.Faults.{IsRoute};
+ghost use Rattle.route_tree.specs.Rows.{pairs_of, IsTree};
+ghost use Rattle.route_tree.specs.Usage.{use_by};
+ghost use Rattle.route_tree.specs.TreeLists.{list_of_tree, lists_of_trees};
+ghost use Rattle.congestion_book.specs.Turns.{one_if};
+ghost use Rattle.congestion_book.specs.Usage.{overused_by};
+ghost use Rattle.congestion_book.specs.Recorded.{AreRecorded, RoutesOrNone, GainsNet, LosesNet, ChangesNet};
+
+use crate::usage::{Usage, one_if};
+use route_tree::{Row, Tree};
+use rr_graph::Problem;
+use std::alloc::{AllocError, Global};
+
+/// The recorded tree of each net, or none, how many nets have none, and how many nets use each node.
+#[derive(Drop)]
+pub(crate) struct Routes {
+    pub(crate) trees: Vec<Option<Tree>>,
+    pub(crate) unrouted: u32,
+    pub(crate) usage: Usage,
+}
+
+/// A net with the tree of these rows is one that uses its nodes more.
+#[tactic(auto, using(crate::proofs::Covering::rows_there, crate::proofs::Covering::gains, crate::proofs::Covering::use_is))]
+fn gain_rows(usage: &mut Usage, problem: &Problem, net: u32, rows: &[Row])
+    requires tree { IsTree rows.now }
+    requires route { IsRoute problem.now net (pairs_of rows.now) }
+    requires each { length usage.old.counts ≡ node_count_of problem.now.device }
+    requires room { (a : ℕ) → get_or usage.old.counts a 0 + use_by (net_in problem.now.nets net) (Some (pairs_of rows.now)) a ≤ 65535 }
+    requires counted { usage.old.overused ≡ overused_by problem.now.device usage.old.counts }
+    ensures counts { GainsNet problem.now net (Some (pairs_of rows.now)) usage.old.counts usage.new.counts }
+    ensures counted { usage.new.overused ≡ overused_by problem.now.device usage.new.counts }
+{
+    let device = problem.device();
+    let _limits = device.nx();
+    usage.add_each(device, rows);
+}
+
+/// A net with this tree, or none, is one that uses its nodes more.
+fn gain_net(usage: &mut Usage, problem: &Problem, net: u32, tree: &Option<Tree>)
+    requires routes { RoutesOrNone problem.now net (list_of_tree tree.now) }
+    requires each { length usage.old.counts ≡ node_count_of problem.now.device }
+    requires room { (a : ℕ) → get_or usage.old.counts a 0 + use_by (net_in problem.now.nets net) (list_of_tree tree.now) a ≤ 65535 }
+    requires counted { usage.old.overused ≡ overused_by problem.now.device usage.old.counts }
+    ensures counts { GainsNet problem.now net (list_of_tree tree.now) usage.old.counts usage.new.counts }
+    ensures counted { usage.new.overused ≡ overused_by problem.now.device usage.new.counts }
+{
+    match tree {
+        None => (),
+        Some(tree) => gain_rows(usage, problem, net, tree.as_slice()),
+    }
+}
+
+/// A net with the tree of these rows is one that uses its nodes no more.
+#[tactic(auto, using(crate::proofs::Covering::rows_there, crate::proofs::Covering::loses, crate::proofs::Covering::use_is))]
+fn lose_rows(usage: &mut Usage, problem: &Problem, net: u32, rows: &[Row])
+    requires tree { IsTree rows.now }
+    requires route { IsRoute problem.now net (pairs_of rows.now) }
+    requires each { length usage.old.counts ≡ node_count_of problem.now.device }
+    requires used { (a : ℕ) → use_by (net_in problem.now.nets net) (Some (pairs_of rows.now)) a ≤ get_or usage.old.counts a 0 }
+    requires counted { usage.old.overused ≡ overused_by problem.now.device usage.old.counts }
+    ensures counts { LosesNet problem.now net (Some (pairs_of rows.now)) usage.old.counts usage.new.counts }
+    ensures counted { usage.new.overused ≡ overused_by problem.now.device usage.new.counts }
+{
+    let device = problem.device();
+    let _limits = device.nx();
+    usage.take_each(device, rows);
+}
+
+/// A net with this tree, or none, is one that uses its nodes no more.
+fn lose_net(usage: &mut Usage, problem: &Problem, net: u32, tree: &Option<Tree>)
+    requires routes { RoutesOrNone problem.now net (list_of_tree tree.now) }
+    requires each { length usage.old.counts ≡ node_count_of problem.now.device }
+    requires used { (a : ℕ) → use_by (net_in problem.now.nets net) (list_of_tree tree.now) a ≤ get_or usage.old.counts a 0 }
+    requires counted { usage.old.overused ≡ overused_by problem.now.device usage.old.counts }
+    ensures counts { LosesNet problem.now net (list_of_tree tree.now) usage.old.counts usage.new.counts }
+    ensures counted { usage.new.overused ≡ overused_by problem.now.device usage.new.counts }
+{
+    match tree {
+        None => (),
+        Some(tree) => lose_rows(usage, problem, net, tree.as_slice()),
+    }
+}
+
+/// A net with the tree before is one with the tree after.
+fn change_net(
+    usage: &mut Usage,
+    problem: &Problem,
+    net: u32,
+    before: &Option<Tree>,
+    after: &Option<Tree>,
+)
+    requires before { RoutesOrNone problem.now net (list_of_tree before.now) }
+    requires after { RoutesOrNone problem.now net (list_of_tree after.now) }
+    requires each { length usage.old.counts ≡ node_count_of problem.now.device }
+    requires used { (a : ℕ) → use_by (net_in problem.now.nets net) (list_of_tree before.now) a ≤ get_or usage.old.counts a 0 }
+    requires room { (a : ℕ) → get_or usage.old.counts a 0 + use_by (net_in problem.now.nets net) (list_of_tree after.now) a ≤ 65535 + use_by (net_in problem.now.nets net) (list_of_tree before.now) a }
+    requires counted { usage.old.overused ≡ overused_by problem.now.device usage.old.counts }
+    ensures counts { ChangesNet problem.now net (list_of_tree before.now) (list_of_tree after.now) usage.old.counts usage.new.counts }
+    ensures counted { usage.new.overused ≡ overused_by problem.now.device usage.new.counts }
+{
+    lose_net(usage, problem, net, before);
+    gain_net(usage, problem, net, after);
+}
+
+/// 1 where there is no tree, else 0.
+fn count_none(tree: &Option<Tree>) -> u32
+    ensures { result ≡ one_if (is_none tree.now) }
+{
+    one_if(tree.is_none())
+}
+
+impl Routes {
+    /// No net has a tree.
+    pub(crate) fn new(alloc: Global, problem: &Problem) -> Result<Routes, AllocError>
+        ensures lists { IfOk result (λ r. lists_of_trees r.trees.items ≡ replicate (length problem.now.nets) None) }
+        ensures recorded { IfOk result (λ r. AreRecorded problem.now (lists_of_trees r.trees.items) r.usage.counts r.usage.overused r.unrouted) }
+    {
+        let trees = no_trees(alloc, problem.nets())?;
+        let usage = Usage::new(alloc, problem.device())?;
+        Ok(Routes {
+            trees,
+            unrouted: problem.nets(),
+            usage,
+        })
+    }
+
+    /// The recorded tree of a net becomes this one, or none.
+    pub(crate) fn replace(&mut self, problem: &Problem, net: u32, tree: Option<Tree>)
+        requires there { net < length problem.now.nets }
+        requires routes { RoutesOrNone problem.now net (list_of_tree tree) }
+        requires recorded { AreRecorded problem.now (lists_of_trees self.old.trees.items) self.old.usage.counts self.old.usage.overused self.old.unrouted }
+        ensures lists { lists_of_trees self.new.trees.items ≡ set (lists_of_trees self.old.trees.items) net (list_of_tree tree) }
+        ensures recorded { AreRecorded problem.now (lists_of_trees self.new.trees.items) self.new.usage.counts self.new.usage.overused self.new.unrouted }
+    {
+        let _limits = problem.nets();
+        let before = &self.trees[net as usize];
+        change_net(&mut self.usage, problem, net, before, &tree);
+        self.unrouted -= count_none(before);
+        self.unrouted += count_none(&tree);
+        self.trees[net as usize] = tree;
+    }
+}
+
+/// No tree for any of so many nets.
+fn no_trees(alloc: Global, nets: u32) -> Result<Vec<Option<Tree>>, AllocError>
+    ensures { IfOk result (λ ts. ts.items ≡ replicate nets None) }
+{
+    let mut trees = Vec::with_capacity(alloc, nets as usize)?;
+    for _ in 0..nets {
+        trees.push(None)?;
+    }
+    Ok(trees)
+}

@@ -1,0 +1,120 @@
+//! How many nets use each node, and how many nodes are overused.
+
+ghost use Rattle.std.specs.Prelude.{◌≡◌, ◌≤◌, ◌<◌, ◌+◌, ◌-◌, ◌==◌, ℕ, All, length, get_or, set, replicate, IfOk};
+ghost use Rattle.rr_graph.specs.Fabric.{IsFabric};
+ghost use Rattle.rr_graph.specs.Nodes.{node_at, node_count_of};
+ghost use Rattle.route_tree.specs.Marked.{nodes_of};
+ghost use Rattle.route_tree.specs.Usage.{room_of};
+ghost use Rattle.congestion_book.specs.Turns.{one_if};
+ghost use Rattle.congestion_book.specs.Usage.{overused_by, times_in, AddsEach, TakesEach};
+
+use node_cost::Counts;
+use route_tree::Row;
+use rr_graph::Device;
+use std::alloc::{AllocError, Global};
+
+/// How many nets use each node of a device, and how many nodes more nets use than they have room for.
+#[derive(Drop)]
+pub(crate) struct Usage {
+    pub(crate) counts: Counts,
+    pub(crate) overused: u32,
+}
+
+/// Whether so many nets are just as many as a node has room for: one at least.
+#[tactic(auto, using(crate::proofs::Counting::some_room, crate::proofs::Counting::room_is, crate::proofs::Counting::no_room))]
+fn fills(device: &Device, id: u32, count: u32) -> bool
+    requires limits { IsFabric device.now }
+    requires there { id < node_count_of device.now }
+    ensures { result ≡ (room_of device.now (node_at device.now id) == count) }
+{
+    if count == 0 {
+        return false;
+    }
+    match device.capacity(id) {
+        Some(capacity) => capacity == count,
+        None => false,
+    }
+}
+
+/// 1 where the test holds, else 0.
+pub(crate) fn one_if(test: bool) -> u32
+    ensures { result ≡ one_if test }
+{
+    u32::from(test)
+}
+
+impl Usage {
+    /// Nothing is used.
+    pub(crate) fn new(alloc: Global, device: &Device) -> Result<Usage, AllocError>
+        ensures counts { IfOk result (λ u. u.counts ≡ replicate (node_count_of device.now) 0) }
+        ensures overused { IfOk result (λ u. u.overused ≡ 0) }
+    {
+        let counts = Counts::new(alloc, device.node_count() as usize)?;
+        Ok(Usage {
+            counts,
+            overused: 0,
+        })
+    }
+
+    /// One net more uses a node.
+    #[tactic(auto, using(crate::proofs::Counting::adds_over, crate::proofs::Counting::overused_few))]
+    fn add_node(&mut self, device: &Device, id: u32)
+        requires limits { IsFabric device.now }
+        requires each { length self.old.counts ≡ node_count_of device.now }
+        requires there { id < node_count_of device.now }
+        requires room { get_or self.old.counts id 0 < 65535 }
+        requires counted { self.old.overused ≡ overused_by device.now self.old.counts }
+        ensures counts { self.new.counts ≡ set self.old.counts id (get_or self.old.counts id 0 + 1) }
+        ensures counted { self.new.overused ≡ overused_by device.now self.new.counts }
+    {
+        let count = self.counts.get(id);
+        self.overused += one_if(fills(device, id, count));
+        self.counts.add_one(id);
+    }
+
+    /// One net less uses a node.
+    #[tactic(auto, using(crate::proofs::Counting::takes_over, crate::proofs::Counting::takes_within))]
+    fn take_node(&mut self, device: &Device, id: u32)
+        requires limits { IsFabric device.now }
+        requires each { length self.old.counts ≡ node_count_of device.now }
+        requires there { id < node_count_of device.now }
+        requires used { 1 ≤ get_or self.old.counts id 0 }
+        requires counted { self.old.overused ≡ overused_by device.now self.old.counts }
+        ensures counts { self.new.counts ≡ set self.old.counts id (get_or self.old.counts id 0 - 1) }
+        ensures counted { self.new.overused ≡ overused_by device.now self.new.counts }
+    {
+        let count = self.counts.get(id) - 1;
+        self.overused -= one_if(fills(device, id, count));
+        self.counts.take_one(id);
+    }
+
+    /// One net more uses each node of a tree.
+    pub(crate) fn add_each(&mut self, device: &Device, rows: &[Row])
+        requires limits { IsFabric device.now }
+        requires each { length self.old.counts ≡ node_count_of device.now }
+        requires there { All (λ r. r.node < node_count_of device.now) rows.now }
+        requires room { (a : ℕ) → get_or self.old.counts a 0 + times_in (nodes_of rows.now) a ≤ 65535 }
+        requires counted { self.old.overused ≡ overused_by device.now self.old.counts }
+        ensures counts { AddsEach self.old.counts (nodes_of rows.now) self.new.counts }
+        ensures counted { self.new.overused ≡ overused_by device.now self.new.counts }
+    {
+        for row in rows {
+            self.add_node(device, row.node);
+        }
+    }
+
+    /// One net less uses each node of a tree.
+    pub(crate) fn take_each(&mut self, device: &Device, rows: &[Row])
+        requires limits { IsFabric device.now }
+        requires each { length self.old.counts ≡ node_count_of device.now }
+        requires there { All (λ r. r.node < node_count_of device.now) rows.now }
+        requires used { (a : ℕ) → times_in (nodes_of rows.now) a ≤ get_or self.old.counts a 0 }
+        requires counted { self.old.overused ≡ overused_by device.now self.old.counts }
+        ensures counts { TakesEach self.old.counts (nodes_of rows.now) self.new.counts }
+        ensures counted { self.new.overused ≡ overused_by device.now self.new.counts }
+    {
+        for row in rows {
+            self.take_node(device, row.node);
+        }
+    }
+}
