@@ -1,4 +1,5 @@
 pub mod Turning
+pub mod Growing
 pub mod Counting
 pub mod Covering
 pub mod Recording

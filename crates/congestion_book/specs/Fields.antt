@@ -1,7 +1,21 @@
 -- What the fields of a book and of its parts stand for, and what is true of them.
-use Rattle.std.specs.Prelude.{◌≡◌, ℕ, ◌+◌, ◌≤◌, length, vec_capacity, List, is_some, count_by}
+use Rattle.std.specs.Prelude.{◌≡◌, ℕ, ◌+◌, ◌≤◌, length, vec_capacity, List, is_some, count_by, All}
+use Rattle.std.specs.Arc.{arc_value}
 use Rattle.congestion_book.specs.Turns.{TurnTable, AreInOrder}
+use Rattle.congestion_book.specs.Histories.{HistoryTable, AreHistories, amount_in}
+use Rattle.congestion_book.specs.declared.history.History.TheInside as history
 use Rattle.congestion_book.specs.declared.turns.Turns.TheInside as turns
+
+abbrev pub history_table : history.Inside → HistoryTable
+history_table h = record { acc = h.acc; rows = h.rows.items; histories = arc_value h.histories }
+
+-- each history is exact, and no amount is greater than there can be nets
+pub record IsHistory (h : history.Inside) : Type 0 where
+  pub exact : AreHistories h.acc h.rows.items (arc_value h.histories)
+  pub bounded : All (λ row. (a : ℕ) → amount_in row a ≤ 65535) h.rows.items
+  pub acc : h.acc ≤ 65535
+  pub few : length h.rows.items ≤ 500
+  pub room : 500 ≤ vec_capacity h.rows
 
 abbrev pub table_of : turns.Inside → TurnTable
 table_of t = record { drawn = t.drawn; holders = t.holders.items; turns = t.made.items; earlier = t.earlier.items }

@@ -1,4 +1,5 @@
 pub mod Turns
 pub mod Usage
 pub mod Recorded
+pub mod Histories
 pub mod Fields

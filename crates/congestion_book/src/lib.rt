@@ -2,9 +2,11 @@
 //! (McMurchie and Ebeling 1995).
 #![tactic(auto)]
 
+mod history;
 mod routes;
 mod turn;
 mod turns;
 mod usage;
 
+pub use history::OveruseRow;
 pub use turn::Turn;
