@@ -152,7 +152,7 @@ node_next (r ∷ rs) zero l = refl
 node_next (r ∷ rs) (suc k) l = ap (λ ns. r.node ∷ ns) (node_next rs k (omega arith))
 
 module _ (rows : List Row) (k : ℕ) (low : k < length rows) where
-  abbrev next : ℕ
+  abbrev pub next : ℕ
   next = (get_or rows k no_row).node
 
   pub times_next : (a : ℕ) → times_in (tree.nodes_of (take (k + 1) rows)) a ≡ times_in (tree.nodes_of (take k rows)) a + one_if (next == a)
@@ -164,7 +164,7 @@ module _ (rows : List Row) (k : ℕ) (low : k < length rows) where
           ap (λ n. times_in (tree.nodes_of (take n rows)) a) (add-one k) ∙ ap (λ ns. times_in ns a) (node_next rows k low) in
       omega (arith, more, last, step)
 
-times_within : (k : ℕ) (rows : List Row) (a : ℕ) → times_in (tree.nodes_of (take k rows)) a ≤ times_in (tree.nodes_of rows) a
+pub times_within : (k : ℕ) (rows : List Row) (a : ℕ) → times_in (tree.nodes_of (take k rows)) a ≤ times_in (tree.nodes_of rows) a
 times_within zero rows a = omega arith
 times_within (suc k) [] a = omega arith
 times_within (suc k) (r ∷ rs) a =

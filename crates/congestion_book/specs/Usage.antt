@@ -1,5 +1,6 @@
 -- How many nets use each node by what is counted, and how many nodes are overused.
-use Rattle.std.specs.Prelude.{◌≡◌, ℕ, ◌+◌, ◌-◌, ◌<◌, ◌==◌, Bool, nat_lt, List, length, get_or, count_by}
+use Rattle.std.specs.Prelude.{◌≡◌, ℕ, ◌+◌, ◌-◌, ◌<◌, ◌==◌, Bool, cond, nat_lt, List, [], ◌∷◌, length, map, get_or, count_by}
+use Rattle.std.specs.List.{filter}
 use Rattle.rr_graph.specs.Fabric.{Fabric, numbers_below}
 use Rattle.rr_graph.specs.Nodes.{node_at}
 use Rattle.route_tree.specs.Usage.{room_of}
@@ -11,6 +12,18 @@ is_over f counts a = nat_lt (room_of f (node_at f a)) (get_or counts a 0)
 -- how many nodes are overused
 unfoldable pub overused_by : Fabric → (counts : List ℕ) → ℕ
 overused_by f counts = count_by (is_over f counts) (numbers_below (length counts))
+
+-- by how many nets more than it has room for a node is used
+abbrev pub excess_of : Fabric → (counts : List ℕ) → ℕ → ℕ
+excess_of f counts a = get_or counts a 0 - room_of f (node_at f a)
+
+-- the overused nodes, ascending, each with by how many nets
+unfoldable pub row_by : Fabric → (counts : List ℕ) → List (ℕ × ℕ)
+row_by f counts = filter (λ e. nat_lt 0 e.1) (map (λ a. (a, excess_of f counts a)) (numbers_below (length counts)))
+
+-- a node with its overuse, or nothing where there is none
+abbrev pub entry_of : ℕ × ℕ → List (ℕ × ℕ)
+entry_of e = cond (nat_lt 0 e.1) (e ∷ []) []
 
 -- how often a node stands among these
 abbrev pub times_in : List ℕ → ℕ → ℕ

@@ -4,6 +4,7 @@
 
 mod history;
 mod routes;
+mod showing;
 mod turn;
 mod turns;
 mod usage;

@@ -1,12 +1,12 @@
 //! How many nets use each node, and how many nodes are overused.
 
-ghost use Rattle.std.specs.Prelude.{◌≡◌, ◌≤◌, ◌<◌, ◌+◌, ◌-◌, ◌==◌, ℕ, All, length, get_or, set, replicate, IfOk};
+ghost use Rattle.std.specs.Prelude.{◌≡◌, ◌≤◌, ◌<◌, ◌+◌, ◌-◌, ◌==◌, ◌++◌, ℕ, All, OnOk, length, get_or, set, replicate, IfOk};
 ghost use Rattle.rr_graph.specs.Fabric.{IsFabric};
 ghost use Rattle.rr_graph.specs.Nodes.{node_at, node_count_of};
 ghost use Rattle.route_tree.specs.Marked.{nodes_of};
 ghost use Rattle.route_tree.specs.Usage.{room_of};
 ghost use Rattle.congestion_book.specs.Turns.{one_if};
-ghost use Rattle.congestion_book.specs.Usage.{overused_by, times_in, AddsEach, TakesEach};
+ghost use Rattle.congestion_book.specs.Usage.{overused_by, excess_of, row_by, entry_of, times_in, AddsEach, TakesEach};
 
 use node_cost::Counts;
 use route_tree::Row;
@@ -117,4 +117,50 @@ impl Usage {
             self.take_node(device, row.node);
         }
     }
+
+    /// By how many nets more than it has room for a node is used: a node has room for one at least.
+    #[tactic(auto, using(crate::proofs::Counting::some_room, crate::proofs::Counting::room_is, crate::proofs::Counting::no_room))]
+    fn excess(&self, device: &Device, id: u32) -> u32
+        requires limits { IsFabric device.now }
+        requires each { length self.now.counts ≡ node_count_of device.now }
+        requires there { id < node_count_of device.now }
+        ensures { result ≡ excess_of device.now self.now.counts id }
+    {
+        let count = self.counts.get(id);
+        if count <= 1 {
+            return 0;
+        }
+        match device.capacity(id) {
+            Some(capacity) => count.saturating_sub(capacity),
+            None => count,
+        }
+    }
+
+    /// The overused nodes, ascending, each with by how many nets.
+    #[tactic(auto, using(crate::proofs::Rows::row_next))]
+    pub(crate) fn row(
+        &self,
+        alloc: Global,
+        device: &Device,
+    ) -> Result<Vec<(u32, u32)>, AllocError>
+        requires limits { IsFabric device.now }
+        requires each { length self.now.counts ≡ node_count_of device.now }
+        ensures { IfOk result (λ r. r.items ≡ row_by device.now self.now.counts) }
+    {
+        let mut row = Vec::with_capacity(alloc, self.overused as usize)?;
+        for id in 0..device.node_count() {
+            push_overuse(&mut row, id, self.excess(device, id))?;
+        }
+        Ok(row)
+    }
+}
+
+/// Pushes a node with its overuse, if there is any.
+fn push_overuse(row: &mut Vec<(u32, u32)>, id: u32, by: u32) -> Result<(), AllocError>
+    ensures { OnOk result (row.new.items ≡ row.old.items ++ entry_of (id, by)) }
+{
+    if by > 0 {
+        row.push((id, by))?;
+    }
+    Ok(())
 }

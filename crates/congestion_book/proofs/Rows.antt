@@ -1,0 +1,112 @@
+-- The row of an iteration, node by node.
+use Rattle.std.proofs.Common.{◌≡◌, inl, inr, ℕ, ◌+◌, ◌-◌, ◌<◌, ◌≤◌, ◌==◌, zero, suc, Bool, true, false, cond, nat_lt, List, [], ◌∷◌, ◌++◌, length, map, get_or, refl, sym, ap, ◌∙◌, arith, add-one, add-zero, All, subst}
+use Rattle.std.specs.List.{filter, range_with_len}
+use Rattle.std.proofs.lemmas.List.{map-append}
+use Rattle.std.proofs.lemmas.List.Elements.{filter-append}
+use Rattle.std.proofs.lemmas.List.Sums.{sum_by-cons, sum_by-append}
+use Rattle.std.proofs.lemmas.Bool.{cases_eq, eq-eqb, ne_eqb}
+use Rattle.std.proofs.lemmas.Bool.Decides.{nat_tests}
+use Rattle.std.specs.Prelude.{if◌then◌else◌}
+use Rattle.std.proofs.lemmas.List.Elements.{All-append, All-cons, All-nil}
+use Rattle.route_tree.specs.Usage.{use_of, overuse_of}
+use Rattle.route_tree.proofs.Uses.{overuse_counted}
+use Rattle.rr_graph.specs.Nodes.{node_count_of}
+use Rattle.rr_graph.specs.Problems.{RoutingProblem}
+use Rattle.congestion_book.specs.Recorded.{Lists}
+use Rattle.rr_graph.specs.Fabric.{Fabric, numbers_below}
+use Rattle.rr_graph.proofs.Ranges.{below_next}
+use Rattle.congestion_book.specs.Histories.{amount_in, row_of}
+use Rattle.congestion_book.specs.Usage.{excess_of, row_by, entry_of}
+
+-- the entries of the first n nodes
+abbrev pub entries : (ℕ → ℕ) → ℕ → List (ℕ × ℕ)
+entries g n = filter (λ (e : ℕ × ℕ). nat_lt 0 e.1) (map (λ a. (a, g a)) (numbers_below n))
+
+pub row_next : (g : ℕ → ℕ) (n : ℕ) → entries g (n + 1) ≡ entries g n ++ entry_of (n, g n)
+row_next g n =
+    let overused : ℕ × ℕ → Bool = λ e. nat_lt 0 e.1 in
+    let node : ℕ → ℕ × ℕ = λ a. (a, g a) in
+    ap (λ ns. filter overused (map node ns)) (below_next n)
+    ∙ (ap (filter overused) (map-append node (numbers_below n) (n ∷ []))
+       ∙ filter-append overused (map node (numbers_below n)) (node n ∷ []))
+
+pub row_is : (f : Fabric) (counts : List ℕ) (n : ℕ) → length counts ≡ n → entries (excess_of f counts) n ≡ row_by f counts
+unfolding row_by
+row_is f counts n e = ap (entries (excess_of f counts)) (sym e)
+
+-- ---- what a row says of each node
+amount_here : (n a by : ℕ) (some same : Bool) → nat_lt 0 by ≡ some → (n == a) ≡ same → amount_in (cond some ((n, by) ∷ []) []) a ≡ cond same by 0
+amount_here n a by true same e is =
+    sum_by-cons (λ (e : ℕ × ℕ). if e.0 == a then e.1 else 0) (n, by) [] ∙ (ap (λ b. cond b by 0 + 0) is ∙ add-zero (cond same by 0))
+amount_here n a by false same e is = let none : by ≡ 0 = grind (arith, nat_tests) in sym (nothing same by none)
+  where
+    nothing : (b : Bool) (by : ℕ) → by ≡ 0 → cond b by 0 ≡ 0
+    nothing true by e = e
+    nothing false by e = refl
+
+amount_entry : (n a by : ℕ) → amount_in (entry_of (n, by)) a ≡ cond (n == a) by 0
+amount_entry n a by = amount_here n a by (nat_lt 0 by) (n == a) refl refl
+
+amount_step : (g : ℕ → ℕ) (n a : ℕ) → amount_in (entries g (suc n)) a ≡ amount_in (entries g n) a + cond (n == a) (g n) 0
+amount_step g n a =
+    ap (λ k. amount_in (entries g k) a) (sym (add-one n))
+    ∙ (ap (λ r. amount_in r a) (row_next g n)
+       ∙ (sum_by-append (λ (e : ℕ × ℕ). if e.0 == a then e.1 else 0) (entries g n) (entry_of (n, g n))
+          ∙ ap (λ k. amount_in (entries g n) a + k) (amount_entry n a (g n))))
+
+none_so_far : (g : ℕ → ℕ) (n a : ℕ) → n ≤ a → amount_in (entries g n) a ≡ 0
+none_so_far g zero a l = refl
+none_so_far g (suc n) a l =
+    let rest = none_so_far g n a (omega (arith, l)) in
+    let apart : (n == a) ≡ false = grind (arith, nat_tests) in
+    let none : cond (n == a) (g n) 0 ≡ 0 = ap (λ b. cond b (g n) 0) apart in
+    omega (arith, rest, none, amount_step g n a)
+
+-- a node is overused by no more than the row says
+pub amount_of_node : (g : ℕ → ℕ) (n a : ℕ) → amount_in (entries g n) a ≤ g a
+amount_of_node g zero a = omega arith
+amount_of_node g (suc n) a = elim (cases_eq n a) [
+  | inl e ↦
+      let none = none_so_far g n a (omega (arith, e)) in
+      let here : cond (n == a) (g n) 0 ≡ g n = ap (λ b. cond b (g n) 0) (eq-eqb n a e) in
+      let same : g n ≡ g a = ap g e in
+      omega (arith, none, here, same, amount_step g n a)
+  | inr apart ↦
+      let rest = amount_of_node g n a in
+      let none : cond (n == a) (g n) 0 ≡ 0 = ap (λ b. cond b (g n) 0) (ne_eqb n a apart) in
+      omega (arith, rest, none, amount_step g n a)
+]
+
+pub amount_bounded : (f : Fabric) (counts : List ℕ) (a : ℕ) → amount_in (row_by f counts) a ≤ get_or counts a 0
+unfolding row_by
+amount_bounded f counts a = let bound = amount_of_node (excess_of f counts) (length counts) a in omega (arith, bound)
+
+-- each node of a row is a node
+entry_below : (n by : ℕ) (some : Bool) → All (λ (e : ℕ × ℕ). e.0 < suc n) (cond some ((n, by) ∷ []) [])
+entry_below n by true = All-cons (λ (e : ℕ × ℕ). e.0 < suc n) (n, by) [] (omega arith) (All-nil (λ (e : ℕ × ℕ). e.0 < suc n))
+entry_below n by false = All-nil (λ (e : ℕ × ℕ). e.0 < suc n)
+
+entries_below : (g : ℕ → ℕ) (n : ℕ) → All (λ (e : ℕ × ℕ). e.0 < n) (entries g n)
+entries_below g zero = All-nil (λ (e : ℕ × ℕ). e.0 < 0)
+entries_below g (suc n) =
+    subst (All (λ (e : ℕ × ℕ). e.0 < suc n)) (sym (row_next g n) ∙ ap (entries g) (add-one n))
+    (All-append (λ (e : ℕ × ℕ). e.0 < suc n) (entries g n) (entry_of (n, g n))
+     (λ k d l. let h = entries_below g n k d l in omega (arith, h))
+     (entry_below n (g n) (nat_lt 0 (g n))))
+
+pub row_below : (f : Fabric) (counts : List ℕ) → All (λ (e : ℕ × ℕ). e.0 < length counts) (row_by f counts)
+unfolding row_by
+row_below f counts = entries_below (excess_of f counts) (length counts)
+
+-- where the counts are the uses, the row is that of the lists
+pub row_of_lists : (p : RoutingProblem) (lists : Lists) (counts : List ℕ) → length counts ≡ node_count_of p.device →
+    ((a : ℕ) → get_or counts a 0 ≡ use_of p.nets lists a) → row_by p.device counts ≡ row_of p lists
+unfolding row_by row_of
+row_of_lists p lists counts size uses =
+    same_entries (length counts)
+    ∙ ap (λ n. filter (λ (e : ℕ × ℕ). nat_lt 0 e.1) (map (λ a. (a, overuse_of p lists a)) (numbers_below n))) size
+  where
+    same_node : (a : ℕ) → excess_of p.device counts a ≡ overuse_of p lists a
+    same_node a = sym (overuse_counted p lists a (get_or counts a 0) (uses a))
+    same_entries : (n : ℕ) → entries (excess_of p.device counts) n ≡ entries (overuse_of p lists) n
+    same_entries n = ap (λ g. entries g n) (λ i a. same_node a i)

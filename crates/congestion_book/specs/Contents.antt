@@ -1,0 +1,70 @@
+-- What a congestion book holds, and when it is sound (McMurchie and Ebeling 1995, "occupancy", "history of congestion").
+use Rattle.std.specs.Prelude.{◌≡◌, ℕ, ◌+◌, ◌<◌, ◌≤◌, nat_lt, List, [], length, map, get_or, replicate, Option, Some, None, is_some, All}
+use Rattle.rr_graph.specs.Fabric.{numbers_below}
+use Rattle.rr_graph.specs.Nodes.{node_count_of}
+use Rattle.rr_graph.specs.Problems.{RoutingProblem}
+use Rattle.route_tree.specs.Paths.{Pair}
+use Rattle.route_tree.specs.Faults.{IsRoute}
+use Rattle.route_tree.specs.Usage.{use_of, use_by_others}
+use Rattle.congestion_book.specs.declared.turn.Turn.{Turn}
+use Rattle.congestion_book.specs.Turns.{NameEachOnce, holder_in, turns_at, one_if}
+use Rattle.congestion_book.specs.Recorded.{Lists, AreRoutes}
+use Rattle.congestion_book.specs.Histories.{Amount, history_of}
+
+pub record Content : Type 0 where
+  pub problem : RoutingProblem
+  -- by how much a history grows for each net of overuse
+  pub acc : ℕ
+  -- the recorded tree of each net as its pairs, or none
+  pub lists : Lists
+  -- of each closed iteration the overused nodes
+  pub rows : List (List Amount)
+  -- of the open iteration: how many nets were drawn, the worker that holds each net, and the turns made
+  pub drawn : ℕ
+  pub holders : List (Option ℕ)
+  pub turns : List Turn
+  -- of each closed iteration the turns made
+  pub earlier : List (List Turn)
+
+abbrev pub net_count : Content → ℕ
+net_count c = length c.problem.nets
+
+abbrev pub node_total : Content → ℕ
+node_total c = node_count_of c.problem.device
+
+-- The congestion invariant, over the occupancies and the histories that a book keeps.
+pub record IsSound (c : Content) (occupancies histories : List ℕ) : Type 0 where
+  -- each recorded tree joins its net's source to exactly its sinks through switches of the device
+  pub one_each : length c.lists ≡ net_count c
+  pub routes : AreRoutes c.problem c.lists
+  -- each occupancy is the number of recorded trees that use the node
+  pub occupied : length occupancies ≡ node_total c
+  pub uses : (a : ℕ) → get_or occupancies a 0 ≡ use_of c.problem.nets c.lists a
+  -- each history is the accumulated overuse
+  pub remembered : length histories ≡ node_total c
+  pub accumulated : (a : ℕ) → a < node_total c → get_or histories a 0 ≡ history_of c.acc c.rows a
+  -- each net below the count drawn is held or had one turn in the open iteration, and no other net is held or had one
+  pub held : length c.holders ≡ net_count c
+  pub drawn : c.drawn ≤ net_count c
+  pub once : (i : ℕ) → one_if (is_some (holder_in c.holders i)) + turns_at c.turns i ≡ one_if (nat_lt i c.drawn)
+  -- in each closed iteration each net had one turn; there is a row for each, and at most 500
+  pub closed : All (NameEachOnce (net_count c)) c.earlier
+  pub rows : length c.rows ≡ length c.earlier
+  pub few : length c.rows ≤ 500
+
+-- a book of which nothing is known yet
+abbrev pub opening : RoutingProblem → (acc : ℕ) → Content
+opening p acc = record {
+  problem = p;
+  acc = acc;
+  lists = replicate (length p.nets) None;
+  rows = [];
+  drawn = 0;
+  holders = replicate (length p.nets) None;
+  turns = [];
+  earlier = [];
+}
+
+-- What net i sees of the others: of each node how many other nets use it, and its history.
+unfoldable pub view_of : Content → ℕ → List (ℕ × ℕ)
+view_of c i = map (λ a. (use_by_others c.problem.nets c.lists i a, history_of c.acc c.rows a)) (numbers_below (node_total c))
