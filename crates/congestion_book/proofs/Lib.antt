@@ -5,3 +5,5 @@ pub mod Covering
 pub mod Recording
 pub mod Seeing
 pub mod Rows
+pub mod Soundness
+pub mod Stepping

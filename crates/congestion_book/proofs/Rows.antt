@@ -9,9 +9,9 @@ use Rattle.std.proofs.lemmas.Bool.Decides.{nat_tests}
 use Rattle.std.specs.Prelude.{if◌then◌else◌}
 use Rattle.std.proofs.lemmas.List.Elements.{All-append, All-cons, All-nil}
 use Rattle.route_tree.specs.Usage.{use_of, overuse_of}
-use Rattle.route_tree.proofs.Uses.{overuse_counted}
+use Rattle.route_tree.proofs.Uses.{overuse_counted, few_uses}
 use Rattle.rr_graph.specs.Nodes.{node_count_of}
-use Rattle.rr_graph.specs.Problems.{RoutingProblem}
+use Rattle.rr_graph.specs.Problems.{RoutingProblem, IsProblem}
 use Rattle.congestion_book.specs.Recorded.{Lists}
 use Rattle.rr_graph.specs.Fabric.{Fabric, numbers_below}
 use Rattle.rr_graph.proofs.Ranges.{below_next}
@@ -110,3 +110,7 @@ row_of_lists p lists counts size uses =
     same_node a = sym (overuse_counted p lists a (get_or counts a 0) (uses a))
     same_entries : (n : ℕ) → entries (excess_of p.device counts) n ≡ entries (overuse_of p lists) n
     same_entries n = ap (λ g. entries g n) (λ i a. same_node a i)
+
+pub row_bounded : (p : RoutingProblem) (lists : Lists) (counts : List ℕ) → IsProblem p → ((a : ℕ) → get_or counts a 0 ≡ use_of p.nets lists a) →
+    (a : ℕ) → amount_in (row_by p.device counts) a ≤ 65535
+row_bounded p lists counts limits uses a = omega (arith, amount_bounded p.device counts a, uses a, few_uses p.nets lists a, limits.few)

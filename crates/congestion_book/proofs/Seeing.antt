@@ -18,6 +18,15 @@ use Rattle.congestion_book.specs.Turns.{one_if}
 use Rattle.congestion_book.specs.Usage.{times_in}
 use Rattle.congestion_book.specs.Views.{LeavesOut, LeavesNet, SeesOthers}
 use Rattle.congestion_book.proofs.Covering.{use_is}
+use Rattle.std.specs.Prelude.{map}
+use Rattle.std.proofs.lemmas.List.{same_lists, get_or_default}
+use Rattle.rr_graph.specs.Fabric.{numbers_below}
+use Rattle.rr_graph.proofs.Ranges.{length_below, get_below}
+use Rattle.route_tree.specs.Usage.{use_by_others}
+use Rattle.route_tree.proofs.Uses.{others_and_own}
+use Rattle.congestion_book.specs.Recorded.{list_in}
+use Rattle.congestion_book.specs.Histories.{history_of}
+use Rattle.congestion_book.specs.Contents.{Content, IsSound, net_count, node_total, view_of}
 use Rattle.congestion_book.proofs.Counting.{next, times_next, times_within}
 
 pub leaves_one : (old new : List Seen) (id : ℕ) → id < length old → 1 ≤ others_in old id →
@@ -73,3 +82,25 @@ sees_others p i list counts histories shown view same is leaves = record {
 
 pub used_there : (counts histories : List ℕ) (a : ℕ) → length histories ≡ length counts → others_in (zip counts histories) a ≡ get_or counts a 0
 used_there counts histories a same = others_at counts histories a same
+
+-- ---- the view of a sound book
+module _ (c : Content) (occupancies histories : List ℕ) (sound : IsSound c occupancies histories) (i : ℕ) (low : i < net_count c)
+    (view : List Seen) (sees : SeesOthers c.problem i (list_in c.lists i) occupancies histories view) where
+  abbrev shown : ℕ → Seen
+  shown a = (use_by_others c.problem.nets c.lists i a, history_of c.acc c.rows a)
+
+  seen_at : (a : ℕ) → a < node_total c → get_or view a (0, 0) ≡ shown a
+  seen_at a l =
+      let all = others_and_own c.problem.nets c.lists i a low (omega (arith, low, sound.one_each)) in
+      let others : others_in view a ≡ use_by_others c.problem.nets c.lists i a = omega (arith, all, sees.others a, sound.uses a) in
+      let history : history_in view a ≡ history_of c.acc c.rows a = sees.remembered a ∙ sound.accumulated a l in
+      λ k. (others k, history k)
+
+  pub view_is : view ≡ view_of c i
+  unfolding view_of
+  view_is =
+      let size : length view ≡ node_total c = sees.size ∙ sound.occupied in
+      same_lists view (map shown (numbers_below (node_total c))) (size ∙ sym (length_below shown (node_total c)))
+      (λ k d l.
+      let within : k < node_total c = omega (arith, l, size) in
+      get_or_default view k d (0, 0) l ∙ (seen_at k within ∙ sym (get_below shown (node_total c) k d within)))

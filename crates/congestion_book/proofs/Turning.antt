@@ -128,7 +128,7 @@ waited t i s done = elim (cases_lt i (length t.holders)) [
   | inr past ↦ let e = undrawn_waits t i s (omega (arith, past, s.drawn)) in grind (arith, nat_tests)
 ]
 
-none_held : (nets i : ℕ) → holder_in (replicate nets None) i ≡ None
+pub none_held : (nets i : ℕ) → holder_in (replicate nets None) i ≡ None
 none_held zero i = refl
 none_held (suc n) zero = refl
 none_held (suc n) (suc i) = none_held n i

@@ -1,5 +1,5 @@
 -- What a congestion book holds, and when it is sound (McMurchie and Ebeling 1995, "occupancy", "history of congestion").
-use Rattle.std.specs.Prelude.{◌≡◌, ℕ, ◌+◌, ◌<◌, ◌≤◌, nat_lt, List, [], length, map, get_or, replicate, Option, Some, None, is_some, All}
+use Rattle.std.specs.Prelude.{◌≡◌, ℕ, ◌<◌, ◌≤◌, List, [], length, map, get_or, replicate, Option, None}
 use Rattle.rr_graph.specs.Fabric.{numbers_below}
 use Rattle.rr_graph.specs.Nodes.{node_count_of}
 use Rattle.rr_graph.specs.Problems.{RoutingProblem}
@@ -7,7 +7,7 @@ use Rattle.route_tree.specs.Paths.{Pair}
 use Rattle.route_tree.specs.Faults.{IsRoute}
 use Rattle.route_tree.specs.Usage.{use_of, use_by_others}
 use Rattle.congestion_book.specs.declared.turn.Turn.{Turn}
-use Rattle.congestion_book.specs.Turns.{NameEachOnce, holder_in, turns_at, one_if}
+use Rattle.congestion_book.specs.Turns.{TurnTable, AreInOrder}
 use Rattle.congestion_book.specs.Recorded.{Lists, AreRoutes}
 use Rattle.congestion_book.specs.Histories.{Amount, history_of}
 
@@ -32,6 +32,10 @@ net_count c = length c.problem.nets
 abbrev pub node_total : Content → ℕ
 node_total c = node_count_of c.problem.device
 
+-- who holds which net, and who had its turn at it
+abbrev pub table_in : Content → TurnTable
+table_in c = record { drawn = c.drawn; holders = c.holders; turns = c.turns; earlier = c.earlier }
+
 -- The congestion invariant, over the occupancies and the histories that a book keeps.
 pub record IsSound (c : Content) (occupancies histories : List ℕ) : Type 0 where
   -- each recorded tree joins its net's source to exactly its sinks through switches of the device
@@ -43,12 +47,10 @@ pub record IsSound (c : Content) (occupancies histories : List ℕ) : Type 0 whe
   -- each history is the accumulated overuse
   pub remembered : length histories ≡ node_total c
   pub accumulated : (a : ℕ) → a < node_total c → get_or histories a 0 ≡ history_of c.acc c.rows a
-  -- each net below the count drawn is held or had one turn in the open iteration, and no other net is held or had one
+  -- each net below the count drawn is held or had one turn, and in each closed iteration each net had one
   pub held : length c.holders ≡ net_count c
-  pub drawn : c.drawn ≤ net_count c
-  pub once : (i : ℕ) → one_if (is_some (holder_in c.holders i)) + turns_at c.turns i ≡ one_if (nat_lt i c.drawn)
-  -- in each closed iteration each net had one turn; there is a row for each, and at most 500
-  pub closed : All (NameEachOnce (net_count c)) c.earlier
+  pub order : AreInOrder (table_in c)
+  -- there is a row for each closed iteration, and at most 500
   pub rows : length c.rows ≡ length c.earlier
   pub few : length c.rows ≤ 500
 

@@ -4,6 +4,12 @@ use Rattle.std.specs.Arc.{arc_value}
 use Rattle.congestion_book.specs.Turns.{TurnTable, AreInOrder}
 use Rattle.congestion_book.specs.Histories.{HistoryTable, AreHistories, amount_in}
 use Rattle.congestion_book.specs.declared.history.History.TheInside as history
+use Rattle.rr_graph.specs.Nodes.{node_count_of}
+use Rattle.route_tree.specs.TreeLists.{lists_of_trees}
+use Rattle.congestion_book.specs.Usage.{overused_by}
+use Rattle.congestion_book.specs.Recorded.{unrouted_in}
+use Rattle.congestion_book.specs.Contents.{Content, IsSound}
+use Rattle.congestion_book.specs.declared.book.Book.TheInside as book
 use Rattle.congestion_book.specs.declared.turns.Turns.TheInside as turns
 
 abbrev pub history_table : history.Inside → HistoryTable
@@ -28,3 +34,23 @@ pub record AreTurns (t : turns.Inside) : Type 0 where
   pub room : length t.holders.items ≤ vec_capacity t.made
   pub few : length t.earlier.items ≤ 500
   pub more : 500 ≤ vec_capacity t.earlier
+
+abbrev pub content_of : book.Inside → Content
+content_of b =
+    record {
+      problem = b.problem;
+      acc = b.history.acc;
+      lists = lists_of_trees b.routes.trees.items;
+      rows = b.history.rows;
+      drawn = b.turns.drawn;
+      holders = b.turns.holders;
+      turns = b.turns.turns;
+      earlier = b.turns.earlier;
+    }
+
+-- The book is sound by the occupancies and histories that it keeps, its counters are exact, and its marks fit.
+pub record IsKept (b : book.Inside) : Type 0 where
+  pub sound : IsSound (content_of b) b.routes.usage.counts b.history.histories
+  pub over : b.routes.usage.overused ≡ overused_by b.problem.device b.routes.usage.counts
+  pub without : b.routes.unrouted ≡ unrouted_in (lists_of_trees b.routes.trees.items)
+  pub marks : b.marks ≡ node_count_of b.problem.device

@@ -2,6 +2,8 @@ pub mod Turns
 pub mod Usage
 pub mod Recorded
 pub mod Histories
-pub mod Contents
 pub mod Views
+pub mod Contents
+pub mod Steps
 pub mod Fields
+pub mod Closing

@@ -2,6 +2,8 @@
 //! (McMurchie and Ebeling 1995).
 #![tactic(auto)]
 
+mod book;
+mod faults;
 mod history;
 mod routes;
 mod showing;
@@ -9,5 +11,7 @@ mod turn;
 mod turns;
 mod usage;
 
+pub use book::Book;
+pub use faults::{CloseFault, CommitFault, DrawFault, PassFault};
 pub use history::OveruseRow;
 pub use turn::Turn;

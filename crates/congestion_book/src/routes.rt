@@ -1,6 +1,9 @@
 //! The recorded trees, and what is counted of them.
 
-ghost use Rattle.std.specs.Prelude.{◌≡◌, ◌<◌, ◌≤◌, ◌+◌, ℕ, length, get_or, set, replicate, Some, None, is_none, IfOk};
+ghost use Rattle.std.specs.Prelude.{◌≡◌, ◌<◌, ◌≤◌, ◌+◌, ℕ, All, length, get_or, set, replicate, Some, None, is_none, IfOk};
+ghost use Rattle.std.specs.Arc.{arc_value};
+ghost use Rattle.congestion_book.specs.Histories.{amount_in, row_of};
+ghost use Rattle.congestion_book.specs.Views.{SeesOthers};
 ghost use Rattle.rr_graph.specs.Nodes.{node_count_of};
 ghost use Rattle.rr_graph.specs.Problems.{net_in};
 ghost use Rattle.route_tree.specs.Faults.{IsRoute};
@@ -9,12 +12,16 @@ ghost use Rattle.route_tree.specs.Usage.{use_by};
 ghost use Rattle.route_tree.specs.TreeLists.{list_of_tree, lists_of_trees};
 ghost use Rattle.congestion_book.specs.Turns.{one_if};
 ghost use Rattle.congestion_book.specs.Usage.{overused_by};
-ghost use Rattle.congestion_book.specs.Recorded.{AreRecorded, RoutesOrNone, GainsNet, LosesNet, ChangesNet};
+ghost use Rattle.congestion_book.specs.Recorded.{AreRecorded, list_in, RoutesOrNone, GainsNet, LosesNet, ChangesNet};
 
+use crate::history::OveruseRow;
+use crate::showing::show;
 use crate::usage::{Usage, one_if};
+use node_cost::{Histories, View};
 use route_tree::{Row, Tree};
 use rr_graph::Problem;
 use std::alloc::{AllocError, Global};
+use std::sync::Arc;
 
 /// The recorded tree of each net, or none, how many nets have none, and how many nets use each node.
 #[derive(Drop)]
@@ -143,6 +150,43 @@ impl Routes {
         self.unrouted -= count_none(before);
         self.unrouted += count_none(&tree);
         self.trees[net as usize] = tree;
+    }
+}
+
+impl Routes {
+    /// The view becomes that of a net by what is counted and by these histories.
+    pub(crate) fn show(
+        &self,
+        view: &mut View,
+        problem: &Problem,
+        net: u32,
+        histories: &Arc<Histories, Global>,
+    )
+        requires there { net < length problem.now.nets }
+        requires recorded { AreRecorded problem.now (lists_of_trees self.now.trees.items) self.now.usage.counts self.now.usage.overused self.now.unrouted }
+        requires size { length view.old ≡ node_count_of problem.now.device }
+        requires histories { length (arc_value histories.now) ≡ node_count_of problem.now.device }
+        ensures { SeesOthers problem.now net (list_in (lists_of_trees self.now.trees.items) net) self.now.usage.counts (arc_value histories.now) view.new }
+    {
+        let _limits = problem.nets();
+        let tree = &self.trees[net as usize];
+        show(view, problem, net, tree, &self.usage.counts, histories);
+    }
+}
+
+impl Routes {
+    /// The row of an iteration that ends with these trees.
+    #[tactic(auto, using(crate::proofs::Rows::row_of_lists, crate::proofs::Rows::row_below, crate::proofs::Rows::row_bounded))]
+    pub(crate) fn row(&self, alloc: Global, problem: &Problem) -> Result<OveruseRow, AllocError>
+        requires recorded { AreRecorded problem.now (lists_of_trees self.now.trees.items) self.now.usage.counts self.now.usage.overused self.now.unrouted }
+        ensures exact { IfOk result (λ r. r ≡ row_of problem.now (lists_of_trees self.now.trees.items)) }
+        ensures there { IfOk result (λ r. All (λ e. e.0 < node_count_of problem.now.device) r) }
+        ensures bounded { IfOk result (λ r. (a : ℕ) → amount_in r a ≤ 65535) }
+    {
+        let device = problem.device();
+        let _limits = (device.nx(), problem.nets());
+        let amounts = self.usage.row(alloc, device)?;
+        Ok(OveruseRow { amounts })
     }
 }
 

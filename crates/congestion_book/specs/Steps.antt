@@ -1,0 +1,76 @@
+-- What each event does to a book: the answer, the book and the view after it.
+use Rattle.std.specs.Prelude.{◌≡◌, ◌≢◌, ℕ, ◌+◌, ◌<◌, ◌≤◌, List, [], ◌∷◌, ◌++◌, length, set, replicate, Option, Some, None, is_none, Result, Ok, Err}
+use Rattle.route_tree.specs.Paths.{Pair}
+use Rattle.route_tree.specs.Rows.{pairs_of}
+use Rattle.route_tree.specs.Faults.{IsRoute, IsFirstFault}
+use Rattle.congestion_book.specs.declared.faults.DrawFault.{DrawFault}
+use Rattle.congestion_book.specs.declared.faults.DrawFault.TheVariants.{ViewSize}
+use Rattle.congestion_book.specs.declared.faults.CommitFault.{CommitFault}
+use Rattle.congestion_book.specs.declared.faults.CommitFault.TheVariants as commit
+use Rattle.congestion_book.specs.declared.faults.PassFault.{PassFault}
+use Rattle.congestion_book.specs.declared.faults.PassFault.TheVariants as pass
+use Rattle.congestion_book.specs.declared.faults.CloseFault.{CloseFault}
+use Rattle.congestion_book.specs.declared.faults.CloseFault.TheVariants.{Unfinished, Full, Memory}
+use Rattle.congestion_book.specs.Turns.{holder_in, turn_of, IsFirstWaiting}
+use Rattle.congestion_book.specs.Histories.{row_of}
+use Rattle.congestion_book.specs.Contents.{Content, net_count, node_total, view_of}
+
+-- of each node how many other nets use it, and its history
+abbrev pub Seen : Type 0
+Seen = List (ℕ × ℕ)
+
+-- the worker holds the least net that was not drawn
+abbrev pub after_draw : Content → (worker : ℕ) → Content
+after_draw c worker = record c { drawn = c.drawn + 1; holders = set c.holders c.drawn (Some worker) }
+
+-- the net has this list, or none, nobody holds it, and the turn is noted
+abbrev pub after_turn : Content → (worker net : ℕ) → Option (List Pair) → Content
+after_turn c worker net list =
+    record c {
+      lists = set c.lists net list;
+      holders = set c.holders net None;
+      turns = c.turns ++ turn_of worker net (is_none list) ∷ [];
+    }
+
+-- the iteration's row is appended, and the next iteration opens with nothing drawn, held or turned
+abbrev pub after_close : Content → Content
+after_close c =
+    record c {
+      rows = c.rows ++ row_of c.problem c.lists ∷ [];
+      drawn = 0;
+      holders = replicate (net_count c) None;
+      turns = [];
+      earlier = c.earlier ++ c.turns ∷ [];
+    }
+
+-- A draw gives the least net that was not drawn, and its view; none where all were drawn. A view of another size is refused first.
+abbrev pub Draws : Content → Seen → (worker : ℕ) → Result (Option ℕ) DrawFault → Content → Seen → Type 0
+Draws old seen worker (Err ViewSize) new sees = (length seen ≢ node_total old) × (new ≡ old) × (sees ≡ seen)
+Draws old seen worker (Ok None) new sees = (length seen ≡ node_total old) × (old.drawn ≡ net_count old) × (new ≡ old) × (sees ≡ seen)
+Draws old seen worker (Ok (Some net)) new sees =
+    (length seen ≡ node_total old) × (net ≡ old.drawn) × (net < net_count old) × (new ≡ after_draw old worker) × (sees ≡ view_of old net)
+
+-- A commit needs the worker's hold on the net, and then pairs that route it; else the first fault is told, and nothing changes.
+abbrev pub Commits : Content → (worker net : ℕ) → List Pair → Result (Unit {0}) CommitFault → Content → Type 0
+Commits old worker net pairs (Ok done) new =
+    (holder_in old.holders net ≡ Some worker) × IsRoute old.problem net pairs × (new ≡ after_turn old worker net (Some pairs))
+Commits old worker net pairs (Err commit.NotHeld) new = (holder_in old.holders net ≢ Some worker) × (new ≡ old)
+Commits old worker net pairs (Err (commit.Illegal fault)) new =
+    (holder_in old.holders net ≡ Some worker) × IsFirstFault old.problem net pairs fault × (new ≡ old)
+
+-- A pass needs the worker's hold on the net.
+abbrev pub Passes : Content → (worker net : ℕ) → Result (Unit {0}) PassFault → Content → Type 0
+Passes old worker net (Ok done) new = (holder_in old.holders net ≡ Some worker) × (new ≡ after_turn old worker net None)
+Passes old worker net (Err pass.NotHeld) new = (holder_in old.holders net ≢ Some worker) × (new ≡ old)
+
+-- A close needs a turn at each net, then fewer than 500 rows, then memory.
+abbrev pub Closes : Content → Result (Unit {0}) CloseFault → Content → Type 0
+Closes old (Ok done) new = IsFirstWaiting old.turns (net_count old) None × (length old.rows < 500) × (new ≡ after_close old)
+Closes old (Err (Unfinished net)) new = IsFirstWaiting old.turns (net_count old) (Some net) × (new ≡ old)
+Closes old (Err Full) new = IsFirstWaiting old.turns (net_count old) None × (500 ≤ length old.rows) × (new ≡ old)
+Closes old (Err Memory) new = IsFirstWaiting old.turns (net_count old) None × (length old.rows < 500) × (new ≡ old)
+
+-- the answer of a commit without the tree that comes back
+abbrev pub fault_alone : {A B T : Type 0} → Result A (B × T) → Result A B
+fault_alone (Ok done) = Ok done
+fault_alone (Err e) = Err e.0
