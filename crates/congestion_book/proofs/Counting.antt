@@ -32,7 +32,7 @@ count_next p n =
         ap (λ k. count_by p (numbers_below k)) (sym (add-one n)) ∙ ap (count_by p) (below_next n) in
     omega (arith, next, more, last)
 
-same_counts : (p q : ℕ → Bool) (n : ℕ) → ((a : ℕ) → a < n → p a ≡ q a) → count_by p (numbers_below n) ≡ count_by q (numbers_below n)
+pub same_counts : (p q : ℕ → Bool) (n : ℕ) → ((a : ℕ) → a < n → p a ≡ q a) → count_by p (numbers_below n) ≡ count_by q (numbers_below n)
 same_counts p q zero same = refl
 same_counts p q (suc n) same =
     let here : one_if (p n) ≡ one_if (q n) = ap one_if (same n (omega arith)) in

@@ -6,17 +6,18 @@ use Rattle.std.proofs.lemmas.List.Elements.{filter-append}
 use Rattle.std.proofs.lemmas.List.Sums.{sum_by-cons, sum_by-append}
 use Rattle.std.proofs.lemmas.Bool.{cases_eq, eq-eqb, ne_eqb}
 use Rattle.std.proofs.lemmas.Bool.Decides.{nat_tests}
-use Rattle.std.specs.Prelude.{if◌then◌else◌}
+use Rattle.std.specs.Prelude.{if◌then◌else◌, count_by}
 use Rattle.std.proofs.lemmas.List.Elements.{All-append, All-cons, All-nil}
-use Rattle.route_tree.specs.Usage.{use_of, overuse_of}
+use Rattle.route_tree.specs.Usage.{use_of, overuse_of, room_of}
 use Rattle.route_tree.proofs.Uses.{overuse_counted, few_uses}
-use Rattle.rr_graph.specs.Nodes.{node_count_of}
+use Rattle.rr_graph.specs.Nodes.{node_at, node_count_of}
 use Rattle.rr_graph.specs.Problems.{RoutingProblem, IsProblem}
-use Rattle.congestion_book.specs.Recorded.{Lists}
+use Rattle.congestion_book.specs.Recorded.{Lists, overused_in}
 use Rattle.rr_graph.specs.Fabric.{Fabric, numbers_below}
 use Rattle.rr_graph.proofs.Ranges.{below_next}
 use Rattle.congestion_book.specs.Histories.{amount_in, row_of}
-use Rattle.congestion_book.specs.Usage.{excess_of, row_by, entry_of}
+use Rattle.congestion_book.specs.Usage.{excess_of, row_by, entry_of, is_over, overused_by}
+use Rattle.congestion_book.proofs.Counting.{same_counts}
 
 -- the entries of the first n nodes
 abbrev pub entries : (ℕ → ℕ) → ℕ → List (ℕ × ℕ)
@@ -114,3 +115,17 @@ row_of_lists p lists counts size uses =
 pub row_bounded : (p : RoutingProblem) (lists : Lists) (counts : List ℕ) → IsProblem p → ((a : ℕ) → get_or counts a 0 ≡ use_of p.nets lists a) →
     (a : ℕ) → amount_in (row_by p.device counts) a ≤ 65535
 row_bounded p lists counts limits uses a = omega (arith, amount_bounded p.device counts a, uses a, few_uses p.nets lists a, limits.few)
+
+-- where the counts are the uses, as many nodes are overused by them as by the lists
+over_alike : (n room : ℕ) → nat_lt room n ≡ nat_lt 0 (n - room)
+over_alike n room = grind (arith, nat_tests)
+
+pub overused_is : (p : RoutingProblem) (lists : Lists) (counts : List ℕ) → length counts ≡ node_count_of p.device →
+    ((a : ℕ) → get_or counts a 0 ≡ use_of p.nets lists a) → overused_by p.device counts ≡ overused_in p lists
+unfolding overused_by overused_in
+overused_is p lists counts size uses =
+    let same : (a : ℕ) → is_over p.device counts a ≡ nat_lt 0 (overuse_of p lists a) =
+        λ a. over_alike (get_or counts a 0) (room_of p.device (node_at p.device a))
+        ∙ ap (nat_lt 0) (sym (overuse_counted p lists a (get_or counts a 0) (uses a))) in
+    same_counts (is_over p.device counts) (λ a. nat_lt 0 (overuse_of p lists a)) (length counts) (λ a l. same a)
+    ∙ ap (λ n. count_by (λ a. nat_lt 0 (overuse_of p lists a)) (numbers_below n)) size

@@ -1,5 +1,5 @@
 -- What a congestion book holds, and when it is sound (McMurchie and Ebeling 1995, "occupancy", "history of congestion").
-use Rattle.std.specs.Prelude.{◌≡◌, ℕ, ◌<◌, ◌≤◌, List, [], length, map, get_or, replicate, Option, None}
+use Rattle.std.specs.Prelude.{◌≡◌, ℕ, ◌-◌, ◌<◌, ◌≤◌, List, [], ◌∷◌, ◌++◌, length, map, get_or, replicate, Option, None}
 use Rattle.rr_graph.specs.Fabric.{numbers_below}
 use Rattle.rr_graph.specs.Nodes.{node_count_of}
 use Rattle.rr_graph.specs.Problems.{RoutingProblem}
@@ -70,3 +70,11 @@ opening p acc = record {
 -- What net i sees of the others: of each node how many other nets use it, and its history.
 unfoldable pub view_of : Content → ℕ → List (ℕ × ℕ)
 view_of c i = map (λ a. (use_by_others c.problem.nets c.lists i a, history_of c.acc c.rows a)) (numbers_below (node_total c))
+
+-- the turns of iteration k, counted from 1; the open one is the last
+abbrev pub turns_of : Content → ℕ → List Turn
+turns_of c k = get_or (c.earlier ++ c.turns ∷ []) (k - 1) []
+
+-- there are occupancies and histories by which the book is sound
+abbrev pub IsSoundBook : Content → Type 0
+IsSoundBook c = (occupancies : List ℕ) × (histories : List ℕ) × IsSound c occupancies histories

@@ -1,10 +1,11 @@
 -- What is kept of the recorded trees: how many nets use each node, how many nodes are overused, and how many nets have no tree.
-use Rattle.std.specs.Prelude.{◌≡◌, ℕ, ◌+◌, List, length, get_or, Option, Some, None, is_none, count_by}
+use Rattle.std.specs.Prelude.{◌≡◌, ℕ, ◌+◌, nat_lt, List, length, get_or, Option, Some, None, is_none, count_by}
+use Rattle.rr_graph.specs.Fabric.{numbers_below}
 use Rattle.rr_graph.specs.Nodes.{node_count_of}
 use Rattle.rr_graph.specs.Problems.{RoutingProblem, net_in}
 use Rattle.route_tree.specs.Paths.{Pair}
 use Rattle.route_tree.specs.Faults.{IsRoute}
-use Rattle.route_tree.specs.Usage.{use_by, use_of}
+use Rattle.route_tree.specs.Usage.{use_by, use_of, overuse_of}
 use Rattle.congestion_book.specs.Usage.{overused_by}
 
 -- for each net a list of pairs, or none
@@ -22,6 +23,10 @@ AreRoutes p lists = (i : ℕ) (pairs : List Pair) → list_in lists i ≡ Some p
 -- how many nets have no list
 unfoldable pub unrouted_in : Lists → ℕ
 unrouted_in lists = count_by is_none lists
+
+-- how many nodes more nets use than they have room for
+unfoldable pub overused_in : RoutingProblem → Lists → ℕ
+overused_in p lists = count_by (λ a. nat_lt 0 (overuse_of p lists a)) (numbers_below (node_count_of p.device))
 
 -- the list routes its net, where there is one
 abbrev pub RoutesOrNone : RoutingProblem → (net : ℕ) → Option (List Pair) → Type 0

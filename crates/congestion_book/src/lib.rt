@@ -5,6 +5,7 @@
 mod book;
 mod faults;
 mod history;
+mod look_ups;
 mod routes;
 mod showing;
 mod turn;

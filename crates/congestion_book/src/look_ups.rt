@@ -1,0 +1,95 @@
+//! What a congestion book answers.
+
+ghost use Rattle.std.specs.Prelude.{◌≡◌, ◌==◌, ◌+◌, ◌<◌, ◌≤◌, length, Some, None, MatchOption};
+ghost use Rattle.route_tree.specs.Rows.{pairs_of};
+ghost use Rattle.route_tree.specs.Faults.{IsRoute};
+ghost use Rattle.route_tree.specs.Usage.{use_of};
+ghost use Rattle.congestion_book.specs.Recorded.{list_in, unrouted_in, overused_in};
+ghost use Rattle.congestion_book.specs.Histories.{history_of};
+ghost use Rattle.congestion_book.specs.Contents.{node_total, turns_of, IsSoundBook};
+
+use crate::book::Book;
+use crate::history::OveruseRow;
+use crate::turn::Turn;
+use route_tree::Tree;
+use rr_graph::Problem;
+
+impl Book {
+    /// The problem whose nets are routed.
+    pub fn problem(&self) -> &Problem
+        ensures exact { result.now ≡ self.now.problem }
+        ensures sound { IsSoundBook self.now }
+    {
+        &self.problem
+    }
+
+    /// The recorded tree of a net, which routes it. None where it has none, or where there is no such net.
+    pub fn tree(&self, net: u32) -> Option<&Tree>
+        ensures exact { MatchOption result (list_in self.now.lists net ≡ None) (λ t. list_in self.now.lists net ≡ Some (pairs_of t.now)) }
+        ensures routes { MatchOption result (Unit {0}) (λ t. IsRoute self.now.problem net (pairs_of t.now)) }
+    {
+        match self.routes.trees.get(net as usize) {
+            None => None,
+            Some(tree) => tree.as_ref(),
+        }
+    }
+
+    /// How many recorded trees use a node.
+    pub fn occupancy(&self, id: u32) -> u32
+        requires { id < node_total self.now }
+        ensures { result ≡ use_of self.now.problem.nets self.now.lists id }
+    {
+        self.routes.usage.counts.get(id)
+    }
+
+    /// The history of a node: acc times its overuse in all closed iterations.
+    pub fn history(&self, id: u32) -> u64
+        requires { id < node_total self.now }
+        ensures { result ≡ history_of self.now.acc self.now.rows id }
+    {
+        self.history.histories().get(id)
+    }
+
+    /// The rows of the closed iterations, the earliest first: of each its overused nodes, ascending, with by how many nets.
+    pub fn rows(&self) -> &[OveruseRow]
+        ensures exact { result.now ≡ self.now.rows }
+        ensures few { length self.now.rows ≤ 500 }
+    {
+        self.history.rows()
+    }
+
+    /// The turns of an iteration, counted from 1, in the order in which they were made. The last iteration is the open one.
+    pub fn turns(&self, iteration: usize) -> &[Turn]
+        requires first { 1 ≤ iteration }
+        requires last { iteration ≤ length self.now.rows + 1 }
+        ensures { result.now ≡ turns_of self.now iteration }
+    {
+        let index = iteration - 1;
+        if index == self.history.rows().len() {
+            self.turns.made()
+        } else {
+            self.turns.of_closed(index)
+        }
+    }
+
+    /// How many nodes more nets use than they have room for.
+    pub fn overused(&self) -> u32
+        ensures { result ≡ overused_in self.now.problem self.now.lists }
+    {
+        self.routes.usage.overused
+    }
+
+    /// How many nets have no recorded tree.
+    pub fn unrouted(&self) -> u32
+        ensures { result ≡ unrouted_in self.now.lists }
+    {
+        self.routes.unrouted
+    }
+
+    /// Whether nothing was drawn in the open iteration.
+    pub fn fresh(&self) -> bool
+        ensures { result ≡ (self.now.drawn == 0) }
+    {
+        self.turns.is_fresh()
+    }
+}
