@@ -7,3 +7,4 @@ pub mod Seeing
 pub mod Rows
 pub mod Soundness
 pub mod Stepping
+pub mod Running

@@ -7,3 +7,4 @@ pub mod Contents
 pub mod Steps
 pub mod Fields
 pub mod Closing
+pub mod Runs

@@ -3,6 +3,7 @@
 #![tactic(auto)]
 
 mod book;
+mod events;
 mod faults;
 mod history;
 mod look_ups;
@@ -13,6 +14,7 @@ mod turns;
 mod usage;
 
 pub use book::Book;
+pub use events::{Event, Reply, RunFault};
 pub use faults::{CloseFault, CommitFault, DrawFault, PassFault};
 pub use history::OveruseRow;
 pub use turn::Turn;

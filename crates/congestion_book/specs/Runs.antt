@@ -1,0 +1,32 @@
+-- What a list of events does to a book.
+use Rattle.std.specs.Prelude.{◌≡◌, ◌≢◌, ℕ, ◌<◌, List, [], ◌∷◌, length, Err}
+use Rattle.std.specs.Prelude.{take}
+use Rattle.route_tree.specs.Rows.{pairs_of}
+use Rattle.congestion_book.specs.declared.faults.CloseFault.TheVariants as close
+use Rattle.congestion_book.specs.declared.events.Event.{Event}
+use Rattle.congestion_book.specs.declared.events.Event.TheVariants.{Draw, Commit, Pass, Close}
+use Rattle.congestion_book.specs.declared.events.Reply.{Reply}
+use Rattle.congestion_book.specs.declared.events.Reply.TheVariants.{Drawn, Committed, Passed, Closed}
+use Rattle.congestion_book.specs.declared.events.RunFault.{RunFault}
+use Rattle.congestion_book.specs.declared.events.RunFault.TheVariants.{Memory}
+use Rattle.congestion_book.specs.Contents.{Content, IsSoundBook}
+use Rattle.congestion_book.specs.Steps.{Seen, Draws, Commits, Passes, Closes}
+
+-- One event: each call's answer is its reply, and only a draw changes the view. A close that has no memory has no reply.
+abbrev pub Steps : Content → Seen → Event → Reply → Content → Seen → Type 0
+Steps old seen (Draw worker) (Drawn answer) new sees = Draws old seen worker answer new sees
+Steps old seen (Commit worker net tree) (Committed answer) new sees = Commits old worker net (pairs_of tree) answer new × (sees ≡ seen)
+Steps old seen (Pass worker net) (Passed answer) new sees = Passes old worker net answer new × (sees ≡ seen)
+Steps old seen Close (Closed answer) new sees = Closes old answer new × (answer ≢ Err close.Memory) × (sees ≡ seen)
+Steps old seen _ _ new sees = ⊥
+
+-- The events happen one after another, each on the book and the view that the ones before left, and each leaves a sound book.
+abbrev pub Runs : Content → Seen → List Event → List Reply → Content → Seen → Type 0
+Runs old seen [] [] new sees = (new ≡ old) × (sees ≡ seen)
+Runs old seen (event ∷ events) (reply ∷ replies) new sees =
+    (between : Content) × (shown : Seen) × Steps old seen event reply between shown × IsSoundBook between × Runs between shown events replies new sees
+Runs old seen _ _ new sees = ⊥
+
+-- Memory ran out at an event: those before it happened, and no other.
+abbrev pub StopsAfter : Content → Seen → List Event → RunFault → Content → Seen → Type 0
+StopsAfter old seen events (Memory n) new sees = (n < length events) × ((replies : List Reply) × Runs old seen (take n events) replies new sees)
