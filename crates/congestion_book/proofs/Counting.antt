@@ -29,7 +29,7 @@ count_next p n =
     let more : count_by p (numbers_below n ++ n ∷ []) ≡ count_by p (numbers_below n) + count_by p (n ∷ []) = sum_by-append (λ a. one_if (p a)) (numbers_below n) (n ∷ []) in
     let last : count_by p (n ∷ []) ≡ one_if (p n) + 0 = sum_by-cons (λ a. one_if (p a)) n [] in
     let next : count_by p (numbers_below (suc n)) ≡ count_by p (numbers_below n ++ n ∷ []) =
-        ap (λ k. count_by p (numbers_below k)) (sym (add-one n)) ∙ ap (count_by p) (below_next n) in
+    ap (λ k. count_by p (numbers_below k)) (sym (add-one n)) ∙ ap (count_by p) (below_next n) in
     omega (arith, next, more, last)
 
 pub same_counts : (p q : ℕ → Bool) (n : ℕ) → ((a : ℕ) → a < n → p a ≡ q a) → count_by p (numbers_below n) ≡ count_by q (numbers_below n)
@@ -104,7 +104,7 @@ module _ (f : Fabric) (counts : List ℕ) (a : ℕ) (low : a < length counts) wh
       let change = one_changes (is_over f (set counts a count)) (is_over f counts) (length counts) a low (λ b apart. over_stays count b apart) in
       let here : one_if (is_over f (set counts a count) a) ≡ one_if (nat_lt room count) = ap one_if (over_here count) in
       let same : count_by (is_over f (set counts a count)) (numbers_below (length (set counts a count))) ≡ count_by (is_over f (set counts a count)) (numbers_below (length counts)) =
-          ap (λ n. count_by (is_over f (set counts a count)) (numbers_below n)) size in
+      ap (λ n. count_by (is_over f (set counts a count)) (numbers_below n)) size in
       omega (arith, change, here, same)
 
 -- one more, which goes past the room where it was just filled
@@ -158,10 +158,10 @@ module _ (rows : List Row) (k : ℕ) (low : k < length rows) where
   pub times_next : (a : ℕ) → times_in (tree.nodes_of (take (k + 1) rows)) a ≡ times_in (tree.nodes_of (take k rows)) a + one_if (next == a)
   times_next a =
       let more : times_in (tree.nodes_of (take k rows) ++ next ∷ []) a ≡ times_in (tree.nodes_of (take k rows)) a + times_in (next ∷ []) a =
-          sum_by-append (λ b. one_if (b == a)) (tree.nodes_of (take k rows)) (next ∷ []) in
+      sum_by-append (λ b. one_if (b == a)) (tree.nodes_of (take k rows)) (next ∷ []) in
       let last : times_in (next ∷ []) a ≡ one_if (next == a) + 0 = sum_by-cons (λ b. one_if (b == a)) next [] in
       let step : times_in (tree.nodes_of (take (k + 1) rows)) a ≡ times_in (tree.nodes_of (take k rows) ++ next ∷ []) a =
-          ap (λ n. times_in (tree.nodes_of (take n rows)) a) (add-one k) ∙ ap (λ ns. times_in ns a) (node_next rows k low) in
+      ap (λ n. times_in (tree.nodes_of (take n rows)) a) (add-one k) ∙ ap (λ ns. times_in ns a) (node_next rows k low) in
       omega (arith, more, last, step)
 
 pub times_within : (k : ℕ) (rows : List Row) (a : ℕ) → times_in (tree.nodes_of (take k rows)) a ≤ times_in (tree.nodes_of rows) a
@@ -170,9 +170,9 @@ times_within (suc k) [] a = omega arith
 times_within (suc k) (r ∷ rs) a =
     let rest = times_within k rs a in
     let less : times_in (r.node ∷ tree.nodes_of (take k rs)) a ≡ one_if (r.node == a) + times_in (tree.nodes_of (take k rs)) a =
-        sum_by-cons (λ b. one_if (b == a)) r.node (tree.nodes_of (take k rs)) in
+    sum_by-cons (λ b. one_if (b == a)) r.node (tree.nodes_of (take k rs)) in
     let more : times_in (r.node ∷ tree.nodes_of rs) a ≡ one_if (r.node == a) + times_in (tree.nodes_of rs) a =
-        sum_by-cons (λ b. one_if (b == a)) r.node (tree.nodes_of rs) in
+    sum_by-cons (λ b. one_if (b == a)) r.node (tree.nodes_of rs) in
     omega (arith, rest, less, more)
 
 module _ (old now : List ℕ) (rows : List Row) (k : ℕ) (low : k < length rows) where

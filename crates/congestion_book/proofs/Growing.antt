@@ -27,8 +27,8 @@ module _ (acc : ℕ) (row : List Amount) (old now : List ℕ) (k : ℕ) (low : k
         let one : amount_in (next ∷ []) a ≡ part a next + 0 = sum_by-cons (part a) next [] in
         let all = amount_next row k a low in
         let sum : acc * amount_in (take (k + 1) row) a ≡ acc * amount_in (take k row) a + acc * amount_in (next ∷ []) a =
-            ap (λ n. acc * n) (let e : amount_in (take (k + 1) row) a ≡ amount_in (take k row) a + amount_in (next ∷ []) a = omega (arith, one, all) in e)
-            ∙ mul-add acc (amount_in (take k row) a) (amount_in (next ∷ []) a) in
+        ap (λ n. acc * n) (let e : amount_in (take (k + 1) row) a ≡ amount_in (take k row) a + amount_in (next ∷ []) a = omega (arith, one, all) in e)
+        ∙ mul-add acc (amount_in (take k row) a) (amount_in (next ∷ []) a) in
         omega (arith, so_far.each a, step.each a, sum);
   }
 
@@ -39,7 +39,7 @@ module _ (acc : ℕ) (row : List Amount) (old now : List ℕ) (k : ℕ) (low : k
       let within = sum_by_more_le (part a) row k (0, 0) low in
       let sum : acc * (amount_in (take k row) a + next.1) ≡ acc * amount_in (take k row) a + acc * next.1 = mul-add acc (amount_in (take k row) a) next.1 in
       let less : acc * (amount_in (take k row) a + next.1) ≤ acc * amount_in row a =
-          mul-le acc (amount_in (take k row) a + next.1) acc (amount_in row a) (omega arith) (omega (arith, here, within)) in
+      mul-le acc (amount_in (take k row) a + next.1) acc (amount_in row a) (omega arith) (omega (arith, here, within)) in
       omega (arith, so_far.each a, sum, less, bounded a)
 
 module _ (acc : ℕ) (rows : List (List Amount)) (row : List Amount) (histories : List ℕ) (exact : AreHistories acc rows histories) where

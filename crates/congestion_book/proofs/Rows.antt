@@ -29,7 +29,7 @@ row_next g n =
     let node : ℕ → ℕ × ℕ = λ a. (a, g a) in
     ap (λ ns. filter overused (map node ns)) (below_next n)
     ∙ (ap (filter overused) (map-append node (numbers_below n) (n ∷ []))
-       ∙ filter-append overused (map node (numbers_below n)) (node n ∷ []))
+    ∙ filter-append overused (map node (numbers_below n)) (node n ∷ []))
 
 pub row_is : (f : Fabric) (counts : List ℕ) (n : ℕ) → length counts ≡ n → entries (excess_of f counts) n ≡ row_by f counts
 unfolding row_by
@@ -52,8 +52,8 @@ amount_step : (g : ℕ → ℕ) (n a : ℕ) → amount_in (entries g (suc n)) a 
 amount_step g n a =
     ap (λ k. amount_in (entries g k) a) (sym (add-one n))
     ∙ (ap (λ r. amount_in r a) (row_next g n)
-       ∙ (sum_by-append (λ (e : ℕ × ℕ). if e.0 == a then e.1 else 0) (entries g n) (entry_of (n, g n))
-          ∙ ap (λ k. amount_in (entries g n) a + k) (amount_entry n a (g n))))
+    ∙ (sum_by-append (λ (e : ℕ × ℕ). if e.0 == a then e.1 else 0) (entries g n) (entry_of (n, g n))
+    ∙ ap (λ k. amount_in (entries g n) a + k) (amount_entry n a (g n))))
 
 none_so_far : (g : ℕ → ℕ) (n a : ℕ) → n ≤ a → amount_in (entries g n) a ≡ 0
 none_so_far g zero a l = refl
@@ -92,8 +92,8 @@ entries_below g zero = All-nil (λ (e : ℕ × ℕ). e.0 < 0)
 entries_below g (suc n) =
     subst (All (λ (e : ℕ × ℕ). e.0 < suc n)) (sym (row_next g n) ∙ ap (entries g) (add-one n))
     (All-append (λ (e : ℕ × ℕ). e.0 < suc n) (entries g n) (entry_of (n, g n))
-     (λ k d l. let h = entries_below g n k d l in omega (arith, h))
-     (entry_below n (g n) (nat_lt 0 (g n))))
+    (λ k d l. let h = entries_below g n k d l in omega (arith, h))
+    (entry_below n (g n) (nat_lt 0 (g n))))
 
 pub row_below : (f : Fabric) (counts : List ℕ) → All (λ (e : ℕ × ℕ). e.0 < length counts) (row_by f counts)
 unfolding row_by
@@ -109,6 +109,7 @@ row_of_lists p lists counts size uses =
   where
     same_node : (a : ℕ) → excess_of p.device counts a ≡ overuse_of p lists a
     same_node a = sym (overuse_counted p lists a (get_or counts a 0) (uses a))
+
     same_entries : (n : ℕ) → entries (excess_of p.device counts) n ≡ entries (overuse_of p lists) n
     same_entries n = ap (λ g. entries g n) (λ i a. same_node a i)
 
@@ -125,7 +126,7 @@ pub overused_is : (p : RoutingProblem) (lists : Lists) (counts : List ℕ) → l
 unfolding overused_by overused_in
 overused_is p lists counts size uses =
     let same : (a : ℕ) → is_over p.device counts a ≡ nat_lt 0 (overuse_of p lists a) =
-        λ a. over_alike (get_or counts a 0) (room_of p.device (node_at p.device a))
-        ∙ ap (nat_lt 0) (sym (overuse_counted p lists a (get_or counts a 0) (uses a))) in
+    λ a. over_alike (get_or counts a 0) (room_of p.device (node_at p.device a))
+    ∙ ap (nat_lt 0) (sym (overuse_counted p lists a (get_or counts a 0) (uses a))) in
     same_counts (is_over p.device counts) (λ a. nat_lt 0 (overuse_of p lists a)) (length counts) (λ a l. same a)
     ∙ ap (λ n. count_by (λ a. nat_lt 0 (overuse_of p lists a)) (numbers_below n)) size

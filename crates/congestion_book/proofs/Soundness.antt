@@ -92,7 +92,7 @@ closed_kept b n h t kept next done few history turns =
     let grown : HistoryTable = record { acc = b.history.acc; rows = b.history.rows ++ n.row ∷ []; histories = arc_value n.histories } in
     let rows : length h.rows ≡ length b.history.rows + 1 = ap (λ (h : HistoryTable). length h.rows) history ∙ length-append b.history.rows (n.row ∷ []) in
     let earlier : length t.earlier ≡ length b.turns.earlier + 1 =
-        ap (λ (t : TurnTable). length t.earlier) turns ∙ length-append b.turns.earlier (b.turns.turns ∷ []) in
+    ap (λ (t : TurnTable). length t.earlier) turns ∙ length-append b.turns.earlier (b.turns.turns ∷ []) in
     kept_by (record { problem = b.problem; routes = b.routes; history = h; turns = t; marks = b.marks }) (recorded b kept)
     (ap (λ (h : HistoryTable). length h.histories) history ∙ next.size)
     (subst (λ (h : HistoryTable). AreHistories h.acc h.rows h.histories) (sym history) next.exact)

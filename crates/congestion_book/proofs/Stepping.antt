@@ -23,9 +23,13 @@ pub draws_net : (b : Inside) (kept : IsKept b) (seen view : Seen) (worker net : 
     SeesOthers b.problem net (list_in (lists_of_trees b.routes.trees.items) net) b.routes.usage.counts b.history.histories view →
     Draws (content_of b) seen worker (Ok (Some net)) (with_turns b t) view
 draws_net b kept seen view worker net t size gives sees =
-    let low : net < length b.problem.nets = omega (arith, gives.1, kept.sound.held) in
-    (size, gives.0, low, ap (with_turns b) gives.2,
-     view_is (content_of b) b.routes.usage.counts b.history.histories kept.sound net low view sees)
+    let low : net < length b.problem.nets = omega (arith, gives.1, kept.sound.held) in (
+      size,
+      gives.0,
+      low,
+      ap (with_turns b) gives.2,
+      view_is (content_of b) b.routes.usage.counts b.history.histories kept.sound net low view sees,
+    )
 
 -- ---- a close
 module _ (b : Inside) (kept : IsKept b) where

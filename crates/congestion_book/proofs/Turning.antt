@@ -109,9 +109,11 @@ undrawn_waits t i s past = let once = s.once i in grind (arith, nat_tests)
 module _ (t : TurnTable) (s : AreInOrder t) where
   pub waits_held : (i : ℕ) → i < t.drawn → ((k : ℕ) → k < i → holder_in t.holders k ≡ None) → is_some (holder_in t.holders i) ≡ true →
       IsFirstWaiting t.turns (length t.holders) (Some i)
-  waits_held i low free some =
-      (omega (arith, low, s.drawn), held_waits t i (holder_in t.holders i) s low refl some,
-       λ j lt. free_turned t j s (omega (arith, lt, low)) (free j lt))
+  waits_held i low free some = (
+    omega (arith, low, s.drawn),
+    held_waits t i (holder_in t.holders i) s low refl some,
+    λ j lt. free_turned t j s (omega (arith, lt, low)) (free j lt),
+  )
 
   pub waits_undrawn : t.drawn < length t.holders → ((k : ℕ) → k < t.drawn → holder_in t.holders k ≡ None) →
       IsFirstWaiting t.turns (length t.holders) (Some t.drawn)

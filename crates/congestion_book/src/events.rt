@@ -71,12 +71,7 @@ impl Book {
     }
 
     /// Lets an event happen.
-    fn step(
-        &mut self,
-        alloc: Global,
-        event: &Event,
-        view: &mut View,
-    ) -> Result<Reply, AllocError>
+    fn step(&mut self, alloc: Global, event: &Event, view: &mut View) -> Result<Reply, AllocError>
         ensures step { IfOk result (λ reply. Steps self.old view.old event.now reply self.new view.new) }
         ensures refused { OnErr result (self.new ≡ self.old) }
         ensures unseen { OnErr result (view.new ≡ view.old) }

@@ -138,11 +138,7 @@ impl Usage {
 
     /// The overused nodes, ascending, each with by how many nets.
     #[tactic(auto, using(crate::proofs::Rows::row_next))]
-    pub(crate) fn row(
-        &self,
-        alloc: Global,
-        device: &Device,
-    ) -> Result<Vec<(u32, u32)>, AllocError>
+    pub(crate) fn row(&self, alloc: Global, device: &Device) -> Result<Vec<(u32, u32)>, AllocError>
         requires limits { IsFabric device.now }
         requires each { length self.now.counts ≡ node_count_of device.now }
         ensures { IfOk result (λ r. r.items ≡ row_by device.now self.now.counts) }

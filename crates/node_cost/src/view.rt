@@ -5,8 +5,8 @@ ghost use Rattle.std.specs.List.{zip};
 ghost use Rattle.std.specs.Arc.{arc_value};
 ghost use Rattle.node_cost.specs.Views.{others_in, history_in};
 
-use crate::entry_cost::{GREATEST_HISTORY, GREATEST_OTHERS};
 use crate::counts::Counts;
+use crate::entry_cost::{GREATEST_HISTORY, GREATEST_OTHERS};
 use crate::histories::Histories;
 use crate::shared::SharedHistories;
 use std::alloc::{AllocError, Global};

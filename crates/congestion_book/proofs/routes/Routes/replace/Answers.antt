@@ -30,5 +30,5 @@ returns-clause-recorded c =
 pub overflow_add-self : goal.overflow_add-self
 overflow_add-self c =
     let few = few_without c.args.problem.now c.args.self.now.trees.items c.args.self.now.usage.counts c.args.self.now.usage.overused c.args.self.now.unrouted
-        c.args.net c.index-before.result.now c.args.tree c.nets-limits.ensures.limits c.requires.there c.requires.recorded c.index-before.ensures in
+    c.args.net c.index-before.result.now c.args.tree c.nets-limits.ensures.limits c.requires.there c.requires.recorded c.index-before.ensures in
     omega (arith, few, c.count_none-2.ensures, one_at_most (is_none c.args.tree))

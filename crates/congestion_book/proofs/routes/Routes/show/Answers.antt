@@ -18,5 +18,5 @@ show-requires-clause-used c =
 pub returns : goal.returns
 returns c =
     let is = listed c.args.problem.now c.args.self.now.trees.items c.args.self.now.usage.counts c.args.self.now.usage.overused c.args.self.now.unrouted
-        c.args.net c.index-tree.result.now c.index-tree.result.now c.nets-limits.ensures.limits c.requires.there c.requires.recorded c.index-tree.ensures in
+    c.args.net c.index-tree.result.now c.index-tree.result.now c.nets-limits.ensures.limits c.requires.there c.requires.recorded c.index-tree.ensures in
     subst (λ l. SeesOthers c.args.problem.now c.args.net l c.args.self.now.usage.counts (arc_value c.args.histories.now) c.show.new.view) (sym is) c.show.ensures
