@@ -8,3 +8,4 @@ pub mod Rows
 pub mod Soundness
 pub mod Stepping
 pub mod Running
+pub mod Examples

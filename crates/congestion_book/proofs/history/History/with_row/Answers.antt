@@ -4,18 +4,14 @@ use Rattle.congestion_book.specs.Histories.{HistoryTable, AreHistories}
 use Rattle.congestion_book.specs.Fields.{history_table}
 use Rattle.congestion_book.proofs.Growing.{room_for_row, row_added}
 use Rattle.congestion_book.proofs.history.History.with_row.Goals as goal
-use Rattle.congestion_book.proofs.history.History.with_row.Goals.{After-histories-2-1}
 
 abbrev HasRoom : HistoryTable → Type 0
 HasRoom t = length t.rows < 500
 
-exact : (c : After-histories-2-1) → AreHistories c.self.inside.acc c.self.inside.rows.items c.in_ok-histories.histories
-exact c =
-    subst (AreHistories c.self.inside.acc c.self.inside.rows.items) (sym (c.in_ok-histories.ensures ∙ c.deref.ensures)) c.self.invariant.exact
-
 pub add_row-requires-clause-bounded : goal.add_row-requires-clause-bounded
 add_row-requires-clause-bounded c =
-    room_for_row c.self.inside.acc c.self.inside.rows.items c.args.row.now c.in_ok-histories.histories (exact c)
+    let exact = subst (AreHistories c.self.inside.acc c.self.inside.rows.items) (sym (c.in_ok-histories.ensures ∙ c.deref.ensures)) c.self.invariant.exact in
+    room_for_row c.self.inside.acc c.self.inside.rows.items c.args.row.now c.in_ok-histories.histories exact
     c.self.invariant.acc (subst HasRoom (sym c.self.view_is) c.requires.few) c.self.invariant.bounded c.requires.bounded
 
 pub returns-clause-exact : goal.returns-clause-exact
