@@ -1,43 +1,20 @@
 //! `pathfinder`: routes placed designs in the text formats of VPR 4.30.
 #![tactic(auto)]
 
-mod arch_fault;
-mod check_run;
-#[cfg(test)]
-mod check_tests;
 mod command;
-#[cfg(test)]
-mod fakes;
-mod fault;
-#[cfg(test)]
-mod fault_tests;
-mod graph_run;
-mod inputs;
-mod listing;
-mod net_fault;
-mod place_fault;
-mod route_fault;
-#[cfg(test)]
-mod tests;
-mod text;
-mod text_fault;
-mod verdict;
 
 ghost use Rattle.std.specs.Prelude.{◌≤◌};
 
-use check_run::check_run;
 use clap::error::ErrorKind;
 use clap::{ArgMatches, Error as ClapError};
 use command::{CheckWords, GraphWords};
-use fault::{AppFault, InputFile, print_fault, status};
-use graph_run::graph_run;
 use route_check::RouteFault;
 use rr_graph::Mode;
+use runs::{AppFault, InputFile, check_run, graph_run, print_fault, status, verdict_status};
 use std::process::ExitCode;
 use std::rt::Runtime;
 use std::thread::Threads;
 use std::{env, fs, io};
-use verdict::verdict_status;
 use vpr_text::Adapted;
 
 /// The status of words that the command line may not have.

@@ -1,7 +1,0 @@
-use Rattle.route_check.specs.declared.fault.RouteFault.TheVariants.{Length}
-use Rattle.pathfinder.proofs.check_run.judge.Goals as goal
-
-pub returns-clause-judges : goal.returns-clause-judges
-returns-clause-judges g c =
-    let told = c.in-Ok.ensures in
-    λ ne. (c.in-Ok.verdict, record { legal = told.routed; first = told.first; fits = λ e. ((told.first Length).0 e).there c.requires }, c.print_verdict.ensures)

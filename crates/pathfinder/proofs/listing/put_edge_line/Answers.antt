@@ -1,7 +1,0 @@
-use Rattle.vpr_text.proofs.Printing.{sends_then}
-use Rattle.pathfinder.specs.Texts.{edge_line}
-use Rattle.pathfinder.proofs.listing.put_edge_line.Goals as goal
-
-pub returns : goal.returns
-unfolding edge_line
-returns g c = sends_then c.put_number.ensures (sends_then c.push.ensures (sends_then c.put_number-2.ensures c.push-2.ensures))

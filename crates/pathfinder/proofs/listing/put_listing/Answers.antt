@@ -1,9 +1,0 @@
-use Rattle.vpr_text.proofs.Printing.{sends_then}
-use Rattle.pathfinder.specs.Listing.{listing_of}
-use Rattle.pathfinder.proofs.listing.put_listing.Goals as goal
-
-pub returns : goal.returns
-unfolding listing_of
-returns g c =
-    let counts = rw (c.node_count.ensures.count, c.edge_count.ensures) at c.put_counts.ensures in
-    sends_then counts (sends_then c.put_lines.ensures c.put_edges.ensures)

@@ -1,0 +1,11 @@
+//! Tests of what the commands do, over sources and sinks in memory.
+#![tactic(auto)]
+
+#[cfg(test)]
+mod checks;
+#[cfg(test)]
+mod fakes;
+#[cfg(test)]
+mod faults;
+#[cfg(test)]
+mod listings;

@@ -1,0 +1,74 @@
+-- The lines of a listing, one after the other.
+use Rattle.std.proofs.Common.{◌≡◌, ℕ, zero, suc, ◌+◌, ◌-◌, ◌≤◌, true, List, [], ◌++◌, Option, Some, None, refl, sym, ap, subst, ◌∙◌, append_assoc, arith, codes, decimal, add-zero}
+use Rattle.std.specs.Prelude.{Result, Ok, Err, IsOk, OnOk}
+use Rattle.std.specs.List.{flat_map}
+use Rattle.std.specs.Option.{option_map}
+use Rattle.std.proofs.lemmas.List.{append-nil, flat_map_more}
+use Rattle.std.proofs.lemmas.Bool.{false≢true}
+use Rattle.vpr_text.specs.Output.{Stream, Sends}
+use Rattle.vpr_text.proofs.Printing.{breaks_more}
+use Rattle.rr_graph.specs.declared.parts.Node.{Node}
+use Rattle.rr_graph.specs.declared.parts.Label.{Label}
+use Rattle.rr_graph.specs.declared.parts.Span.{Span}
+use Rattle.rr_graph.specs.Fabric.{Fabric, numbers_below}
+use Rattle.rr_graph.specs.Nodes.{node_at, label_of, span_of, capacity_of}
+use Rattle.rr_graph.proofs.Ranges.{below_next}
+use Rattle.runs.specs.Texts.{node_text, node_line}
+use Rattle.runs.specs.Listing.{line_at, line_of}
+
+-- the lines of one more number
+pub lines_more : (line : ℕ → List ℕ) (n : ℕ) → flat_map line (numbers_below n) ++ line n ≡ flat_map line (numbers_below (n + 1))
+lines_more line n = flat_map_more line [] (numbers_below n) n ∙ ap (flat_map line) (sym (below_next n))
+
+-- the lines of the first numbers begin those of all
+lines_rest : (line : ℕ → List ℕ) (i k : ℕ) → (rest : List ℕ) × (flat_map line (numbers_below i) ++ rest ≡ flat_map line (numbers_below (i + k)))
+lines_rest line i zero = ([], append-nil (flat_map line (numbers_below i)) ∙ ap (λ n. flat_map line (numbers_below n)) (sym (add-zero i)))
+lines_rest line i (suc k) =
+    let before = lines_rest line i k in
+    let e : i + k + 1 ≡ i + suc k = omega arith in
+    (before.0 ++ line (i + k), sym (append_assoc (flat_map line (numbers_below i)) before.0 (line (i + k))) ∙ (ap (λ (t : List ℕ). t ++ line (i + k)) before.1 ∙ (lines_more line (i + k) ∙ ap (λ n. flat_map line (numbers_below n)) e)))
+
+pub lines_begin : (line : ℕ → List ℕ) (i n : ℕ) → i ≤ n → (rest : List ℕ) × (flat_map line (numbers_below i) ++ rest ≡ flat_map line (numbers_below n))
+lines_begin line i n le =
+    let found = lines_rest line i (n - i) in
+    let e : i + (n - i) ≡ n = omega arith in
+    (found.0, found.1 ∙ ap (λ m. flat_map line (numbers_below m)) e)
+
+-- what broke off may have had more behind it
+pub sends_broken : {s t : Stream} {x : List ℕ} (y : List ℕ) → Sends s t x → t.buffer.broken ≡ true → Sends s t (x ++ y)
+sends_broken {s} {t} {x} y p broken = record {
+  prints = λ e. absurd (false≢true (sym e ∙ broken));
+  breaks = λ e f. breaks_more y (p.breaks e f);
+  stays = p.stays;
+}
+
+-- lines up to one behind which the sink broke
+pub sends_broken_lines : {s t : Stream} (line : ℕ → List ℕ) (i n : ℕ) → i ≤ n → Sends s t (flat_map line (numbers_below i)) → t.buffer.broken ≡ true → Sends s t (flat_map line (numbers_below n))
+sends_broken_lines {s} {t} line i n le p broken =
+    let rest = lines_begin line i n le in subst (Sends s t) rest.1 (sends_broken rest.0 p broken)
+
+some_is : {A B : Type 0} (g : A → B) (o : Option A) (a : A) (b : B) → Some a ≡ o → Some b ≡ option_map g o → b ≡ g a
+some_is {A} {B} g o a b e f =
+    let h : Some b ≡ option_map g (Some a) = f ∙ ap (option_map g) (sym e) in cc
+
+-- what is printed for a node is its line
+pub line_text : (f : Fabric) (i : ℕ) (n : Node) (s : Span) (l : Label) (c : ℕ)
+    → Some n ≡ node_at f i → Some s ≡ option_map (span_of f) (node_at f i) → Some l ≡ option_map (label_of f) (node_at f i) → Some c ≡ option_map (capacity_of f) (node_at f i)
+    → decimal i ++ (codes " " ++ (node_text n.kind s l n.number ++ (codes " cap " ++ (decimal c ++ codes "\n")))) ≡ line_at f i
+unfolding line_at node_line
+line_text f i n s l c e es el ec =
+    let s-is = some_is (span_of f) (node_at f i) n s e es in
+    let l-is = some_is (label_of f) (node_at f i) n l e el in
+    let c-is = some_is (capacity_of f) (node_at f i) n c e ec in
+    let same : decimal i ++ (codes " " ++ (node_text n.kind s l n.number ++ (codes " cap " ++ (decimal c ++ codes "\n")))) ≡ node_line f i n = rw (s-is, l-is, c-is) refl in
+    same ∙ ap (line_of f i) e
+
+-- a number of no node has no line
+pub no_line : (f : Fabric) (i : ℕ) → None ≡ node_at f i → [] ≡ line_at f i
+unfolding line_at
+no_line f i e = ap (line_of f i) e
+
+-- what holds where a call succeeds, at a call that does
+pub ok_gives : {T E P : Type 0} (r : Result T E) → IsOk r → OnOk r P → P
+ok_gives (Ok x) i p = p
+ok_gives (Err e) i p = absurd (false≢true i)

@@ -1,0 +1,95 @@
+-- What the input files of a run say, each read after the one before it: a value, or the first fault by the order of reading (ours).
+use Rattle.std.specs.Prelude.{ℕ, Bool, false, nat_lt, List, Option, None, Some, Result, Ok, Err}
+use Rattle.std.specs.Option.{option_map_or}
+use Rattle.arch_file.specs.Architecture.{Architecture}
+use Rattle.arch_file.specs.Reading.{arch_of}
+use Rattle.net_file.specs.Netlist.{Netlist}
+use Rattle.net_file.specs.Reading.{netlist_of}
+use Rattle.place_file.specs.Placement.{Placement}
+use Rattle.place_file.specs.Reading.{placement_of}
+use Rattle.rr_graph.specs.declared.parts.Mode.{Mode}
+use Rattle.rr_graph.specs.Designs.{problem_with}
+use Rattle.rr_graph.specs.Problems.{RoutingProblem}
+use Rattle.route_tree.specs.Paths.{Pair}
+use Rattle.route_file.specs.Reading.{routing_of}
+use Rattle.runs.specs.declared.fault.InputFile.{InputFile}
+use Rattle.runs.specs.declared.fault.InputFile.TheVariants as file
+use Rattle.runs.specs.declared.fault.AppFault.{AppFault}
+use Rattle.runs.specs.declared.fault.AppFault.TheVariants.{Arch, Net, Place, Route, Unread, Unwritten, Memory}
+use Rattle.runs.specs.Runs.{Input, bytes_in, with_fault, ◌>>=◌}
+
+-- ---- what the bytes of a file say
+
+abbrev pub arch_from : List ℕ → Result Architecture AppFault
+arch_from bytes = with_fault Arch (arch_of bytes)
+
+abbrev pub netlist_from : Architecture → List ℕ → Result Netlist AppFault
+netlist_from a bytes = with_fault Net (netlist_of a.pins bytes)
+
+abbrev pub placement_from : Architecture → Netlist → List ℕ → Result Placement AppFault
+placement_from a netlist bytes = with_fault Place (placement_of a.io_rat netlist.blocks bytes)
+
+abbrev pub routing_from : Netlist → RoutingProblem → List ℕ → Result (List (Option (List Pair))) AppFault
+routing_from netlist problem bytes = with_fault Route (routing_of netlist problem bytes)
+
+-- ---- what a file says, behind those that are read before it
+
+unfoldable pub arch_in : Input → Result Architecture AppFault
+arch_in input = bytes_in file.Arch input >>= arch_from
+
+unfoldable pub netlist_in : Architecture → Input → Result Netlist AppFault
+netlist_in a input = bytes_in file.Net input >>= netlist_from a
+
+unfoldable pub placement_in : Architecture → Netlist → Input → Result Placement AppFault
+placement_in a netlist input = bytes_in file.Place input >>= placement_from a netlist
+
+unfoldable pub routing_in : Netlist → RoutingProblem → Input → Result (List (Option (List Pair))) AppFault
+routing_in netlist problem input = bytes_in file.Route input >>= routing_from netlist problem
+
+-- ---- what the files of `check` say
+
+-- a routing, the problem that it is meant for, and the netlist with the names of its nets
+pub record Judged : Type 0 where
+  pub netlist : Netlist
+  pub problem : RoutingProblem
+  pub routing : List (Option (List Pair))
+
+unfoldable pub judged_for : Netlist → RoutingProblem → (route : Input) → Result Judged AppFault
+judged_for netlist problem route =
+    routing_in netlist problem route >>= λ routing. Ok (record { netlist = netlist; problem = problem; routing = routing })
+
+-- the device has the size of the placement's array
+unfoldable pub judged_on : (width : ℕ) → Mode → Architecture → Netlist → (place route : Input) → Result Judged AppFault
+judged_on width mode a netlist place route =
+    placement_in a netlist place >>= λ p. judged_for netlist (problem_with width mode a netlist p) route
+
+unfoldable pub judged_with : (width : ℕ) → Mode → Architecture → (net place route : Input) → Result Judged AppFault
+judged_with width mode a net place route = netlist_in a net >>= λ netlist. judged_on width mode a netlist place route
+
+-- what the four files say, for a device of this width and mode
+unfoldable pub judged_in : (width : ℕ) → Mode → (arch net place route : Input) → Result Judged AppFault
+judged_in width mode arch net place route = arch_in arch >>= λ a. judged_with width mode a net place route
+
+-- ---- which file a run ended at
+
+-- the place of a file in the order of reading
+abbrev pub turn_of : InputFile → ℕ
+turn_of file.Arch = 0
+turn_of file.Net = 1
+turn_of file.Place = 2
+turn_of file.Route = 3
+
+-- the file that a fault is in
+abbrev pub file_of : AppFault → Option InputFile
+file_of (Arch f) = Some file.Arch
+file_of (Net f) = Some file.Net
+file_of (Place f) = Some file.Place
+file_of (Route f) = Some file.Route
+file_of (Unread at) = Some at
+file_of Unwritten = None
+file_of Memory = None
+
+-- a run ended with a fault in a file that is read before this one
+abbrev pub ends_before : {R : Type 0} → InputFile → Result R AppFault → Bool
+ends_before later (Ok value) = false
+ends_before later (Err f) = option_map_or (λ at. nat_lt (turn_of at) (turn_of later)) (file_of f) false

@@ -1,0 +1,174 @@
+//! What can go wrong in a run of the program, how it is printed, and the exit status it gives.
+
+ghost use Rattle.std.specs.Prelude.{◌≡◌, OnOk, OnErr, IsTrue};
+ghost use Rattle.std.specs.Io.KnownBytes.{Appends};
+ghost use Rattle.vpr_text.specs.Output.{Sends, stream};
+ghost use Rattle.runs.specs.declared.fault.AppFault.TheVariants.{Memory};
+ghost use Rattle.runs.specs.Faults.{fault_text, input_text, line_fault_text, status_of, unread_text};
+
+use crate::arch_fault::{arch_line, arch_name};
+use crate::net_fault::{net_line, net_name};
+use crate::place_fault::{place_line, place_name};
+use crate::route_fault::{route_line, route_name};
+use arch_file::ArchFault;
+use net_file::NetFault;
+use place_file::PlaceFault;
+use route_file::RouteFileFault;
+use route_file::text::put_number;
+use std::alloc::AllocError;
+use thiserror::Error;
+use vpr_text::{Broken, ByteSink, OutputBuffer};
+
+/// An input file of the program.
+#[derive(Clone, Copy, Debug, PartialEq, Eq)]
+pub enum InputFile {
+    Arch,
+    Net,
+    Place,
+    Route,
+}
+
+/// What can go wrong in a run.
+#[derive(Clone, Copy, Debug, PartialEq, Eq, Error)]
+pub enum AppFault {
+    /// The architecture file has this fault; never that of memory.
+    #[error("the architecture file: {0}")]
+    Arch(ArchFault),
+    /// The netlist has this fault; never that of memory.
+    #[error("the netlist: {0}")]
+    Net(NetFault),
+    /// The placement has this fault; never that of memory.
+    #[error("the placement: {0}")]
+    Place(PlaceFault),
+    /// The routing file has this fault; never that of memory.
+    #[error("the routing file: {0}")]
+    Route(RouteFileFault),
+    /// An input file could not be opened, or reading it failed.
+    #[error("an input file cannot be read")]
+    Unread(InputFile),
+    /// Writing failed.
+    #[error("the output cannot be written")]
+    Unwritten,
+    /// Memory ran out.
+    #[error("memory ran out")]
+    Memory,
+}
+
+impl From<AllocError> for AppFault {
+    ghost from_gives = { λ _ e. e ≡ Memory };
+
+    fn from(_e: AllocError) -> AppFault {
+        AppFault::Memory
+    }
+}
+
+/// The exit status that a fault gives: 4 for bad input, 5 for reading or writing that failed, 6 for memory.
+pub fn status(fault: &AppFault) -> u8
+    ensures { result ≡ status_of fault.now }
+{
+    match fault {
+        AppFault::Arch(_) | AppFault::Net(_) | AppFault::Place(_) | AppFault::Route(_) => 4,
+        AppFault::Unread(_) | AppFault::Unwritten => 5,
+        AppFault::Memory => 6,
+    }
+}
+
+/// An input file's name in a fault's text.
+fn input_name(file: InputFile) -> &'static [u8]
+    ensures { result.now ≡ input_text file }
+{
+    match file {
+        InputFile::Arch => b"arch",
+        InputFile::Net => b"net",
+        InputFile::Place => b"place",
+        InputFile::Route => b"route",
+    }
+}
+
+/// Prints the line of a fault in an input file.
+fn put_line_fault<W: ByteSink>(
+    out: &mut OutputBuffer,
+    sink: &mut W,
+    file: InputFile,
+    line: u32,
+    name: &[u8],
+)
+    ensures { Sends (stream (W.taken sink.old) (W.failed sink.old) out.old) (stream (W.taken sink.new) (W.failed sink.new) out.new) (line_fault_text (input_text file) line name.now) }
+{
+    out.push(sink, b"error: ");
+    out.push(sink, input_name(file));
+    out.push(sink, b" line ");
+    put_number(out, sink, line);
+    out.push(sink, b": ");
+    out.push(sink, name);
+    out.push(sink, b"\n");
+}
+
+/// Prints the line of an input file that cannot be read.
+fn put_unread<W: ByteSink>(out: &mut OutputBuffer, sink: &mut W, file: InputFile)
+    ensures { Sends (stream (W.taken sink.old) (W.failed sink.old) out.old) (stream (W.taken sink.new) (W.failed sink.new) out.new) (unread_text (input_text file)) }
+{
+    out.push(sink, b"error: ");
+    out.push(sink, input_name(file));
+    out.push(sink, b" cannot be read\n");
+}
+
+/// Prints a fault's line through a buffer.
+fn put_fault<W: ByteSink>(out: &mut OutputBuffer, sink: &mut W, fault: &AppFault)
+    ensures { Sends (stream (W.taken sink.old) (W.failed sink.old) out.old) (stream (W.taken sink.new) (W.failed sink.new) out.new) (fault_text fault.now) }
+{
+    match fault {
+        AppFault::Arch(fault) => {
+            put_line_fault(
+                out,
+                sink,
+                InputFile::Arch,
+                arch_line(*fault),
+                arch_name(*fault),
+            );
+        }
+        AppFault::Net(fault) => {
+            put_line_fault(
+                out,
+                sink,
+                InputFile::Net,
+                net_line(*fault),
+                net_name(*fault),
+            );
+        }
+        AppFault::Place(fault) => {
+            put_line_fault(
+                out,
+                sink,
+                InputFile::Place,
+                place_line(*fault),
+                place_name(*fault),
+            );
+        }
+        AppFault::Route(fault) => {
+            put_line_fault(
+                out,
+                sink,
+                InputFile::Route,
+                route_line(*fault),
+                route_name(*fault),
+            );
+        }
+        AppFault::Unread(file) => put_unread(out, sink, *file),
+        AppFault::Unwritten => out.push(sink, b"error: cannot write\n"),
+        AppFault::Memory => out.push(sink, b"error: memory\n"),
+    }
+}
+
+/// Prints a fault's line. It takes no memory.
+///
+/// # Errors
+/// Broken where the sink failed.
+pub fn print_fault<W: ByteSink>(fault: &AppFault, out: &mut W) -> Result<(), Broken>
+    ensures ok { OnOk result (Appends (W.taken out.old) (W.taken out.new) (fault_text fault.now)) }
+    ensures err { OnErr result (IsTrue (W.failed out.new)) }
+{
+    let mut buffer = OutputBuffer::new();
+    put_fault(&mut buffer, out, fault);
+    buffer.finish(out)
+}

@@ -1,0 +1,60 @@
+//! The `graph` command over any source and sink.
+
+ghost use Rattle.std.specs.Prelude.{◌≡◌, ◌≢◌, ◌≤◌, Err};
+ghost use Rattle.std.specs.Io.KnownBytes.{Keeps};
+ghost use Rattle.runs.specs.Inputs.{arch_in};
+ghost use Rattle.runs.specs.Listing.{listing_of};
+ghost use Rattle.runs.specs.Runs.{Meets, PrintsText};
+ghost use Rattle.rr_graph.specs.Fabric.{fabric_with};
+ghost use Rattle.runs.specs.GraphRun.{RunsGraph};
+
+use crate::fault::AppFault;
+use crate::inputs::read_arch;
+use crate::listing::{make_room, put_listing};
+use rr_graph::{Device, Mode};
+use smallvec::SmallVec;
+use std::alloc::Global;
+use vpr_text::{ByteSink, ByteSource, OutputBuffer};
+
+/// Prints the listing of a device. Nothing is printed where memory runs out.
+fn print_listing<W: ByteSink>(alloc: Global, device: &Device, sink: &mut W) -> Result<(), AppFault>
+    ensures memory { result ≡ Err AppFault.Memory → Keeps (W.taken sink.old) (W.taken sink.new) }
+    ensures printed { result ≢ Err AppFault.Memory → PrintsText (W.failed sink.new) (W.taken sink.old) (W.taken sink.new) (listing_of device.now) tt result }
+{
+    let mut list: SmallVec<u32, 8> = SmallVec::new(alloc);
+    make_room(device, &mut list)?;
+    let mut out = OutputBuffer::new();
+    put_listing(&mut out, sink, device, &mut list);
+    match out.finish(sink) {
+        Ok(()) => Ok(()),
+        Err(_) => Err(AppFault::Unwritten),
+    }
+}
+
+/// Reads an architecture, and prints the nodes and edges of a device of it.
+///
+/// # Errors
+/// Memory aside, Unread exactly where the source failed, else Arch with exactly the fault of its bytes, else Unwritten exactly
+/// where the sink failed, which then received a front of the listing. After any other fault it received nothing.
+pub fn graph_run<S: ByteSource, W: ByteSink>(
+    alloc: Global,
+    arch: &mut S,
+    nx: u32,
+    ny: u32,
+    width: u32,
+    mode: Mode,
+    out: &mut W,
+) -> Result<(), AppFault>
+    requires columns { (1 ≤ nx) × (nx ≤ 100) }
+    requires rows { (1 ≤ ny) × (ny ≤ 100) }
+    requires tracks { (1 ≤ width) × (width ≤ 256) }
+    ensures runs { result ≢ Err AppFault.Memory → Meets (S.remaining arch.old) (S.failed arch.new) (λ a. RunsGraph (W.failed out.new) (W.taken out.old) (W.taken out.new) (fabric_with nx ny width mode) (arch_in a) result) }
+    ensures memory { result ≡ Err AppFault.Memory → Keeps (W.taken out.old) (W.taken out.new) }
+{
+    let arch = match read_arch(alloc, arch) {
+        Ok(arch) => arch,
+        Err(fault) => return Err(fault),
+    };
+    let device = Device::with_mode(alloc, &arch, nx, ny, width, mode)?;
+    print_listing(alloc, &device, out)
+}

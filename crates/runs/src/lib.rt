@@ -1,0 +1,20 @@
+//! What the commands of the program do, over any sources and sinks: their runs, faults, texts and statuses.
+#![tactic(auto)]
+
+mod arch_fault;
+mod check;
+mod fault;
+mod graph;
+mod inputs;
+mod listing;
+mod net_fault;
+mod place_fault;
+mod route_fault;
+mod text;
+mod text_fault;
+mod verdict;
+
+pub use check::check_run;
+pub use fault::{AppFault, InputFile, print_fault, status};
+pub use graph::graph_run;
+pub use verdict::verdict_status;

@@ -1,0 +1,143 @@
+//! The listing of a device.
+
+ghost use Rattle.std.specs.Prelude.{◌≡◌, ℕ, ◌≤◌, length, OnOk, Some};
+ghost use Rattle.std.specs.List.{flat_map};
+ghost use Rattle.vpr_text.specs.Output.{Sends, stream};
+ghost use Rattle.rr_graph.specs.Fabric.{numbers_below};
+ghost use Rattle.rr_graph.specs.Nodes.{node_at, node_count_of};
+ghost use Rattle.rr_graph.specs.Edges.{successors_of};
+ghost use Rattle.runs.specs.Texts.{counts_line, node_line, edge_line};
+ghost use Rattle.runs.specs.Listing.{line_at, edge_lines_at, listing_of};
+
+use crate::text::put_node;
+use route_file::text::put_number;
+use rr_graph::{Device, Node};
+use smallvec::SmallVec;
+use std::alloc::AllocError;
+use vpr_text::{ByteSink, OutputBuffer};
+
+/// Prints the first line: how many nodes and edges there are.
+fn put_counts<W: ByteSink>(out: &mut OutputBuffer, sink: &mut W, nodes: u32, edges: u64)
+    ensures { Sends (stream (W.taken sink.old) (W.failed sink.old) out.old) (stream (W.taken sink.new) (W.failed sink.new) out.new) (counts_line nodes edges) }
+{
+    put_number(out, sink, nodes);
+    out.push(sink, b" nodes, ");
+    put_number(out, sink, edges);
+    out.push(sink, b" edges\n");
+}
+
+/// Prints the line of the node of a number, nothing for what is no node.
+fn put_line<W: ByteSink>(out: &mut OutputBuffer, sink: &mut W, device: &Device, id: u32)
+    ensures { Sends (stream (W.taken sink.old) (W.failed sink.old) out.old) (stream (W.taken sink.new) (W.failed sink.new) out.new) (line_at device.now id) }
+{
+    let node = match device.node(id) {
+        Some(node) => node,
+        None => return,
+    };
+    let span = match device.span(id) {
+        Some(span) => span,
+        None => return,
+    };
+    let label = match device.label(id) {
+        Some(label) => label,
+        None => return,
+    };
+    let capacity = match device.capacity(id) {
+        Some(capacity) => capacity,
+        None => return,
+    };
+    put_number(out, sink, id);
+    out.push(sink, b" ");
+    put_node(out, sink, node.kind, span, label, node.number);
+    out.push(sink, b" cap ");
+    put_number(out, sink, capacity);
+    out.push(sink, b"\n");
+}
+
+/// Prints the lines of all nodes, or until the sink breaks.
+fn put_lines<W: ByteSink>(out: &mut OutputBuffer, sink: &mut W, device: &Device)
+    ensures { Sends (stream (W.taken sink.old) (W.failed sink.old) out.old) (stream (W.taken sink.new) (W.failed sink.new) out.new) (flat_map (line_at device.now) (numbers_below (node_count_of device.now))) }
+{
+    for id in 0..device.node_count() {
+        put_line(out, sink, device, id);
+        if out.is_broken() {
+            return;
+        }
+    }
+}
+
+/// Prints the line of an edge.
+fn put_edge_line<W: ByteSink>(out: &mut OutputBuffer, sink: &mut W, from: u32, to: u32)
+    ensures { Sends (stream (W.taken sink.old) (W.failed sink.old) out.old) (stream (W.taken sink.new) (W.failed sink.new) out.new) (edge_line from to) }
+{
+    put_number(out, sink, from);
+    out.push(sink, b" -> ");
+    put_number(out, sink, to);
+    out.push(sink, b"\n");
+}
+
+/// Prints the lines of the edges from a node to the nodes of a list.
+fn put_edge_lines<W: ByteSink>(out: &mut OutputBuffer, sink: &mut W, from: u32, list: &[u32])
+    ensures { Sends (stream (W.taken sink.old) (W.failed sink.old) out.old) (stream (W.taken sink.new) (W.failed sink.new) out.new) (flat_map (edge_line from) list.now) }
+{
+    for to in list {
+        put_edge_line(out, sink, from, *to);
+    }
+}
+
+/// Prints the lines of the edges from a node, whose successors fit in the list.
+fn put_edges_of<W: ByteSink>(
+    out: &mut OutputBuffer,
+    sink: &mut W,
+    device: &Device,
+    id: u32,
+    list: &mut SmallVec<u32, 8>,
+)
+    requires { length (successors_of device.now id) ≤ list.old.capacity }
+    ensures sends { Sends (stream (W.taken sink.old) (W.failed sink.old) out.old) (stream (W.taken sink.new) (W.failed sink.new) out.new) (edge_lines_at device.now id) }
+    ensures kept { list.old.capacity ≤ list.new.capacity }
+{
+    device.successors(id, list).unwrap();
+    put_edge_lines(out, sink, id, list.as_slice());
+}
+
+/// Makes room in a list for the successors of any node, so that no later call needs memory.
+pub(crate) fn make_room(device: &Device, list: &mut SmallVec<u32, 8>) -> Result<(), AllocError>
+    ensures { OnOk result ((i : ℕ) → length (successors_of device.now i) ≤ list.new.capacity) }
+{
+    list.reserve(device.most_successors())?;
+    Ok(())
+}
+
+/// Prints the lines of all edges, or until the sink breaks.
+fn put_edges<W: ByteSink>(
+    out: &mut OutputBuffer,
+    sink: &mut W,
+    device: &Device,
+    list: &mut SmallVec<u32, 8>,
+)
+    requires { (i : ℕ) → length (successors_of device.now i) ≤ list.old.capacity }
+    ensures { Sends (stream (W.taken sink.old) (W.failed sink.old) out.old) (stream (W.taken sink.new) (W.failed sink.new) out.new) (flat_map (edge_lines_at device.now) (numbers_below (node_count_of device.now))) }
+{
+    for id in 0..device.node_count() {
+        put_edges_of(out, sink, device, id, list);
+        if out.is_broken() {
+            return;
+        }
+    }
+}
+
+/// Prints the listing of a device, or until the sink breaks. The list has room for the successors of any node.
+pub(crate) fn put_listing<W: ByteSink>(
+    out: &mut OutputBuffer,
+    sink: &mut W,
+    device: &Device,
+    list: &mut SmallVec<u32, 8>,
+)
+    requires { (i : ℕ) → length (successors_of device.now i) ≤ list.old.capacity }
+    ensures { Sends (stream (W.taken sink.old) (W.failed sink.old) out.old) (stream (W.taken sink.new) (W.failed sink.new) out.new) (listing_of device.now) }
+{
+    put_counts(out, sink, device.node_count(), device.edge_count());
+    put_lines(out, sink, device);
+    put_edges(out, sink, device, list);
+}

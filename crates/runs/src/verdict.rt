@@ -1,0 +1,155 @@
+//! The line of a verdict on a routing.
+
+ghost use Rattle.std.specs.Prelude.{◌≡◌, slice_index_or};
+ghost use Rattle.vpr_text.specs.Output.{Sends, stream};
+ghost use Rattle.net_file.specs.Routed.{no_net};
+ghost use Rattle.rr_graph.specs.Nodes.{node_at};
+ghost use Rattle.rr_graph.specs.Problems.{net_in};
+ghost use Rattle.runs.specs.Verdict.{net_fault_text, overuse_text, status_of_verdict, text_of_net, text_of_node, tree_fault_text, verdict_text};
+
+use crate::text::put_node;
+use net_file::Netlist;
+use route_check::RouteFault;
+use route_file::text::put_number;
+use route_tree::TreeFault;
+use rr_graph::{Device, Problem};
+use vpr_text::{ByteSink, OutputBuffer};
+
+/// The name of a fault of a net's list.
+fn tree_fault_name(fault: TreeFault) -> &'static [u8]
+    ensures { result.now ≡ tree_fault_text fault }
+{
+    match fault {
+        TreeFault::NoNet => b"NoNet",
+        TreeFault::WrongSource => b"WrongSource",
+        TreeFault::NoSwitch => b"NoSwitch",
+        TreeFault::NodeTwice => b"NodeTwice",
+        TreeFault::SecondOutput => b"SecondOutput",
+        TreeFault::ForeignSink => b"ForeignSink",
+        TreeFault::Dangling => b"Dangling",
+        TreeFault::MissingSink => b"MissingSink",
+        TreeFault::Order => b"Order",
+    }
+}
+
+/// The number in its netlist of a net of the problem; 0 past the last one.
+fn number_of_net(problem: &Problem, net: u32) -> u32
+    ensures { result ≡ (net_in problem.now.nets net).number }
+{
+    if net < problem.nets() {
+        problem.number(net)
+    } else {
+        0
+    }
+}
+
+/// The name of the net with this number; none past the last one.
+fn net_name<'a>(netlist: &Netlist<'a>, number: u32) -> &'a [u8]
+    ensures { result.now ≡ (slice_index_or netlist.now.nets number no_net).name }
+{
+    match netlist.nets().get(number as usize) {
+        Some(net) => net.name(),
+        None => &[],
+    }
+}
+
+/// Prints the line of a net that is not routed.
+fn put_net_line<W: ByteSink>(
+    out: &mut OutputBuffer,
+    sink: &mut W,
+    number: u32,
+    name: &[u8],
+    fault: &[u8],
+)
+    ensures { Sends (stream (W.taken sink.old) (W.failed sink.old) out.old) (stream (W.taken sink.new) (W.failed sink.new) out.new) (net_fault_text number name.now fault.now) }
+{
+    out.push(sink, b"not legal: net ");
+    put_number(out, sink, number);
+    out.push(sink, b" (");
+    out.push(sink, name);
+    out.push(sink, b"): ");
+    out.push(sink, fault);
+    out.push(sink, b"\n");
+}
+
+/// Prints the line of a net of the problem that is not routed.
+fn put_net_fault<W: ByteSink>(
+    out: &mut OutputBuffer,
+    sink: &mut W,
+    netlist: &Netlist<'_>,
+    problem: &Problem,
+    net: u32,
+    fault: &[u8],
+)
+    ensures { Sends (stream (W.taken sink.old) (W.failed sink.old) out.old) (stream (W.taken sink.new) (W.failed sink.new) out.new) (text_of_net netlist.now problem.now net fault.now) }
+{
+    let number = number_of_net(problem, net);
+    put_net_line(out, sink, number, net_name(netlist, number), fault);
+}
+
+/// Prints the node of a number; nothing for what is no node.
+fn put_node_of<W: ByteSink>(out: &mut OutputBuffer, sink: &mut W, device: &Device, id: u32)
+    ensures { Sends (stream (W.taken sink.old) (W.failed sink.old) out.old) (stream (W.taken sink.new) (W.failed sink.new) out.new) (text_of_node device.now (node_at device.now id)) }
+{
+    let node = match device.node(id) {
+        Some(node) => node,
+        None => return,
+    };
+    let span = match device.span(id) {
+        Some(span) => span,
+        None => return,
+    };
+    let label = match device.label(id) {
+        Some(label) => label,
+        None => return,
+    };
+    put_node(out, sink, node.kind, span, label, node.number);
+}
+
+/// Prints the line of a node that too many nets use.
+fn put_overuse<W: ByteSink>(out: &mut OutputBuffer, sink: &mut W, device: &Device, id: u32, by: u32)
+    ensures { Sends (stream (W.taken sink.old) (W.failed sink.old) out.old) (stream (W.taken sink.new) (W.failed sink.new) out.new) (overuse_text device.now id by) }
+{
+    out.push(sink, b"not legal: node ");
+    put_number(out, sink, id);
+    out.push(sink, b" ");
+    put_node_of(out, sink, device, id);
+    out.push(sink, b" overused by ");
+    put_number(out, sink, by);
+    out.push(sink, b"\n");
+}
+
+/// Prints the line of a verdict.
+pub fn put_verdict<W: ByteSink>(
+    out: &mut OutputBuffer,
+    sink: &mut W,
+    netlist: &Netlist<'_>,
+    problem: &Problem,
+    verdict: Option<RouteFault>,
+)
+    ensures { Sends (stream (W.taken sink.old) (W.failed sink.old) out.old) (stream (W.taken sink.new) (W.failed sink.new) out.new) (verdict_text netlist.now problem.now verdict) }
+{
+    match verdict {
+        None => out.push(sink, b"legal\n"),
+        Some(RouteFault::Length) => out.push(sink, b"not legal: Length\n"),
+        Some(RouteFault::Unrouted(net)) => {
+            put_net_fault(out, sink, netlist, problem, net, b"Unrouted");
+        }
+        Some(RouteFault::Tree(net, fault)) => {
+            put_net_fault(out, sink, netlist, problem, net, tree_fault_name(fault));
+        }
+        Some(RouteFault::Overused(node, by)) => {
+            put_overuse(out, sink, problem.device(), node, by);
+        }
+    }
+}
+
+/// The exit status of a verdict: 0 for a routing that is legal, 3 for one that isn't.
+pub fn verdict_status(verdict: Option<RouteFault>) -> u8
+    ensures { result ≡ status_of_verdict verdict }
+{
+    match verdict {
+        None => 0,
+        Some(_) => 3,
+    }
+}
