@@ -1,6 +1,6 @@
 //! How many nets use each node.
 
-ghost use Rattle.std.specs.Prelude.{◌≡◌, ◌≤◌, ◌<◌, ◌+◌, ◌-◌, length, get_or, set, replicate, IfOk};
+ghost use Rattle.std.specs.Prelude.{◌≡◌, ℕ, ◌≤◌, ◌<◌, ◌+◌, ◌-◌, length, get_or, set, replicate, IfOk};
 
 use std::alloc::{AllocError, Global};
 use std::marker::Model;
@@ -12,11 +12,13 @@ pub struct Counts {
 }
 
 impl Model for Counts {
-    ghost use Rattle.std.specs.Prelude.{List, ℕ};
+    ghost use Rattle.std.specs.Prelude.{List, ℕ, ◌≤◌, All};
 
     ghost Value = { List ℕ };
 
     ghost view = { λ c. c.counts.items };
+
+    ghost invariant = { λ c. All (λ n. n ≤ 65535) c.counts.items };
 }
 
 impl Counts {
@@ -31,7 +33,8 @@ impl Counts {
 
     /// How many nodes there are.
     pub fn len(&self) -> usize
-        ensures { result ≡ length self.now }
+        ensures count { result ≡ length self.now }
+        ensures bounded { (id : ℕ) → get_or self.now id 0 ≤ 65535 }
     {
         self.counts.len()
     }

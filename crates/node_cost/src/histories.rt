@@ -1,6 +1,6 @@
 //! The history of each node.
 
-ghost use Rattle.std.specs.Prelude.{◌≡◌, ◌≤◌, ◌<◌, length, get_or, set, replicate, IfOk};
+ghost use Rattle.std.specs.Prelude.{◌≡◌, ℕ, ◌≤◌, ◌<◌, length, get_or, set, replicate, IfOk};
 
 use crate::entry_cost::GREATEST_HISTORY;
 use std::alloc::{AllocError, Global};
@@ -43,7 +43,8 @@ impl Histories {
 
     /// How many nodes there are.
     pub fn len(&self) -> usize
-        ensures { result ≡ length self.now }
+        ensures count { result ≡ length self.now }
+        ensures bounded { (id : ℕ) → get_or self.now id 0 ≤ GREATEST_HISTORY }
     {
         self.histories.len()
     }

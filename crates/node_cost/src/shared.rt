@@ -1,6 +1,6 @@
 //! Histories that may be another's.
 
-ghost use Rattle.std.specs.Prelude.{◌≡◌, ◌≤◌, ◌<◌, length, get_or, set, replicate, IfOk};
+ghost use Rattle.std.specs.Prelude.{◌≡◌, ℕ, ◌≤◌, ◌<◌, length, get_or, set, replicate, IfOk};
 ghost use Rattle.std.specs.Arc.{arc_value};
 
 use crate::entry_cost::GREATEST_HISTORY;
@@ -36,6 +36,17 @@ impl SharedHistories {
     {
         let own = Histories::new(alloc, nodes)?;
         Ok(SharedHistories { shared: None, own })
+    }
+
+    /// How many nodes there are.
+    pub(crate) fn len(&self) -> usize
+        ensures count { result ≡ length self.now }
+        ensures bounded { (id : ℕ) → get_or self.now id 0 ≤ GREATEST_HISTORY }
+    {
+        match &self.shared {
+            Some(shared) => shared.len(),
+            None => self.own.len(),
+        }
     }
 
     /// The history of a node.

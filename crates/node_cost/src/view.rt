@@ -1,6 +1,6 @@
 //! What a net sees of the others when it is routed.
 
-ghost use Rattle.std.specs.Prelude.{◌≡◌, ◌≤◌, ◌<◌, ◌-◌, length, set, replicate, IfOk};
+ghost use Rattle.std.specs.Prelude.{◌≡◌, ℕ, ◌≤◌, ◌<◌, ◌-◌, length, set, replicate, IfOk};
 ghost use Rattle.std.specs.List.{zip};
 ghost use Rattle.std.specs.Arc.{arc_value};
 ghost use Rattle.node_cost.specs.Views.{others_in, history_in};
@@ -45,10 +45,13 @@ impl View {
     }
 
     /// How many nodes there are.
-    #[tactic(auto, using(crate::proofs::Views::length_seen))]
+    #[tactic(auto, using(crate::proofs::Views::length_seen, crate::proofs::Views::others_at, crate::proofs::Views::history_at))]
     pub fn len(&self) -> usize
-        ensures { result ≡ length self.now }
+        ensures count { result ≡ length self.now }
+        ensures others { (id : ℕ) → others_in self.now id ≤ GREATEST_OTHERS }
+        ensures histories { (id : ℕ) → history_in self.now id ≤ GREATEST_HISTORY }
     {
+        let _bounded = self.histories.len();
         self.others.len()
     }
 
