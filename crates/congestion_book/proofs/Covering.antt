@@ -1,19 +1,17 @@
 -- The nodes of a recorded tree are those that its net covers, each once.
-use Rattle.std.proofs.Common.{◌≡◌, ℕ, ◌+◌, ◌<◌, ◌≤◌, ◌==◌, zero, suc, Bool, true, false, cond, List, [], ◌∷◌, length, map, get_or, All, Option, Some, None, refl, sym, ap, ap₂, subst, ◌∙◌, arith}
-use Rattle.std.specs.Prelude.{drop, if◌then◌else◌}
+use Rattle.std.proofs.Common.{◌≡◌, ℕ, ◌+◌, ◌<◌, ◌≤◌, ◌==◌, true, List, [], ◌∷◌, length, map, get_or, All, Some, refl, sym, ap, ap₂, ◌∙◌, arith}
 use Rattle.std.proofs.lemmas.List.Elements.{Contains-get_or}
-use Rattle.std.proofs.lemmas.Bool.{eqb-true, eq-eqb, and_parts, both_ways}
+use Rattle.std.proofs.lemmas.Bool.{eqb-true, eq-eqb, and_parts}
 use Rattle.rr_graph.specs.Nodes.{node_count_of}
 use Rattle.rr_graph.specs.Problems.{Net, RoutingProblem, net_in}
 use Rattle.rr_graph.specs.Fabric.{Fabric}
 use Rattle.route_tree.specs.declared.tree.Row.{Row}
 use Rattle.route_tree.specs.Paths.{Pair, ends_of}
-use Rattle.route_tree.specs.Rows.{no_row, node_in, pair_of, pairs_of, IsTree}
-use Rattle.route_tree.specs.Legality.{IsListed, is_listed, is_listed_behind, may_begin}
+use Rattle.route_tree.specs.Rows.{node_in, pair_of, pairs_of, IsTree}
+use Rattle.route_tree.specs.Legality.{IsListed, is_listed, is_listed_behind}
 use Rattle.route_tree.specs.Faults.{IsRoute}
 use Rattle.route_tree.specs.Marked.{nodes_of}
-use Rattle.route_tree.specs.Usage.{covers, use_by, use_of}
-use Rattle.route_tree.specs.TreeLists.{list_of_tree}
+use Rattle.route_tree.specs.Usage.{covers, use_by}
 use Rattle.route_tree.proofs.LegalLists.{counts_covered, covers_nodes, leaves_source}
 use Rattle.route_tree.proofs.Trees.{covers_rows}
 use Rattle.route_tree.proofs.Members.{one_passes}

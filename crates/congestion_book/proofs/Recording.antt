@@ -1,9 +1,9 @@
 -- A net's recorded tree becomes another one, and what is kept stays exact.
-use Rattle.std.proofs.Common.{◌≡◌, ◌≢◌, inl, inr, ℕ, ◌+◌, ◌-◌, ◌<◌, ◌≤◌, zero, suc, Bool, true, false, List, [], ◌∷◌, length, map, get_or, set, replicate, Option, Some, None, refl, sym, ap, subst, ◌∙◌, arith, length-set, get_or-set_other}
-use Rattle.std.specs.Prelude.{is_none, count_by, if◌then◌else◌}
+use Rattle.std.proofs.Common.{◌≡◌, inl, inr, ℕ, ◌+◌, ◌-◌, ◌<◌, ◌≤◌, zero, suc, Bool, true, false, List, ◌∷◌, length, get_or, set, replicate, Option, Some, None, refl, sym, ap, subst, ◌∙◌, arith, length-set, get_or-set_other}
+use Rattle.std.specs.Prelude.{is_none}
 use Rattle.std.proofs.lemmas.Bool.{cases_eq}
 use Rattle.std.proofs.lemmas.Grind.{get_or-set_at}
-use Rattle.std.proofs.lemmas.List.{length-map, get_or-map, map-set, length-replicate, get_or-replicate}
+use Rattle.std.proofs.lemmas.List.{length-map, get_or-map, map-set, length-replicate}
 use Rattle.std.proofs.lemmas.List.Sums.{sum_by-set, sum_by-cons, get_or-le-sum_by, count_by-le-length}
 use Rattle.std.proofs.lemmas.Option.{none-some}
 use Rattle.rr_graph.specs.Nodes.{node_count_of}
@@ -17,7 +17,7 @@ use Rattle.route_tree.proofs.Uses.{use_replaced, own_within, few_uses, unused}
 use Rattle.congestion_book.proofs.Counting.{zeros, none_overused}
 use Rattle.congestion_book.specs.Turns.{one_if}
 use Rattle.congestion_book.specs.Usage.{overused_by}
-use Rattle.congestion_book.specs.Recorded.{Lists, list_in, AreRoutes, unrouted_in, RoutesOrNone, ChangesNet, AreRecorded}
+use Rattle.congestion_book.specs.Recorded.{Lists, list_in, unrouted_in, RoutesOrNone, ChangesNet, AreRecorded}
 
 none_alike : (t : Option (List Row)) → is_none (list_of_tree t) ≡ is_none t
 none_alike None = refl

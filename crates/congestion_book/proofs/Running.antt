@@ -1,6 +1,5 @@
 -- Lists of events, one event more.
-use Rattle.std.proofs.Common.{◌≡◌, ℕ, ◌+◌, ◌<◌, ◌≤◌, zero, suc, List, [], ◌∷◌, ◌++◌, length, get_or, refl, sym, ap, subst, ◌∙◌, arith, add-one}
-use Rattle.std.specs.Prelude.{take}
+use Rattle.std.proofs.Common.{◌≡◌, List, [], ◌∷◌, ◌++◌, refl, subst}
 use Rattle.congestion_book.specs.declared.events.Event.{Event}
 use Rattle.congestion_book.specs.declared.events.Reply.{Reply}
 use Rattle.congestion_book.specs.Contents.{Content, IsSoundBook}

@@ -1,18 +1,13 @@
 -- Every event keeps a book sound.
-use Rattle.std.proofs.Common.{◌≡◌, ◌≢◌, inl, inr, ℕ, ◌+◌, ◌-◌, ◌<◌, ◌≤◌, ◌==◌, zero, suc, Bool, true, false, List, [], ◌∷◌, ◌++◌, length, get_or, set, replicate, Option, Some, None, is_none, refl, sym, ap, subst, ◌∙◌, arith, length-set, length-append}
-use Rattle.std.specs.Prelude.{All}
+use Rattle.std.proofs.Common.{◌≡◌, ℕ, ◌+◌, ◌<◌, ◌≤◌, [], ◌∷◌, ◌++◌, length, replicate, Option, None, refl, sym, ap, subst, ◌∙◌, arith, length-append}
 use Rattle.std.proofs.lemmas.List.{length-replicate}
 use Rattle.std.proofs.lemmas.List.Elements.{All-nil}
 use Rattle.std.proofs.lemmas.Bool.Decides.{nat_tests}
-use Rattle.std.proofs.lemmas.Bool.{cases_lt}
 use Rattle.rr_graph.specs.Nodes.{node_count_of}
-use Rattle.rr_graph.specs.Problems.{RoutingProblem}
 use Rattle.route_tree.specs.TreeLists.{lists_of_trees}
 use Rattle.congestion_book.specs.Turns.{TurnTable, AreInOrder, NameEachOnce, IsFirstWaiting, no_turns, table_closed}
-use Rattle.congestion_book.specs.Usage.{overused_by}
-use Rattle.congestion_book.specs.Recorded.{AreRecorded, unrouted_in}
+use Rattle.congestion_book.specs.Recorded.{AreRecorded}
 use Rattle.congestion_book.specs.Histories.{HistoryTable, AreHistories}
-use Rattle.congestion_book.specs.Contents.{Content, IsSound, table_in, net_count, node_total}
 use Rattle.congestion_book.specs.declared.book.Book.TheInside.{Inside}
 use Rattle.std.specs.Arc.{arc_value}
 use Rattle.congestion_book.specs.declared.book.NextIteration.{NextIteration}

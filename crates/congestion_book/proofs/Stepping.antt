@@ -1,12 +1,12 @@
 -- What the calls of a book do, as steps of its content.
-use Rattle.std.proofs.Common.{◌≡◌, ◌≢◌, ℕ, ◌+◌, ◌<◌, ◌≤◌, List, [], ◌∷◌, ◌++◌, length, set, Option, Some, None, is_none, Bool, true, false, nat_le, if◌then◌else◌, Result, Ok, Err, refl, sym, ap, subst, ◌∙◌, arith}
+use Rattle.std.proofs.Common.{◌≡◌, ℕ, ◌<◌, ◌≤◌, length, Option, Some, None, Bool, true, false, nat_le, if◌then◌else◌, Ok, refl, ap, subst, arith}
 use Rattle.rr_graph.specs.Nodes.{node_count_of}
 use Rattle.route_tree.specs.TreeLists.{lists_of_trees}
-use Rattle.congestion_book.specs.Turns.{TurnTable, GivesNet, table_drawn, IsFirstWaiting}
+use Rattle.congestion_book.specs.Turns.{TurnTable, GivesNet, IsFirstWaiting}
 use Rattle.congestion_book.specs.Recorded.{list_in}
 use Rattle.congestion_book.specs.Views.{SeesOthers}
 use Rattle.congestion_book.specs.Contents.{Content}
-use Rattle.congestion_book.specs.Steps.{Seen, Draws, after_draw}
+use Rattle.congestion_book.specs.Steps.{Seen, Draws}
 use Rattle.congestion_book.specs.Closing.{TellsClosing}
 use Rattle.congestion_book.specs.declared.faults.CloseFault.TheVariants.{Unfinished, Full}
 use Rattle.std.proofs.lemmas.Bool.Decides.{nat_tests}

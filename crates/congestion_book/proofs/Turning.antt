@@ -4,13 +4,13 @@ use Rattle.std.proofs.lemmas.Bool.{cases_eq, cases_lt, both_ways}
 use Rattle.std.proofs.lemmas.Bool.Decides.{nat_tests}
 use Rattle.std.proofs.lemmas.Grind.{get_or-set_at}
 use Rattle.std.proofs.lemmas.List.Sums.{sum_by-set, sum_by-append, get_or-le-sum_by}
-use Rattle.std.proofs.lemmas.List.{get_or_past, length-replicate}
+use Rattle.std.proofs.lemmas.List.{length-replicate}
 use Rattle.std.proofs.lemmas.List.Elements.{All-append, All-cons, All-nil}
-use Rattle.std.specs.Prelude.{if◌then◌else◌, count_by, replicate, All}
+use Rattle.std.specs.Prelude.{count_by, replicate}
 use Rattle.congestion_book.specs.declared.turn.Turn.{Turn}
 use Rattle.congestion_book.specs.declared.turns.Turns.TheInside.{Inside}
 use Rattle.congestion_book.specs.Fields.{table_of, AreTurns}
-use Rattle.congestion_book.specs.Turns.{TurnTable, AreInOrder, IsFirstWaiting, NameEachOnce, holder_in, turns_at, one_if, no_turns, table_drawn, table_turned, table_closed, turn_of}
+use Rattle.congestion_book.specs.Turns.{TurnTable, AreInOrder, IsFirstWaiting, NameEachOnce, holder_in, turns_at, one_if, table_drawn, table_turned, table_closed, turn_of}
 
 -- how many are held after one entry changes
 pub count-set : (xs : List (Option ℕ)) (i : ℕ) (y : Option ℕ) → i < length xs →

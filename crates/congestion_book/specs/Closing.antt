@@ -1,5 +1,5 @@
 -- What a close needs.
-use Rattle.std.specs.Prelude.{◌≡◌, ℕ, ◌<◌, ◌≤◌, List, [], ◌∷◌, ◌++◌, length, Option, Some, None, Err, vec_capacity}
+use Rattle.std.specs.Prelude.{◌≡◌, ℕ, ◌<◌, ◌≤◌, [], ◌∷◌, ◌++◌, length, Option, Some, None, Err, vec_capacity}
 use Rattle.std.specs.Arc.{arc_value}
 use Rattle.congestion_book.specs.declared.book.NextIteration.{NextIteration}
 use Rattle.congestion_book.specs.declared.faults.CloseFault.{CloseFault}

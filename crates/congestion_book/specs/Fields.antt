@@ -1,5 +1,5 @@
 -- What the fields of a book and of its parts stand for, and what is true of them.
-use Rattle.std.specs.Prelude.{◌≡◌, ℕ, ◌+◌, ◌≤◌, length, vec_capacity, List, is_some, count_by, All}
+use Rattle.std.specs.Prelude.{◌≡◌, ℕ, ◌+◌, ◌≤◌, length, vec_capacity, is_some, count_by, All}
 use Rattle.std.specs.Arc.{arc_value}
 use Rattle.congestion_book.specs.Turns.{TurnTable, AreInOrder}
 use Rattle.congestion_book.specs.Histories.{HistoryTable, AreHistories, amount_in}

@@ -1,5 +1,5 @@
 -- The history of a node: its overuse in the closed iterations, added up (McMurchie and Ebeling 1995, "the history of congestion").
-use Rattle.std.specs.Prelude.{◌≡◌, ℕ, ◌+◌, ◌*◌, ◌<◌, ◌≤◌, ◌==◌, nat_lt, if◌then◌else◌, List, length, map, get_or, sum_by}
+use Rattle.std.specs.Prelude.{◌≡◌, ℕ, ◌+◌, ◌*◌, ◌<◌, ◌==◌, nat_lt, if◌then◌else◌, List, length, map, get_or, sum_by}
 use Rattle.std.specs.List.{filter}
 use Rattle.rr_graph.specs.Fabric.{numbers_below}
 use Rattle.rr_graph.specs.Nodes.{node_count_of}

@@ -1,5 +1,5 @@
 -- What a list of events does to a book.
-use Rattle.std.specs.Prelude.{◌≡◌, ◌≢◌, ℕ, ◌<◌, List, [], ◌∷◌, length, Err}
+use Rattle.std.specs.Prelude.{◌≡◌, ◌≢◌, ◌<◌, List, [], ◌∷◌, length, Err}
 use Rattle.std.specs.Prelude.{take}
 use Rattle.route_tree.specs.Rows.{pairs_of}
 use Rattle.congestion_book.specs.declared.faults.CloseFault.TheVariants as close

@@ -1,7 +1,6 @@
 -- What each event does to a book: the answer, the book and the view after it.
 use Rattle.std.specs.Prelude.{◌≡◌, ◌≢◌, ℕ, ◌+◌, ◌<◌, ◌≤◌, List, [], ◌∷◌, ◌++◌, length, set, replicate, Option, Some, None, is_none, Result, Ok, Err}
 use Rattle.route_tree.specs.Paths.{Pair}
-use Rattle.route_tree.specs.Rows.{pairs_of}
 use Rattle.route_tree.specs.Faults.{IsRoute, IsFirstFault}
 use Rattle.congestion_book.specs.declared.faults.DrawFault.{DrawFault}
 use Rattle.congestion_book.specs.declared.faults.DrawFault.TheVariants.{ViewSize}

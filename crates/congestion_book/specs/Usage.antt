@@ -1,5 +1,5 @@
 -- How many nets use each node by what is counted, and how many nodes are overused.
-use Rattle.std.specs.Prelude.{◌≡◌, ℕ, ◌+◌, ◌-◌, ◌<◌, ◌==◌, Bool, cond, nat_lt, List, [], ◌∷◌, length, map, get_or, count_by}
+use Rattle.std.specs.Prelude.{◌≡◌, ℕ, ◌+◌, ◌-◌, ◌==◌, Bool, cond, nat_lt, List, [], ◌∷◌, length, map, get_or, count_by}
 use Rattle.std.specs.List.{filter}
 use Rattle.rr_graph.specs.Fabric.{Fabric, numbers_below}
 use Rattle.rr_graph.specs.Nodes.{node_at}

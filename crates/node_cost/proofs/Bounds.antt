@@ -1,5 +1,5 @@
 -- Costs stay below 2^80.
-use Rattle.std.proofs.Common.{◌≡◌, ℕ, ◌+◌, ◌-◌, ◌*◌, ◌<◌, ◌≤◌, ◌^◌, arith}
+use Rattle.std.proofs.Common.{ℕ, ◌+◌, ◌*◌, ◌<◌, ◌≤◌, ◌^◌, arith}
 use Rattle.std.proofs.Math.Nat.{mul-le-mul}
 
 pub factor_bounded : (present excess : ℕ) → present ≤ 1048576 → excess ≤ 65536 → 16 + present * excess ≤ 2 ^ 37

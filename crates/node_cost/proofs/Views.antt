@@ -1,5 +1,5 @@
 -- Views as pairs of two lists: how many nets use each node, and the histories.
-use Rattle.std.proofs.Common.{◌≡◌, ℕ, ◌<◌, ◌≤◌, zero, suc, List, [], ◌∷◌, length, get_or, set, replicate, min, refl, sym, ap, ◌∙◌, arith}
+use Rattle.std.proofs.Common.{◌≡◌, ℕ, zero, suc, List, [], ◌∷◌, length, get_or, set, replicate, refl, ap, arith}
 use Rattle.std.specs.List.{zip}
 use Rattle.node_cost.specs.Views.{Seen, others_in, history_in}
 

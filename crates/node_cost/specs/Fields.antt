@@ -1,5 +1,5 @@
 -- What the fields of settings and views stand for.
-use Rattle.std.specs.Prelude.{ℕ, List, Option, Some, None}
+use Rattle.std.specs.Prelude.{ℕ, List, Some, None}
 use Rattle.std.specs.List.{zip}
 use Rattle.std.specs.Arc.{arc_value}
 use Rattle.node_cost.specs.Options.{RouterOptions}
