@@ -1,0 +1,178 @@
+-- What the taking of the least entry says of every way.
+use Rattle.std.proofs.Common.{◌≡◌, ℕ, ◌+◌, ◌<◌, ◌≤◌, List, [], ◌∷◌, length, Contains, slice_index_or, ◌⊎◌, inl, inr, refl, sym, ap, ◌∙◌, arith, sum_by}
+use Rattle.std.proofs.lemmas.List.Sorted.{Contains-permutation, IsPermutation-sym, length_permutation}
+use Rattle.std.proofs.lemmas.List.{get_or_past}
+use Rattle.std.proofs.lemmas.Bool.{cases_lt}
+use Rattle.wavefront.specs.declared.labels.TheConstants.{FAR}
+use Rattle.wavefront.specs.declared.queue.Entry.{Entry}
+use Rattle.wavefront.specs.declared.wave.Wave.{Wave}
+use Rattle.wavefront.specs.Label.{unreached}
+use Rattle.wavefront.specs.Space.{Space, entry_cost}
+use Rattle.wavefront.specs.Ways.{IsWay, way_cost}
+use Rattle.wavefront.specs.Wave.{IsWave, IsComplete, IsCompleteBut, IsDone, IsEntered, IsSettled, IsOpen, WentOn, bound_of, key_of, label_at, work_of, parent_of}
+use Rattle.wavefront.specs.Steps.{IsPopped, IsLeastKey, IsNearest, IsTaken, SameOrigins}
+use Rattle.wavefront.proofs.Lists.{contains_first, contains_later, contains_cases}
+use Rattle.wavefront.proofs.Lower.{same_origin, still_dead}
+use Rattle.wavefront.proofs.WayNodes.{way_cost_more}
+
+pub reached_in : (w : Wave) (v : ℕ) → key_of w v < FAR → v < length w.labels
+reached_in w v near = elim (cases_lt v (length w.labels)) [
+  | inl lt ↦ lt
+  | inr ge ↦ let past = ap (λ l. l.key) (get_or_past w.labels v unreached ge) in absurd (omega (arith, past, near))
+]
+
+-- ---- what an entry's taking leaves
+module _ (s t : Wave) (x : Entry) (p : IsPopped s t x) where
+  same_labels : (v : ℕ) → label_at t v ≡ label_at s v
+  same_labels v = ap (λ ls. slice_index_or ls v unreached) p.labels
+
+  popped_origins : SameOrigins s t
+  popped_origins v = let same = same_labels v in (λ o. same_origin t s v (sym same) o, λ o. same_origin s t v same o)
+
+  still_in : (e : Entry) → Contains t.queue e → Contains s.queue e
+  still_in e h = Contains-permutation _ _ e (IsPermutation-sym _ _ p.queue.moved) (contains_later x e t.queue h)
+
+  popped_in : Contains s.queue x
+  popped_in = Contains-permutation _ _ x (IsPermutation-sym _ _ p.queue.moved) (contains_first x t.queue)
+
+  popped_near : (space : Space) → IsWave space s → (key_of t x.node ≤ x.key) × (key_of t x.node < FAR)
+  popped_near space wave = let b = wave.entries x popped_in in let k = ap (λ l. l.key) (same_labels x.node) in (omega (arith, k, b.0), omega (arith, k, b.1))
+
+  popped_work : work_of t + 1 ≡ work_of s
+  popped_work = let sum = ap (λ ls. sum_by (λ l. l.key) ls) p.labels in let count = length_permutation _ _ p.queue.moved in omega (arith, sum, count)
+
+  popped_entered : (space : Space) (v : ℕ) → IsEntered space s v → IsEntered space t v
+  popped_entered space v e =
+      let same = same_labels v in
+      let key = ap (λ l. l.key) same in
+      let parent = ap (λ l. l.parent) same in
+      let d = ap (λ l. l.key) (same_labels (parent_of s v)) in
+      let reached = e.reached in
+      let paid = e.paid in
+      record {
+        edge = rw parent e.edge;
+        inside = e.inside;
+        reached = rw parent (omega (arith, d, reached));
+        paid = rw (parent, key) (omega (arith, d, paid));
+      }
+
+  popped_went : (space : Space) (key more b : ℕ) → key ≤ more → WentOn space s key b → WentOn space t more b
+  popped_went space key more b up (inl dead) = inl (still_dead space s t b (λ c. (popped_origins c).1) dead)
+  popped_went space key more b up (inr went) = inr (let k = ap (λ l. l.key) (same_labels b) in omega (arith, k, went, up))
+
+  popped_settled : (space : Space) (v : ℕ) → IsSettled space s v → IsSettled space t v
+  popped_settled space v settled = record {
+    relaxed = λ b edge inside. popped_went space (key_of s v) (key_of t v) b (let d = ap (λ l. l.key) (same_labels v) in omega (arith, d)) (settled.relaxed b edge inside);
+    taken = λ h. settled.taken (h.0, λ o. h.1 (same_origin s t v (same_labels v) o));
+  }
+
+  popped_wave : (space : Space) → IsWave space s → IsWave space t
+  popped_wave space wave = record {
+    rows = ap length p.labels ∙ wave.rows;
+    near = λ v. let k = ap (λ l. l.key) (same_labels v) in let n = wave.near v in omega (arith, k, n);
+    entered = λ v near. let same = same_labels v in let k = ap (λ l. l.key) same in elim (wave.entered v (omega (arith, k, near))) [
+      | inl o ↦ inl (same_origin s t v same o)
+      | inr e ↦ inr (popped_entered space v e)
+    ];
+    entries = λ e h. let k = ap (λ l. l.key) (same_labels e.node) in let b = wave.entries e (still_in e h) in (omega (arith, k, b.0), omega (arith, k, b.1));
+  }
+
+  -- a node is done after the taking where its entry is not the one taken
+  popped_done : (space : Space) (v : ℕ) → IsDone space s v → (v ≡ x.node → x.key ≤ key_of s v + bound_of space v → ⊥) → IsDone space t v
+  popped_done space v done other near =
+      let k = ap (λ l. l.key) (same_labels v) in
+      elim (done (omega (arith, k, near))) [
+        | inl waits ↦ elim (contains_cases x waits.entry t.queue (Contains-permutation _ _ _ p.queue.moved waits.there)) [
+          | inl same ↦ absurd (other (sym waits.node ∙ ap (λ y. y.node) same) (let low = waits.low in let key = ap (λ y. y.key) same in omega (arith, low, key)))
+          | inr later ↦ inl (record { entry = waits.entry; there = later; node = waits.node; low = let low = waits.low in omega (arith, low, k) })
+        ]
+        | inr settled ↦ inr (popped_settled space v settled)
+      ]
+
+  popped_but : (space : Space) → IsComplete space s → IsCompleteBut space t x.node
+  popped_but space complete = record { each = λ v ne. popped_done space v (complete.each v) (λ e _. ne e) }
+
+  -- an entry that is late is nobody's
+  popped_late : (space : Space) → IsComplete space s → key_of t x.node + bound_of space x.node < x.key → IsComplete space t
+  popped_late space complete less = record {
+    each = λ v. popped_done space v (complete.each v) (λ e low. let k = ap (λ l. l.key) (same_labels x.node) in let d = ap (λ y. key_of s y + bound_of space y) e in omega (arith, k, d, low, less));
+  }
+
+-- some entry's key is at most k, or all are
+abbrev IsBound : Wave → ℕ → Type 0
+IsBound w k = (FAR ≤ k) ⊎ ((e : Entry) × Contains w.queue e × (e.key ≤ k))
+
+bound_up : (w : Wave) (k m : ℕ) → k ≤ m → IsBound w k → IsBound w m
+bound_up w k m up (inl far) = inl (omega (arith, far, up))
+bound_up w k m up (inr (e, has, low)) = inr (e, has, omega (arith, low, up))
+
+-- the bound of a node is low
+bound_low : (space : Space) (v : ℕ) → bound_of space v ≡ 0
+unfolding bound_of
+bound_low space v = refl
+
+bound_at : (space : Space) (w : Wave) → IsComplete space w → (v k cost : ℕ) → key_of w v ≤ k → bound_of space v ≤ cost → IsBound w (k + cost) ⊎ IsSettled space w v
+bound_at space w complete v k cost above low = elim (cases_lt (key_of w v) FAR) [
+  | inr far ↦ inl (inl (omega (arith, far, above)))
+  | inl near ↦ elim (complete.each v near) [
+    | inl waits ↦ inl (inr (waits.entry, waits.there, let at = waits.low in omega (arith, at, above, low)))
+    | inr settled ↦ inr settled
+  ]
+]
+
+-- a way to an open sink costs no less than some entry's key
+way_bound : (space : Space) (w : Wave) → IsComplete space w → (way : List ℕ) (v b k : ℕ) → IsWay space v way b → IsOpen space w b → key_of w v ≤ k → IsBound w (k + way_cost space way)
+way_bound space w complete [] v b k e target above = elim (bound_at space w complete v k (way_cost space []) above (let none = bound_low space v in omega (arith, none))) [
+  | inl bound ↦ bound
+  | inr settled ↦ absurd (settled.taken (rw e target))
+]
+way_bound space w complete (u ∷ us) v b k (edge, inside, rest) target above = elim (bound_at space w complete v k (way_cost space (u ∷ us)) above (let none = bound_low space v in omega (arith, none))) [
+  | inl bound ↦ bound
+  | inr settled ↦ elim (settled.relaxed u edge inside) [
+    | inl dead ↦ absurd (dead b us target rest)
+    | inr step ↦
+        let sum = way_cost_more space u us in
+        bound_up w _ _ (omega (arith, sum)) (way_bound space w complete us u b (k + entry_cost space u) rest target (omega (arith, step, above)))
+  ]
+]
+
+popped_least : (space : Space) (s t : Wave) (x : Entry) → IsPopped s t x → IsWave space s → IsComplete space s → x.key ≤ FAR → IsLeastKey space t x.key
+popped_least space s t x p wave complete near a b way start target walk =
+    let starts = popped_origins s t x p in
+    let from = (starts a).0 start in
+    let shut : IsOpen space s b = (target.0, λ o. target.1 ((starts b).1 o)) in
+    elim (way_bound space s complete way a b 0 walk shut (omega (arith, from.0))) [
+      | inl far ↦ omega (arith, far, near)
+      | inr (e, has, low) ↦ let least = p.queue.least e has in omega (arith, least, low)
+    ]
+
+-- where nothing waits, no way leads to an open sink
+pub spent_least : (space : Space) (w : Wave) → IsComplete space w → length w.queue ≡ 0 → IsLeastKey space w FAR
+spent_least space w complete spent a b way start target walk = elim (way_bound space w complete way a b 0 walk target (omega (arith, start.0))) [
+  | inl far ↦ omega (arith, far)
+  | inr (e, (i, lt, _), _) ↦ absurd (omega (arith, lt, spent))
+]
+
+pub popped_nearest : (space : Space) (s t : Wave) (x : Entry) → IsPopped s t x → IsWave space s → IsComplete space s → x.key ≤ FAR → IsNearest space s t x
+popped_nearest space s t x p wave complete fits =
+    let near = popped_near s t x p space wave in
+    record {
+      wave = popped_wave s t x p space wave;
+      origins = popped_origins s t x p;
+      node_in = reached_in t x.node near.1;
+      above = near.0;
+      reached = near.1;
+      least = popped_least space s t x p wave complete fits;
+      others = popped_but s t x p space complete;
+      late = popped_late s t x p space complete;
+      work = popped_work s t x p;
+    }
+
+-- an open sink that is nearest is taken
+pub taken : (space : Space) (s t : Wave) (x : Entry) → IsNearest space s t x → IsOpen space t x.node → IsTaken space t x.node
+taken space s t x nearest target = record {
+  «open» = target;
+  reached = nearest.reached;
+  least = λ a b way start aim walk. let least = nearest.least a b way start aim walk in let above = nearest.above in omega (arith, least, above);
+  others = nearest.others;
+}

@@ -1,0 +1,68 @@
+-- A net's source is inside its box.
+use Rattle.std.proofs.Common.{◌≡◌, ℕ, ◌+◌, ◌≤◌, true, false, List, [], ◌∷◌, Option, Some, None, arith}
+use Rattle.std.specs.Option.{option_map, option_map_or}
+use Rattle.std.proofs.lemmas.Bool.{false≢true}
+use Rattle.std.proofs.lemmas.Bool.Decides.{nat_tests}
+use Rattle.rr_graph.specs.declared.parts.Kind.{Kind}
+use Rattle.rr_graph.specs.declared.parts.Kind.TheVariants.{Source, Sink, Opin, Ipin, Chanx, Chany}
+use Rattle.rr_graph.specs.declared.parts.Node.{Node}
+use Rattle.rr_graph.specs.declared.parts.Span.{Span}
+use Rattle.rr_graph.specs.Fabric.{Fabric}
+use Rattle.rr_graph.specs.Nodes.{node_at, span_by, span_of}
+use Rattle.rr_graph.specs.Problems.{Net, is_source_kind, any_node, is_source}
+use Rattle.wavefront.specs.declared.boxes.BoundingBox.{BoundingBox}
+use Rattle.wavefront.specs.Boxes.{box_of_span, box_of_node, box_around, box_with, box_of_net, touches, is_in_box}
+
+-- one box reaches at least as far as another
+record Reaches (b c : BoundingBox) : Type 0 where
+  left : c.left ≤ b.left
+  right : b.right ≤ c.right
+  bottom : c.bottom ≤ b.bottom
+  top : b.top ≤ c.top
+
+reaches_around : (b c d : BoundingBox) → Reaches (box_around b c) d → Reaches b d
+reaches_around b c d r =
+    let l = r.left in
+    let h = r.right in
+    let m = r.bottom in
+    let t = r.top in
+    record { left = omega (arith, l); right = omega (arith, h); bottom = omega (arith, m); top = omega (arith, t) }
+
+reaches_with : (f : Fabric) (b : BoundingBox) (vs : List ℕ) → Reaches b (box_with f b vs)
+reaches_with f b [] = record { left = omega arith; right = omega arith; bottom = omega arith; top = omega arith }
+reaches_with f b (v ∷ vs) = reaches_around b (box_of_node f v) _ (reaches_with f (box_around b (box_of_node f v)) vs)
+
+-- the last place of a span is not before the first
+record IsForward (s : Span) : Type 0 where
+  across : s.x1 ≤ s.x2
+  up : s.y1 ≤ s.y2
+
+forward : (k : Kind) (f : Fabric) (n : Node) → IsForward (span_by k f n)
+forward Source f n = record { across = omega arith; up = omega arith }
+forward Sink f n = record { across = omega arith; up = omega arith }
+forward Opin f n = record { across = omega arith; up = omega arith }
+forward Ipin f n = record { across = omega arith; up = omega arith }
+forward Chanx f n = record { across = omega arith; up = omega arith }
+forward Chany f n = record { across = omega arith; up = omega arith }
+
+within : (bb : ℕ) (b : BoundingBox) (s : Span) → s.x1 ≤ b.right + bb → b.left ≤ s.x2 + bb → s.y1 ≤ b.top + bb → b.bottom ≤ s.y2 + bb → touches bb b s ≡ true
+within bb b s l r m t = grind (arith, nat_tests)
+
+touched : (bb : ℕ) (b : BoundingBox) (s : Span) → IsForward s → Reaches (box_of_span s) b → touches bb b s ≡ true
+touched bb b s on r =
+    let across = on.across in
+    let up = on.up in
+    let left = r.left in
+    let right = r.right in
+    let bottom = r.bottom in
+    let top = r.top in
+    within bb b s (omega (arith, across, right)) (omega (arith, across, left)) (omega (arith, up, top)) (omega (arith, up, bottom))
+
+inside_at : (f : Fabric) (bb : ℕ) (sinks : List ℕ) (o : Option Node) → any_node is_source_kind o ≡ true →
+    option_map_or (touches bb (box_with f (option_map_or box_of_span (option_map (span_of f) o) (record { left = 0; right = 0; bottom = 0; top = 0 })) sinks)) (option_map (span_of f) o) false ≡ true
+inside_at f bb sinks None e = absurd (false≢true e)
+inside_at f bb sinks (Some n) e = touched bb _ (span_of f n) (forward n.kind f n) (reaches_with f (box_of_span (span_of f n)) sinks)
+
+pub source_inside : (f : Fabric) (bb : ℕ) (n : Net) → is_source f n.source ≡ true → is_in_box f bb n n.source ≡ true
+unfolding is_source is_in_box box_of_net
+source_inside f bb n e = inside_at f bb n.sinks (node_at f n.source) e

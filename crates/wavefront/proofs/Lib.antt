@@ -1,0 +1,25 @@
+-- lists
+pub mod Lists
+-- labels
+pub mod Stamped
+-- steps of the wave
+pub mod Lower
+pub mod Preferred
+pub mod Went
+pub mod Wanted
+pub mod Spaces
+pub mod DeadEnds
+pub mod Bounds
+-- ways and trees
+pub mod WayNodes
+pub mod Traced
+-- from way to way
+pub mod Started
+pub mod Counted
+pub mod Shortcut
+pub mod Added
+pub mod Whole
+pub mod Grown
+pub mod Orderly
+pub mod Insides
+pub mod RowNodes

@@ -1,0 +1,211 @@
+-- What every search finds of the device, the net and the costs.
+use Rattle.std.proofs.Common.{◌≡◌, ℕ, ◌+◌, ◌-◌, ◌*◌, ◌<◌, ◌≤◌, ◌^◌, true, false, [], ◌∷◌, Option, Some, None, inl, inr, refl, sym, ap, ◌∙◌, subst, arith}
+use Rattle.std.specs.Option.{option_map, option_map_or, unwrap_or}
+use Rattle.std.proofs.lemmas.Bool.{false≢true, cases_lt}
+use Rattle.std.proofs.Math.Nat.{mul-le-mul}
+use Rattle.std.proofs.lemmas.List.Elements.{All-contains}
+use Rattle.std.proofs.lemmas.Option.{slice_get-get_or, slice_get_past, none-some, same_Some}
+use Rattle.rr_graph.specs.declared.parts.Kind.{Kind}
+use Rattle.rr_graph.specs.declared.parts.Kind.TheVariants.{Source, Sink, Opin, Ipin, Chanx, Chany}
+use Rattle.rr_graph.specs.declared.parts.Node.{Node}
+use Rattle.rr_graph.specs.Fabric.{Fabric, IsFabric}
+use Rattle.rr_graph.specs.Nodes.{nodes_of, node_at, node_count_of, kind_of_node, capacity_of}
+use Rattle.rr_graph.specs.Edges.{edge_by, edge_between_nodes, is_edge, edge_between, successors_of}
+use Rattle.rr_graph.specs.Problems.{IsNet, is_source_kind, is_sink_kind, any_node, is_source, is_sink}
+use Rattle.rr_graph.proofs.Capacities.{some_capacity}
+use Rattle.rr_graph.proofs.Graph.{edge_to_node, successors_contain}
+use Rattle.route_tree.specs.Usage.{room_of}
+use Rattle.node_cost.specs.Views.{others_in, history_in}
+use Rattle.node_cost.proofs.Bounds.{factor_bounded, cost_bounded}
+use Rattle.wavefront.proofs.Lists.{contains_first, contains_none, contains_cases}
+use Rattle.wavefront.proofs.Insides.{source_inside}
+use Rattle.wavefront.specs.Space.{Space, IsSpace, LeadsOnlyTo, HasEdge, IsWanted, base_cost, entry_cost, node_count}
+
+-- ---- the kinds at the ends of edges
+from_sink : (a b : Kind) (f : Fabric) (m n : Node) → edge_by a b f m n ≡ true → is_sink_kind a ≡ false
+from_sink Source b f m n e = refl
+from_sink Sink b f m n e = absurd (false≢true e)
+from_sink Opin b f m n e = refl
+from_sink Ipin b f m n e = refl
+from_sink Chanx b f m n e = refl
+from_sink Chany b f m n e = refl
+
+to_source : (a b : Kind) (f : Fabric) (m n : Node) → edge_by a b f m n ≡ true → is_source_kind b ≡ false
+to_source Source Source f m n e = absurd (false≢true e)
+to_source Sink Source f m n e = absurd (false≢true e)
+to_source Opin Source f m n e = absurd (false≢true e)
+to_source Ipin Source f m n e = absurd (false≢true e)
+to_source Chanx Source f m n e = absurd (false≢true e)
+to_source Chany Source f m n e = absurd (false≢true e)
+to_source a Sink f m n e = refl
+to_source a Opin f m n e = refl
+to_source a Ipin f m n e = refl
+to_source a Chanx f m n e = refl
+to_source a Chany f m n e = refl
+
+from_pin : (b : Kind) (f : Fabric) (m n : Node) → edge_by Ipin b f m n ≡ true → is_sink_kind b ≡ true
+from_pin Source f m n e = absurd (false≢true e)
+from_pin Sink f m n e = refl
+from_pin Opin f m n e = absurd (false≢true e)
+from_pin Ipin f m n e = absurd (false≢true e)
+from_pin Chanx f m n e = absurd (false≢true e)
+from_pin Chany f m n e = absurd (false≢true e)
+
+no_edge_from : (f : Fabric) (a b : Option Node) → edge_between_nodes f a b ≡ true → any_node is_sink_kind a ≡ false
+unfolding is_edge
+no_edge_from f None b e = refl
+no_edge_from f (Some m) None e = absurd (false≢true e)
+no_edge_from f (Some m) (Some n) e = from_sink m.kind n.kind f m n e
+
+no_edge_to : (f : Fabric) (a b : Option Node) → edge_between_nodes f a b ≡ true → any_node is_source_kind b ≡ false
+unfolding is_edge
+no_edge_to f a None e = refl
+no_edge_to f None (Some n) e = absurd (false≢true e)
+no_edge_to f (Some m) (Some n) e = to_source m.kind n.kind f m n e
+
+pin_enters : (f : Fabric) (a b : Option Node) → option_map (λ n. n.kind) a ≡ Some Ipin → edge_between_nodes f a b ≡ true → any_node is_sink_kind b ≡ true
+unfolding is_edge
+pin_enters f None b pin e = absurd (none-some _ pin)
+pin_enters f (Some m) None pin e = absurd (false≢true e)
+pin_enters f (Some m) (Some n) pin e = from_pin n.kind f m n (subst (λ k. edge_by k n.kind f m n ≡ true) (same_Some m.kind Ipin pin) e)
+
+-- nothing leads on from a sink
+pub leaves_no_sink : (f : Fabric) (a b : ℕ) → edge_between f a b ≡ true → is_sink f a ≡ false
+unfolding edge_between is_sink
+leaves_no_sink f a b e = no_edge_from f (node_at f a) (node_at f b) e
+
+-- and to a source
+enters_no_source : (f : Fabric) (a b : ℕ) → edge_between f a b ≡ true → is_source f b ≡ false
+unfolding edge_between is_source
+enters_no_source f a b e = no_edge_to f (node_at f a) (node_at f b) e
+
+pin_enters_sink : (f : Fabric) (a b : ℕ) → kind_of_node f a ≡ Some Ipin → edge_between f a b ≡ true → is_sink f b ≡ true
+unfolding edge_between is_sink
+pin_enters_sink f a b pin e = pin_enters f (node_at f a) (node_at f b) pin e
+
+one_kind : (o : Option Node) → any_node is_source_kind o ≡ true → any_node is_sink_kind o ≡ true → ⊥
+one_kind None e g = false≢true e
+one_kind (Some n) e g = by_kind n.kind e g
+  where
+    by_kind : (k : Kind) → is_source_kind k ≡ true → is_sink_kind k ≡ true → ⊥
+    by_kind Source e g = false≢true g
+    by_kind Sink e g = false≢true e
+    by_kind Opin e g = false≢true e
+    by_kind Ipin e g = false≢true e
+    by_kind Chanx e g = false≢true e
+    by_kind Chany e g = false≢true e
+
+source_or_sink : (f : Fabric) (a : ℕ) → is_source f a ≡ true → is_sink f a ≡ true → ⊥
+unfolding is_source is_sink
+source_or_sink f a e g = one_kind (node_at f a) e g
+
+source_node : (f : Fabric) (a : ℕ) → is_source f a ≡ true → a < node_count_of f
+unfolding is_source
+source_node f a e = elim (cases_lt a (node_count_of f)) [
+  | inl l ↦ l
+  | inr past ↦ absurd (false≢true (sym (ap (any_node is_source_kind) (slice_get_past (nodes_of f) a past)) ∙ e))
+]
+
+sink_node : (f : Fabric) (a : ℕ) → is_sink f a ≡ true → a < node_count_of f
+unfolding is_sink
+sink_node f a e = elim (cases_lt a (node_count_of f)) [
+  | inl l ↦ l
+  | inr past ↦ absurd (false≢true (sym (ap (any_node is_sink_kind) (slice_get_past (nodes_of f) a past)) ∙ e))
+]
+
+-- ---- where an input pin leads
+pub pin_leads : (space : Space) (v sink : ℕ) → successors_of space.device v ≡ sink ∷ [] → kind_of_node space.device v ≡ Some Ipin → LeadsOnlyTo space v sink
+pin_leads space v sink listed pin =
+    let edge : HasEdge space v sink = (successors_contain space.device v sink).0 (rw listed (contains_first sink [])) in
+    record {
+      edge = edge;
+      only = λ b e. elim (contains_cases sink b [] (rw listed at (successors_contain space.device v b).1 e)) [ inl same ↦ same | inr none ↦ absurd (contains_none b none) ];
+      last = λ b e. false≢true (sym (leaves_no_sink space.device sink b e) ∙ pin_enters_sink space.device v sink pin edge);
+    }
+
+-- ---- costs
+pub room_is : (f : Fabric) (o : Option Node) → unwrap_or (option_map (capacity_of f) o) 0 ≡ room_of f o
+room_is f None = refl
+room_is f (Some n) = refl
+
+pub some_room : (f : Fabric) (v : ℕ) → IsFabric f → v < node_count_of f → 1 ≤ room_of f (node_at f v)
+some_room f v within lt = by_node (node_at f v) refl
+  where
+    by_node : (o : Option Node) → node_at f v ≡ o → 1 ≤ room_of f o
+    by_node None e = absurd (none-some _ (sym e ∙ slice_get-get_or (nodes_of f) v (record { kind = Source; x = 0; y = 0; number = 0 }) lt))
+    by_node (Some n) e = some_capacity f within v n e
+
+small_base : (k : Kind) → base_cost k ≤ 20
+small_base Source = omega arith
+small_base Sink = omega arith
+small_base Opin = omega arith
+small_base Ipin = omega arith
+small_base Chanx = omega arith
+small_base Chany = omega arith
+
+small_base_in : (o : Option Kind) → option_map_or base_cost o 0 ≤ 20
+small_base_in None = omega arith
+small_base_in (Some k) = small_base k
+
+product_positive : (a b : ℕ) → 1 ≤ a → 1 ≤ b → 0 < a * b
+product_positive a b h g = let p : 1 * 1 ≤ a * b = mul-le-mul h g in omega (arith, p)
+
+dear_kind : (k : Kind) → is_sink_kind k ≡ false → 1 ≤ base_cost k
+dear_kind Source e = omega arith
+dear_kind Sink e = absurd (false≢true (sym e))
+dear_kind Opin e = omega arith
+dear_kind Ipin e = omega arith
+dear_kind Chanx e = omega arith
+dear_kind Chany e = omega arith
+
+dear_in : (f : Fabric) (a b : Option Node) → edge_between_nodes f a b ≡ true → 1 ≤ option_map_or base_cost (option_map (λ n. n.kind) a) 0
+unfolding is_edge
+dear_in f None b e = absurd (none_leads b e)
+  where
+    none_leads : (b : Option Node) → edge_between_nodes f None b ≡ true → ⊥
+    none_leads None e = false≢true e
+    none_leads (Some n) e = false≢true e
+dear_in f (Some m) None e = absurd (false≢true e)
+dear_in f (Some m) (Some n) e = dear_kind m.kind (from_sink m.kind n.kind f m n e)
+
+dear : (f : Fabric) (a b : ℕ) → edge_between f a b ≡ true → 1 ≤ option_map_or base_cost (kind_of_node f a) 0
+unfolding edge_between
+dear f a b e = dear_in f (node_at f a) (node_at f b) e
+
+positive : (space : Space) (v b : ℕ) → HasEdge space v b → 0 < entry_cost space v
+unfolding entry_cost
+positive space v b edge =
+    let base = dear space.device v b edge in
+    product_positive (option_map_or base_cost (kind_of_node space.device v) 0 + history_in space.view v) (16 + space.present * (others_in space.view v + 1 - room_of space.device (node_at space.device v))) (omega (arith, base)) (omega arith)
+
+pub cheap : (space : Space) (v : ℕ) → space.present ≤ 1048576 → others_in space.view v ≤ 65535 → history_in space.view v ≤ 2 ^ 42 → entry_cost space v < 2 ^ 80
+unfolding entry_cost
+cheap space v present others history =
+    let base = small_base_in (kind_of_node space.device v) in
+    let f = space.device in
+    cost_bounded (option_map_or base_cost (kind_of_node f v) 0 + history_in space.view v) (16 + space.present * (others_in space.view v + 1 - room_of f (node_at f v)))
+    (omega (arith, base, history)) (fewer_pay (room_of f (node_at f v)))
+  where
+    fewer_pay : (room : ℕ) → 16 + space.present * (others_in space.view v + 1 - room) ≤ 2 ^ 37
+    fewer_pay room = factor_bounded space.present (others_in space.view v + 1 - room) present (omega (arith, others))
+
+-- ---- all of it
+pub is_space : (space : Space) → IsFabric space.device → IsNet space.device space.net → node_count space < 8388608 → space.present ≤ 1048576 → ((v : ℕ) → others_in space.view v ≤ 65535) → ((v : ℕ) → history_in space.view v ≤ 2 ^ 42) → IsSpace space
+is_space space fabric net few present others histories =
+    let f = space.device in
+    let sinks : (v : ℕ) → IsWanted space v → is_sink f v ≡ true = λ v wanted. All-contains (λ s. is_sink f s ≡ true) space.net.sinks v net.sinks wanted in
+    record {
+      few = few;
+      range = λ a b edge. edge_to_node f a b edge;
+      source_in = source_node f space.net.source net.source;
+      source_inside = source_inside f space.bb space.net net.source;
+      sinks_in = λ v wanted. sink_node f v (sinks v wanted);
+      are_sinks = sinks;
+      ascending = net.ascending;
+      some_sink = let some = net.some_sinks in omega (arith, some);
+      begins = λ a edge. false≢true (sym (enters_no_source f a space.net.source edge) ∙ net.source);
+      ends = λ a b edge. leaves_no_sink f a b edge;
+      apart = λ wanted. source_or_sink f space.net.source net.source (sinks space.net.source wanted);
+      costly = λ a v b into on. positive space v b on;
+      cheap = λ v lt. cheap space v present (others v) (histories v);
+    }

@@ -1,0 +1,7 @@
+use Rattle.std.proofs.Common.{sym, subst}
+use Rattle.std.specs.Prelude.{Contains}
+use Rattle.std.proofs.lemmas.Result.{on_ok_weaker}
+use Rattle.wavefront.proofs.wave.Wave.expand.Goals as goal
+
+pub returns-clause-went : goal.returns-clause-went
+returns-clause-went c = on_ok_weaker c.offer_all.result (λ went b edge inside. went b (subst (λ xs. Contains xs b) (sym c.deref.ensures) ((c.in_ok-successors.ensures b).1 edge)) inside) c.offer_all.ensures.went

@@ -1,0 +1,11 @@
+use Rattle.wavefront.specs.Wave.{IsWave}
+use Rattle.wavefront.specs.Steps.{Spreads}
+use Rattle.wavefront.proofs.Went.{Went}
+use Rattle.wavefront.proofs.wave.Wave.offer_all.Given as goal
+
+abbrev pub invariant-loop-to : goal.invariant-loop-to
+invariant-loop-to l = record {
+  wave : IsWave l.space l.self;
+  spreads : Spreads l.space l.fn.self l.self;
+  went : Went l.space l.next l.self l.key l.to-index;
+}

@@ -1,0 +1,11 @@
+pub mod Boxes
+pub mod Space
+pub mod Ways
+pub mod Label
+pub mod Stamps
+pub mod Queues
+pub mod Wave
+pub mod Steps
+pub mod Growth
+pub mod Fields
+pub mod Scratches

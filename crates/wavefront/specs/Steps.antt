@@ -1,0 +1,91 @@
+-- What each step of the wave does.
+use Rattle.std.specs.Prelude.{◌≡◌, ℕ, ◌+◌, ◌<◌, ◌≤◌, ◌⊎◌, ◌↔◌, List, ◌∷◌, length, slice_set, Contains}
+use Rattle.std.specs.List.Sorted.{IsPermutation}
+use Rattle.wavefront.specs.declared.labels.Label.{Label}
+use Rattle.wavefront.specs.declared.labels.TheConstants.{FAR}
+use Rattle.wavefront.specs.declared.queue.Entry.{Entry}
+use Rattle.wavefront.specs.declared.wave.Wave.{Wave}
+use Rattle.wavefront.specs.Queues as queues
+use Rattle.wavefront.specs.Space.{Space, HasEdge, IsInside}
+use Rattle.wavefront.specs.Ways.{AreDistinct, IsWay, way_cost}
+use Rattle.wavefront.specs.Wave.{IsComplete, IsCompleteBut, IsOpen, IsOrigin, IsWaiting, IsWave, WentOn, bound_of, key_of, work_of}
+
+-- t is w with the label of a node set, and with an entry for it
+pub record IsLowered (s : Space) (w t : Wave) (node : ℕ) (label : Label) : Type 0 where
+  pub labels : t.labels ≡ slice_set w.labels node label
+  pub key : ℕ
+  pub above : label.key ≤ key
+  pub low : key ≤ label.key + bound_of s node
+  pub moved : IsPermutation ((record { key = key; node = node }) ∷ w.queue) t.queue
+
+-- t is w with another parent at a node that is no origin; its key is as it was
+pub record IsPreferred (w t : Wave) (node : ℕ) (label : Label) : Type 0 where
+  pub labels : t.labels ≡ slice_set w.labels node label
+  pub queue : t.queue ≡ w.queue
+  pub same : label.key ≡ key_of w node
+  pub reached : label.key < FAR
+  pub later : IsOrigin w node → ⊥
+
+-- t is w without the entry x, its least
+pub record IsPopped (w t : Wave) (x : Entry) : Type 0 where
+  pub labels : t.labels ≡ w.labels
+  pub queue : queues.IsPopped w.queue t.queue x
+
+-- along each edge from v the key was offered
+abbrev pub WentAlong : Space → Wave → ℕ → ℕ → Type 0
+WentAlong s w v key = (b : ℕ) → HasEdge s v b → IsInside s b → WentOn s w key b
+
+-- keys go down, and where one does, the node waits
+pub record Lowers (s : Space) (old new : Wave) : Type 0 where
+  pub down : (v : ℕ) → key_of new v ≤ key_of old v
+  pub wait : (v : ℕ) → (key_of new v ≡ key_of old v) ⊎ IsWaiting s new v
+  pub starts : (v : ℕ) → IsOrigin old v → IsOrigin new v
+  pub kept : (e : Entry) → Contains old.queue e → Contains new.queue e
+
+-- the wave starts where it did
+abbrev pub SameOrigins : Wave → Wave → Type 0
+SameOrigins old new = (v : ℕ) → IsOrigin new v ↔ IsOrigin old v
+
+-- a step of the search: labels go down, and no origin comes or goes
+pub record Spreads (s : Space) (old new : Wave) : Type 0 where
+  pub lowers : Lowers s old new
+  pub origins : SameOrigins old new
+  pub work : work_of new ≤ work_of old
+
+-- the wave starts where it did, and at x
+abbrev pub MoreOrigins : Wave → Wave → ℕ → Type 0
+MoreOrigins old new x = (v : ℕ) → IsOrigin new v ↔ (IsOrigin old v ⊎ (v ≡ x))
+
+abbrev pub NoOrigins : Wave → Type 0
+NoOrigins w = (v : ℕ) → IsOrigin w v → ⊥
+
+-- no way from an origin to an open sink costs less than the key
+abbrev pub IsLeastKey : Space → Wave → ℕ → Type 0
+IsLeastKey s w key = (a b : ℕ) (way : List ℕ) → IsOrigin w a → IsOpen s w b → IsWay s a way b → key ≤ way_cost s way
+
+-- x is taken out of the queue: no way to an open sink costs less, and at all other nodes nothing has changed
+pub record IsNearest (s : Space) (w t : Wave) (x : Entry) : Type 0 where
+  pub wave : IsWave s t
+  pub origins : SameOrigins w t
+  pub node_in : x.node < length t.labels
+  pub above : key_of t x.node ≤ x.key
+  pub reached : key_of t x.node < FAR
+  pub least : IsLeastKey s t x.key
+  pub others : IsCompleteBut s t x.node
+  pub late : key_of t x.node + bound_of s x.node < x.key → IsComplete s t
+  pub work : work_of t + 1 ≡ work_of w
+
+-- a sink is taken at its key, the least
+pub record IsTaken (s : Space) (w : Wave) (sink : ℕ) : Type 0 where
+  pub «open» : IsOpen s w sink
+  pub reached : key_of w sink < FAR
+  pub least : IsLeastKey s w (key_of w sink)
+  pub others : IsCompleteBut s w sink
+
+-- the way by which the wave came to a sink
+pub record IsTraced (s : Space) (w : Wave) (a : ℕ) (way : List ℕ) (sink : ℕ) : Type 0 where
+  pub start : IsOrigin w a
+  pub walk : IsWay s a way sink
+  pub apart : (v : ℕ) → Contains way v → IsOrigin w v → ⊥
+  pub distinct : AreDistinct way
+  pub paid : way_cost s way ≤ key_of w sink

@@ -1,0 +1,96 @@
+-- What the wave keeps true (Dijkstra 1959).
+use Rattle.std.specs.Prelude.{◌≡◌, ℕ, ◌+◌, ◌*◌, ◌<◌, ◌≤◌, ◌⊎◌, List, length, slice_index_or, Contains, Bool, eqb, not, ◌&&◌}
+use Rattle.std.specs.List.{sum_by, count_by}
+use Rattle.wavefront.specs.declared.labels.Label.{Label}
+use Rattle.wavefront.specs.declared.labels.TheConstants.{FAR}
+use Rattle.wavefront.specs.declared.queue.Entry.{Entry}
+use Rattle.wavefront.specs.declared.wave.Wave.{Wave}
+use Rattle.wavefront.specs.Label.{unreached}
+use Rattle.wavefront.specs.Space.{Space, HasEdge, IsInside, IsWanted, entry_cost, node_count}
+use Rattle.wavefront.specs.Ways.{IsWay}
+
+-- a node's label; a number that is no node is never reached
+abbrev pub label_at : Wave → ℕ → Label
+label_at w v = slice_index_or w.labels v unreached
+
+abbrev pub key_of : Wave → ℕ → ℕ
+key_of w v = (label_at w v).key
+
+abbrev pub parent_of : Wave → ℕ → ℕ
+parent_of w v = (label_at w v).parent
+
+-- the wave starts here
+abbrev pub IsOrigin : Wave → ℕ → Type 0
+IsOrigin w v = (key_of w v ≡ 0) × (parent_of w v ≡ v)
+
+-- a sink of the net that the wave has yet to take
+abbrev pub IsOpen : Space → Wave → ℕ → Type 0
+IsOpen s w v = IsWanted s v × (IsOrigin w v → ⊥)
+
+-- no way to an open sink costs less than this from the node on
+unfoldable pub bound_of : Space → ℕ → ℕ
+bound_of s v = 0
+
+-- v is entered from its parent, at a cost that its key covers
+pub record IsEntered (s : Space) (w : Wave) (v : ℕ) : Type 0 where
+  pub edge : HasEdge s (parent_of w v) v
+  pub inside : IsInside s v
+  pub reached : key_of w (parent_of w v) < FAR
+  pub paid : key_of w (parent_of w v) + entry_cost s v ≤ key_of w v
+
+-- an entry waits whose key no way over v to an open sink can undercut
+pub record IsWaiting (s : Space) (w : Wave) (v : ℕ) : Type 0 where
+  pub entry : Entry
+  pub there : Contains w.queue entry
+  pub node : entry.node ≡ v
+  pub low : entry.key ≤ key_of w v + bound_of s v
+
+-- no way leads on from v to an open sink
+abbrev pub IsDead : Space → Wave → ℕ → Type 0
+IsDead s w v = (b : ℕ) (way : List ℕ) → IsOpen s w b → IsWay s v way b → ⊥
+
+-- the key went on along the edge to b, but into a dead end
+abbrev pub WentOn : Space → Wave → (key b : ℕ) → Type 0
+WentOn s w key b = IsDead s w b ⊎ (key_of w b ≤ key + entry_cost s b)
+
+-- v's key went along each edge from v
+abbrev pub IsRelaxed : Space → Wave → ℕ → Type 0
+IsRelaxed s w v = (b : ℕ) → HasEdge s v b → IsInside s b → WentOn s w (key_of w v) b
+
+-- how many sinks the wave has yet to take
+abbrev pub is_origin : Wave → ℕ → Bool
+is_origin w v = eqb (key_of w v) 0 && eqb (parent_of w v) v
+
+abbrev pub open_count : Space → Wave → ℕ
+open_count s w = count_by (λ v. not (is_origin w v)) s.net.sinks
+
+-- nothing is left to do at v
+pub record IsSettled (s : Space) (w : Wave) (v : ℕ) : Type 0 where
+  pub relaxed : IsRelaxed s w v
+  pub taken : IsOpen s w v → ⊥
+
+-- each label is the cost of a way from an origin, or more
+pub record IsWave (s : Space) (w : Wave) : Type 0 where
+  pub rows : length w.labels ≡ node_count s
+  pub near : (v : ℕ) → key_of w v ≤ FAR
+  pub entered : (v : ℕ) → key_of w v < FAR → IsOrigin w v ⊎ IsEntered s w v
+  pub entries : (e : Entry) → Contains w.queue e → (key_of w e.node ≤ e.key) × (key_of w e.node < FAR)
+
+-- a node that is reached waits, or is settled
+abbrev pub IsDone : Space → Wave → ℕ → Type 0
+IsDone s w v = key_of w v < FAR → IsWaiting s w v ⊎ IsSettled s w v
+
+pub record IsComplete (s : Space) (w : Wave) : Type 0 where
+  pub each : (v : ℕ) → IsDone s w v
+
+-- so is each node but x
+pub record IsCompleteBut (s : Space) (w : Wave) (x : ℕ) : Type 0 where
+  pub each : (v : ℕ) → (v ≡ x → ⊥) → IsDone s w v
+
+-- what was complete but for a node still is, and wholly where the node is the one that now waits
+abbrev pub StillComplete : Space → Wave → Wave → ℕ → Type 0
+StillComplete s old new node = (x : ℕ) → IsCompleteBut s old x → IsCompleteBut s new x × (x ≡ node → IsComplete s new)
+
+-- each step of the search makes this less
+abbrev pub work_of : Wave → ℕ
+work_of w = 2 * sum_by (λ l. l.key) w.labels + length w.queue

@@ -1,0 +1,16 @@
+//! The search of one net: a tree from its source to all of its sinks, each way added to it one of least cost
+//! (McMurchie and Ebeling 1995; Dijkstra 1959).
+#![tactic(auto)]
+
+mod boxes;
+mod found;
+mod labels;
+mod queue;
+mod route;
+mod scratch;
+mod space;
+mod wave;
+
+pub use found::{Found, SearchFault};
+pub use route::route_net;
+pub use scratch::Scratch;

@@ -1,0 +1,160 @@
+//! What a search of one net may enter, and at what cost.
+
+ghost use Rattle.std.specs.Prelude.{◌≡◌, ◌<◌, ◌≤◌, ◌^◌, ◌↔◌, IsTrue, IfSome, IfNone, OnOk, ℕ, Contains, length, [], ◌∷◌};
+ghost use Rattle.rr_graph.specs.Nodes.{node_count_of};
+ghost use Rattle.rr_graph.specs.declared.parts.Kind.{Kind};
+ghost use Rattle.std.specs.Option.{option_map_or};
+ghost use Rattle.wavefront.specs.Boxes.{is_in_box};
+ghost use Rattle.wavefront.specs.Space.{IsSpace, IsInside, IsWanted, HasEdge, LeadsOnlyTo, entry_cost, node_count, base_cost};
+ghost use Rattle.wavefront.specs.Growth.{space_of};
+ghost use Rattle.wavefront.specs.Wave.{bound_of};
+
+use crate::boxes::BoundingBox;
+use node_cost::{GREATEST_PRESENT, View, cost};
+use rr_graph::{Kind, Problem};
+use smallvec::SmallVec;
+use std::alloc::AllocError;
+use std::marker::Model;
+
+/// The nodes of a device as the search of one net sees them. Contracts see the record of what decides on them.
+#[derive(Drop)]
+pub(crate) struct SearchSpace<'a> {
+    problem: &'a Problem,
+    net: u32,
+    view: &'a View,
+    present: u32,
+    bb: u32,
+    terminals: BoundingBox,
+}
+
+impl<'a> Model for SearchSpace<'a> {
+    ghost use Rattle.wavefront.specs.Space.{Space};
+
+    ghost Value = { Space };
+
+    ghost use Rattle.wavefront.specs.Fields.{space_inside, IsSearchSpace};
+
+    ghost view = { space_inside };
+
+    ghost invariant = { IsSearchSpace };
+}
+
+/// What a node of a kind costs where nobody else wants it.
+fn base_cost(kind: Option<Kind>) -> u32
+    ensures { result ≡ option_map_or base_cost kind 0 }
+{
+    match kind {
+        None | Some(Kind::Sink) => 0,
+        Some(Kind::Ipin) => 19,
+        Some(Kind::Source | Kind::Opin | Kind::Chanx | Kind::Chany) => 20,
+    }
+}
+
+impl<'a> SearchSpace<'a> {
+    /// What the search of a net sees.
+    pub(crate) fn new(
+        problem: &'a Problem,
+        net: u32,
+        view: &'a View,
+        present: u32,
+        bb: u32,
+    ) -> SearchSpace<'a>
+        requires net { net < length problem.now.nets }
+        requires view { length view.now ≡ node_count_of problem.now.device }
+        requires present { present ≤ GREATEST_PRESENT }
+        ensures space { result ≡ space_of problem.now net view.now present bb }
+        ensures facts { IsSpace result }
+    {
+        let _nodes = problem.device().node_count();
+        let _limits = problem.device().nx();
+        let _nets = problem.nets();
+        let _bounds = view.len();
+        SearchSpace {
+            problem,
+            net,
+            view,
+            present,
+            bb,
+            terminals: BoundingBox::of_net(problem, net),
+        }
+    }
+
+    /// The node at which the net begins.
+    pub(crate) fn source(&self) -> u32
+        ensures { result ≡ self.now.net.source }
+    {
+        self.problem.source(self.net)
+    }
+
+    /// The sinks of the net, ascending.
+    pub(crate) fn sinks(&self) -> &[u32]
+        ensures { result.now ≡ self.now.net.sinks }
+    {
+        self.problem.sinks(self.net)
+    }
+
+    /// Whether the node is one of the net's sinks.
+    pub(crate) fn wants(&self, node: u32) -> bool
+        requires { IsSpace self.now }
+        ensures { IsTrue result ↔ IsWanted self.now node }
+    {
+        self.sinks().binary_search(&node).is_ok()
+    }
+
+    /// Whether the node is inside the net's box.
+    #[tactic(auto, unfolding(crate::specs::Boxes::is_in_box))]
+    pub(crate) fn is_inside(&self, node: u32) -> bool
+        ensures { result ≡ is_in_box self.now.device self.now.bb self.now.net node }
+    {
+        match self.problem.device().span(node) {
+            Some(span) => self.terminals.touches(self.bb, span),
+            None => false,
+        }
+    }
+
+    /// What it costs to enter a node.
+    #[tactic(auto, using(crate::proofs::Spaces::room_is, crate::proofs::Spaces::some_room), unfolding(crate::specs::Space::entry_cost))]
+    pub(crate) fn cost(&self, node: u32) -> u128
+        requires { node < node_count self.now }
+        ensures { result ≡ entry_cost self.now node }
+    {
+        let device = self.problem.device();
+        let _limits = device.nx();
+        let base = base_cost(device.kind(node));
+        let capacity = device.capacity(node).unwrap_or(0);
+        cost(
+            base,
+            self.view.history(node),
+            capacity,
+            self.view.others(node),
+            self.present,
+        )
+    }
+
+    /// The nodes to which an edge leads from a node.
+    pub(crate) fn successors(
+        &self,
+        node: u32,
+        list: &mut SmallVec<u32, 8>,
+    ) -> Result<(), AllocError>
+        ensures { OnOk result ((to : ℕ) → Contains list.new.items to ↔ HasEdge self.now node to) }
+    {
+        self.problem.device().successors(node, list)
+    }
+
+    /// The sink to which an input pin leads, and to nothing else; None for what is no input pin.
+    #[tactic(auto, using(crate::proofs::Spaces::pin_leads))]
+    pub(crate) fn sink_of(&self, node: u32) -> Option<u32>
+        ensures { IfSome result (λ sink. LeadsOnlyTo self.now node sink) }
+    {
+        self.problem.device().sink_of(node)
+    }
+
+    /// No way from the node to a sink costs less.
+    #[tactic(auto, unfolding(crate::specs::Wave::bound_of))]
+    pub(crate) fn bound(&self, _node: u32) -> u128
+        ensures { result ≡ bound_of self.now _node }
+    {
+        0
+    }
+}

@@ -1,0 +1,291 @@
+//! A wave of labels that spreads from a tree, the least key first, until it takes a sink, and goes on when the tree has grown.
+
+ghost use Rattle.std.specs.Prelude.{◌≡◌, ℕ, ◌+◌, ◌<◌, ◌≤◌};
+
+use crate::labels::{FAR, Label, Labels};
+use crate::queue::{Entry, Queue};
+use crate::space::SearchSpace;
+use smallvec::SmallVec;
+use std::alloc::{AllocError, Global};
+
+/// The labels, and the nodes whose labels have yet to go along their edges.
+#[derive(Drop)]
+pub(crate) struct Wave {
+    pub(crate) labels: Labels,
+    pub(crate) queue: Queue,
+}
+
+impl Wave {
+    ghost use Rattle.std.specs.Prelude.{length, IfOk, OnOk, IfSome, IfNone, IsTrue, ◌↔◌, ◌⊎◌, [], Contains, reverse};
+    ghost use Rattle.wavefront.specs.Space.{IsSpace, HasEdge, IsInside, entry_cost, node_count};
+    ghost use Rattle.wavefront.specs.Wave.{IsWave, IsComplete, StillComplete, IsOrigin, IsOpen, IsDead, WentOn, bound_of, key_of, parent_of};
+    ghost use Rattle.wavefront.specs.Steps.{IsPopped, IsNearest, IsLowered, IsPreferred, Spreads, SameOrigins, MoreOrigins, WentAlong, NoOrigins, IsTaken, IsLeastKey, IsTraced};
+
+    /// A wave over so many nodes.
+    pub(crate) fn new(alloc: Global, nodes: usize) -> Result<Wave, AllocError>
+        ensures { IfOk result (λ w. length w.labels ≡ nodes) }
+    {
+        Ok(Wave {
+            labels: Labels::new(alloc, nodes)?,
+            queue: Queue::new(alloc),
+        })
+    }
+
+    /// Takes all labels off.
+    pub(crate) fn clear(&mut self, space: &SearchSpace<'_>)
+        requires { length self.old.labels ≡ node_count space.now }
+        ensures wave { IsWave space.now self.new }
+        ensures complete { IsComplete space.now self.new }
+        ensures origins { NoOrigins self.new }
+    {
+        self.labels.clear();
+        self.queue.clear();
+    }
+
+    /// Lowers a node's label.
+    fn lower(&mut self, space: &SearchSpace<'_>, node: u32, label: Label) -> Result<(), AllocError>
+        requires { node < length self.old.labels }
+        ensures lowered { OnOk result (IsLowered space.now self.old self.new node label) }
+        ensures rows { length self.new.labels ≡ length self.old.labels }
+    {
+        self.labels.set(node, label);
+        self.queue.push(Entry {
+            key: label.key.saturating_add(space.bound(node)),
+            node,
+        })
+    }
+
+    /// Of ways that cost the same, keeps the one over the least node: no key changes.
+    fn prefer(&mut self, node: u32, label: Label)
+        requires { node < length self.old.labels }
+        ensures { (self.new ≡ self.old) ⊎ IsPreferred self.old self.new node label }
+    {
+        let old = self.labels.get(node);
+        if label.key == old.key
+            && label.key < FAR
+            && label.parent < old.parent
+            && old.parent != node
+        {
+            self.labels.set(node, label);
+        }
+    }
+
+    /// Lets the wave start at `node` too.
+    pub(crate) fn start(&mut self, space: &SearchSpace<'_>, node: u32) -> Result<(), AllocError>
+        requires wave { IsWave space.now self.old }
+        requires node_in { node < node_count space.now }
+        ensures wave { OnOk result (IsWave space.now self.new) }
+        ensures complete { OnOk result (StillComplete space.now self.old self.new node) }
+        ensures origins { OnOk result (MoreOrigins self.old self.new node) }
+        ensures rows { length self.new.labels ≡ node_count space.now }
+    {
+        self.lower(
+            space,
+            node,
+            Label {
+                key: 0,
+                parent: node,
+            },
+        )
+    }
+
+    /// Whether the wave starts here.
+    pub(crate) fn starts_at(&self, node: u32) -> bool
+        requires { node < length self.now.labels }
+        ensures { IsTrue result ↔ IsOrigin self.now node }
+    {
+        let label = self.labels.get(node);
+        label.key == 0 && label.parent == node
+    }
+
+    /// Whether it is a sink that the wave has yet to take.
+    fn is_open(&self, space: &SearchSpace<'_>, node: u32) -> bool
+        requires space { IsSpace space.now }
+        requires rows { length self.now.labels ≡ node_count space.now }
+        ensures { IsTrue result ↔ IsOpen space.now self.now node }
+    {
+        space.wants(node) && !self.starts_at(node)
+    }
+
+    /// Whether it is an input pin that leads to no sink that the wave has yet to take.
+    fn is_dead_end(&self, space: &SearchSpace<'_>, node: u32) -> bool
+        requires space { IsSpace space.now }
+        requires rows { length self.now.labels ≡ node_count space.now }
+        ensures { IsTrue result → IsDead space.now self.now node }
+    {
+        match space.sink_of(node) {
+            Some(sink) => !self.is_open(space, sink),
+            None => false,
+        }
+    }
+
+    /// Offers a node the way over `from`, whose key is given.
+    fn offer(
+        &mut self,
+        space: &SearchSpace<'_>,
+        from: u32,
+        key: u128,
+        to: u32,
+    ) -> Result<(), AllocError>
+        requires space { IsSpace space.now }
+        requires wave { IsWave space.now self.old }
+        requires from { key_of self.old from ≤ key }
+        requires near { key < FAR }
+        requires edge { HasEdge space.now from to }
+        ensures wave { OnOk result (IsWave space.now self.new) }
+        ensures spreads { OnOk result (Spreads space.now self.old self.new) }
+        ensures at { OnOk result (IsInside space.now to → WentOn space.now self.new key to) }
+        ensures rows { length self.new.labels ≡ node_count space.now }
+    {
+        if !space.is_inside(to) {
+            return Ok(());
+        }
+        if self.is_dead_end(space, to) {
+            return Ok(());
+        }
+        let label = Label {
+            key: key.saturating_add(space.cost(to)),
+            parent: from,
+        };
+        if label.key < self.labels.get(to).key {
+            return self.lower(space, to, label);
+        }
+        self.prefer(to, label);
+        Ok(())
+    }
+
+    /// Offers the way over `node` along each edge from it.
+    fn expand(
+        &mut self,
+        space: &SearchSpace<'_>,
+        next: &mut SmallVec<u32, 8>,
+        node: u32,
+        key: u128,
+    ) -> Result<(), AllocError>
+        requires space { IsSpace space.now }
+        requires wave { IsWave space.now self.old }
+        requires from { key_of self.old node ≤ key }
+        requires near { key < FAR }
+        ensures wave { OnOk result (IsWave space.now self.new) }
+        ensures spreads { OnOk result (Spreads space.now self.old self.new) }
+        ensures went { OnOk result (WentAlong space.now self.new node key) }
+        ensures rows { length self.new.labels ≡ node_count space.now }
+    {
+        space.successors(node, next)?;
+        self.offer_all(space, node, key, next)
+    }
+
+    /// Offers each node of a list the way over `node`.
+    fn offer_all(
+        &mut self,
+        space: &SearchSpace<'_>,
+        node: u32,
+        key: u128,
+        next: &[u32],
+    ) -> Result<(), AllocError>
+        requires space { IsSpace space.now }
+        requires wave { IsWave space.now self.old }
+        requires from { key_of self.old node ≤ key }
+        requires near { key < FAR }
+        requires edges { (to : ℕ) → Contains next.now to → HasEdge space.now node to }
+        ensures wave { OnOk result (IsWave space.now self.new) }
+        ensures spreads { OnOk result (Spreads space.now self.old self.new) }
+        ensures went { OnOk result ((to : ℕ) → Contains next.now to → IsInside space.now to → WentOn space.now self.new key to) }
+        ensures rows { length self.new.labels ≡ node_count space.now }
+    {
+        for to in next {
+            self.offer(space, node, key, *to)?;
+        }
+        Ok(())
+    }
+
+    /// Takes the entry that is nearest out of the queue.
+    fn pop(&mut self) -> Entry
+        requires { 0 < length self.old.queue }
+        ensures { IsPopped self.old self.new result }
+    {
+        self.queue.pop()
+    }
+
+    /// The same, and what the search knows then.
+    fn nearest(&mut self, space: &SearchSpace<'_>) -> Entry
+        requires some { 0 < length self.old.queue }
+        requires wave { IsWave space.now self.old }
+        requires complete { IsComplete space.now self.old }
+        ensures { IsNearest space.now self.old self.new result }
+    {
+        self.pop()
+    }
+
+    /// Goes on to the next sink, and takes it.
+    pub(crate) fn take_sink(
+        &mut self,
+        space: &SearchSpace<'_>,
+        next: &mut SmallVec<u32, 8>,
+    ) -> Result<Option<u32>, AllocError>
+        requires space { IsSpace space.now }
+        requires wave { IsWave space.now self.old }
+        requires complete { IsComplete space.now self.old }
+        ensures wave { OnOk result (IsWave space.now self.new) }
+        ensures origins { OnOk result (SameOrigins self.old self.new) }
+        ensures taken { IfOk result (λ taken. IfSome taken (λ t. IsTaken space.now self.new t)) }
+        ensures complete { IfOk result (λ taken. IfNone taken (IsComplete space.now self.new)) }
+        ensures spent { IfOk result (λ taken. IfNone taken (IsLeastKey space.now self.new FAR)) }
+        ensures rows { length self.new.labels ≡ node_count space.now }
+    {
+        while !self.queue.is_empty() {
+            let entry = self.nearest(space);
+            let label = self.labels.get(entry.node);
+            if label.key.saturating_add(space.bound(entry.node)) < entry.key {
+                continue;
+            }
+            if self.is_open(space, entry.node) {
+                return Ok(Some(entry.node));
+            }
+            self.expand(space, next, entry.node, label.key)?;
+        }
+        Ok(None)
+    }
+
+    /// Puts the nodes of the way to a sink that was taken into the list, and answers the node from which it starts.
+    pub(crate) fn trace(
+        &self,
+        space: &SearchSpace<'_>,
+        sink: u32,
+        way: &mut Vec<u32>,
+    ) -> Result<u32, AllocError>
+        requires space { IsSpace space.now }
+        requires wave { IsWave space.now self.now }
+        requires sink { IsOpen space.now self.now sink }
+        requires reached { key_of self.now sink < FAR }
+        ensures { IfOk result (λ a. IsTraced space.now self.now a way.new.items sink) }
+    {
+        way.clear();
+        let start = self.trace_back(space, sink, way)?;
+        way.reverse();
+        Ok(start)
+    }
+
+    /// Puts the nodes of the way to a sink into the list, the sink first, and answers the node from which it starts.
+    fn trace_back(
+        &self,
+        space: &SearchSpace<'_>,
+        sink: u32,
+        way: &mut Vec<u32>,
+    ) -> Result<u32, AllocError>
+        requires space { IsSpace space.now }
+        requires wave { IsWave space.now self.now }
+        requires sink { IsOpen space.now self.now sink }
+        requires reached { key_of self.now sink < FAR }
+        requires empty { way.old.items ≡ [] }
+        ensures { IfOk result (λ a. IsTraced space.now self.now a (reverse way.new.items) sink) }
+    {
+        way.push(sink)?;
+        let mut node = self.labels.get(sink).parent;
+        while !self.starts_at(node) {
+            way.push(node)?;
+            node = self.labels.get(node).parent;
+        }
+        Ok(node)
+    }
+}
