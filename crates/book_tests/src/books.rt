@@ -303,13 +303,16 @@ fn refuses_views_of_another_size(rt: HostRuntime) -> Result<(), Fail> {
     draw_beside(&rt, &mut book, &mut small)
 }
 
-/// Draws a net that no other one meets, and changes the view, which the book doesn't see.
+/// Draws a net, and changes the view at two nodes, which the book doesn't see.
 fn draw_and_set(rt: &impl Abort, book: &mut Book, worker: u32, view: &mut View, net: u32) {
     expect_draw(rt, book, worker, view, Ok(Some(net)));
     expect_seen(rt, view, 39, 1, 20);
+    see(rt, view, 13, 7, 8);
+    expect_seen(rt, view, 13, 7, 8);
+    expect_seen(rt, view, 39, 1, 20);
     see(rt, view, 39, 9, 1_000);
     expect_seen(rt, view, 39, 9, 1_000);
-    expect_seen(rt, view, 13, 1, 0);
+    expect_seen(rt, view, 13, 7, 8);
     expect_histories(rt, book, &[(39, 20)]);
     expect_occupancies(rt, book, BOTH);
 }
