@@ -2,12 +2,14 @@
 #![tactic(auto)]
 
 mod archs;
+mod book;
 mod device;
 mod edges;
 mod fault;
 mod figure;
 mod look_ups;
 mod reading;
+mod resident;
 mod routes;
 mod size;
 mod spread;
@@ -16,7 +18,7 @@ mod trees;
 use archs::{LONG_ARCH, SMALL_ARCH};
 use device::measure_device;
 use fault::BenchFault;
-use reading::{RoutedDesign, measure_reading, measure_routed};
+use reading::{Measured, RoutedDesign, measure_reading, measure_routed};
 use size::{size_of_words, tracks};
 use std::process::ExitCode;
 use std::rt::Runtime;
@@ -45,7 +47,8 @@ fn run(rt: &(impl Runtime + Threads + Sync + AllocGlobal)) -> u8 {
             "device" => run_device(rt, SMALL_ARCH, given),
             "long" => run_device(rt, LONG_ARCH, given),
             "read" => run_reading(rt, given),
-            "route" => run_routing(rt, given),
+            "route" => run_routing(rt, given, Measured::Routing),
+            "book" => run_routing(rt, given, Measured::Book),
             _ => usage(rt),
         },
     }
@@ -59,7 +62,7 @@ fn words(rt: &(impl Runtime + AllocGlobal)) -> io::Result<Vec<String>> {
 /// Says what the words may be.
 fn usage(rt: &impl Runtime) -> u8 {
     let _ = eprintln!(rt;
-        "usage: bench [device|long [NX NY W]], bench read ARCH NET [PLACE], or bench route ARCH NET PLACE ROUTE W"
+        "usage: bench [device|long [NX NY W]], bench read ARCH NET [PLACE], or bench route|book ARCH NET PLACE ROUTE W"
     );
     BAD_WORDS
 }
@@ -117,10 +120,14 @@ fn routed_design(given: &[String]) -> Option<(RoutedDesign<'_>, u32)> {
     Some((design, width))
 }
 
-/// Measures what is done with the routing of the files that are given.
-fn run_routing(rt: &(impl Runtime + Threads + Sync + AllocGlobal), given: &[String]) -> u8 {
+/// Measures the routing of the files that are given.
+fn run_routing(
+    rt: &(impl Runtime + Threads + Sync + AllocGlobal),
+    given: &[String],
+    measured: Measured,
+) -> u8 {
     match routed_design(given) {
-        Some((design, width)) => status(rt, measure_routed(rt, design, width)),
+        Some((design, width)) => status(rt, measure_routed(rt, design, width, measured)),
         None => usage(rt),
     }
 }

@@ -2,7 +2,7 @@
 
 use crate::fault::BenchFault;
 use crate::figure::print_once;
-use crate::routes::measure_routing;
+use crate::routes::{measure_book_of, measure_routing};
 use arch_file::Arch;
 use net_file::Netlist;
 use place_file::Placement;
@@ -13,7 +13,10 @@ use std::time::Instant;
 use vpr_text::{Adapted, read_all};
 
 /// The bytes of a file.
-fn bytes_of(rt: &(impl Runtime + AllocGlobal), name: &str) -> Result<Vec<u8>, BenchFault> {
+pub(crate) fn bytes_of(
+    rt: &(impl Runtime + AllocGlobal),
+    name: &str,
+) -> Result<Vec<u8>, BenchFault> {
     let mut file = Adapted::new(fs::open(rt, name)?);
     let bytes = read_all(rt.alloc(), &mut file)?;
     Ok(bytes)
@@ -69,6 +72,13 @@ fn measure_placement(
     Ok(())
 }
 
+/// What is measured of a routing: its reading, judgement and writing, or a congestion book with its trees.
+#[derive(Clone, Copy)]
+pub enum Measured {
+    Routing,
+    Book,
+}
+
 /// The files of a routed design, by their names.
 #[derive(Clone, Copy)]
 pub struct RoutedDesign<'a> {
@@ -85,25 +95,32 @@ fn measure_placed(
     netlist: &Netlist,
     given: RoutedDesign<'_>,
     width: u32,
+    measured: Measured,
 ) -> Result<(), BenchFault> {
     let placement_bytes = bytes_of(rt, given.placement)?;
     let routing_bytes = bytes_of(rt, given.routing)?;
     let placement = read_placement(rt, &placement_bytes, arch, netlist)?;
-    measure_routing(rt, arch, netlist, &placement, &routing_bytes, width)
+    match measured {
+        Measured::Routing => {
+            measure_routing(rt, arch, netlist, &placement, &routing_bytes, width)
+        }
+        Measured::Book => { measure_book_of(rt, arch, netlist, &placement, &routing_bytes, width) }
+    }
 }
 
-/// Measures what is done with the routing of a placed design, on a device whose channels have `width` tracks. A file's
+/// Measures a routing of a placed design, on a device whose channels have `width` tracks. A file's
 /// bytes are in memory before the clock starts.
 pub fn measure_routed(
     rt: &(impl Runtime + Threads + Sync + AllocGlobal),
     given: RoutedDesign<'_>,
     width: u32,
+    measured: Measured,
 ) -> Result<(), BenchFault> {
     let arch_bytes = bytes_of(rt, given.arch)?;
     let netlist_bytes = bytes_of(rt, given.netlist)?;
     let arch = read_arch(rt, &arch_bytes)?;
     let netlist = read_netlist(rt, &netlist_bytes, &arch)?;
-    measure_placed(rt, &arch, &netlist, given, width)
+    measure_placed(rt, &arch, &netlist, given, width, measured)
 }
 
 /// Measures the reading of an architecture, a netlist, and a placement if one is given, by the names of their files. A

@@ -2,6 +2,7 @@
 
 ghost use Rattle.std.specs.Prelude.{None, false};
 
+use crate::book::measure_book;
 use crate::fault::BenchFault;
 use crate::figure::{print_each, print_once};
 use crate::trees::measure_trees;
@@ -13,7 +14,7 @@ use route_file::{parse, write};
 use route_tree::{Pairs, Routing, fits};
 use rr_graph::{Device, DeviceFault, Problem};
 use std::alloc::Global;
-use std::rt::Clock;
+use std::rt::{Clock, Runtime};
 use std::thread::Threads;
 use std::time::Instant;
 use vpr_text::{Broken, ByteSink};
@@ -180,4 +181,34 @@ pub fn measure_routing(
     measure_judgement(rt, device, netlist, placement, bytes)?;
     let device = device_of(rt.alloc(), arch, placement, width)?;
     measure_writing(rt, device, netlist, placement, bytes)
+}
+
+/// Measures a congestion book with the trees of a routing of a design.
+#[tactic(auto, using(route_file::proofs::Making::design_made))]
+fn measure_booking(
+    rt: &(impl Runtime + AllocGlobal),
+    device: Device,
+    netlist: &Netlist,
+    placement: &Placement,
+    bytes: &[u8],
+) -> Result<(), BenchFault> {
+    if !device.suits(netlist, placement) {
+        return Err(BenchFault::Unsuited);
+    }
+    let problem = Problem::new(rt.alloc(), device, netlist, placement)?;
+    let routing = parse(rt.alloc(), bytes, netlist, &problem)?;
+    measure_book(rt, &problem, &routing)
+}
+
+/// Measures a congestion book with the trees of a routing of a placed design, on a device whose channels have `width` tracks.
+pub fn measure_book_of(
+    rt: &(impl Runtime + AllocGlobal),
+    arch: &Arch,
+    netlist: &Netlist,
+    placement: &Placement,
+    bytes: &[u8],
+    width: u32,
+) -> Result<(), BenchFault> {
+    let device = device_of(rt.alloc(), arch, placement, width)?;
+    measure_booking(rt, device, netlist, placement, bytes)
 }

@@ -36,13 +36,13 @@ fn tree_of(alloc: Global, source: u32, pairs: &[(u32, u32)]) -> Result<Tree, All
 
 /// A net with a tree.
 #[derive(Drop)]
-struct Grown {
-    net: u32,
-    tree: Tree,
+pub(crate) struct Grown {
+    pub(crate) net: u32,
+    pub(crate) tree: Tree,
 }
 
 /// The trees of a routing's lists.
-fn trees_of(
+pub(crate) fn trees_of(
     alloc: Global,
     problem: &Problem,
     lists: &[Option<Pairs>],
