@@ -1,0 +1,3 @@
+pub mod Evenness
+pub mod Searches
+pub mod Agreement

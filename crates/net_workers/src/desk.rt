@@ -1,0 +1,165 @@
+//! What lies under the lock of an iteration: the book, and the total of the turns that the workers made.
+
+ghost use Rattle.std.specs.Prelude.{◌≡◌, ◌+◌, ◌<◌, ◌↔◌, [], length, vec_len, sum_by, All, Some, IfOk, IfErr, IsOk, OnOk, OnErr};
+ghost use Rattle.route_tree.specs.Rows.{pairs_of};
+ghost use Rattle.route_tree.specs.Faults.{IsRoute};
+ghost use Rattle.congestion_book.specs.Turns.{holder_in};
+ghost use Rattle.congestion_book.specs.Steps.{Draws, Commits, Passes, fault_alone};
+ghost use Rattle.net_workers.specs.Agreement.{IsFresh};
+ghost use Rattle.net_workers.specs.Evenness.{AreParts, IsLater, one_more};
+ghost use Rattle.net_workers.specs.Searches.{ShowsNet};
+
+use crate::share::{Round, Share};
+use congestion_book::{Book, CommitFault, DrawFault, PassFault, Turn};
+use node_cost::View;
+use route_tree::Tree;
+use std::alloc::{AllocError, Global};
+use std::marker::Model;
+use std::sync::ledger;
+use std::sync::ledger::Blank;
+
+/// The book of an iteration, with the total of its shares. Contracts see the book's content. That each open turn is a worker's of the
+/// round, that the total is the number of open turns, and that all but the open iteration is as in the book handed in, are facts of
+/// the type, and so is the congestion invariant, by the book's.
+#[derive(Drop)]
+pub struct Desk<L: Round> {
+    book: Book,
+    total: ledger::Book<L>,
+    rest: ledger::Share<L>,
+}
+
+impl<L: Round> Model for Desk<L> {
+    ghost use Rattle.std.specs.Prelude.{◌≡◌};
+    ghost use Rattle.congestion_book.specs.Contents.{Content};
+    ghost use Rattle.net_workers.specs.Evenness.{IsEven};
+
+    ghost Value = { Content };
+
+    ghost view = { λ d. d.book };
+
+    ghost invariant = { λ d. IsEven d.book d.total.total L.workers L.opening
+        × (d.rest.parts ≡ 0) × (d.rest.amount ≡ 0) };
+}
+
+/// The turns of the open iteration.
+pub(crate) fn open_turns(book: &Book) -> &[Turn]
+    ensures { result.now ≡ book.now.turns }
+{
+    let _sound = book.problem();
+    book.turns(book.rows().len() + 1)
+}
+
+impl<L: Round> Desk<L> {
+    /// The desk of a book in whose open iteration nothing was drawn, and a share for each worker.
+    pub fn new(
+        alloc: Global,
+        book: Book,
+        workers: u32,
+        blank: Blank,
+    ) -> Result<(Desk<L>, Vec<Share<L>>), AllocError>
+        requires fresh { IsFresh book }
+        requires workers { workers ≡ L.workers }
+        requires book { book ≡ L.opening }
+        requires name { blank.name ≡ L.name }
+        requires parts { blank.parts ≡ L.parts }
+        requires one_each { blank.parts ≡ workers }
+        ensures book { IfOk result (λ r. r.0 ≡ book) }
+        ensures shares { IfOk result (λ r. AreParts r.1.items workers) }
+    {
+        let (total, mut rest) = blank.open::<L>();
+        let mut shares = Vec::with_capacity(alloc, workers as usize)?;
+        for worker in 0..workers {
+            let part = rest.split_off(1, 0);
+            shares.push_reserved(Share::new(worker, part));
+        }
+        Ok((Desk { book, total, rest }, shares))
+    }
+
+    /// The book.
+    pub fn book(&self) -> &Book
+        ensures exact { result.now ≡ self.now }
+        ensures later { IsLater L.opening self.now }
+        ensures known { All (λ t. t.worker < L.workers) self.now.turns }
+    {
+        &self.book
+    }
+
+    /// The book.
+    pub fn end(self) -> Book
+        ensures { result ≡ self }
+    {
+        let Desk { book, .. } = self;
+        book
+    }
+
+    /// Gives the share's worker the least net that was not drawn, with its view.
+    pub fn draw(&mut self, share: &mut Share<L>, view: &mut View) -> Result<Option<u32>, DrawFault>
+        ensures step { Draws self.old view.old share.old.worker result self.new view.new }
+        ensures share { share.new ≡ share.old }
+        ensures shown { ShowsNet L.opening result view.new }
+    {
+        self.book.draw(share.worker(), view)
+    }
+
+    /// Records the tree of a net that the share's worker holds, as a turn of that worker.
+    pub fn commit(
+        &mut self,
+        share: &mut Share<L>,
+        net: u32,
+        tree: Tree,
+    ) -> Result<(), (CommitFault, Tree)>
+        ensures exactly { IsOk result ↔ (holder_in self.old.holders net ≡ Some share.old.worker)
+            × IsRoute self.old.problem net (pairs_of tree) }
+        ensures step { Commits self.old share.old.worker net (pairs_of tree) (fault_alone result) self.new }
+        ensures back { IfErr result (λ e. e.1 ≡ tree) }
+        ensures counted { OnOk result (share.new ≡ one_more share.old) }
+        ensures uncounted { OnErr result (share.new ≡ share.old) }
+    {
+        let worker = share.worker();
+        let Desk { book, total, .. } = self;
+        match book.commit(worker, net, tree) {
+            Ok(()) => {
+                share.count_turn(total, open_turns(book).len());
+                Ok(())
+            }
+            Err(refused) => Err(refused),
+        }
+    }
+
+    /// Passes a net that the share's worker holds, as a turn of that worker.
+    pub fn pass(&mut self, share: &mut Share<L>, net: u32) -> Result<(), PassFault>
+        ensures step { Passes self.old share.old.worker net result self.new }
+        ensures counted { OnOk result (share.new ≡ one_more share.old) }
+        ensures uncounted { OnErr result (share.new ≡ share.old) }
+    {
+        let worker = share.worker();
+        let Desk { book, total, .. } = self;
+        match book.pass(worker, net) {
+            Ok(()) => {
+                share.count_turn(total, open_turns(book).len());
+                Ok(())
+            }
+            Err(fault) => Err(fault),
+        }
+    }
+
+    /// The book, whose open turns are as many as all shares together have counted.
+    pub(crate) fn gather(self, shares: Vec<Share<L>>) -> Book
+        requires { vec_len shares ≡ L.parts }
+        ensures book { result ≡ self }
+        ensures turns { sum_by (λ s. s.turns) shares.items ≡ length result.turns }
+        ensures known { All (λ t. t.worker < L.workers) result.turns }
+        ensures later { IsLater L.opening result }
+    {
+        let Desk {
+            book,
+            mut total,
+            mut rest,
+        } = self;
+        for share in shares {
+            share.merge_into(&mut rest);
+        }
+        total.audit(&mut rest);
+        book
+    }
+}

@@ -1,0 +1,23 @@
+//! What workers and the driver of a negotiation tell an onlooker.
+
+/// What is called between the steps of an iteration, with no lock held.
+pub trait Gate {
+    /// After the draw of a net, before it is searched for.
+    fn between(&self, worker: u32, net: u32);
+
+    /// After the search, before the turn is made.
+    fn searched(&self, worker: u32, net: u32);
+
+    /// After an iteration was closed, with so many nets without a tree and so many overused nodes.
+    fn closed(&self, _iteration: u32, _unrouted: u32, _overused: u32) {}
+}
+
+/// A gate that returns at once.
+#[derive(Clone, Copy, Debug)]
+pub struct OpenGate;
+
+impl Gate for OpenGate {
+    fn between(&self, _worker: u32, _net: u32) {}
+
+    fn searched(&self, _worker: u32, _net: u32) {}
+}

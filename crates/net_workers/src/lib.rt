@@ -1,0 +1,14 @@
+//! One iteration of a negotiation by several workers, each in a thread of its own, on one congestion book under one lock.
+#![tactic(auto)]
+
+mod desk;
+mod fault;
+mod gate;
+mod report;
+mod share;
+
+pub use desk::Desk;
+pub use fault::WorkFault;
+pub use gate::{Gate, OpenGate};
+pub use report::{Entry, Report};
+pub use share::{Round, Share};

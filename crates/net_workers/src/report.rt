@@ -1,0 +1,44 @@
+//! What a worker tells of its turns.
+
+ghost use Rattle.std.specs.Prelude.{◌≡◌};
+
+use route_tree::Tree;
+use std::marker::Model;
+
+/// One turn: the net, and a copy of the tree that was committed, or none where the net was passed.
+#[derive(Debug, Drop)]
+pub struct Entry {
+    pub net: u32,
+    pub tree: Option<Tree>,
+}
+
+/// The turns of one worker, in the order in which it made them. Contracts see the list.
+#[derive(Debug, Drop)]
+pub struct Report {
+    entries: Vec<Entry>,
+}
+
+impl Model for Report {
+    ghost use Rattle.std.specs.Prelude.{List};
+    ghost use Rattle.net_workers.specs.declared.report.Entry.{Entry};
+
+    ghost Value = { List Entry };
+
+    ghost view = { λ r. r.entries.items };
+}
+
+impl Report {
+    /// The report of these turns.
+    pub(crate) fn of(entries: Vec<Entry>) -> Report
+        ensures { result ≡ entries.items }
+    {
+        Report { entries }
+    }
+
+    /// The turns.
+    pub fn entries(&self) -> &[Entry]
+        ensures { result.now ≡ self.now }
+    {
+        &self.entries
+    }
+}
