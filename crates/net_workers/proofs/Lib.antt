@@ -1,2 +1,4 @@
 pub mod Parts
 pub mod Draws
+pub mod Telling
+pub mod Counts

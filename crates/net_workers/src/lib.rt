@@ -1,6 +1,7 @@
 //! One iteration of a negotiation by several workers, each in a thread of its own, on one congestion book under one lock.
 #![tactic(auto)]
 
+mod comparison;
 mod desk;
 mod fault;
 mod gate;

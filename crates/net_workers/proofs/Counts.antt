@@ -1,0 +1,174 @@
+-- How many turns are a worker's, or at a net; and what follows where all together are as many as there may be.
+use Rattle.std.proofs.Common.{◌≡◌, inl, inr, ℕ, zero, suc, ◌+◌, ◌<◌, ◌≤◌, ◌==◌, nat_lt, ◌∷◌, [], List, length, take, get_or, refl, sym, ap, ◌∙◌, arith, add-one, Option, None, Some, is_some}
+use Rattle.std.proofs.lemmas.Bool.{cases_lt, eq-eqb}
+use Rattle.std.proofs.lemmas.Bool.Decides.{nat_tests}
+use Rattle.std.proofs.lemmas.List.{take_all, length-map, length-take-le}
+use Rattle.std.proofs.lemmas.List.Sums.{sum_by-cons, sum_by_more, length-filter, get_or-le-sum_by}
+use Rattle.std.specs.Prelude.{All, sum_by, count_by}
+use Rattle.congestion_book.specs.declared.turn.Turn.{Turn}
+use Rattle.congestion_book.specs.Turns.{AreInOrder, NameEachOnce, holder_in, one_if}
+use Rattle.congestion_book.specs.Contents.{Content, IsSoundBook, net_count, table_in}
+use Rattle.net_workers.specs.declared.report.Entry.{Entry}
+use Rattle.net_workers.specs.Agreement.{Begins, Tells, told_turn}
+
+one_step : (x n : ℕ) → one_if (nat_lt x (n + 1)) ≡ one_if (nat_lt x n) + one_if (x == n)
+one_step x n = grind (arith, nat_tests)
+
+-- ---- the turns whose worker, or whose net, is this number, or below it
+module _ (number : Turn → ℕ) where
+  abbrev pub at : ℕ → List Turn → ℕ
+  at n ts = count_by (λ t. number t == n) ts
+
+  abbrev pub below : ℕ → List Turn → ℕ
+  below n ts = count_by (λ t. nat_lt (number t) n) ts
+
+  below_more : (ts : List Turn) (n : ℕ) → below (n + 1) ts ≡ below n ts + at n ts
+  below_more [] n = refl
+  below_more (t ∷ ts) n =
+      omega (
+        arith,
+        sum_by-cons (λ (u : Turn). one_if (nat_lt (number u) (n + 1))) t ts,
+        sum_by-cons (λ (u : Turn). one_if (nat_lt (number u) n)) t ts,
+        sum_by-cons (λ (u : Turn). one_if (number u == n)) t ts,
+        one_step (number t) n,
+        below_more ts n,
+      )
+
+  pub below_next : (ts : List Turn) (n : ℕ) → below (suc n) ts ≡ below n ts + at n ts
+  below_next ts n = ap (λ k. below k ts) (sym (add-one n)) ∙ below_more ts n
+
+  pub below_none : (ts : List Turn) → below 0 ts ≡ 0
+  below_none [] = refl
+  below_none (t ∷ ts) =
+      let none : one_if (nat_lt (number t) 0) ≡ 0 = grind (arith, nat_tests) in
+      omega (arith, none, sum_by-cons (λ (u : Turn). one_if (nat_lt (number u) 0)) t ts, below_none ts)
+
+  pub below_all : (ts : List Turn) (n : ℕ) → All (λ t. number t < n) ts → below n ts ≡ length ts
+  below_all [] n known = refl
+  below_all (t ∷ ts) n known =
+      let here : number t < n = known 0 t (omega arith) in
+      let one : one_if (nat_lt (number t) n) ≡ 1 = grind (arith, nat_tests) in
+      omega (arith, one, sum_by-cons (λ (u : Turn). one_if (nat_lt (number u) n)) t ts, below_all ts n (λ k d low. known (suc k) d (omega arith)))
+
+  -- ---- none of the numbers below a limit has more turns than this
+  module _ (ts : List Turn) (most : ℕ → ℕ) (limit : ℕ) (within : (n : ℕ) → n < limit → at n ts ≤ most n) where
+    abbrev pub sum_below : ℕ → ℕ
+    sum_below zero = 0
+    sum_below (suc n) = sum_below n + most n
+
+    pub below_within : (n : ℕ) → n ≤ limit → below n ts ≤ sum_below n
+    below_within zero low = omega (arith, below_none ts)
+    below_within (suc n) low = omega (arith, below_within n (omega arith), within n (omega arith), below_next ts n)
+
+    -- where all together have as many as they may, each has
+    pub each_full : (n : ℕ) → n ≤ limit → below n ts ≡ sum_below n → (k : ℕ) → k < n → at k ts ≡ most k
+    each_full zero few same k low = absurd (omega arith)
+    each_full (suc n) few same k low =
+        let before = below_within n (omega arith) in
+        let here = within n (omega arith) in
+        let next = below_next ts n in
+        elim (cases_lt k n) [
+          | inl less ↦ each_full n (omega arith) (omega arith) k less
+          | inr not_less ↦ let is : k ≡ n = omega arith in rw is (omega arith)
+        ]
+
+-- ---- a book whose open iteration has as many turns as there are nets
+not_some : (o : Option ℕ) → one_if (is_some o) ≡ 0 → o ≡ None
+not_some None none = refl
+not_some (Some w) none = cc
+
+module _ (c : Content) (sound : IsSoundBook c) (full : length c.turns ≡ net_count c) where
+  order : AreInOrder (table_in c)
+  order = sound.2.order
+
+  abbrev most : ℕ → ℕ
+  most i = one_if (nat_lt i c.drawn)
+
+  within : (i : ℕ) → at (λ t. t.net) i c.turns ≤ most i
+  within i = omega (arith, order.once i)
+
+  below_drawn : (i : ℕ) → i < c.drawn → at (λ t. t.net) i c.turns ≤ most i
+  below_drawn i low = within i
+
+  -- each turn is at a net that was drawn
+  drawn : All (λ t. t.net < c.drawn) c.turns
+  drawn k d low =
+      let net = (get_or c.turns k d).net in
+      let one = get_or-le-sum_by (λ (t : Turn). one_if (t.net == net)) c.turns k d low in
+      let here : one_if (net == net) ≡ 1 = ap one_if (eq-eqb net net refl) in
+      let few = within net in
+      grind (arith, nat_tests, one, here, few)
+
+  sum_is : (n : ℕ) → n ≤ c.drawn → sum_below (λ t. t.net) c.turns most c.drawn below_drawn n ≡ n
+  sum_is zero low = refl
+  sum_is (suc n) low =
+      let here : most n ≡ 1 = grind (arith, nat_tests) in
+      omega (arith, here, sum_is n (omega arith))
+
+  all_drawn : c.drawn ≡ net_count c
+  all_drawn =
+      let all = below_all (λ t. t.net) c.turns c.drawn drawn in
+      let few = below_within (λ t. t.net) c.turns most c.drawn below_drawn c.drawn (omega arith) in
+      omega (arith, all, few, sum_is c.drawn (omega arith), full, order.drawn, sound.2.held)
+
+  turned : (i : ℕ) → i < c.drawn → at (λ t. t.net) i c.turns ≡ most i
+  turned i low =
+      let all = below_all (λ t. t.net) c.turns c.drawn drawn in
+      each_full (λ t. t.net) c.turns most c.drawn below_drawn c.drawn (omega arith) (omega (arith, all, sum_is c.drawn (omega arith), full, all_drawn)) i low
+
+  pub all_once : NameEachOnce (net_count c) c.turns
+  all_once i = elim (cases_lt i c.drawn) [
+    | inl low ↦ let here = turned i low in let all = all_drawn in grind (arith, nat_tests)
+    | inr past ↦ let few = within i in let all = all_drawn in grind (arith, nat_tests)
+  ]
+
+  pub all_free : (i : ℕ) → holder_in c.holders i ≡ None
+  all_free i =
+      let here = all_once i in
+      let all = all_drawn in
+      let once = order.once i in
+      not_some (holder_in c.holders i) (grind (arith, nat_tests))
+
+-- ---- reports with as many entries as there are turns
+-- the entries of the first n reports
+abbrev entries_of : ℕ → List (List Entry) → ℕ
+entries_of n rs = sum_by length (take n rs)
+
+module _ (c : Content) (rs : List (List Entry)) (known : All (λ t. t.worker < length rs) c.turns) (count : sum_by length rs ≡ length c.turns)
+    (begins : (w : ℕ) → w < length rs → (n : ℕ) × Begins c c.turns w n (get_or rs w [])) where
+  abbrev of_worker : ℕ → ℕ
+  of_worker w = at (λ t. t.worker) w c.turns
+
+  abbrev entries : ℕ → ℕ
+  entries w = length (get_or rs w [])
+
+  -- a report that begins with the worker's turns has no fewer entries
+  begun : (w n : ℕ) (es : List Entry) → Begins c c.turns w n es → of_worker w ≡ n
+  begun w n es b =
+      sym (length-filter (λ t. t.worker == w) c.turns) ∙ ap length b.told ∙ length-map (take n es) (told_turn w) ∙ length-take-le n es b.within
+
+  few_turns : (w : ℕ) → w < length rs → of_worker w ≤ entries w
+  few_turns w low = let b = begins w low in omega (arith, begun w b.0 (get_or rs w []) b.1, b.1.within)
+
+  sum_is_entries : (n : ℕ) → n ≤ length rs → sum_below (λ t. t.worker) c.turns entries (length rs) few_turns n ≡ entries_of n rs
+  sum_is_entries zero low = refl
+  sum_is_entries (suc n) low =
+      let next : entries_of (suc n) rs ≡ entries_of n rs + entries n =
+      ap (λ k. entries_of k rs) (sym (add-one n)) ∙ sum_by_more (λ (es : List Entry). length es) rs n [] (omega (arith, low)) in
+      omega (arith, next, sum_is_entries n (omega (arith, low)))
+
+  all_whole : (w : ℕ) → w < length rs → of_worker w ≡ entries w
+  all_whole w low =
+      let all = below_all (λ t. t.worker) c.turns (length rs) known in
+      let whole : entries_of (length rs) rs ≡ sum_by length rs = ap (λ (es : List (List Entry)). sum_by length es) (take_all (length rs) rs (omega arith)) in
+      let sum = sum_is_entries (length rs) (omega arith) in
+      each_full (λ t. t.worker) c.turns entries (length rs) few_turns (length rs) (omega arith) (omega (arith, all, whole, sum, count)) w low
+
+  -- each report that begins well is whole
+  pub all_tell : (w : ℕ) → w < length rs → Tells c w (get_or rs w [])
+  all_tell w low =
+      let b = begins w low in
+      let es = get_or rs w [] in
+      let same = all_whole w low in
+      let all : take b.0 es ≡ es = take_all b.0 es (omega (arith, begun w b.0 es b.1, same)) in
+      record { turns = rw all at b.1.told; recorded = rw all at b.1.recorded }
