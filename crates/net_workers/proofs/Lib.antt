@@ -2,3 +2,4 @@ pub mod Parts
 pub mod Draws
 pub mod Telling
 pub mod Counts
+pub mod Searching

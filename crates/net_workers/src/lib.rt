@@ -7,6 +7,7 @@ mod fault;
 mod gate;
 mod report;
 mod share;
+mod worker;
 
 pub use desk::Desk;
 pub use fault::WorkFault;

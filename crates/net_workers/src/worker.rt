@@ -1,0 +1,242 @@
+//! A worker: it draws nets, searches for their trees and makes a turn at each.
+
+ghost use Rattle.std.specs.Prelude.{◌≡◌, ◌<◌, ◌≤◌, length, vec_len, OnOk, OnErr, IfOk};
+ghost use Rattle.rr_graph.specs.Nodes.{node_count_of};
+ghost use Rattle.node_cost.specs.Options.{greatest_present, present_of};
+ghost use Rattle.wavefront.specs.Growth.{space_of};
+ghost use Rattle.net_workers.specs.Evenness.{one_more};
+ghost use Rattle.net_workers.specs.Searches.{AreFound, IsFoundIn};
+
+use crate::desk::Desk;
+use crate::fault::WorkFault;
+use crate::gate::Gate;
+use crate::report::{Entry, Report};
+use crate::share::{Round, Share};
+use congestion_book::DrawFault;
+use node_cost::{Settings, View};
+use route_tree::Tree;
+use rr_graph::Problem;
+use std::alloc::{AllocError, Global};
+use std::marker::Model;
+use std::sync::{Mutex, Wait};
+use wavefront::{Found, Scratch, SearchFault, route_net};
+
+/// The present-congestion factor of an iteration, and by how much the boxes of nets are widened.
+#[derive(Clone, Copy)]
+pub(crate) struct SearchOptions {
+    pub(crate) present: u32,
+    pub(crate) bb: u32,
+    pub(crate) ghost present_within: { present ≤ greatest_present },
+    pub(crate) ghost bb_within: { (1 ≤ bb) × (bb ≤ 255) },
+}
+
+impl SearchOptions {
+    /// Those of an iteration, counted from 1.
+    pub(crate) fn of(settings: &Settings, iteration: u32) -> SearchOptions
+        requires { (1 ≤ iteration) × (iteration ≤ 500) }
+        ensures present { result.present ≡ present_of settings.now iteration }
+        ensures bb { result.bb ≡ settings.now.bb }
+    {
+        SearchOptions {
+            present: settings.present(iteration),
+            bb: settings.bb(),
+        }
+    }
+}
+
+/// A search for the tree of a net: the tree, and a copy of it; or none where the net is stuck.
+fn search(
+    alloc: Global,
+    problem: &Problem,
+    net: u32,
+    view: &View,
+    options: SearchOptions,
+    scratch: &mut Scratch,
+) -> Result<(Option<Tree>, Option<Tree>), WorkFault>
+    requires net { net < length problem.now.nets }
+    requires fits { scratch.old ≡ node_count_of problem.now.device }
+    ensures found { IfOk result (λ r.
+        IsFoundIn (space_of problem.now net view.now options.present options.bb) r.0) }
+    ensures copy { IfOk result (λ r. r.1 ≡ r.0) }
+    ensures fits { scratch.new ≡ scratch.old }
+{
+    match route_net(
+        alloc,
+        problem,
+        net,
+        view,
+        options.present,
+        options.bb,
+        scratch,
+    ) {
+        Ok(Found::Tree(tree)) => {
+            let copy = tree.copy(alloc)?;
+            Ok((Some(tree), Some(copy)))
+        }
+        Ok(Found::NoPath(_)) => Ok((None, None)),
+        Err(SearchFault::Memory) => Err(WorkFault::Memory),
+        Err(SearchFault::ViewSize) => Err(WorkFault::Astray),
+    }
+}
+
+/// Makes the worker's turn at a net that it drew.
+fn end_turn<L: Round, R: Wait>(
+    rt: &R,
+    desk: &Mutex<Desk<L>>,
+    share: &mut Share<L>,
+    net: u32,
+    tree: Option<Tree>,
+) -> Result<(), WorkFault>
+    ensures counted { OnOk result (share.new ≡ one_more share.old) }
+    ensures uncounted { OnErr result (share.new ≡ share.old) }
+{
+    let refused = match tree {
+        Some(tree) => desk.lock(rt).commit(share, net, tree).is_err(),
+        None => desk.lock(rt).pass(share, net).is_err(),
+    };
+    if refused {
+        return Err(WorkFault::Astray);
+    }
+    Ok(())
+}
+
+/// What a worker hands back: its share, and its report, which has as many entries as it made turns, each of what a search found.
+/// Contracts see the report.
+#[derive(Drop)]
+pub(crate) struct Finished<L: Round> {
+    share: Share<L>,
+    report: Report,
+}
+
+impl<L: Round> Model for Finished<L> {
+    ghost use Rattle.std.specs.Prelude.{◌≡◌, List, length};
+    ghost use Rattle.net_workers.specs.Searches.{AreFound};
+    ghost use Rattle.net_workers.specs.declared.report.Entry.{Entry};
+
+    ghost Value = { List Entry };
+
+    ghost view = { λ f. f.report };
+
+    ghost invariant = { λ f. (f.share.turns ≡ length f.report)
+        × AreFound L.opening L.present L.bb f.report };
+}
+
+impl<L: Round> Finished<L> {
+    /// The share and the report.
+    pub(crate) fn into_parts(self) -> (Share<L>, Report)
+        ensures counted { result.0.turns ≡ length result.1 }
+        ensures report { result.1 ≡ self }
+        ensures found { AreFound L.opening L.present L.bb result.1 }
+    {
+        let Finished { share, report } = self;
+        (share, report)
+    }
+}
+
+/// A worker: its share, what it reports of its turns, and what it searches with. Contracts see what it reports.
+#[derive(Drop)]
+struct Worker<L: Round> {
+    share: Share<L>,
+    entries: Vec<Entry>,
+    view: View,
+    scratch: Scratch,
+}
+
+impl<L: Round> Model for Worker<L> {
+    ghost use Rattle.std.specs.Prelude.{◌≡◌, List, length};
+    ghost use Rattle.rr_graph.specs.Nodes.{node_count_of};
+    ghost use Rattle.net_workers.specs.Searches.{AreFound};
+    ghost use Rattle.net_workers.specs.declared.report.Entry.{Entry};
+
+    ghost Value = { List Entry };
+
+    ghost view = { λ w. w.entries.items };
+
+    ghost invariant = { λ w. (w.share.turns ≡ length w.entries.items)
+        × AreFound L.opening L.present L.bb w.entries.items
+        × (w.scratch ≡ node_count_of L.opening.problem.device) };
+}
+
+impl<L: Round> Worker<L> {
+    /// A worker that made no turn.
+    fn new(alloc: Global, problem: &Problem, share: Share<L>) -> Result<Worker<L>, AllocError>
+        requires fresh { share.turns ≡ 0 }
+        requires problem { problem.now ≡ L.opening.problem }
+    {
+        let view = View::new(alloc, problem.device().node_count() as usize)?;
+        let scratch = Scratch::new(alloc, problem)?;
+        Ok(Worker {
+            share,
+            entries: Vec::new(alloc),
+            view,
+            scratch,
+        })
+    }
+
+    /// Draws a net, searches for its tree and makes a turn at it. False where there was none to draw.
+    fn make_turn<R: Wait, G: Gate>(
+        &mut self,
+        rt: &R,
+        alloc: Global,
+        desk: &Mutex<Desk<L>>,
+        problem: &Problem,
+        options: SearchOptions,
+        gate: &G,
+    ) -> Result<bool, WorkFault>
+        requires problem { problem.now ≡ L.opening.problem }
+        requires options { (options.present ≡ L.present) × (options.bb ≡ L.bb) }
+    {
+        let Worker {
+            share,
+            entries,
+            view,
+            scratch,
+        } = self;
+        let worker = share.worker();
+        let drawn = desk.lock(rt).draw(share, view);
+        let net = match drawn {
+            Ok(Some(net)) => net,
+            Ok(None) => return Ok(false),
+            Err(DrawFault::ViewSize) => return Err(WorkFault::Astray),
+        };
+        gate.between(worker, net);
+        let (tree, copy) = search(alloc, problem, net, view, options, scratch)?;
+        entries.reserve(1)?;
+        gate.searched(worker, net);
+        end_turn(rt, desk, share, net, tree)?;
+        entries.push_reserved(Entry { net, tree: copy });
+        Ok(true)
+    }
+
+    /// What it hands back.
+    fn finish(self) -> Finished<L> {
+        let Worker { share, entries, .. } = self;
+        Finished {
+            share,
+            report: Report::of(entries),
+        }
+    }
+}
+
+/// Draws nets until there is none, and makes a turn at each. It stops at a refusal.
+pub(crate) fn work_through<L: Round, R: Wait, G: Gate>(
+    rt: &R,
+    alloc: Global,
+    desk: &Mutex<Desk<L>>,
+    problem: &Problem,
+    options: SearchOptions,
+    share: Share<L>,
+    gate: &G,
+) -> Result<Finished<L>, WorkFault>
+    requires fresh { share.turns ≡ 0 }
+    requires problem { problem.now ≡ L.opening.problem }
+    requires options { (options.present ≡ L.present) × (options.bb ≡ L.bb) }
+{
+    let mut worker = Worker::new(alloc, problem, share)?;
+    for _ in rt.forever() {
+        if !worker.make_turn(rt, alloc, desk, problem, options, gate)? {
+            return Ok(worker.finish());
+        }
+    }
+    unreachable!()
+}
