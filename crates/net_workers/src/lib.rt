@@ -5,12 +5,15 @@ mod comparison;
 mod desk;
 mod fault;
 mod gate;
+mod iteration;
 mod report;
 mod share;
+mod threads;
 mod worker;
 
 pub use desk::Desk;
 pub use fault::WorkFault;
 pub use gate::{Gate, OpenGate};
+pub use iteration::iterate;
 pub use report::{Entry, Report};
 pub use share::{Round, Share};

@@ -1,0 +1,7 @@
+use Rattle.net_workers.proofs.iteration.iterate.Given as goal
+
+abbrev pub ghosts-iterate_as-L-Ledger : goal.ghosts-iterate_as-L-Ledger
+ghosts-iterate_as-L-Ledger g a = record { name = a.blank.name; parts = a.blank.parts }
+
+abbrev pub ghosts-iterate_as-L-Round : goal.ghosts-iterate_as-L-Round
+ghosts-iterate_as-L-Round g a = record { workers = a.workers; bb = a.options.bb; present = a.options.present; opening = a.book }

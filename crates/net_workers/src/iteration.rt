@@ -1,0 +1,204 @@
+//! An iteration of several workers on one book.
+
+ghost use Rattle.std.specs.Prelude.{◌≡◌, ◌<◌, ◌≤◌, length, vec_len, sum_by, All, IfOk};
+ghost use Rattle.node_cost.specs.Options.{present_of};
+ghost use Rattle.net_workers.specs.Agreement.{IsFresh, Agrees};
+ghost use Rattle.net_workers.specs.Evenness.{AreParts, IsLater};
+ghost use Rattle.net_workers.specs.Searches.{AreFound};
+
+use crate::comparison::{all_begin, is_done};
+use crate::desk::Desk;
+use crate::fault::WorkFault;
+use crate::gate::Gate;
+use crate::report::Report;
+use crate::share::{Round, Share};
+use crate::threads::run_all;
+use crate::worker::{Finished, SearchOptions};
+use congestion_book::Book;
+use node_cost::Settings;
+use rr_graph::Problem;
+use std::alloc::{AllocError, Global};
+use std::marker::Brand;
+use std::sync::ledger::Blank;
+use std::sync::{Mutex, Wait};
+use std::thread::Threads;
+
+/// The lesser of two faults, where there are any.
+fn first_fault(a: Option<WorkFault>, b: WorkFault) -> WorkFault {
+    match a {
+        Some(a) => a.min(b),
+        None => b,
+    }
+}
+
+/// What the workers hand back, or the first of their faults.
+fn all_finished<L: Round>(
+    alloc: Global,
+    results: Vec<Result<Finished<L>, WorkFault>>,
+) -> Result<Vec<Finished<L>>, WorkFault>
+    ensures { IfOk result (λ all. vec_len all ≡ vec_len results) }
+{
+    let mut all = Vec::with_capacity(alloc, results.len())?;
+    let mut fault = None;
+    for result in results {
+        match result {
+            Ok(finished) => all.push_reserved(finished),
+            Err(found) => fault = Some(first_fault(fault, found)),
+        }
+    }
+    match fault {
+        Some(fault) => Err(fault),
+        None => Ok(all),
+    }
+}
+
+/// The shares and the reports, which have together as many entries as the shares have counted.
+fn take_apart<L: Round>(
+    alloc: Global,
+    all: Vec<Finished<L>>,
+) -> Result<(Vec<Share<L>>, Vec<Report>), AllocError>
+    ensures shares { IfOk result (λ r. vec_len r.0 ≡ vec_len all) }
+    ensures reports { IfOk result (λ r. vec_len r.1 ≡ vec_len all) }
+    ensures counted { IfOk result (λ r. sum_by (λ s. s.turns) r.0.items ≡ sum_by length r.1.items) }
+    ensures found { IfOk result (λ r. All (AreFound L.opening L.present L.bb) r.1.items) }
+{
+    let mut shares = Vec::with_capacity(alloc, all.len())?;
+    let mut reports = Vec::with_capacity(alloc, all.len())?;
+    for finished in all {
+        let (share, report) = finished.into_parts();
+        shares.push_reserved(share);
+        reports.push_reserved(report);
+    }
+    Ok((shares, reports))
+}
+
+/// A copy of the book's problem, which the workers share, the desk of the book, and a share for each worker.
+fn open<L: Round>(
+    alloc: Global,
+    book: Book,
+    workers: u32,
+    blank: Blank,
+) -> Result<(Problem, Desk<L>, Vec<Share<L>>), AllocError>
+    requires fresh { IsFresh book }
+    requires workers { workers ≡ L.workers }
+    requires book { book ≡ L.opening }
+    requires name { blank.name ≡ L.name }
+    requires parts { blank.parts ≡ L.parts }
+    requires one_each { blank.parts ≡ workers }
+    ensures problem { IfOk result (λ r. r.0 ≡ book.problem) }
+    ensures shares { IfOk result (λ r. AreParts r.2.items workers) }
+{
+    let problem = book.problem().copy(alloc)?;
+    let (desk, shares) = Desk::new(alloc, book, workers, blank)?;
+    Ok((problem, desk, shares))
+}
+
+/// The book and the reports, which have together as many entries as the book has open turns.
+fn settle<L: Round>(
+    alloc: Global,
+    desk: Desk<L>,
+    results: Vec<Result<Finished<L>, WorkFault>>,
+) -> Result<(Book, Vec<Report>), WorkFault>
+    requires { vec_len results ≡ L.parts }
+    ensures count { IfOk result (λ r. vec_len r.1 ≡ L.parts) }
+    ensures found { IfOk result (λ r. All (AreFound L.opening L.present L.bb) r.1.items) }
+    ensures turns { IfOk result (λ r. sum_by length r.1.items ≡ length r.0.turns) }
+    ensures known { IfOk result (λ r. All (λ t. t.worker < L.workers) r.0.turns) }
+    ensures later { IfOk result (λ r. IsLater L.opening r.0) }
+{
+    let all = all_finished(alloc, results)?;
+    let (shares, reports) = take_apart(alloc, all)?;
+    Ok((desk.gather(shares), reports))
+}
+
+/// The book and the reports, where they agree.
+fn compare<L: Round>(book: Book, reports: Vec<Report>) -> Result<(Book, Vec<Report>), WorkFault>
+    requires count { vec_len reports ≡ L.workers }
+    requires few { L.workers ≤ 16 }
+    requires found { All (AreFound L.opening L.present L.bb) reports.items }
+    requires turns { sum_by length reports.items ≡ length book.turns }
+    requires known { All (λ t. t.worker < L.workers) book.turns }
+    requires later { IsLater L.opening book }
+    ensures { IfOk result (λ r. Agrees L.opening r.0 L.present L.bb L.workers r.1.items) }
+{
+    if !is_done(&book) || !all_begin(&book, &reports) {
+        return Err(WorkFault::Astray);
+    }
+    Ok((book, reports))
+}
+
+/// The workers of a round at a desk, until no net is left.
+fn work_at<L: Round + Send + Sync, R: Threads + Wait + Sync, G: Gate + Sync>(
+    rt: &R,
+    alloc: Global,
+    desk: Desk<L>,
+    problem: &Problem,
+    options: SearchOptions,
+    shares: Vec<Share<L>>,
+    gate: &G,
+) -> Result<(Book, Vec<Report>), WorkFault>
+    requires shares { AreParts shares.items L.workers }
+    requires workers { (L.parts ≡ L.workers) × (L.workers ≤ 16) }
+    requires problem { problem.now ≡ L.opening.problem }
+    requires options { (options.present ≡ L.present) × (options.bb ≡ L.bb) }
+    ensures { IfOk result (λ r. Agrees L.opening r.0 L.present L.bb L.workers r.1.items) }
+{
+    let workers = shares.len();
+    let desk = Mutex::new(desk);
+    let results = run_all(rt, alloc, &desk, problem, options, shares, gate)?;
+    if results.len() != workers {
+        return Err(WorkFault::NoThread);
+    }
+    let (book, reports) = settle(alloc, desk.into_inner(), results)?;
+    compare::<L>(book, reports)
+}
+
+/// An iteration in a round that names its workers, its options and its book.
+fn iterate_as<L: Round + Send + Sync, R: Threads + Wait + Sync, G: Gate + Sync>(
+    rt: &R,
+    alloc: Global,
+    book: Book,
+    options: SearchOptions,
+    workers: u32,
+    blank: Blank,
+    gate: &G,
+) -> Result<(Book, Vec<Report>), WorkFault>
+    requires fresh { IsFresh book }
+    requires few { workers ≤ 16 }
+    requires workers { workers ≡ L.workers }
+    requires book { book ≡ L.opening }
+    requires options { (options.present ≡ L.present) × (options.bb ≡ L.bb) }
+    requires name { blank.name ≡ L.name }
+    requires parts { blank.parts ≡ L.parts }
+    requires one_each { blank.parts ≡ workers }
+    ensures { IfOk result (λ r. Agrees book r.0 options.present options.bb workers r.1.items) }
+{
+    let (problem, desk, shares) = open::<L>(alloc, book, workers, blank)?;
+    work_at(rt, alloc, desk, &problem, options, shares, gate)
+}
+
+/// Iteration k of a negotiation: so many workers draw the nets of the book, in whose open iteration nothing was drawn yet, search for
+/// their trees and make a turn at each. The workers wait for one another at the book's lock, and the call waits for them all. The book
+/// comes back with the iteration still open, and a report of each worker, whose turns and trees are those of the book.
+///
+/// `NoThread` where a thread couldn't be started, `Memory` where memory ran out, `Astray` where the book refused a call or a report
+/// disagrees with it. Of several the first is answered, and the book is let go.
+pub fn iterate<R: Threads + Wait + Sync, G: Gate + Sync>(
+    rt: &R,
+    alloc: Global,
+    book: Book,
+    settings: &Settings,
+    iteration: u32,
+    workers: u32,
+    gate: &G,
+) -> Result<(Book, Vec<Report>), WorkFault>
+    requires fresh { IsFresh book }
+    requires iteration { (1 ≤ iteration) × (iteration ≤ 500) }
+    requires workers { (1 ≤ workers) × (workers ≤ 16) }
+    ensures { IfOk result (λ r. Agrees book r.0 (present_of settings.now iteration)
+        settings.now.bb workers r.1.items) }
+{
+    let options = SearchOptions::of(settings, iteration);
+    let blank = Blank::new(workers as u64);
+    iterate_as::<Brand, R, G>(rt, alloc, book, options, workers, blank, gate)
+}

@@ -1,0 +1,56 @@
+//! The workers of an iteration, each in a thread of its own.
+
+ghost use Rattle.std.specs.Prelude.{◌≡◌, All};
+
+use crate::desk::Desk;
+use crate::fault::WorkFault;
+use crate::gate::Gate;
+use crate::share::{Round, Share};
+use crate::worker::{Finished, SearchOptions, work_through};
+use rr_graph::Problem;
+use std::alloc::{AllocError, Global};
+use std::sync::{Mutex, Wait};
+use std::thread;
+use std::thread::Threads;
+
+/// Starts a thread for each share and joins them all. The results are those of the threads that could be started.
+pub(crate) fn run_all<L: Round + Send + Sync, R: Threads + Wait + Sync, G: Gate + Sync>(
+    rt: &R,
+    alloc: Global,
+    desk: &Mutex<Desk<L>>,
+    problem: &Problem,
+    options: SearchOptions,
+    shares: Vec<Share<L>>,
+    gate: &G,
+) -> Result<Vec<Result<Finished<L>, WorkFault>>, AllocError>
+    requires fresh { All (λ s. s.turns ≡ 0) shares.items }
+    requires problem { problem.now ≡ L.opening.problem }
+    requires options { (options.present ≡ L.present) × (options.bb ≡ L.bb) }
+{
+    thread::scope(
+        thread::scope_env(),
+        rt,
+        move |scope| -> Result<Vec<Result<Finished<L>, WorkFault>>, AllocError>
+            requires fresh { All (λ s. s.turns ≡ 0) shares.items }
+            requires problem { problem.now ≡ L.opening.problem }
+            requires options { (options.present ≡ L.present) × (options.bb ≡ L.bb) }
+        {
+            let mut results = Vec::with_capacity(alloc, shares.len())?;
+            let mut handles = Vec::with_capacity(alloc, shares.len())?;
+            for share in shares {
+                let job = move || -> Result<Finished<L>, WorkFault>
+                    requires fresh { share.turns ≡ 0 }
+                    requires problem { problem.now ≡ L.opening.problem }
+                    requires options { (options.present ≡ L.present) × (options.bb ≡ L.bb) }
+                { work_through(rt, alloc, desk, problem, options, share, gate) };
+                if let Ok(handle) = scope.spawn(job) {
+                    handles.push_reserved(handle);
+                }
+            }
+            for handle in handles {
+                results.push_reserved(handle.join(rt));
+            }
+            Ok(results)
+        },
+    )
+}
