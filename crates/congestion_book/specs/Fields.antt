@@ -5,11 +5,13 @@ use Rattle.congestion_book.specs.Turns.{TurnTable, AreInOrder}
 use Rattle.congestion_book.specs.Histories.{HistoryTable, AreHistories, amount_in}
 use Rattle.congestion_book.specs.declared.history.History.TheInside as history
 use Rattle.rr_graph.specs.Nodes.{node_count_of}
+use Rattle.rr_graph.specs.Problems.{RoutingProblem}
 use Rattle.route_tree.specs.TreeLists.{lists_of_trees}
 use Rattle.congestion_book.specs.Usage.{overused_by}
-use Rattle.congestion_book.specs.Recorded.{unrouted_in}
+use Rattle.congestion_book.specs.Recorded.{Lists, AreRecorded, unrouted_in}
 use Rattle.congestion_book.specs.Contents.{Content, IsSound}
 use Rattle.congestion_book.specs.declared.book.Book.TheInside as book
+use Rattle.congestion_book.specs.declared.routes.Routes.{Routes}
 use Rattle.congestion_book.specs.declared.turns.Turns.TheInside as turns
 
 abbrev pub history_table : history.Inside → HistoryTable
@@ -22,6 +24,14 @@ pub record IsHistory (h : history.Inside) : Type 0 where
   pub acc : h.acc ≤ 65535
   pub few : length h.rows.items ≤ 500
   pub room : 500 ≤ vec_capacity h.rows
+
+-- for each net the pairs of its recorded tree, or none
+abbrev pub lists_kept : Routes → Lists
+lists_kept r = lists_of_trees r.trees.items
+
+-- what is counted of the recorded trees is exact, and they route their nets
+abbrev pub AreExact : RoutingProblem → Routes → Type 0
+AreExact p r = AreRecorded p (lists_kept r) r.usage.counts r.usage.overused r.unrouted
 
 abbrev pub table_of : turns.Inside → TurnTable
 table_of t = record { drawn = t.drawn; holders = t.holders.items; turns = t.made.items; earlier = t.earlier.items }
@@ -40,7 +50,7 @@ content_of b =
     record {
       problem = b.problem;
       acc = b.history.acc;
-      lists = lists_of_trees b.routes.trees.items;
+      lists = lists_kept b.routes;
       rows = b.history.rows;
       drawn = b.turns.drawn;
       holders = b.turns.holders;
@@ -52,5 +62,5 @@ content_of b =
 pub record IsKept (b : book.Inside) : Type 0 where
   pub sound : IsSound (content_of b) b.routes.usage.counts b.history.histories
   pub over : b.routes.usage.overused ≡ overused_by b.problem.device b.routes.usage.counts
-  pub without : b.routes.unrouted ≡ unrouted_in (lists_of_trees b.routes.trees.items)
+  pub without : b.routes.unrouted ≡ unrouted_in (lists_kept b.routes)
   pub marks : b.marks ≡ node_count_of b.problem.device

@@ -1,5 +1,5 @@
 -- What is kept of the recorded trees: how many nets use each node, how many nodes are overused, and how many nets have no tree.
-use Rattle.std.specs.Prelude.{◌≡◌, ℕ, ◌+◌, nat_lt, List, length, get_or, Option, Some, None, is_none, count_by}
+use Rattle.std.specs.Prelude.{◌≡◌, ℕ, ◌+◌, ◌≤◌, nat_lt, List, length, get_or, Option, Some, None, is_none, count_by}
 use Rattle.rr_graph.specs.Fabric.{numbers_below}
 use Rattle.rr_graph.specs.Nodes.{node_count_of}
 use Rattle.rr_graph.specs.Problems.{RoutingProblem, net_in}
@@ -32,6 +32,19 @@ overused_in p lists = count_by (λ a. nat_lt 0 (overuse_of p lists a)) (numbers_
 abbrev pub RoutesOrNone : RoutingProblem → (net : ℕ) → Option (List Pair) → Type 0
 RoutesOrNone p i (Some pairs) = IsRoute p i pairs
 RoutesOrNone p i None = Unit {0}
+
+-- net i, with this list, is one of the nets that are counted at its nodes
+abbrev pub IsCounted : RoutingProblem → (net : ℕ) → Option (List Pair) → (counts : List ℕ) → Type 0
+IsCounted p i list counts = (a : ℕ) → use_by (net_in p.nets i) list a ≤ get_or counts a 0
+
+-- net i, with this list, can be counted too: a count is 65,535 at most
+abbrev pub HasRoom : RoutingProblem → (net : ℕ) → Option (List Pair) → (counts : List ℕ) → Type 0
+HasRoom p i list counts = (a : ℕ) → get_or counts a 0 + use_by (net_in p.nets i) list a ≤ 65535
+
+-- net i can be counted with its new list in place of its old one
+abbrev pub HasRoomInPlace : RoutingProblem → (net : ℕ) → (before after : Option (List Pair)) → (counts : List ℕ) → Type 0
+HasRoomInPlace p i before after counts =
+    (a : ℕ) → get_or counts a 0 + use_by (net_in p.nets i) after a ≤ 65535 + use_by (net_in p.nets i) before a
 
 -- net i, with this list, is one that uses its nodes more
 pub record GainsNet (p : RoutingProblem) (i : ℕ) (list : Option (List Pair)) (old new : List ℕ) : Type 0 where

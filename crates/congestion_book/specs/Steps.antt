@@ -49,6 +49,10 @@ Draws old seen worker (Ok None) new sees = (length seen ≡ node_total old) × (
 Draws old seen worker (Ok (Some net)) new sees =
     (length seen ≡ node_total old) × (net ≡ old.drawn) × (net < net_count old) × (new ≡ after_draw old worker) × (sees ≡ view_of old net)
 
+-- the worker holds the net, and the pairs route it
+abbrev pub MayCommit : Content → (worker net : ℕ) → List Pair → Type 0
+MayCommit c worker net pairs = (holder_in c.holders net ≡ Some worker) × IsRoute c.problem net pairs
+
 -- A commit needs the worker's hold on the net, and then pairs that route it; else the first fault is told, and nothing changes.
 abbrev pub Commits : Content → (worker net : ℕ) → List Pair → Result (Unit {0}) CommitFault → Content → Type 0
 Commits old worker net pairs (Ok done) new =

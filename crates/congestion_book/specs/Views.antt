@@ -1,10 +1,14 @@
 -- A view from which nets are left out.
-use Rattle.std.specs.Prelude.{◌≡◌, ℕ, ◌+◌, List, length, get_or, Option}
+use Rattle.std.specs.Prelude.{◌≡◌, ℕ, ◌+◌, ◌≤◌, List, length, get_or, Option}
 use Rattle.node_cost.specs.Views.{others_in, history_in}
 use Rattle.rr_graph.specs.Problems.{RoutingProblem, net_in}
 use Rattle.route_tree.specs.Paths.{Pair}
 use Rattle.route_tree.specs.Usage.{use_by}
 use Rattle.congestion_book.specs.Usage.{times_in}
+
+-- net i, with this list, is one of the others that the view shows at its nodes
+abbrev pub IsShown : RoutingProblem → (net : ℕ) → Option (List Pair) → (view : List (ℕ × ℕ)) → Type 0
+IsShown p i list view = (a : ℕ) → use_by (net_in p.nets i) list a ≤ others_in view a
 
 -- one net less uses each of these nodes, and all histories stay
 pub record LeavesOut (nodes : List ℕ) (old new : List (ℕ × ℕ)) : Type 0 where

@@ -4,10 +4,9 @@ ghost use Rattle.std.specs.Prelude.{◌≡◌, ◌==◌, ◌<◌, ◌≤◌, ◌
 ghost use Rattle.route_tree.specs.Rows.{pairs_of};
 ghost use Rattle.route_tree.specs.TreeLists.{list_of_tree};
 ghost use Rattle.congestion_book.specs.Turns.{holder_in, IsFirstWaiting};
-ghost use Rattle.route_tree.specs.Faults.{IsRoute};
 ghost use Rattle.congestion_book.specs.Recorded.{RoutesOrNone};
 ghost use Rattle.congestion_book.specs.Contents.{opening, net_count};
-ghost use Rattle.congestion_book.specs.Steps.{Draws, Commits, Passes, Closes, fault_alone, after_turn, after_close};
+ghost use Rattle.congestion_book.specs.Steps.{Draws, MayCommit, Commits, Passes, Closes, fault_alone, after_turn, after_close};
 ghost use Rattle.congestion_book.specs.Closing.{TellsClosing, IsNext};
 
 use crate::faults::{CloseFault, CommitFault, DrawFault, PassFault};
@@ -91,7 +90,7 @@ impl Book {
     /// Records the tree of a net that the worker holds, in place of the one before, and ends the turn. A tree that doesn't route the net
     /// is refused, and so is another worker than the net's holder: then nothing changes, and the tree comes back.
     pub fn commit(&mut self, worker: u32, net: u32, tree: Tree) -> Result<(), (CommitFault, Tree)>
-        ensures exactly { IsOk result ↔ (holder_in self.old.holders net ≡ Some worker) × IsRoute self.old.problem net (pairs_of tree) }
+        ensures exactly { IsOk result ↔ MayCommit self.old worker net (pairs_of tree) }
         ensures step { Commits self.old worker net (pairs_of tree) (fault_alone result) self.new }
         ensures back { IfErr result (λ e. e.1 ≡ tree) }
     {

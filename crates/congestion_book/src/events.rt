@@ -51,7 +51,8 @@ impl Book {
         events: &[Event],
         view: &mut View,
     ) -> Result<Vec<Reply>, RunFault>
-        ensures done { IfOk result (λ replies. Runs self.old view.old events.now replies.items self.new view.new) }
+        ensures done { IfOk result
+            (λ replies. Runs self.old view.old events.now replies.items self.new view.new) }
         ensures stopped { IfErr result (λ fault. StopsAfter self.old view.old events.now fault self.new view.new) }
     {
         let mut replies = match Vec::with_capacity(alloc, events.len()) {

@@ -91,7 +91,8 @@ impl History {
         requires there { All (λ e. e.0 < length self.now.histories) row.now }
         requires bounded { (a : ℕ) → amount_in row.now a ≤ 65535 }
         ensures size { IfOk result (λ h. length (arc_value h) ≡ length self.now.histories) }
-        ensures exact { IfOk result (λ h. AreHistories self.now.acc (self.now.rows ++ row.now ∷ []) (arc_value h)) }
+        ensures exact { IfOk result
+            (λ h. AreHistories self.now.acc (self.now.rows ++ row.now ∷ []) (arc_value h)) }
     {
         let mut histories = self.histories.copy(alloc)?;
         add_row(&mut histories, self.acc, row);
@@ -104,7 +105,11 @@ impl History {
         requires bounded { (a : ℕ) → amount_in row a ≤ 65535 }
         requires size { length (arc_value histories) ≡ length self.old.histories }
         requires exact { AreHistories self.old.acc (self.old.rows ++ row ∷ []) (arc_value histories) }
-        ensures { self.new ≡ record { acc = self.old.acc; rows = self.old.rows ++ row ∷ []; histories = arc_value histories } }
+        ensures { self.new ≡ record {
+          acc = self.old.acc;
+          rows = self.old.rows ++ row ∷ [];
+          histories = arc_value histories;
+        } }
     {
         self.rows.push_reserved(row);
         self.histories = histories;

@@ -25,7 +25,8 @@ impl Book {
 
     /// The recorded tree of a net, which routes it. None where it has none, or where there is no such net.
     pub fn tree(&self, net: u32) -> Option<&Tree>
-        ensures exact { MatchOption result (list_in self.now.lists net ≡ None) (λ t. list_in self.now.lists net ≡ Some (pairs_of t.now)) }
+        ensures exact { MatchOption result (list_in self.now.lists net ≡ None)
+            (λ t. list_in self.now.lists net ≡ Some (pairs_of t.now)) }
         ensures routes { MatchOption result (Unit {0}) (λ t. IsRoute self.now.problem net (pairs_of t.now)) }
     {
         match self.routes.trees.get(net as usize) {

@@ -9,10 +9,11 @@ ghost use Rattle.rr_graph.specs.Problems.{net_in};
 ghost use Rattle.route_tree.specs.Faults.{IsRoute};
 ghost use Rattle.route_tree.specs.Rows.{pairs_of, IsTree};
 ghost use Rattle.route_tree.specs.Usage.{use_by};
-ghost use Rattle.route_tree.specs.TreeLists.{list_of_tree, lists_of_trees};
+ghost use Rattle.route_tree.specs.TreeLists.{list_of_tree};
+ghost use Rattle.congestion_book.specs.Fields.{AreExact, lists_kept};
 ghost use Rattle.congestion_book.specs.Turns.{one_if};
 ghost use Rattle.congestion_book.specs.Usage.{overused_by};
-ghost use Rattle.congestion_book.specs.Recorded.{AreRecorded, list_in, RoutesOrNone, GainsNet, LosesNet, ChangesNet};
+ghost use Rattle.congestion_book.specs.Recorded.{list_in, RoutesOrNone, HasRoom, HasRoomInPlace, IsCounted, GainsNet, LosesNet, ChangesNet};
 
 use crate::history::OveruseRow;
 use crate::showing::show;
@@ -37,7 +38,7 @@ fn gain_rows(usage: &mut Usage, problem: &Problem, net: u32, rows: &[Row])
     requires tree { IsTree rows.now }
     requires route { IsRoute problem.now net (pairs_of rows.now) }
     requires each { length usage.old.counts ≡ node_count_of problem.now.device }
-    requires room { (a : ℕ) → get_or usage.old.counts a 0 + use_by (net_in problem.now.nets net) (Some (pairs_of rows.now)) a ≤ 65535 }
+    requires room { HasRoom problem.now net (Some (pairs_of rows.now)) usage.old.counts }
     requires counted { usage.old.overused ≡ overused_by problem.now.device usage.old.counts }
     ensures counts { GainsNet problem.now net (Some (pairs_of rows.now)) usage.old.counts usage.new.counts }
     ensures counted { usage.new.overused ≡ overused_by problem.now.device usage.new.counts }
@@ -51,7 +52,7 @@ fn gain_rows(usage: &mut Usage, problem: &Problem, net: u32, rows: &[Row])
 fn gain_net(usage: &mut Usage, problem: &Problem, net: u32, tree: &Option<Tree>)
     requires routes { RoutesOrNone problem.now net (list_of_tree tree.now) }
     requires each { length usage.old.counts ≡ node_count_of problem.now.device }
-    requires room { (a : ℕ) → get_or usage.old.counts a 0 + use_by (net_in problem.now.nets net) (list_of_tree tree.now) a ≤ 65535 }
+    requires room { HasRoom problem.now net (list_of_tree tree.now) usage.old.counts }
     requires counted { usage.old.overused ≡ overused_by problem.now.device usage.old.counts }
     ensures counts { GainsNet problem.now net (list_of_tree tree.now) usage.old.counts usage.new.counts }
     ensures counted { usage.new.overused ≡ overused_by problem.now.device usage.new.counts }
@@ -68,7 +69,7 @@ fn lose_rows(usage: &mut Usage, problem: &Problem, net: u32, rows: &[Row])
     requires tree { IsTree rows.now }
     requires route { IsRoute problem.now net (pairs_of rows.now) }
     requires each { length usage.old.counts ≡ node_count_of problem.now.device }
-    requires used { (a : ℕ) → use_by (net_in problem.now.nets net) (Some (pairs_of rows.now)) a ≤ get_or usage.old.counts a 0 }
+    requires used { IsCounted problem.now net (Some (pairs_of rows.now)) usage.old.counts }
     requires counted { usage.old.overused ≡ overused_by problem.now.device usage.old.counts }
     ensures counts { LosesNet problem.now net (Some (pairs_of rows.now)) usage.old.counts usage.new.counts }
     ensures counted { usage.new.overused ≡ overused_by problem.now.device usage.new.counts }
@@ -82,7 +83,7 @@ fn lose_rows(usage: &mut Usage, problem: &Problem, net: u32, rows: &[Row])
 fn lose_net(usage: &mut Usage, problem: &Problem, net: u32, tree: &Option<Tree>)
     requires routes { RoutesOrNone problem.now net (list_of_tree tree.now) }
     requires each { length usage.old.counts ≡ node_count_of problem.now.device }
-    requires used { (a : ℕ) → use_by (net_in problem.now.nets net) (list_of_tree tree.now) a ≤ get_or usage.old.counts a 0 }
+    requires used { IsCounted problem.now net (list_of_tree tree.now) usage.old.counts }
     requires counted { usage.old.overused ≡ overused_by problem.now.device usage.old.counts }
     ensures counts { LosesNet problem.now net (list_of_tree tree.now) usage.old.counts usage.new.counts }
     ensures counted { usage.new.overused ≡ overused_by problem.now.device usage.new.counts }
@@ -104,10 +105,12 @@ fn change_net(
     requires before { RoutesOrNone problem.now net (list_of_tree before.now) }
     requires after { RoutesOrNone problem.now net (list_of_tree after.now) }
     requires each { length usage.old.counts ≡ node_count_of problem.now.device }
-    requires used { (a : ℕ) → use_by (net_in problem.now.nets net) (list_of_tree before.now) a ≤ get_or usage.old.counts a 0 }
-    requires room { (a : ℕ) → get_or usage.old.counts a 0 + use_by (net_in problem.now.nets net) (list_of_tree after.now) a ≤ 65535 + use_by (net_in problem.now.nets net) (list_of_tree before.now) a }
+    requires used { IsCounted problem.now net (list_of_tree before.now) usage.old.counts }
+    requires room { HasRoomInPlace problem.now net (list_of_tree before.now) (list_of_tree after.now)
+        usage.old.counts }
     requires counted { usage.old.overused ≡ overused_by problem.now.device usage.old.counts }
-    ensures counts { ChangesNet problem.now net (list_of_tree before.now) (list_of_tree after.now) usage.old.counts usage.new.counts }
+    ensures counts { ChangesNet problem.now net (list_of_tree before.now) (list_of_tree after.now)
+        usage.old.counts usage.new.counts }
     ensures counted { usage.new.overused ≡ overused_by problem.now.device usage.new.counts }
 {
     lose_net(usage, problem, net, before);
@@ -124,8 +127,8 @@ fn count_none(tree: &Option<Tree>) -> u32
 impl Routes {
     /// No net has a tree.
     pub(crate) fn new(alloc: Global, problem: &Problem) -> Result<Routes, AllocError>
-        ensures lists { IfOk result (λ r. lists_of_trees r.trees.items ≡ replicate (length problem.now.nets) None) }
-        ensures recorded { IfOk result (λ r. AreRecorded problem.now (lists_of_trees r.trees.items) r.usage.counts r.usage.overused r.unrouted) }
+        ensures lists { IfOk result (λ r. lists_kept r ≡ replicate (length problem.now.nets) None) }
+        ensures recorded { IfOk result (λ r. AreExact problem.now r) }
     {
         let trees = no_trees(alloc, problem.nets())?;
         let usage = Usage::new(alloc, problem.device())?;
@@ -140,9 +143,9 @@ impl Routes {
     pub(crate) fn replace(&mut self, problem: &Problem, net: u32, tree: Option<Tree>)
         requires there { net < length problem.now.nets }
         requires routes { RoutesOrNone problem.now net (list_of_tree tree) }
-        requires recorded { AreRecorded problem.now (lists_of_trees self.old.trees.items) self.old.usage.counts self.old.usage.overused self.old.unrouted }
-        ensures lists { lists_of_trees self.new.trees.items ≡ set (lists_of_trees self.old.trees.items) net (list_of_tree tree) }
-        ensures recorded { AreRecorded problem.now (lists_of_trees self.new.trees.items) self.new.usage.counts self.new.usage.overused self.new.unrouted }
+        requires recorded { AreExact problem.now self.old }
+        ensures lists { lists_kept self.new ≡ set (lists_kept self.old) net (list_of_tree tree) }
+        ensures recorded { AreExact problem.now self.new }
     {
         let _limits = problem.nets();
         let before = &self.trees[net as usize];
@@ -163,10 +166,11 @@ impl Routes {
         histories: &Arc<Histories, Global>,
     )
         requires there { net < length problem.now.nets }
-        requires recorded { AreRecorded problem.now (lists_of_trees self.now.trees.items) self.now.usage.counts self.now.usage.overused self.now.unrouted }
+        requires recorded { AreExact problem.now self.now }
         requires size { length view.old ≡ node_count_of problem.now.device }
         requires histories { length (arc_value histories.now) ≡ node_count_of problem.now.device }
-        ensures { SeesOthers problem.now net (list_in (lists_of_trees self.now.trees.items) net) self.now.usage.counts (arc_value histories.now) view.new }
+        ensures { SeesOthers problem.now net (list_in (lists_kept self.now) net)
+            self.now.usage.counts (arc_value histories.now) view.new }
     {
         let _limits = problem.nets();
         let tree = &self.trees[net as usize];
@@ -178,8 +182,8 @@ impl Routes {
     /// The row of an iteration that ends with these trees.
     #[tactic(auto, using(crate::proofs::Rows::row_of_lists, crate::proofs::Rows::row_below, crate::proofs::Rows::row_bounded))]
     pub(crate) fn row(&self, alloc: Global, problem: &Problem) -> Result<OveruseRow, AllocError>
-        requires recorded { AreRecorded problem.now (lists_of_trees self.now.trees.items) self.now.usage.counts self.now.usage.overused self.now.unrouted }
-        ensures exact { IfOk result (λ r. r ≡ row_of problem.now (lists_of_trees self.now.trees.items)) }
+        requires recorded { AreExact problem.now self.now }
+        ensures exact { IfOk result (λ r. r ≡ row_of problem.now (lists_kept self.now)) }
         ensures there { IfOk result (λ r. All (λ e. e.0 < node_count_of problem.now.device) r) }
         ensures bounded { IfOk result (λ r. (a : ℕ) → amount_in r a ≤ 65535) }
     {

@@ -10,9 +10,9 @@ ghost use Rattle.route_tree.specs.Faults.{IsRoute};
 ghost use Rattle.route_tree.specs.Rows.{pairs_of, IsTree};
 ghost use Rattle.route_tree.specs.TreeLists.{list_of_tree};
 ghost use Rattle.route_tree.specs.Usage.{use_by};
-ghost use Rattle.congestion_book.specs.Recorded.{RoutesOrNone};
+ghost use Rattle.congestion_book.specs.Recorded.{RoutesOrNone, IsCounted};
 ghost use Rattle.congestion_book.specs.Usage.{times_in};
-ghost use Rattle.congestion_book.specs.Views.{LeavesOut, LeavesNet, SeesOthers};
+ghost use Rattle.congestion_book.specs.Views.{IsShown, LeavesOut, LeavesNet, SeesOthers};
 
 use node_cost::{Counts, Histories, View};
 use route_tree::{Row, Tree};
@@ -47,7 +47,7 @@ fn leave_route(view: &mut View, problem: &Problem, net: u32, rows: &[Row])
     requires tree { IsTree rows.now }
     requires route { IsRoute problem.now net (pairs_of rows.now) }
     requires each { length view.old ≡ node_count_of problem.now.device }
-    requires used { (a : ℕ) → use_by (net_in problem.now.nets net) (Some (pairs_of rows.now)) a ≤ others_in view.old a }
+    requires used { IsShown problem.now net (Some (pairs_of rows.now)) view.old }
     ensures { LeavesNet problem.now net (Some (pairs_of rows.now)) view.old view.new }
 {
     leave_rows(view, rows);
@@ -57,7 +57,7 @@ fn leave_route(view: &mut View, problem: &Problem, net: u32, rows: &[Row])
 fn leave_net(view: &mut View, problem: &Problem, net: u32, tree: &Option<Tree>)
     requires routes { RoutesOrNone problem.now net (list_of_tree tree.now) }
     requires each { length view.old ≡ node_count_of problem.now.device }
-    requires used { (a : ℕ) → use_by (net_in problem.now.nets net) (list_of_tree tree.now) a ≤ others_in view.old a }
+    requires used { IsShown problem.now net (list_of_tree tree.now) view.old }
     ensures { LeavesNet problem.now net (list_of_tree tree.now) view.old view.new }
 {
     match tree {
@@ -80,8 +80,9 @@ pub(crate) fn show(
     requires size { length view.old ≡ node_count_of problem.now.device }
     requires counts { length counts.now ≡ node_count_of problem.now.device }
     requires histories { length (arc_value histories.now) ≡ node_count_of problem.now.device }
-    requires used { (a : ℕ) → use_by (net_in problem.now.nets net) (list_of_tree tree.now) a ≤ get_or counts.now a 0 }
-    ensures { SeesOthers problem.now net (list_of_tree tree.now) counts.now (arc_value histories.now) view.new }
+    requires used { IsCounted problem.now net (list_of_tree tree.now) counts.now }
+    ensures { SeesOthers problem.now net (list_of_tree tree.now) counts.now (arc_value histories.now)
+        view.new }
 {
     view.look_at(counts, histories);
     leave_net(view, problem, net, tree);

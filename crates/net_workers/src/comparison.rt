@@ -62,7 +62,8 @@ fn begins(book: &Book, worker: u32, report: &Report) -> bool
 /// Whether each worker's turns are the first entries of its report.
 pub(crate) fn all_begin(book: &Book, reports: &[Report]) -> bool
     requires { length reports.now < 2 ^ 32 }
-    ensures { IsTrue result → (w : ℕ) → w < length reports.now → (n : ℕ) × Begins book.now book.now.turns w n (get_or reports.now w []) }
+    ensures { IsTrue result → (w : ℕ) → w < length reports.now →
+        (n : ℕ) × Begins book.now book.now.turns w n (get_or reports.now w []) }
 {
     for worker in 0..reports.len() {
         if !begins(book, worker as u32, &reports[worker]) {

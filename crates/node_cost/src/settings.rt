@@ -66,7 +66,14 @@ impl Settings {
         bb: u32,
         iterations: u32,
     ) -> Result<Settings, Range>
-        ensures { result ≡ options_within (record { first = first; init = init; mult = mult; acc = acc; bb = bb; iterations = iterations }) }
+        ensures { result ≡ options_within (record {
+          first = first;
+          init = init;
+          mult = mult;
+          acc = acc;
+          bb = bb;
+          iterations = iterations;
+        }) }
     {
         if first > GREATEST_PRESENT {
             return Err(Range::First);

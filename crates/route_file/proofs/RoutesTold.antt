@@ -2,39 +2,17 @@
 use Rattle.std.proofs.Common.{◌≡◌, ℕ, ◌<◌, true, false, List, [], ◌∷◌, length, get_or, Option, Some, None, refl, ap, ◌∙◌, arith}
 use Rattle.std.specs.Prelude.{count_by, ◌==◌}
 use Rattle.std.specs.List.{list_any}
-use Rattle.std.proofs.lemmas.Bool.{false≢true, lt-ltb}
+use Rattle.std.proofs.lemmas.Bool.{lt-ltb}
 use Rattle.std.proofs.lemmas.List.Elements.{All-weaker}
 use Rattle.std.proofs.lemmas.List.Folds.{list_any_none}
-use Rattle.rr_graph.specs.declared.parts.Kind.{Kind}
-use Rattle.rr_graph.specs.declared.parts.Kind.TheVariants.{Source, Sink, Opin, Ipin, Chanx, Chany}
-use Rattle.rr_graph.specs.declared.parts.Node.{Node}
-use Rattle.rr_graph.specs.Edges.{edge_by, edge_between_nodes, is_edge, edge_between}
+use Rattle.rr_graph.specs.Edges.{edge_between}
 use Rattle.rr_graph.specs.Fabric.{Fabric}
-use Rattle.rr_graph.specs.Nodes.{node_at}
-use Rattle.rr_graph.specs.Problems.{Net, RoutingProblem, net_in, is_sink_kind, any_node, is_sink}
+use Rattle.rr_graph.specs.Problems.{Net, RoutingProblem, net_in, is_sink}
+use Rattle.rr_graph.proofs.EdgeEnds.{leaves_no_sink}
 use Rattle.route_tree.specs.Paths.{Pair}
 use Rattle.route_tree.specs.Legality.{is_listed}
 use Rattle.route_tree.specs.Faults.{IsRoute}
 use Rattle.route_file.specs.ReadBack.{is_told_whole, tells_whole, TellsWhole}
-
-no_edge_by : (a b : Kind) (f : Fabric) (m n : Node) → edge_by a b f m n ≡ true → is_sink_kind a ≡ false
-no_edge_by Source b f m n e = refl
-no_edge_by Sink b f m n e = absurd (false≢true e)
-no_edge_by Opin b f m n e = refl
-no_edge_by Ipin b f m n e = refl
-no_edge_by Chanx b f m n e = refl
-no_edge_by Chany b f m n e = refl
-
-no_edge_in : (f : Fabric) (a b : Option Node) → edge_between_nodes f a b ≡ true → any_node is_sink_kind a ≡ false
-unfolding is_edge
-no_edge_in f None b e = refl
-no_edge_in f (Some m) None e = absurd (false≢true e)
-no_edge_in f (Some m) (Some n) e = no_edge_by m.kind n.kind f m n e
-
--- no edge leads from a sink
-pub leaves_no_sink : (f : Fabric) (a b : ℕ) → edge_between f a b ≡ true → is_sink f a ≡ false
-unfolding edge_between is_sink
-leaves_no_sink f a b e = no_edge_in f (node_at f a) (node_at f b) e
 
 some_pairs : (f : Fabric) (n : Net) (pairs : List Pair) → count_by (λ p. p.0 == n.source) pairs ≡ 1 → is_listed f n pairs ≡ true
     → list_any (λ p. is_sink f p.0) pairs ≡ false → is_told_whole f n pairs ≡ true

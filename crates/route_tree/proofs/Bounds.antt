@@ -1,17 +1,16 @@
 -- What a tree of switches and a net of a problem name are nodes.
-use Rattle.std.proofs.Common.{◌≡◌, ℕ, ◌+◌, ◌<◌, ◌≤◌, ◌==◌, zero, suc, inl, inr, true, false, not, nat_lt, List, length, get_or, All, Option, Some, None, refl, sym, ap, ◌∙◌, subst, arith}
+use Rattle.std.proofs.Common.{◌≡◌, ℕ, ◌+◌, ◌<◌, ◌≤◌, ◌==◌, zero, suc, inl, inr, true, false, not, nat_lt, List, length, get_or, All, None, sym, ap, ◌∙◌, subst, arith}
 use Rattle.std.proofs.lemmas.Bool.{cases_lt, cases_Bool, false≢true, eqb-true, or_parts, not-false}
 use Rattle.std.proofs.lemmas.Option.{slice_get_past}
 use Rattle.std.proofs.lemmas.Bool.Decides.{nat_tests}
 use Rattle.std.proofs.lemmas.List.Elements.{All-get_or, All-from_get_or}
 use Rattle.std.proofs.lemmas.List.Folds.{list_any_none}
-use Rattle.rr_graph.specs.declared.parts.Kind.{Kind}
-use Rattle.rr_graph.specs.declared.parts.Kind.TheVariants.{Source, Sink, Opin, Ipin, Chanx, Chany}
-use Rattle.rr_graph.specs.declared.parts.Node.{Node}
 use Rattle.rr_graph.specs.Fabric.{Fabric}
 use Rattle.rr_graph.specs.Nodes.{node_count_of, nodes_of, node_at}
-use Rattle.rr_graph.specs.Edges.{edge_between, edge_between_nodes}
-use Rattle.rr_graph.specs.Problems.{RoutingProblem, IsNet, IsProblem, net_in, no_net, is_sink, is_source, any_node, is_sink_kind, is_source_kind}
+use Rattle.rr_graph.specs.Edges.{edge_between}
+use Rattle.rr_graph.specs.Problems.{RoutingProblem, IsNet, IsProblem, net_in, no_net, is_sink, is_source, any_node, is_sink_kind}
+use Rattle.rr_graph.proofs.EdgeEnds.{source_or_sink}
+use Rattle.rr_graph.proofs.Graph.{edge_from_node, edge_to_node}
 use Rattle.route_tree.specs.declared.tree.Row.{Row}
 use Rattle.route_tree.specs.Paths.{Pair}
 use Rattle.route_tree.specs.Legality.{is_among}
@@ -25,24 +24,6 @@ module _ (f : Fabric) where
   no_node : (i : ℕ) → node_count_of f ≤ i → node_at f i ≡ None
   no_node i l = slice_get_past (nodes_of f) i l
 
-  no_edge_to : (a : Option Node) → edge_between_nodes f a None ≡ false
-  no_edge_to (Some x) = refl
-  no_edge_to None = refl
-
-  from_node : (a b : ℕ) → edge_between f a b ≡ true → a < node_count_of f
-  unfolding edge_between
-  from_node a b e = elim (cases_lt a (node_count_of f)) [
-    | inl l ↦ l
-    | inr g ↦ absurd (false≢true (sym (ap (λ x. edge_between_nodes f x (node_at f b)) (no_node a g)) ∙ e))
-  ]
-
-  to_node : (a b : ℕ) → edge_between f a b ≡ true → b < node_count_of f
-  unfolding edge_between
-  to_node a b e = elim (cases_lt b (node_count_of f)) [
-    | inl l ↦ l
-    | inr g ↦ absurd (false≢true (sym (ap (edge_between_nodes f (node_at f a)) (no_node b g) ∙ no_edge_to (node_at f a)) ∙ e))
-  ]
-
   -- what is a sink is a node
   sink_node : (s : ℕ) → is_sink f s ≡ true → s < node_count_of f
   unfolding is_sink
@@ -51,23 +32,10 @@ module _ (f : Fabric) where
     | inr g ↦ absurd (false≢true (sym (ap (any_node is_sink_kind) (no_node s g)) ∙ e))
   ]
 
-  no_both : (k : Kind) → is_source_kind k ≡ true → is_sink_kind k ≡ true → ⊥
-  no_both Source a b = false≢true b
-  no_both Sink a b = false≢true a
-  no_both Opin a b = false≢true a
-  no_both Ipin a b = false≢true a
-  no_both Chanx a b = false≢true a
-  no_both Chany a b = false≢true a
-
-  no_node_both : (n : Option Node) → any_node is_source_kind n ≡ true → any_node is_sink_kind n ≡ true → ⊥
-  no_node_both (Some n) a b = no_both n.kind a b
-  no_node_both None a b = false≢true a
-
   -- no sink is a source
   apart : (source s : ℕ) → is_source f source ≡ true → is_sink f s ≡ true → (s == source) ≡ false
-  unfolding is_source is_sink
   apart source s a b = elim (cases_Bool (s == source)) [
-    | inl e ↦ absurd (no_node_both (node_at f source) a (subst (λ k. any_node is_sink_kind (node_at f k) ≡ true) (eqb-true s source e) b))
+    | inl e ↦ absurd (source_or_sink f source a (subst (λ k. is_sink f k ≡ true) (eqb-true s source e) b))
     | inr e ↦ e
   ]
 
@@ -85,11 +53,11 @@ module _ (f : Fabric) (rows : List Row) (source : ℕ) (t : IsTree rows) (e : be
       let early = t.earlier 1 (omega arith) (omega (arith, two)) in
       let first : (get_or rows 1 no_row).parent ≡ 0 = omega (arith, early) in
       let begin = ap (λ p. p.0) (pair_at rows 0 t (omega (arith, size, two))) ∙ ap (node_in rows) first in
-      let bound = from_node f _ _ edge in
+      let bound = edge_from_node f _ _ edge in
       omega (arith, bound, begin)
   row_below (suc k) l =
       let size = length_pairs rows t in
-      let bound = to_node f _ _ (edge_of f (pairs_of rows) h k (omega (arith, size, l))) in
+      let bound = edge_to_node f _ _ (edge_of f (pairs_of rows) h k (omega (arith, size, l))) in
       let end : (get_or (pairs_of rows) k (0, 0)).1 ≡ (get_or rows (k + 1) no_row).node = ap (λ p. p.1) (pair_at rows k t (omega (arith, size, l))) in
       let at : k + 1 ≡ suc k = omega arith in
       subst (λ i. (get_or rows i no_row).node < node_count_of f) at (omega (arith, bound, end))

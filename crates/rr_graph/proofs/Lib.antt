@@ -16,6 +16,7 @@ pub mod WireSuccessorsChanx
 pub mod WireSuccessorsChany
 pub mod Order
 pub mod Graph
+pub mod EdgeEnds
 pub mod Lengths
 pub mod ChannelTables
 pub mod TrackOrder

@@ -1,18 +1,19 @@
 -- What every search finds of the device, the net and the costs.
-use Rattle.std.proofs.Common.{◌≡◌, ℕ, ◌+◌, ◌-◌, ◌*◌, ◌<◌, ◌≤◌, ◌^◌, true, false, [], ◌∷◌, Option, Some, None, inl, inr, refl, sym, ap, ◌∙◌, subst, arith}
+use Rattle.std.proofs.Common.{◌≡◌, ℕ, ◌+◌, ◌-◌, ◌*◌, ◌<◌, ◌≤◌, ◌^◌, true, false, [], ◌∷◌, Option, Some, None, inl, inr, refl, sym, ap, ◌∙◌, arith}
 use Rattle.std.specs.Option.{option_map, option_map_or, unwrap_or}
 use Rattle.std.proofs.lemmas.Bool.{false≢true, cases_lt}
 use Rattle.std.proofs.Math.Nat.{mul-le-mul}
 use Rattle.std.proofs.lemmas.List.Elements.{All-contains}
-use Rattle.std.proofs.lemmas.Option.{slice_get-get_or, slice_get_past, none-some, same_Some}
+use Rattle.std.proofs.lemmas.Option.{slice_get-get_or, slice_get_past, none-some}
 use Rattle.rr_graph.specs.declared.parts.Kind.{Kind}
 use Rattle.rr_graph.specs.declared.parts.Kind.TheVariants.{Source, Sink, Opin, Ipin, Chanx, Chany}
 use Rattle.rr_graph.specs.declared.parts.Node.{Node}
 use Rattle.rr_graph.specs.Fabric.{Fabric, IsFabric}
 use Rattle.rr_graph.specs.Nodes.{nodes_of, node_at, node_count_of, kind_of_node, capacity_of}
-use Rattle.rr_graph.specs.Edges.{edge_by, edge_between_nodes, is_edge, edge_between, successors_of}
+use Rattle.rr_graph.specs.Edges.{edge_between_nodes, edge_between, successors_of}
 use Rattle.rr_graph.specs.Problems.{IsNet, is_source_kind, is_sink_kind, any_node, is_source, is_sink}
 use Rattle.rr_graph.proofs.Capacities.{some_capacity}
+use Rattle.rr_graph.proofs.EdgeEnds.{enters_no_source, leaves_no_sink, pin_enters_sink, source_or_sink}
 use Rattle.rr_graph.proofs.Graph.{edge_to_node, successors_contain}
 use Rattle.route_tree.specs.Usage.{room_of}
 use Rattle.node_cost.specs.Views.{others_in, history_in}
@@ -20,84 +21,6 @@ use Rattle.node_cost.proofs.Bounds.{factor_bounded, cost_bounded}
 use Rattle.wavefront.proofs.Lists.{contains_first, contains_none, contains_cases}
 use Rattle.wavefront.proofs.Insides.{source_inside}
 use Rattle.wavefront.specs.Space.{Space, IsSpace, LeadsOnlyTo, HasEdge, IsWanted, base_cost, entry_cost, node_count}
-
--- ---- the kinds at the ends of edges
-from_sink : (a b : Kind) (f : Fabric) (m n : Node) → edge_by a b f m n ≡ true → is_sink_kind a ≡ false
-from_sink Source b f m n e = refl
-from_sink Sink b f m n e = absurd (false≢true e)
-from_sink Opin b f m n e = refl
-from_sink Ipin b f m n e = refl
-from_sink Chanx b f m n e = refl
-from_sink Chany b f m n e = refl
-
-to_source : (a b : Kind) (f : Fabric) (m n : Node) → edge_by a b f m n ≡ true → is_source_kind b ≡ false
-to_source Source Source f m n e = absurd (false≢true e)
-to_source Sink Source f m n e = absurd (false≢true e)
-to_source Opin Source f m n e = absurd (false≢true e)
-to_source Ipin Source f m n e = absurd (false≢true e)
-to_source Chanx Source f m n e = absurd (false≢true e)
-to_source Chany Source f m n e = absurd (false≢true e)
-to_source a Sink f m n e = refl
-to_source a Opin f m n e = refl
-to_source a Ipin f m n e = refl
-to_source a Chanx f m n e = refl
-to_source a Chany f m n e = refl
-
-from_pin : (b : Kind) (f : Fabric) (m n : Node) → edge_by Ipin b f m n ≡ true → is_sink_kind b ≡ true
-from_pin Source f m n e = absurd (false≢true e)
-from_pin Sink f m n e = refl
-from_pin Opin f m n e = absurd (false≢true e)
-from_pin Ipin f m n e = absurd (false≢true e)
-from_pin Chanx f m n e = absurd (false≢true e)
-from_pin Chany f m n e = absurd (false≢true e)
-
-no_edge_from : (f : Fabric) (a b : Option Node) → edge_between_nodes f a b ≡ true → any_node is_sink_kind a ≡ false
-unfolding is_edge
-no_edge_from f None b e = refl
-no_edge_from f (Some m) None e = absurd (false≢true e)
-no_edge_from f (Some m) (Some n) e = from_sink m.kind n.kind f m n e
-
-no_edge_to : (f : Fabric) (a b : Option Node) → edge_between_nodes f a b ≡ true → any_node is_source_kind b ≡ false
-unfolding is_edge
-no_edge_to f a None e = refl
-no_edge_to f None (Some n) e = absurd (false≢true e)
-no_edge_to f (Some m) (Some n) e = to_source m.kind n.kind f m n e
-
-pin_enters : (f : Fabric) (a b : Option Node) → option_map (λ n. n.kind) a ≡ Some Ipin → edge_between_nodes f a b ≡ true → any_node is_sink_kind b ≡ true
-unfolding is_edge
-pin_enters f None b pin e = absurd (none-some _ pin)
-pin_enters f (Some m) None pin e = absurd (false≢true e)
-pin_enters f (Some m) (Some n) pin e = from_pin n.kind f m n (subst (λ k. edge_by k n.kind f m n ≡ true) (same_Some m.kind Ipin pin) e)
-
--- nothing leads on from a sink
-pub leaves_no_sink : (f : Fabric) (a b : ℕ) → edge_between f a b ≡ true → is_sink f a ≡ false
-unfolding edge_between is_sink
-leaves_no_sink f a b e = no_edge_from f (node_at f a) (node_at f b) e
-
--- and to a source
-enters_no_source : (f : Fabric) (a b : ℕ) → edge_between f a b ≡ true → is_source f b ≡ false
-unfolding edge_between is_source
-enters_no_source f a b e = no_edge_to f (node_at f a) (node_at f b) e
-
-pin_enters_sink : (f : Fabric) (a b : ℕ) → kind_of_node f a ≡ Some Ipin → edge_between f a b ≡ true → is_sink f b ≡ true
-unfolding edge_between is_sink
-pin_enters_sink f a b pin e = pin_enters f (node_at f a) (node_at f b) pin e
-
-one_kind : (o : Option Node) → any_node is_source_kind o ≡ true → any_node is_sink_kind o ≡ true → ⊥
-one_kind None e g = false≢true e
-one_kind (Some n) e g = by_kind n.kind e g
-  where
-    by_kind : (k : Kind) → is_source_kind k ≡ true → is_sink_kind k ≡ true → ⊥
-    by_kind Source e g = false≢true g
-    by_kind Sink e g = false≢true e
-    by_kind Opin e g = false≢true e
-    by_kind Ipin e g = false≢true e
-    by_kind Chanx e g = false≢true e
-    by_kind Chany e g = false≢true e
-
-source_or_sink : (f : Fabric) (a : ℕ) → is_source f a ≡ true → is_sink f a ≡ true → ⊥
-unfolding is_source is_sink
-source_or_sink f a e g = one_kind (node_at f a) e g
 
 source_node : (f : Fabric) (a : ℕ) → is_source f a ≡ true → a < node_count_of f
 unfolding is_source
@@ -158,19 +81,17 @@ dear_kind Ipin e = omega arith
 dear_kind Chanx e = omega arith
 dear_kind Chany e = omega arith
 
-dear_in : (f : Fabric) (a b : Option Node) → edge_between_nodes f a b ≡ true → 1 ≤ option_map_or base_cost (option_map (λ n. n.kind) a) 0
-unfolding is_edge
-dear_in f None b e = absurd (none_leads b e)
+dear_in : (f : Fabric) (a b : Option Node) → edge_between_nodes f a b ≡ true → any_node is_sink_kind a ≡ false → 1 ≤ option_map_or base_cost (option_map (λ n. n.kind) a) 0
+dear_in f None b e other = absurd (none_leads b e)
   where
     none_leads : (b : Option Node) → edge_between_nodes f None b ≡ true → ⊥
     none_leads None e = false≢true e
     none_leads (Some n) e = false≢true e
-dear_in f (Some m) None e = absurd (false≢true e)
-dear_in f (Some m) (Some n) e = dear_kind m.kind (from_sink m.kind n.kind f m n e)
+dear_in f (Some m) b e other = dear_kind m.kind other
 
 dear : (f : Fabric) (a b : ℕ) → edge_between f a b ≡ true → 1 ≤ option_map_or base_cost (kind_of_node f a) 0
-unfolding edge_between
-dear f a b e = dear_in f (node_at f a) (node_at f b) e
+unfolding edge_between is_sink
+dear f a b e = dear_in f (node_at f a) (node_at f b) e (leaves_no_sink f a b e)
 
 positive : (space : Space) (v b : ℕ) → HasEdge space v b → 0 < entry_cost space v
 unfolding entry_cost

@@ -82,7 +82,8 @@ fn add_way(
     ensures growth { OnOk result (IsGrowth space.now tree.new scratch.new.wave) }
     ensures less { IfOk result (λ added. IsTrue added →
         open_count space.now scratch.new.wave < open_count space.now scratch.old.wave) }
-    ensures kept { OnOk result ((v : ℕ) → IsWanted space.now v → IsOrigin scratch.old.wave v → IsOrigin scratch.new.wave v) }
+    ensures kept { OnOk result ((v : ℕ) → IsWanted space.now v →
+        IsOrigin scratch.old.wave v → IsOrigin scratch.new.wave v) }
     ensures shut { IfOk result (λ added. IsFalse added → IsShut space.now (pairs_of tree.old)) }
     ensures same { IfOk result (λ added. IsFalse added → tree.new ≡ tree.old) }
     ensures fits { node_total scratch.new ≡ node_count space.now }

@@ -190,7 +190,8 @@ impl Wave {
         requires edges { (to : ℕ) → Contains next.now to → HasEdge space.now node to }
         ensures wave { OnOk result (IsWave space.now self.new) }
         ensures spreads { OnOk result (Spreads space.now self.old self.new) }
-        ensures went { OnOk result ((to : ℕ) → Contains next.now to → IsInside space.now to → WentOn space.now self.new key to) }
+        ensures went { OnOk result ((to : ℕ) → Contains next.now to → IsInside space.now to →
+            WentOn space.now self.new key to) }
         ensures rows { length self.new.labels ≡ node_count space.now }
     {
         for to in next {
