@@ -5,7 +5,7 @@ use Rattle.std.proofs.lemmas.List.Elements.{Contains-append_left, Contains-appen
 use Rattle.route_tree.specs.declared.tree.Row.{Row}
 use Rattle.route_tree.specs.Paths.{Pair, ends_of}
 use Rattle.route_tree.specs.Rows.{node_in, pairs_of, pairs_along}
-use Rattle.wavefront.specs.declared.wave.Wave.{Wave}
+use Rattle.wavefront.specs.WaveState.{Wave}
 use Rattle.wavefront.specs.Space.{Space, HasEdge, IsSpace, IsWanted}
 use Rattle.wavefront.specs.Growth.{Covers, IsStart, IsTarget, IsLeast, IsGrown, IsGrowth, IsLeft, IsStarted, Matches}
 use Rattle.wavefront.specs.Growth.IsGrown.{alone, grown}

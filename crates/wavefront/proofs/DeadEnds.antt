@@ -1,6 +1,6 @@
 -- Where an input pin leads to no sink that is wanted.
 use Rattle.std.proofs.Common.{ℕ, [], ◌∷◌, Bool, true, false, not, IsTrue, sym, ◌∙◌, ◌↔◌, rules, subst}
-use Rattle.wavefront.specs.declared.wave.Wave.{Wave}
+use Rattle.wavefront.specs.WaveState.{Wave}
 use Rattle.wavefront.specs.Space.{Space, IsSpace, LeadsOnlyTo, HasEdge}
 use Rattle.wavefront.specs.Wave.{IsOpen, IsDead}
 use Rattle.std.proofs.lemmas.Bool.{false≢true}

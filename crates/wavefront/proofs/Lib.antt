@@ -5,11 +5,13 @@ pub mod Stamped
 -- steps of the wave
 pub mod Lower
 pub mod Preferred
+pub mod LeftOut
+pub mod Waits
 pub mod Went
 pub mod Wanted
 pub mod Spaces
 pub mod DeadEnds
-pub mod Bounds
+pub mod LeastEntry
 -- ways and trees
 pub mod WayNodes
 pub mod Traced

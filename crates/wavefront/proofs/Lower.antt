@@ -8,7 +8,7 @@ use Rattle.std.proofs.lemmas.Bool.{cases_eq}
 use Rattle.wavefront.specs.declared.labels.Label.{Label}
 use Rattle.wavefront.specs.declared.labels.TheConstants.{FAR}
 use Rattle.wavefront.specs.declared.queue.Entry.{Entry}
-use Rattle.wavefront.specs.declared.wave.Wave.{Wave}
+use Rattle.wavefront.specs.WaveState.{Wave}
 use Rattle.wavefront.specs.Label.{unreached}
 use Rattle.wavefront.specs.Space.{Space, HasEdge, IsInside, entry_cost, node_count}
 use Rattle.wavefront.specs.Wave.{IsWave, IsComplete, IsCompleteBut, IsOrigin, IsOpen, IsEntered, IsSettled, IsDone, IsWaiting, IsDead, WentOn, StillComplete, key_of, parent_of, label_at, work_of}
@@ -57,6 +57,7 @@ module _ (space : Space) where
       | inr ne ↦ inl (ap (λ l. l.key) (label_there s t node label v r ne))
     ];
     kept = λ e h. Contains-permutation _ _ e r.moved (contains_later _ e s.queue h);
+    limit = let same = r.limit in omega (arith, same);
     starts = λ v. elim (cases_eq v node) [
       | inl e ↦ rw e stays
       | inr ne ↦ same_origin s t v (label_there s t node label v r ne)
@@ -87,6 +88,7 @@ module _ (space : Space) where
       record {
         rows = ap length r.labels ∙ length-set _ _ _ ∙ wave.rows;
         near = λ v. let d = down v in let n = wave.near v in omega (arith, d, n);
+        within = let same = r.limit in let n = wave.within in omega (arith, same, n);
         entered = λ v reached. elim (cases_eq v node) [
           | inl e ↦ rw e way
           | inr ne ↦
@@ -109,7 +111,7 @@ module _ (space : Space) where
 
   pub went_lower : (s t : Wave) (key b : ℕ) → Lowers space s t → WentOn space s key b → WentOn space t key b
   went_lower s t key b low (inl dead) = inl (still_dead s t b low.starts dead)
-  went_lower s t key b low (inr went) = inr (let d = low.down b in omega (arith, d, went))
+  went_lower s t key b low (inr went) = inr (let d = low.down b in let limit = low.limit in omega (arith, d, limit, went))
 
   went_up : (s : Wave) (key more b : ℕ) → key ≤ more → WentOn space s key b → WentOn space s more b
   went_up s key more b up (inl dead) = inl dead
@@ -173,11 +175,12 @@ module _ (space : Space) where
       ]
     ];
     kept = λ e h. b.kept e (a.kept e h);
+    limit = let x = a.limit in let y = b.limit in omega (arith, x, y);
     starts = λ v o. b.starts v (a.starts v o);
   }
 
   pub lowers_refl : (s : Wave) → Lowers space s s
-  lowers_refl s = record { down = λ v. omega arith; wait = λ v. inl refl; kept = λ e h. h; starts = λ v o. o }
+  lowers_refl s = record { down = λ v. omega arith; wait = λ v. inl refl; kept = λ e h. h; limit = omega arith; starts = λ v o. o }
 
   -- a way that is cheaper makes no origin and ends none
   offered_origins : (s t : Wave) (node : ℕ) (label : Label) → IsLowered space s t node label → node < length s.labels → label.key < key_of s node → key_of s label.parent ≤ label.key → SameOrigins s t

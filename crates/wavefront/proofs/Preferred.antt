@@ -5,7 +5,7 @@ use Rattle.std.proofs.lemmas.List.{length-set}
 use Rattle.std.proofs.lemmas.Bool.{cases_eq}
 use Rattle.wavefront.specs.declared.labels.Label.{Label}
 use Rattle.wavefront.specs.declared.labels.TheConstants.{FAR}
-use Rattle.wavefront.specs.declared.wave.Wave.{Wave}
+use Rattle.wavefront.specs.WaveState.{Wave}
 use Rattle.wavefront.specs.Label.{unreached}
 use Rattle.wavefront.specs.Space.{Space, HasEdge, IsInside, entry_cost}
 use Rattle.wavefront.specs.Wave.{IsWave, key_of, parent_of, label_at}
@@ -45,6 +45,7 @@ preferred_spreads space s t node label r lt other =
         down = λ v. let k = same_key s t node label v r lt in omega (arith, k);
         wait = λ v. inl (same_key s t node label v r lt);
         kept = λ e h. rw r.queue h;
+        limit = let bound = r.limit in omega (arith, bound);
         starts = λ v. (starts v).1;
       };
       origins = starts;
@@ -55,6 +56,7 @@ pub preferred_wave : (space : Space) (s t : Wave) (node key : ℕ) (label : Labe
 preferred_wave space s t node key label r wave lt above near edge inside cost = record {
   rows = ap length r.labels ∙ length-set _ _ _ ∙ wave.rows;
   near = λ v. let k = same_key s t node label v r lt in let n = wave.near v in omega (arith, k, n);
+  within = let bound = r.limit in let n = wave.within in omega (arith, bound, n);
   entered = λ v reached. elim (cases_eq v node) [
     | inl e ↦
         let key_here : key_of t node ≡ label.key = ap (λ l. l.key) (here s t node label r lt) in

@@ -9,7 +9,7 @@ use Rattle.route_tree.specs.Paths.{Pair, ends_of}
 use Rattle.route_tree.specs.Legality.{is_among}
 use Rattle.route_tree.specs.Rows.{pairs_of}
 use Rattle.route_tree.proofs.Members.{contains_among, among_contains}
-use Rattle.wavefront.specs.declared.wave.Wave.{Wave}
+use Rattle.wavefront.specs.WaveState.{Wave}
 use Rattle.wavefront.specs.Space.{Space, IsSpace, IsWanted}
 use Rattle.wavefront.specs.Growth.{IsGrown, IsGrowth, IsPart, IsRouteSoFar, IsShut, IsStuck, IsWhole, Matches, net_reached}
 use Rattle.wavefront.specs.Growth.IsGrown.{alone}

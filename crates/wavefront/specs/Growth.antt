@@ -9,7 +9,7 @@ use Rattle.route_tree.specs.Paths.{Pair, ends_of}
 use Rattle.route_tree.specs.Legality.{is_among, IsLegal, IsListed}
 use Rattle.route_tree.specs.Faults.{IsRoute}
 use Rattle.route_tree.specs.Rows.{node_in, pairs_of, pairs_along}
-use Rattle.wavefront.specs.declared.wave.Wave.{Wave}
+use Rattle.wavefront.specs.WaveState.{Wave}
 use Rattle.wavefront.specs.declared.found.Found.{Found}
 use Rattle.wavefront.specs.declared.found.Found.TheVariants.{Tree, NoPath}
 use Rattle.wavefront.specs.Space.{Space, IsInside, IsWanted}

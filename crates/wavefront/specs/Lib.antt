@@ -3,7 +3,9 @@ pub mod Space
 pub mod Ways
 pub mod Label
 pub mod Stamps
+pub mod Entries
 pub mod Queues
+pub mod WaveState
 pub mod Wave
 pub mod Steps
 pub mod Growth

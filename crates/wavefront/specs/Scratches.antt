@@ -3,4 +3,4 @@ use Rattle.std.specs.Prelude.{ℕ, length}
 use Rattle.wavefront.specs.declared.scratch.Scratch.{Scratch}
 
 abbrev pub node_total : Scratch → ℕ
-node_total s = length s.wave.labels
+node_total s = length s.narrow.wave.labels

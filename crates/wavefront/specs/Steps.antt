@@ -1,14 +1,20 @@
 -- What each step of the wave does.
-use Rattle.std.specs.Prelude.{◌≡◌, ℕ, ◌+◌, ◌<◌, ◌≤◌, ◌⊎◌, ◌↔◌, List, ◌∷◌, length, slice_set, Contains}
+use Rattle.std.specs.Prelude.{◌≡◌, ℕ, ◌+◌, ◌<◌, ◌≤◌, ◌⊎◌, ◌↔◌, List, ◌∷◌, length, slice_set, Contains, min}
 use Rattle.std.specs.List.Sorted.{IsPermutation}
 use Rattle.wavefront.specs.declared.labels.Label.{Label}
 use Rattle.wavefront.specs.declared.labels.TheConstants.{FAR}
 use Rattle.wavefront.specs.declared.queue.Entry.{Entry}
-use Rattle.wavefront.specs.declared.wave.Wave.{Wave}
+use Rattle.wavefront.specs.WaveState.{Wave}
 use Rattle.wavefront.specs.Queues as queues
 use Rattle.wavefront.specs.Space.{Space, HasEdge, IsInside}
 use Rattle.wavefront.specs.Ways.{AreDistinct, IsWay, way_cost}
 use Rattle.wavefront.specs.Wave.{IsComplete, IsCompleteBut, IsOpen, IsOrigin, IsWaiting, IsWave, WentOn, bound_of, key_of, work_of}
+
+-- t is w where all that costs this key, or more, may be left out
+pub record LeavesOut (w t : Wave) (key : ℕ) : Type 0 where
+  pub labels : t.labels ≡ w.labels
+  pub queue : t.queue ≡ w.queue
+  pub limit : t.limit ≡ min w.limit key
 
 -- t is w with the label of a node set, and with an entry for it
 pub record IsLowered (s : Space) (w t : Wave) (node : ℕ) (label : Label) : Type 0 where
@@ -17,11 +23,13 @@ pub record IsLowered (s : Space) (w t : Wave) (node : ℕ) (label : Label) : Typ
   pub above : label.key ≤ key
   pub low : key ≤ label.key + bound_of s node
   pub moved : IsPermutation ((record { key = key; node = node }) ∷ w.queue) t.queue
+  pub limit : t.limit ≡ w.limit
 
 -- t is w with another parent at a node that is no origin; its key is as it was
 pub record IsPreferred (w t : Wave) (node : ℕ) (label : Label) : Type 0 where
   pub labels : t.labels ≡ slice_set w.labels node label
   pub queue : t.queue ≡ w.queue
+  pub limit : t.limit ≡ w.limit
   pub same : label.key ≡ key_of w node
   pub reached : label.key < FAR
   pub later : IsOrigin w node → ⊥
@@ -30,6 +38,7 @@ pub record IsPreferred (w t : Wave) (node : ℕ) (label : Label) : Type 0 where
 pub record IsPopped (w t : Wave) (x : Entry) : Type 0 where
   pub labels : t.labels ≡ w.labels
   pub queue : queues.IsPopped w.queue t.queue x
+  pub limit : t.limit ≡ w.limit
 
 -- along each edge from v the key was offered
 abbrev pub WentAlong : Space → Wave → ℕ → ℕ → Type 0
@@ -41,6 +50,7 @@ pub record Lowers (s : Space) (old new : Wave) : Type 0 where
   pub wait : (v : ℕ) → (key_of new v ≡ key_of old v) ⊎ IsWaiting s new v
   pub starts : (v : ℕ) → IsOrigin old v → IsOrigin new v
   pub kept : (e : Entry) → Contains old.queue e → Contains new.queue e
+  pub limit : new.limit ≤ old.limit
 
 -- the wave starts where it did
 abbrev pub SameOrigins : Wave → Wave → Type 0
@@ -63,14 +73,14 @@ NoOrigins w = (v : ℕ) → IsOrigin w v → ⊥
 abbrev pub IsLeastKey : Space → Wave → ℕ → Type 0
 IsLeastKey s w key = (a b : ℕ) (way : List ℕ) → IsOrigin w a → IsOpen s w b → IsWay s a way b → key ≤ way_cost s way
 
--- x is taken out of the queue: no way to an open sink costs less, and at all other nodes nothing has changed
+-- x is taken out of the queue: no way to an open sink costs less, but what is left out, and at all other nodes nothing has changed
 pub record IsNearest (s : Space) (w t : Wave) (x : Entry) : Type 0 where
   pub wave : IsWave s t
   pub origins : SameOrigins w t
   pub node_in : x.node < length t.labels
   pub above : key_of t x.node ≤ x.key
   pub reached : key_of t x.node < FAR
-  pub least : IsLeastKey s t x.key
+  pub least : IsLeastKey s t (min x.key t.limit)
   pub others : IsCompleteBut s t x.node
   pub late : key_of t x.node + bound_of s x.node < x.key → IsComplete s t
   pub work : work_of t + 1 ≡ work_of w

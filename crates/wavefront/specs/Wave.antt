@@ -1,10 +1,10 @@
 -- What the wave keeps true (Dijkstra 1959).
-use Rattle.std.specs.Prelude.{◌≡◌, ℕ, ◌+◌, ◌*◌, ◌<◌, ◌≤◌, ◌⊎◌, List, length, slice_index_or, Contains, Bool, eqb, not, ◌&&◌}
+use Rattle.std.specs.Prelude.{◌≡◌, ℕ, ◌+◌, ◌*◌, ◌<◌, ◌≤◌, ◌⊎◌, List, length, slice_index_or, Contains, Bool, eqb, not, ◌&&◌, min}
 use Rattle.std.specs.List.{sum_by, count_by}
 use Rattle.wavefront.specs.declared.labels.Label.{Label}
 use Rattle.wavefront.specs.declared.labels.TheConstants.{FAR}
 use Rattle.wavefront.specs.declared.queue.Entry.{Entry}
-use Rattle.wavefront.specs.declared.wave.Wave.{Wave}
+use Rattle.wavefront.specs.WaveState.{Wave}
 use Rattle.wavefront.specs.Label.{unreached}
 use Rattle.wavefront.specs.Space.{Space, HasEdge, IsInside, IsWanted, entry_cost, node_count}
 use Rattle.wavefront.specs.Ways.{IsWay}
@@ -49,9 +49,9 @@ pub record IsWaiting (s : Space) (w : Wave) (v : ℕ) : Type 0 where
 abbrev pub IsDead : Space → Wave → ℕ → Type 0
 IsDead s w v = (b : ℕ) (way : List ℕ) → IsOpen s w b → IsWay s v way b → ⊥
 
--- the key went on along the edge to b, but into a dead end
+-- the key went on along the edge to b, but into a dead end, and unless it is left out
 abbrev pub WentOn : Space → Wave → (key b : ℕ) → Type 0
-WentOn s w key b = IsDead s w b ⊎ (key_of w b ≤ key + entry_cost s b)
+WentOn s w key b = IsDead s w b ⊎ (min (key_of w b) w.limit ≤ key + entry_cost s b)
 
 -- v's key went along each edge from v
 abbrev pub IsRelaxed : Space → Wave → ℕ → Type 0
@@ -73,6 +73,7 @@ pub record IsSettled (s : Space) (w : Wave) (v : ℕ) : Type 0 where
 pub record IsWave (s : Space) (w : Wave) : Type 0 where
   pub rows : length w.labels ≡ node_count s
   pub near : (v : ℕ) → key_of w v ≤ FAR
+  pub within : w.limit ≤ FAR
   pub entered : (v : ℕ) → key_of w v < FAR → IsOrigin w v ⊎ IsEntered s w v
   pub entries : (e : Entry) → Contains w.queue e → (key_of w e.node ≤ e.key) × (key_of w e.node < FAR)
 

@@ -2,8 +2,10 @@
 //! (McMurchie and Ebeling 1995; Dijkstra 1959).
 #![tactic(auto)]
 
+mod bounds;
 mod boxes;
 mod found;
+mod keys;
 mod labels;
 mod queue;
 mod route;

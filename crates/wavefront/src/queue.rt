@@ -1,27 +1,51 @@
 //! The nodes whose labels have yet to go along their edges, the least key first.
 
-ghost use Rattle.std.specs.Prelude.{◌≡◌, ◌<◌, ◌∷◌, [], length, eqb, OnOk};
+ghost use Rattle.std.specs.Prelude.{◌≡◌, ◌<◌, ◌∷◌, ◌&&◌, [], length, eqb, OnOk};
 ghost use Rattle.std.specs.List.Sorted.{IsPermutation};
 ghost use Rattle.std.proofs.Common.{rules};
 ghost use Rattle.std.specs.Cmp.{partial_order_from_own_ties};
 ghost use Rattle.std.specs.Cmp.Rules.{comparing};
-ghost use Rattle.std.specs.Ordering.{nat_cmp, on, flip_args, then_cmp, as_partial_cmp};
-ghost use Rattle.wavefront.specs.Queues.{IsPopped};
+ghost use Rattle.std.specs.Ordering.{as_partial_cmp};
+ghost use Rattle.wavefront.specs.Entries.{entry_cmp};
+ghost use Rattle.std.specs.BinaryHeap.{heap_items, heap_len, IsHeap};
+ghost use Rattle.wavefront.specs.Queues.{IsPopped, TakesLeast};
 
+use crate::keys::Key;
 use std::alloc::{AllocError, Global};
 use std::cmp::Ordering;
 use std::collections::BinaryHeap;
 use std::marker::Model;
 
-/// A node that waits, and its key. The least key is the greatest entry, and of equal ones the least node.
+/// A node that waits, and its key.
 #[derive(Clone, Copy, Debug, PartialEq, Eq)]
 pub(crate) struct Entry {
     pub(crate) key: u128,
     pub(crate) node: u32,
 }
 
-impl Ord for Entry {
-    ghost cmp = { then_cmp (flip_args (on (λ e. e.key) nat_cmp)) (flip_args (on (λ e. e.node) nat_cmp)) };
+/// An entry as it is kept. The least key is the greatest, and of equal ones the least node.
+#[derive(Clone, Copy, Drop)]
+struct Waiting<K> {
+    key: K,
+    node: u32,
+}
+
+impl<K: Key> PartialEq for Waiting<K> {
+    ghost eq = { λ a b. eqb (K.value a.key) (K.value b.key) && eqb a.node b.node };
+
+    ghost laws = { Prim.search (comparing, rules) };
+
+    fn eq(&self, other: &Waiting<K>) -> bool {
+        self.key.compare(&other.key) == Ordering::Equal && self.node == other.node
+    }
+}
+
+impl<K: Key> Eq for Waiting<K> {
+    ghost laws = { Prim.search (comparing, rules) };
+}
+
+impl<K: Key> Ord for Waiting<K> {
+    ghost cmp = { entry_cmp K.value };
 
     ghost total = { Prim.search (comparing, rules) };
 
@@ -29,28 +53,40 @@ impl Ord for Entry {
 
     ghost matches_eq = { Prim.search (comparing, rules) };
 
-    fn cmp(&self, other: &Entry) -> Ordering {
-        other.key.cmp(&self.key).then(other.node.cmp(&self.node))
+    fn cmp(&self, other: &Waiting<K>) -> Ordering {
+        other
+            .key
+            .compare(&self.key)
+            .then(other.node.cmp(&self.node))
     }
 }
 
-impl PartialOrd for Entry {
-    ghost partial_cmp = { as_partial_cmp (then_cmp (flip_args (on (λ e. e.key) nat_cmp)) (flip_args (on (λ e. e.node) nat_cmp))) };
+impl<K: Key> PartialOrd for Waiting<K> {
+    ghost partial_cmp = { as_partial_cmp (entry_cmp K.value) };
 
     ghost laws = { partial_order_from_own_ties (Prim.search (comparing, rules)) (Prim.search (comparing, rules)) };
 
-    fn partial_cmp(&self, other: &Entry) -> Option<Ordering> {
+    fn partial_cmp(&self, other: &Waiting<K>) -> Option<Ordering> {
         Some(self.cmp(other))
     }
 }
 
-/// Entries that wait. Contracts see a list of them, in no order that counts.
-#[derive(Drop)]
-pub(crate) struct Queue {
-    heap: BinaryHeap<Entry>,
+/// Takes the least entry out of a heap.
+fn take_least<K: Key>(heap: &mut BinaryHeap<Waiting<K>>) -> Waiting<K>
+    requires some { 0 < heap_len heap.old }
+    requires heap { IsHeap (entry_cmp K.value) (heap_items heap.old) }
+    ensures { TakesLeast K.value (heap_items heap.old) (heap_items heap.new) result }
+{
+    heap.pop().unwrap()
 }
 
-impl Model for Queue {
+/// Entries that wait. Contracts see a list of them, in no order that counts.
+#[derive(Drop)]
+pub(crate) struct Queue<K: Key> {
+    heap: BinaryHeap<Waiting<K>>,
+}
+
+impl<K: Key> Model for Queue<K> {
     ghost use Rattle.std.specs.Prelude.{List};
     ghost use Rattle.wavefront.specs.declared.queue.Entry.{Entry};
 
@@ -58,14 +94,14 @@ impl Model for Queue {
 
     ghost use Rattle.wavefront.specs.Queues.{entries_of, IsOrdered};
 
-    ghost view = { entries_of };
+    ghost view = { entries_of K.value };
 
-    ghost invariant = { IsOrdered };
+    ghost invariant = { IsOrdered K.value };
 }
 
-impl Queue {
+impl<K: Key> Queue<K> {
     /// No entries.
-    pub(crate) fn new(alloc: Global) -> Queue
+    pub(crate) fn new(alloc: Global) -> Queue<K>
         ensures { result ≡ [] }
     {
         Queue {
@@ -88,10 +124,11 @@ impl Queue {
     }
 
     /// Puts an entry in.
-    pub(crate) fn push(&mut self, entry: Entry) -> Result<(), AllocError>
-        ensures { OnOk result (IsPermutation (entry ∷ self.old) self.new) }
+    pub(crate) fn push(&mut self, key: K, node: u32) -> Result<(), AllocError>
+        ensures { OnOk result
+            (IsPermutation (record { key = K.value key; node = node } ∷ self.old) self.new) }
     {
-        self.heap.push(entry)?;
+        self.heap.push(Waiting { key, node })?;
         Ok(())
     }
 
@@ -100,6 +137,10 @@ impl Queue {
         requires { 0 < length self.old }
         ensures { IsPopped self.old self.new result }
     {
-        self.heap.pop().unwrap()
+        let waiting = take_least(&mut self.heap);
+        Entry {
+            key: waiting.key.wide(),
+            node: waiting.node,
+        }
     }
 }

@@ -1,6 +1,6 @@
 //! The tree of a net.
 
-ghost use Rattle.std.specs.Prelude.{◌≡◌, ℕ, ◌<◌, ◌≤◌, ◌==◌, IfOk, OnOk, IsTrue, IsFalse, length, IfErr, ◌↔◌, Contains, Err, true};
+ghost use Rattle.std.specs.Prelude.{◌≡◌, ℕ, ◌<◌, ◌≤◌, ◌==◌, IfOk, OnOk, IfSome, IfNone, IsTrue, IsFalse, length, ◌↔◌, Contains, Err, true};
 ghost use Rattle.rr_graph.specs.Nodes.{node_count_of};
 ghost use Rattle.wavefront.specs.Scratches.{node_total};
 ghost use Rattle.wavefront.specs.Space.{IsSpace, IsWanted, node_count};
@@ -8,10 +8,13 @@ ghost use Rattle.wavefront.specs.Wave.{IsWave, IsOrigin, open_count};
 ghost use Rattle.wavefront.specs.Growth.{IsAnswer, IsGrowth, IsShut, IsLeft, IsStarted, IsRouted, space_of};
 ghost use Rattle.route_tree.specs.Rows.{node_in, pairs_of, pairs_along};
 ghost use Rattle.std.specs.List.{list_any, position};
+ghost use Rattle.wavefront.specs.declared.found.Found.TheVariants.{NoPath};
 ghost use Rattle.wavefront.specs.declared.found.SearchFault.TheVariants.{ViewSize};
 
 use crate::found::{Found, SearchFault};
-use crate::scratch::Scratch;
+use crate::keys::Key;
+use crate::labels::FAR;
+use crate::scratch::{Scratch, WaveScratch};
 use crate::space::SearchSpace;
 use crate::wave::Wave;
 use node_cost::{GREATEST_PRESENT, View};
@@ -43,20 +46,41 @@ pub fn route_net(
         return Err(SearchFault::ViewSize);
     }
     let space = SearchSpace::new(problem, net, view, present, bb);
-    let found = grow_tree(alloc, &space, scratch)?;
+    if let Some(found) = grow_tree(alloc, &space, &mut scratch.narrow)? {
+        return Ok(found);
+    }
+    let found = grow_wide(alloc, &space, &mut scratch.wide)?;
     Ok(found)
 }
 
-/// A tree from the source to all of the sinks, each way added to it one of least cost.
-fn grow_tree(
+/// The tree of a net whose costs don't fit the narrow keys.
+fn grow_wide(
     alloc: Global,
     space: &SearchSpace<'_>,
-    scratch: &mut Scratch,
+    scratch: &mut WaveScratch<u128>,
 ) -> Result<Found, AllocError>
     requires space { IsSpace space.now }
-    requires fits { node_total scratch.old ≡ node_count space.now }
     ensures answer { IfOk result (IsAnswer space.now) }
-    ensures fits { node_total scratch.new ≡ node_count space.now }
+{
+    if scratch.wave.len() != space.nodes() {
+        *scratch = WaveScratch::new(alloc, space.nodes())?;
+    }
+    let found = grow_tree(alloc, space, scratch)?;
+    Ok(found.unwrap())
+}
+
+/// A tree from the source to all of the sinks, each way added to it one of least cost. None where it isn't known whether there is one,
+/// since a way may have been left out.
+fn grow_tree<K: Key>(
+    alloc: Global,
+    space: &SearchSpace<'_>,
+    scratch: &mut WaveScratch<K>,
+) -> Result<Option<Found>, AllocError>
+    requires space { IsSpace space.now }
+    requires fits { length scratch.old.wave.labels ≡ node_count space.now }
+    ensures answer { IfOk result (λ found. IfSome found (IsAnswer space.now)) }
+    ensures narrow { IfOk result (λ found. IfNone found (K.range < FAR)) }
+    ensures fits { length scratch.new.wave.labels ≡ node_count space.now }
 {
     let mut tree = Tree::start(alloc, space.source())?;
     scratch.wave.clear(space);
@@ -64,29 +88,42 @@ fn grow_tree(
     for sink in space.sinks() {
         while !scratch.wave.starts_at(*sink) {
             if !add_way(space, scratch, &mut tree)? {
-                return Ok(Found::NoPath(*sink));
+                return Ok(no_path(&scratch.wave, *sink));
             }
         }
     }
-    Ok(Found::Tree(tree))
+    Ok(Some(Found::Tree(tree)))
+}
+
+/// There is no way to the sink, if none may have been left out.
+fn no_path<K: Key>(wave: &Wave<K>, sink: u32) -> Option<Found>
+    ensures found { IfSome result (λ found. (found ≡ NoPath sink) × (wave.now.limit ≡ FAR)) }
+    ensures narrow { IfNone result (K.range < FAR) }
+{
+    if wave.leaves_out() {
+        None
+    } else {
+        Some(Found::NoPath(sink))
+    }
 }
 
 /// Adds the next way to the tree, if there is one.
-fn add_way(
+fn add_way<K: Key>(
     space: &SearchSpace<'_>,
-    scratch: &mut Scratch,
+    scratch: &mut WaveScratch<K>,
     tree: &mut Tree,
 ) -> Result<bool, AllocError>
     requires space { IsSpace space.now }
     requires growth { IsGrowth space.now tree.old scratch.old.wave }
-    ensures growth { OnOk result (IsGrowth space.now tree.new scratch.new.wave) }
+    ensures growth { IfOk result
+        (λ added. IsTrue added → IsGrowth space.now tree.new scratch.new.wave) }
     ensures less { IfOk result (λ added. IsTrue added →
         open_count space.now scratch.new.wave < open_count space.now scratch.old.wave) }
-    ensures kept { OnOk result ((v : ℕ) → IsWanted space.now v →
+    ensures kept { IfOk result (λ added. IsTrue added → (v : ℕ) → IsWanted space.now v →
         IsOrigin scratch.old.wave v → IsOrigin scratch.new.wave v) }
-    ensures shut { IfOk result (λ added. IsFalse added → IsShut space.now (pairs_of tree.old)) }
-    ensures same { IfOk result (λ added. IsFalse added → tree.new ≡ tree.old) }
-    ensures fits { node_total scratch.new ≡ node_count space.now }
+    ensures shut { IfOk result (λ added. IsFalse added → scratch.new.wave.limit ≡ FAR →
+        IsShut space.now (pairs_of tree.old)) }
+    ensures fits { length scratch.new.wave.labels ≡ node_count space.now }
 {
     let Some(sink) = scratch.wave.take_sink(space, &mut scratch.next)? else {
         return Ok(false);
@@ -99,7 +136,7 @@ fn add_way(
 }
 
 /// After the first way the source is no start any more, and the wave begins anew.
-fn leave_source(space: &SearchSpace<'_>, wave: &mut Wave, tree: &Tree)
+fn leave_source<K: Key>(space: &SearchSpace<'_>, wave: &mut Wave<K>, tree: &Tree)
     requires { IsWave space.now wave.old }
     ensures { IsLeft space.now (pairs_of tree.now) wave.old wave.new }
 {
@@ -126,7 +163,11 @@ fn row_of(rows: &[Row], node: u32) -> usize
 }
 
 /// Lets the wave start at these nodes too.
-fn start_all(space: &SearchSpace<'_>, wave: &mut Wave, nodes: &[u32]) -> Result<(), AllocError>
+fn start_all<K: Key>(
+    space: &SearchSpace<'_>,
+    wave: &mut Wave<K>,
+    nodes: &[u32],
+) -> Result<(), AllocError>
     requires wave { IsWave space.now wave.old }
     requires nodes { (v : ℕ) → Contains nodes.now v → v < node_count space.now }
     ensures started { OnOk result (IsStarted space.now wave.old wave.new nodes.now) }

@@ -4,19 +4,41 @@ ghost use Rattle.std.specs.Prelude.{◌≡◌, ◌==◌, length, IfOk, true};
 ghost use Rattle.rr_graph.specs.Nodes.{node_count_of};
 ghost use Rattle.wavefront.specs.Scratches.{node_total};
 
+use crate::keys::Key;
 use crate::wave::Wave;
 use rr_graph::Problem;
 use smallvec::SmallVec;
 use std::alloc::{AllocError, Global};
 
-/// What a search works in: it may be used again, whatever an earlier search left in it.
+/// What a search with keys of one width works in.
 #[derive(Drop)]
-pub struct Scratch {
-    pub(crate) wave: Wave,
+pub(crate) struct WaveScratch<K: Key> {
+    pub(crate) wave: Wave<K>,
     /// The successors of a node.
     pub(crate) next: SmallVec<u32, 8>,
     /// The nodes of a way.
     pub(crate) way: Vec<u32>,
+}
+
+impl<K: Key> WaveScratch<K> {
+    /// For so many nodes.
+    pub(crate) fn new(alloc: Global, nodes: usize) -> Result<WaveScratch<K>, AllocError>
+        ensures { IfOk result (λ scratch. length scratch.wave.labels ≡ nodes) }
+    {
+        Ok(WaveScratch {
+            wave: Wave::new(alloc, nodes)?,
+            next: SmallVec::new(alloc),
+            way: Vec::new(alloc),
+        })
+    }
+}
+
+/// What a search works in: it may be used again, whatever an earlier search left in it.
+#[derive(Drop)]
+pub struct Scratch {
+    pub(crate) narrow: WaveScratch<u32>,
+    /// For nets whose costs don't fit the narrow keys; for no nodes until there is one.
+    pub(crate) wide: WaveScratch<u128>,
 }
 
 impl Scratch {
@@ -25,9 +47,8 @@ impl Scratch {
         ensures { IfOk result (λ scratch. node_total scratch ≡ node_count_of problem.now.device) }
     {
         Ok(Scratch {
-            wave: Wave::new(alloc, problem.device().node_count() as usize)?,
-            next: SmallVec::new(alloc),
-            way: Vec::new(alloc),
+            narrow: WaveScratch::new(alloc, problem.device().node_count() as usize)?,
+            wide: WaveScratch::new(alloc, 0)?,
         })
     }
 
@@ -35,6 +56,6 @@ impl Scratch {
     pub fn fits(&self, problem: &Problem) -> bool
         ensures { result ≡ (node_total self.now == node_count_of problem.now.device) }
     {
-        self.wave.labels.len() == problem.device().node_count() as usize
+        self.narrow.wave.len() == problem.device().node_count() as usize
     }
 }

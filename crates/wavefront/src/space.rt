@@ -7,7 +7,6 @@ ghost use Rattle.std.specs.Option.{option_map_or};
 ghost use Rattle.wavefront.specs.Boxes.{is_in_box};
 ghost use Rattle.wavefront.specs.Space.{IsSpace, IsInside, IsWanted, HasEdge, LeadsOnlyTo, entry_cost, node_count, base_cost};
 ghost use Rattle.wavefront.specs.Growth.{space_of};
-ghost use Rattle.wavefront.specs.Wave.{bound_of};
 
 use crate::boxes::BoundingBox;
 use node_cost::{GREATEST_PRESENT, View, cost};
@@ -79,6 +78,13 @@ impl<'a> SearchSpace<'a> {
         }
     }
 
+    /// How many nodes there are.
+    pub(crate) fn nodes(&self) -> usize
+        ensures { result ≡ node_count self.now }
+    {
+        self.problem.device().node_count() as usize
+    }
+
     /// The node at which the net begins.
     pub(crate) fn source(&self) -> u32
         ensures { result ≡ self.now.net.source }
@@ -148,13 +154,5 @@ impl<'a> SearchSpace<'a> {
         ensures { IfSome result (λ sink. LeadsOnlyTo self.now node sink) }
     {
         self.problem.device().sink_of(node)
-    }
-
-    /// No way from the node to a sink costs less.
-    #[tactic(auto, unfolding(crate::specs::Wave::bound_of))]
-    pub(crate) fn bound(&self, _node: u32) -> u128
-        ensures { result ≡ bound_of self.now _node }
-    {
-        0
     }
 }

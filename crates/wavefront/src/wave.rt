@@ -2,33 +2,60 @@
 
 ghost use Rattle.std.specs.Prelude.{◌≡◌, ℕ, ◌+◌, ◌<◌, ◌≤◌};
 
+use crate::bounds::Bounds;
+use crate::keys::Key;
 use crate::labels::{FAR, Label, Labels};
 use crate::queue::{Entry, Queue};
 use crate::space::SearchSpace;
 use smallvec::SmallVec;
 use std::alloc::{AllocError, Global};
+use std::marker::Model;
 
-/// The labels, and the nodes whose labels have yet to go along their edges.
+/// The labels, and the nodes whose labels have yet to go along their edges. Contracts see the record of both.
 #[derive(Drop)]
-pub(crate) struct Wave {
-    pub(crate) labels: Labels,
-    pub(crate) queue: Queue,
+pub(crate) struct Wave<K: Key> {
+    labels: Labels<K>,
+    queue: Queue<K>,
+    /// What costs this or more may have been left out.
+    limit: u128,
+    bounds: Bounds,
 }
 
-impl Wave {
-    ghost use Rattle.std.specs.Prelude.{length, IfOk, OnOk, IfSome, IfNone, IsTrue, ◌↔◌, ◌⊎◌, [], Contains, reverse};
-    ghost use Rattle.wavefront.specs.Space.{IsSpace, HasEdge, IsInside, entry_cost, node_count};
-    ghost use Rattle.wavefront.specs.Wave.{IsWave, IsComplete, StillComplete, IsOrigin, IsOpen, IsDead, WentOn, bound_of, key_of, parent_of};
-    ghost use Rattle.wavefront.specs.Steps.{IsPopped, IsNearest, IsLowered, IsPreferred, Spreads, SameOrigins, MoreOrigins, WentAlong, NoOrigins, IsTaken, IsLeastKey, IsTraced};
+impl<K: Key> Model for Wave<K> {
+    ghost use Rattle.wavefront.specs.WaveState.{Wave};
+
+    ghost Value = { Wave };
+
+    ghost use Rattle.wavefront.specs.WaveState.{wave_of, LeavesOutNoneBelow};
+
+    ghost view = { wave_of };
+
+    ghost invariant = { LeavesOutNoneBelow K.range };
+}
+
+impl<K: Key> Wave<K> {
+    ghost use Rattle.std.specs.Prelude.{length, ◌==◌, ◌⊎◌, OnOk, IfOk, IsTrue, eqb, not};
+    ghost use Rattle.wavefront.specs.Space.{node_count};
+    ghost use Rattle.wavefront.specs.Wave.{IsWave, IsComplete, IsOrigin, StillComplete, bound_of, key_of, label_at};
+    ghost use Rattle.wavefront.specs.Steps.{IsPopped, IsLowered, IsPreferred, LeavesOut, MoreOrigins, NoOrigins};
 
     /// A wave over so many nodes.
-    pub(crate) fn new(alloc: Global, nodes: usize) -> Result<Wave, AllocError>
+    pub(crate) fn new(alloc: Global, nodes: usize) -> Result<Wave<K>, AllocError>
         ensures { IfOk result (λ w. length w.labels ≡ nodes) }
     {
         Ok(Wave {
             labels: Labels::new(alloc, nodes)?,
             queue: Queue::new(alloc),
+            limit: FAR,
+            bounds: Bounds,
         })
+    }
+
+    /// How many nodes there are.
+    pub(crate) fn len(&self) -> usize
+        ensures { result ≡ length self.now.labels }
+    {
+        self.labels.len()
     }
 
     /// Takes all labels off.
@@ -40,33 +67,98 @@ impl Wave {
     {
         self.labels.clear();
         self.queue.clear();
+        self.limit = FAR;
     }
 
-    /// Lowers a node's label.
-    fn lower(&mut self, space: &SearchSpace<'_>, node: u32, label: Label) -> Result<(), AllocError>
+    /// A node's label.
+    fn label(&self, node: u32) -> Label
+        requires { node < length self.now.labels }
+        ensures { result ≡ label_at self.now node }
+    {
+        self.labels.get(node)
+    }
+
+    /// No way from the node to a sink costs less.
+    fn bound(&self, space: &SearchSpace<'_>, node: u32) -> u128
+        ensures { result ≡ bound_of space.now node }
+    {
+        self.bounds.at(space, node)
+    }
+
+    /// Whether nothing waits.
+    fn is_spent(&self) -> bool
+        ensures { result ≡ eqb (length self.now.queue) 0 }
+    {
+        self.queue.is_empty()
+    }
+
+    /// What costs this or more may have been left out.
+    fn limit(&self) -> u128
+        ensures { result ≡ self.now.limit }
+    {
+        self.limit
+    }
+
+    /// Whether a way may have been left out since its cost is too great for the keys.
+    pub(crate) fn leaves_out(&self) -> bool
+        ensures left { result ≡ not (self.now.limit == FAR) }
+        ensures narrow { IsTrue result → K.range < FAR }
+    {
+        self.limit != FAR
+    }
+
+    /// Puts a label that fits, and lets the node wait.
+    fn put(
+        &mut self,
+        space: &SearchSpace<'_>,
+        node: u32,
+        key: K,
+        parent: u32,
+    ) -> Result<(), AllocError>
         requires { node < length self.old.labels }
-        ensures lowered { OnOk result (IsLowered space.now self.old self.new node label) }
+        ensures lowered { OnOk result (IsLowered space.now self.old self.new node
+            (record { key = K.value key; parent = parent })) }
         ensures rows { length self.new.labels ≡ length self.old.labels }
     {
-        self.labels.set(node, label);
-        self.queue.push(Entry {
-            key: label.key.saturating_add(space.bound(node)),
-            node,
-        })
+        self.labels.set(node, key, parent);
+        let nearest = K::fit(key.wide().saturating_add(self.bounds.at(space, node))).unwrap_or(key);
+        self.queue.push(nearest, node)
     }
 
-    /// Of ways that cost the same, keeps the one over the least node: no key changes.
-    fn prefer(&mut self, node: u32, label: Label)
+    /// Leaves out what costs so much or more.
+    fn leave_out(&mut self, key: u128)
+        requires { K.range ≤ key }
+        ensures { LeavesOut self.old self.new key }
+    {
+        self.limit = self.limit.min(key);
+    }
+
+    /// Lowers a node's label, or leaves it out where it doesn't fit.
+    fn lower(&mut self, space: &SearchSpace<'_>, node: u32, label: Label) -> Result<(), AllocError>
         requires { node < length self.old.labels }
+        ensures lowered { OnOk result (IsLowered space.now self.old self.new node label ⊎
+            LeavesOut self.old self.new label.key) }
+        ensures rows { length self.new.labels ≡ length self.old.labels }
+    {
+        match K::fit(label.key) {
+            Some(key) => self.put(space, node, key, label.parent),
+            None => {
+                self.leave_out(label.key);
+                Ok(())
+            }
+        }
+    }
+
+    /// Puts another parent on a node whose key is the label's.
+    fn set(&mut self, node: u32, label: Label)
+        requires there { node < length self.old.labels }
+        requires same { label.key ≡ key_of self.old node }
+        requires reached { label.key < FAR }
+        requires later { IsOrigin self.old node → ⊥ }
         ensures { (self.new ≡ self.old) ⊎ IsPreferred self.old self.new node label }
     {
-        let old = self.labels.get(node);
-        if label.key == old.key
-            && label.key < FAR
-            && label.parent < old.parent
-            && old.parent != node
-        {
-            self.labels.set(node, label);
+        if let Some(key) = K::fit(label.key) {
+            self.labels.set(node, key, label.parent);
         }
     }
 
@@ -79,22 +171,30 @@ impl Wave {
         ensures origins { OnOk result (MoreOrigins self.old self.new node) }
         ensures rows { length self.new.labels ≡ node_count space.now }
     {
-        self.lower(
-            space,
-            node,
-            Label {
-                key: 0,
-                parent: node,
-            },
-        )
+        self.put(space, node, K::zero(), node)
     }
+
+    /// Takes the entry that is nearest out of the queue.
+    fn pop(&mut self) -> Entry
+        requires { 0 < length self.old.queue }
+        ensures { IsPopped self.old self.new result }
+    {
+        self.queue.pop()
+    }
+}
+
+impl<K: Key> Wave<K> {
+    ghost use Rattle.std.specs.Prelude.{length, IfOk, OnOk, IfSome, IfNone, IsTrue, ◌↔◌, ◌⊎◌, [], Contains, reverse};
+    ghost use Rattle.wavefront.specs.Space.{IsSpace, HasEdge, IsInside, entry_cost, node_count};
+    ghost use Rattle.wavefront.specs.Wave.{IsWave, IsComplete, StillComplete, IsOrigin, IsOpen, IsDead, WentOn, bound_of, key_of, parent_of};
+    ghost use Rattle.wavefront.specs.Steps.{IsPopped, IsNearest, IsLowered, IsPreferred, Spreads, SameOrigins, MoreOrigins, WentAlong, NoOrigins, IsTaken, IsLeastKey, IsTraced};
 
     /// Whether the wave starts here.
     pub(crate) fn starts_at(&self, node: u32) -> bool
         requires { node < length self.now.labels }
         ensures { IsTrue result ↔ IsOrigin self.now node }
     {
-        let label = self.labels.get(node);
+        let label = self.label(node);
         label.key == 0 && label.parent == node
     }
 
@@ -116,6 +216,21 @@ impl Wave {
         match space.sink_of(node) {
             Some(sink) => !self.is_open(space, sink),
             None => false,
+        }
+    }
+
+    /// Of ways that cost the same, keeps the one over the least node: no key changes.
+    fn prefer(&mut self, node: u32, label: Label)
+        requires { node < length self.old.labels }
+        ensures { (self.new ≡ self.old) ⊎ IsPreferred self.old self.new node label }
+    {
+        let old = self.label(node);
+        if label.key == old.key
+            && label.key < FAR
+            && label.parent < old.parent
+            && old.parent != node
+        {
+            self.set(node, label);
         }
     }
 
@@ -147,7 +262,7 @@ impl Wave {
             key: key.saturating_add(space.cost(to)),
             parent: from,
         };
-        if label.key < self.labels.get(to).key {
+        if label.key < self.label(to).key {
             return self.lower(space, to, label);
         }
         self.prefer(to, label);
@@ -200,15 +315,7 @@ impl Wave {
         Ok(())
     }
 
-    /// Takes the entry that is nearest out of the queue.
-    fn pop(&mut self) -> Entry
-        requires { 0 < length self.old.queue }
-        ensures { IsPopped self.old self.new result }
-    {
-        self.queue.pop()
-    }
-
-    /// The same, and what the search knows then.
+    /// Takes the entry that is nearest, and what the search knows then.
     fn nearest(&mut self, space: &SearchSpace<'_>) -> Entry
         requires some { 0 < length self.old.queue }
         requires wave { IsWave space.now self.old }
@@ -230,14 +337,17 @@ impl Wave {
         ensures wave { OnOk result (IsWave space.now self.new) }
         ensures origins { OnOk result (SameOrigins self.old self.new) }
         ensures taken { IfOk result (λ taken. IfSome taken (λ t. IsTaken space.now self.new t)) }
-        ensures complete { IfOk result (λ taken. IfNone taken (IsComplete space.now self.new)) }
-        ensures spent { IfOk result (λ taken. IfNone taken (IsLeastKey space.now self.new FAR)) }
+        ensures spent { IfOk result
+            (λ taken. IfNone taken (IsLeastKey space.now self.new self.new.limit)) }
         ensures rows { length self.new.labels ≡ node_count space.now }
     {
-        while !self.queue.is_empty() {
+        while !self.is_spent() {
             let entry = self.nearest(space);
-            let label = self.labels.get(entry.node);
-            if label.key.saturating_add(space.bound(entry.node)) < entry.key {
+            if self.limit() < entry.key {
+                return Ok(None);
+            }
+            let label = self.label(entry.node);
+            if label.key.saturating_add(self.bound(space, entry.node)) < entry.key {
                 continue;
             }
             if self.is_open(space, entry.node) {
@@ -282,10 +392,10 @@ impl Wave {
         ensures { IfOk result (λ a. IsTraced space.now self.now a (reverse way.new.items) sink) }
     {
         way.push(sink)?;
-        let mut node = self.labels.get(sink).parent;
+        let mut node = self.label(sink).parent;
         while !self.starts_at(node) {
             way.push(node)?;
-            node = self.labels.get(node).parent;
+            node = self.label(node).parent;
         }
         Ok(node)
     }

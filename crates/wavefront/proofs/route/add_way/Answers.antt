@@ -7,18 +7,19 @@ use Rattle.wavefront.proofs.RowNodes.{start_row, same_root}
 use Rattle.wavefront.proofs.WayNodes.{way_in}
 use Rattle.wavefront.proofs.Shortcut.{shut}
 use Rattle.wavefront.proofs.route.add_way.Goals as goal
+use Rattle.wavefront.proofs.route.add_way.Given.{Over}
 
 pub returns-in_default-clause-shut : goal.returns-in_default-clause-shut
-returns-in_default-clause-shut c _ = shut c.args.space.now (pairs_of c.args.tree.now) c.args.scratch.now.wave c.take_sink.new.self c.requires.space c.requires.growth.origins c.in_ok-sink.ensures.origins (rw c.in_default.is at c.in_ok-sink.ensures.spent)
+returns-in_default-clause-shut g c _ all = shut c.args.space.now (pairs_of c.args.tree.now) c.args.scratch.now.wave c.take_sink.new.self c.requires.space c.requires.growth.origins c.in_ok-sink.ensures.origins (rw all at (rw c.in_default.is at c.in_ok-sink.ensures.spent))
 
-first_start : (c : goal.After-as_slice) → IsStart c.args.space.now (pairs_of c.args.tree.now) c.in_ok-start.start
-first_start c = (c.requires.growth.origins c.in_ok-start.start).0 ((c.in_ok-sink.ensures.origins c.in_ok-start.start).0 c.in_ok-start.ensures.start)
+first_start : (g : Over) → (c : goal.After-as_slice g) → IsStart c.args.space.now (pairs_of c.args.tree.now) c.in_ok-start.start
+first_start g c = (c.requires.growth.origins c.in_ok-start.start).0 ((c.in_ok-sink.ensures.origins c.in_ok-start.start).0 c.in_ok-start.ensures.start)
 
 pub row_of-requires : goal.row_of-requires
-row_of-requires c = rw c.as_slice.ensures.rows (start_row c.args.space.now c.args.tree.now c.in_ok-start.start c.as_slice.ensures.tree c.requires.growth.root (first_start c).covered)
+row_of-requires g c = rw c.as_slice.ensures.rows (start_row c.args.space.now c.args.tree.now c.in_ok-start.start c.as_slice.ensures.tree c.requires.growth.root (first_start g c).covered)
 
-added : (c : goal.In_ok-start_all) → IsAdded c.args.space.now (pairs_of c.args.tree.now) c.trace.new.way.items c.args.scratch.now.wave c.take_sink.new.self c.leave_source.new.wave c.start_all.new.wave c.in_ok-start.start c.in-Some.sink
-added c = record {
+added : (g : Over) → (c : goal.In_ok-start_all g) → IsAdded c.args.space.now (pairs_of c.args.tree.now) c.trace.new.way.items c.args.scratch.now.wave c.take_sink.new.self c.leave_source.new.wave c.start_all.new.wave c.in_ok-start.start c.in-Some.sink
+added g c = record {
   ok = c.requires.space;
   grown = c.requires.growth.grown;
   origins = c.requires.growth.origins;
@@ -30,15 +31,15 @@ added c = record {
 }
 
 pub start_all-requires-clause-nodes : goal.start_all-requires-clause-nodes
-start_all-requires-clause-nodes c = rw c.deref-2.ensures.value (way_in c.args.space.now c.in_ok-start.start c.in-Some.sink c.trace.new.way.items c.requires.space c.in_ok-start.ensures.walk)
+start_all-requires-clause-nodes g c = rw c.deref-2.ensures.value (way_in c.args.space.now c.in_ok-start.start c.in-Some.sink c.trace.new.way.items c.requires.space c.in_ok-start.ensures.walk)
 
 pub returns-clause-growth : goal.returns-clause-growth
-returns-clause-growth c = added_growth _ _ _ _ _ _ _ _ _ (added c) c.attach.new.self
+returns-clause-growth g c _ = added_growth _ _ _ _ _ _ _ _ _ (added g c) c.attach.new.self
     (ap (λ rows. node_in rows 0) c.in_ok-attach.ensures.rows ∙ same_root c.args.tree.now _ c.as_slice.ensures.tree ∙ c.requires.growth.root)
     (c.in_ok-attach.ensures.pairs ∙ ap (λ a. pairs_of c.args.tree.now ++ pairs_along a c.deref.result.now) (ap (λ rows. node_in rows c.row_of.result) (sym c.as_slice.ensures.rows) ∙ c.row_of.ensures.node) ∙ ap (λ way. pairs_of c.args.tree.now ++ pairs_along c.in_ok-start.start way) c.deref.ensures.value)
 
 pub returns-clause-kept : goal.returns-clause-kept
-returns-clause-kept c v = added_kept _ _ _ _ _ _ _ _ _ (added c) v
+returns-clause-kept g c _ v = added_kept _ _ _ _ _ _ _ _ _ (added g c) v
 
 pub returns-clause-less : goal.returns-clause-less
-returns-clause-less c _ = let ends = added_taken _ _ _ _ _ _ _ _ _ (added c) in fewer_open c.args.space.now c.args.scratch.now.wave c.start_all.new.wave c.in-Some.sink (added c).taken.«open».0 ends.0 ends.1 (λ v. added_kept _ _ _ _ _ _ _ _ _ (added c) v)
+returns-clause-less g c _ = let ends = added_taken _ _ _ _ _ _ _ _ _ (added g c) in fewer_open c.args.space.now c.args.scratch.now.wave c.start_all.new.wave c.in-Some.sink (added g c).taken.«open».0 ends.0 ends.1 (λ v. added_kept _ _ _ _ _ _ _ _ _ (added g c) v)

@@ -4,7 +4,7 @@ use Rattle.route_tree.specs.Rows.{pairs_of}
 use Rattle.wavefront.proofs.route.leave_source.Goals as goal
 
 pub returns-then-pairs-eq0 : goal.returns-then-pairs-eq0
-returns-then-pairs-eq0 c =
+returns-then-pairs-eq0 g c =
     let none : pairs_of c.args.tree.now ≡ [] = nil_from_length (pairs_of c.args.tree.now) (sym c.pairs.ensures.count ∙ c.if-pairs-eq0.true) in
     record {
       wave = c.clear.ensures.wave;

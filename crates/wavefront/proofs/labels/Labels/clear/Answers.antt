@@ -1,14 +1,15 @@
-use Rattle.std.proofs.Common.{rules, length, ap, sym, ◌≡◌, ◌∙◌, refl}
+use Rattle.std.proofs.Common.{length, ap, sym, ◌≡◌, ◌∙◌}
 use Rattle.std.proofs.lemmas.List.{length-map}
-use Rattle.wavefront.proofs.Stamped.{cleared, cleared_blank}
+use Rattle.wavefront.proofs.Stamped.{cleared, cleared_off}
 use Rattle.wavefront.proofs.labels.Labels.clear.Goals as goal
 use Rattle.wavefront.proofs.labels.Labels.clear.Goals.{then-self, else-self}
+use Rattle.wavefront.proofs.labels.Labels.clear.Given.{Over}
 
-count : (c : goal.After-self-2-1) → length c.self.inside.rows.items ≡ length c.args.self.now
-count c = sym (length-map c.self.inside.rows.items _) ∙ ap length c.self.view_is
+count : (g : Over) (c : goal.After-self-2-1 g) → length c.self.inside.rows.items ≡ length c.args.self.now
+count g c = sym (length-map c.self.inside.rows.items _) ∙ ap length c.self.view_is
 
 pub returns : goal.returns
-returns c = elim c.if-self.branch [
-  | then-self w ↦ rw (w.self-inside-is, ← count c) (cleared_blank 0 (length c.self.inside.rows.items) w.fill.new.self.items refl (search rules))
-  | else-self w ↦ rw (w.self-inside-is, ← count c) (cleared c.self.inside.stamp c.self.inside.rows.items c.self.invariant)
+returns g c = elim c.if-self.branch [
+  | then-self w ↦ rw (w.self-inside-is, ← count g c, ← w.take_stamps_off.ensures.size) (cleared_off g.K.Key.value w.take_stamps_off.new.rows.items w.take_stamps_off.ensures.off)
+  | else-self w ↦ rw (w.self-inside-is, ← count g c) (cleared g.K.Key.value c.self.inside.stamp c.self.inside.rows.items c.self.invariant)
 ]

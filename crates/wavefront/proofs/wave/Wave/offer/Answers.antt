@@ -7,63 +7,74 @@ use Rattle.wavefront.specs.Wave.{key_of}
 use Rattle.wavefront.specs.Steps.{IsPreferred}
 use Rattle.wavefront.proofs.Lower.{lowered_wave, lowered_here, offered_spreads, offered_entered, spreads_refl}
 use Rattle.wavefront.proofs.Preferred.{preferred_wave, preferred_spreads}
+use Rattle.wavefront.proofs.LeftOut.{left_wave, left_spreads}
 use Rattle.wavefront.proofs.wave.Wave.offer.Goals as goal
 use Rattle.wavefront.proofs.wave.Wave.offer.Goals.{After-lower, After-prefer}
+use Rattle.wavefront.proofs.wave.Wave.offer.Given.{Over}
 
-abbrev label : After-lower → Label
-label c = record { key = c.saturating_add.result; parent = c.args.from }
+abbrev label : (g : Over) → After-lower g → Label
+label g c = record { key = c.saturating_add.result; parent = c.args.from }
 
-inside : (c : After-lower) → c.args.to < length c.args.self.now.labels
-inside c = omega (arith, c.requires.wave.rows, c.requires.space.range c.args.from c.args.to c.requires.edge)
+inside : (g : Over) → (c : After-lower g) → c.args.to < length c.args.self.now.labels
+inside g c = omega (arith, c.requires.wave.rows, c.requires.space.range c.args.from c.args.to c.requires.edge)
 
-cheaper : (c : After-lower) → c.saturating_add.result < key_of c.args.self.now c.args.to
-cheaper c = let e = ap (λ l. l.key) c.get.ensures in omega (arith, e, c.if-label-get.true)
+cheaper : (g : Over) → (c : After-lower g) → c.saturating_add.result < key_of c.args.self.now c.args.to
+cheaper g c = let e = ap (λ l. l.key) c.label.ensures in omega (arith, e, c.if-label.true)
 
 -- since the sum is below a key, it is not cut off
-exact : (c : After-lower) → c.saturating_add.result ≡ c.args.key + entry_cost c.args.space.now c.args.to
-exact c =
+exact : (g : Over) → (c : After-lower g) → c.saturating_add.result ≡ c.args.key + entry_cost c.args.space.now c.args.to
+exact g c =
     let near = c.requires.wave.near c.args.to in
-    let less = cheaper c in
+    let less = cheaper g c in
     omega (arith, near, less, c.cost.ensures, c.saturating_add.ensures)
 
-pub returns-then-label-get-clause-wave : goal.returns-then-label-get-clause-wave
-returns-then-label-get-clause-wave c = on_ok_weaker c.lower.result (λ r.
-    let near = c.requires.wave.near c.args.to in
-    let less = cheaper c in
-    let entered = offered_entered c.args.space.now c.args.self.now c.lower.new.self c.args.from c.args.to c.args.key (label c) r (inside c) refl less c.requires.from c.requires.near c.requires.edge (sym c.is_inside.ensures ∙ c.if-not-is_inside.false) (exact c) in
-    lowered_wave c.args.space.now c.args.self.now c.lower.new.self c.args.to (label c) r c.requires.wave (c.requires.space.range c.args.from c.args.to c.requires.edge) (omega (arith, less)) (omega (arith, near, less)) (inr entered)) c.lower.ensures.lowered
+pub returns-then-label-clause-wave : goal.returns-then-label-clause-wave
+returns-then-label-clause-wave g c = on_ok_weaker c.lower.result (λ h. elim h [
+  | inl r ↦
+      let near = c.requires.wave.near c.args.to in
+      let less = cheaper g c in
+      let entered = offered_entered c.args.space.now c.args.self.now c.lower.new.self c.args.from c.args.to c.args.key (label g c) r (inside g c) refl less c.requires.from c.requires.near c.requires.edge (sym c.is_inside.ensures ∙ c.if-not-is_inside.false) (exact g c) in
+      lowered_wave c.args.space.now c.args.self.now c.lower.new.self c.args.to (label g c) r c.requires.wave (c.requires.space.range c.args.from c.args.to c.requires.edge) (omega (arith, less)) (omega (arith, near, less)) (inr entered)
+  | inr left ↦ left_wave c.args.space.now c.args.self.now c.lower.new.self c.saturating_add.result left c.requires.wave
+]) c.lower.ensures.lowered
 
-pub returns-then-label-get-clause-spreads : goal.returns-then-label-get-clause-spreads
-returns-then-label-get-clause-spreads c = on_ok_weaker c.lower.result (λ r. offered_spreads c.args.space.now c.args.self.now c.lower.new.self c.args.to (label c) r (inside c) (cheaper c) (omega (arith, c.requires.from, exact c))) c.lower.ensures.lowered
+pub returns-then-label-clause-spreads : goal.returns-then-label-clause-spreads
+returns-then-label-clause-spreads g c = on_ok_weaker c.lower.result (λ h. elim h [
+  | inl r ↦ offered_spreads c.args.space.now c.args.self.now c.lower.new.self c.args.to (label g c) r (inside g c) (cheaper g c) (omega (arith, c.requires.from, exact g c))
+  | inr left ↦ left_spreads c.args.space.now c.args.self.now c.lower.new.self c.saturating_add.result left
+]) c.lower.ensures.lowered
 
-pub returns-then-label-get-clause-at : goal.returns-then-label-get-clause-at
-returns-then-label-get-clause-at c = on_ok_weaker c.lower.result (λ r _. inr (let here = lowered_here c.args.space.now c.args.self.now c.lower.new.self c.args.to (label c) r (inside c) in omega (arith, here, exact c))) c.lower.ensures.lowered
+pub returns-then-label-clause-at : goal.returns-then-label-clause-at
+returns-then-label-clause-at g c = on_ok_weaker c.lower.result (λ h _. inr (elim h [
+  | inl r ↦ let here = lowered_here c.args.space.now c.args.self.now c.lower.new.self c.args.to (label g c) r (inside g c) in omega (arith, here, exact g c)
+  | inr left ↦ let limit = left.limit in omega (arith, limit, exact g c)
+])) c.lower.ensures.lowered
 
-abbrev other : After-prefer → Label
-other c = record { key = c.saturating_add.result; parent = c.args.from }
+abbrev other : (g : Over) → After-prefer g → Label
+other g c = record { key = c.saturating_add.result; parent = c.args.from }
 
-there : (c : After-prefer) → c.args.to < length c.args.self.now.labels
-there c = omega (arith, c.requires.wave.rows, c.requires.space.range c.args.from c.args.to c.requires.edge)
+there : (g : Over) → (c : After-prefer g) → c.args.to < length c.args.self.now.labels
+there g c = omega (arith, c.requires.wave.rows, c.requires.space.range c.args.from c.args.to c.requires.edge)
 
-exact_other : (c : After-prefer) → c.saturating_add.result < FAR → c.saturating_add.result ≡ c.args.key + entry_cost c.args.space.now c.args.to
-exact_other c near = omega (arith, near, c.cost.ensures, c.saturating_add.ensures)
+exact_other : (g : Over) → (c : After-prefer g) → c.saturating_add.result < FAR → c.saturating_add.result ≡ c.args.key + entry_cost c.args.space.now c.args.to
+exact_other g c near = omega (arith, near, c.cost.ensures, c.saturating_add.ensures)
 
 -- a node that leads to itself is no way to itself
-apart : (c : After-prefer) → IsPreferred c.args.self.now c.prefer.new.self c.args.to (other c) → c.args.from ≡ c.args.to → ⊥
-apart c r e =
+apart : (g : Over) → (c : After-prefer g) → IsPreferred c.args.self.now c.prefer.new.self c.args.to (other g c) → c.args.from ≡ c.args.to → ⊥
+apart g c r e =
     let loop = subst (λ x. HasEdge c.args.space.now x c.args.to) e c.requires.edge in
     let costs = c.requires.space.costly c.args.to c.args.to c.args.to loop loop in
     let k = ap (key_of c.args.self.now) e in
-    omega (arith, costs, k, r.same, exact_other c r.reached, c.requires.from)
+    omega (arith, costs, k, r.same, exact_other g c r.reached, c.requires.from)
 
 pub returns-clause-wave : goal.returns-clause-wave
-returns-clause-wave c = elim c.prefer.ensures [
+returns-clause-wave g c = elim c.prefer.ensures [
   | inl e ↦ rw e c.requires.wave
-  | inr r ↦ preferred_wave c.args.space.now c.args.self.now c.prefer.new.self c.args.to c.args.key (other c) r c.requires.wave (there c) c.requires.from c.requires.near c.requires.edge (sym c.is_inside.ensures ∙ c.if-not-is_inside.false) (exact_other c r.reached)
+  | inr r ↦ preferred_wave c.args.space.now c.args.self.now c.prefer.new.self c.args.to c.args.key (other g c) r c.requires.wave (there g c) c.requires.from c.requires.near c.requires.edge (sym c.is_inside.ensures ∙ c.if-not-is_inside.false) (exact_other g c r.reached)
 ]
 
 pub returns-clause-spreads : goal.returns-clause-spreads
-returns-clause-spreads c = elim c.prefer.ensures [
+returns-clause-spreads g c = elim c.prefer.ensures [
   | inl e ↦ rw e (spreads_refl c.args.space.now c.args.self.now)
-  | inr r ↦ preferred_spreads c.args.space.now c.args.self.now c.prefer.new.self c.args.to (other c) r (there c) (apart c r)
+  | inr r ↦ preferred_spreads c.args.space.now c.args.self.now c.prefer.new.self c.args.to (other g c) r (there g c) (apart g c r)
 ]

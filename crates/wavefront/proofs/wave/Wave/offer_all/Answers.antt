@@ -5,20 +5,20 @@ use Rattle.wavefront.proofs.Went.{went_more, went_all}
 use Rattle.wavefront.proofs.wave.Wave.offer_all.Goals as goal
 
 pub loop-to-init : goal.loop-to-init
-loop-to-init c = record { wave = c.requires.wave; spreads = spreads_refl c.args.space.now c.args.self.now; went = λ k lt inside. absurd (omega arith) }
+loop-to-init g c = record { wave = c.requires.wave; spreads = spreads_refl c.args.space.now c.args.self.now; went = λ k lt inside. absurd (omega arith) }
 
 pub offer-requires-clause-from : goal.offer-requires-clause-from
-offer-requires-clause-from c = let d = c.loop-to.invariant.spreads.lowers.down c.args.node in omega (arith, d, c.requires.from)
+offer-requires-clause-from g c = let d = c.loop-to.invariant.spreads.lowers.down c.args.node in omega (arith, d, c.requires.from)
 
 pub offer-requires-clause-edge : goal.offer-requires-clause-edge
-offer-requires-clause-edge c = c.requires.edges _ (Contains-get_or c.args.next.now c.loop-to.to-index 0 c.loop-to-test.true)
+offer-requires-clause-edge g c = c.requires.edges _ (Contains-get_or c.args.next.now c.loop-to.to-index 0 c.loop-to-test.true)
 
 pub loop-to-preserved : goal.loop-to-preserved
-loop-to-preserved c = record {
+loop-to-preserved g c = record {
   wave = c.in_ok-offer.ensures.wave;
   spreads = spreads_trans c.args.space.now c.args.self.now c.loop-to.self c.offer.new.self c.loop-to.invariant.spreads c.in_ok-offer.ensures.spreads;
   went = went_more c.args.space.now c.args.next.now c.loop-to.self c.offer.new.self c.args.key c.loop-to.to-index c.loop-to.invariant.went c.in_ok-offer.ensures.spreads.lowers c.in_ok-offer.ensures.at;
 }
 
 pub returns-clause-went : goal.returns-clause-went
-returns-clause-went c = went_all c.args.space.now c.args.next.now c.loop-to.self c.args.key c.loop-to.to-index c.loop-to-test.false c.loop-to.invariant.went
+returns-clause-went g c = went_all c.args.space.now c.args.next.now c.loop-to.self c.args.key c.loop-to.to-index c.loop-to-test.false c.loop-to.invariant.went

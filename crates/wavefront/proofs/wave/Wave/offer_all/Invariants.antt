@@ -4,7 +4,7 @@ use Rattle.wavefront.proofs.Went.{Went}
 use Rattle.wavefront.proofs.wave.Wave.offer_all.Given as goal
 
 abbrev pub invariant-loop-to : goal.invariant-loop-to
-invariant-loop-to l = record {
+invariant-loop-to g l = record {
   wave : IsWave l.space l.self;
   spreads : Spreads l.space l.fn.self l.self;
   went : Went l.space l.next l.self l.key l.to-index;

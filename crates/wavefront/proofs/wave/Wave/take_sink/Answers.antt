@@ -1,12 +1,12 @@
 use Rattle.std.proofs.Common.{◌∙◌, ap, arith, sym, length}
 use Rattle.std.proofs.lemmas.Bool.{false≢true, eqb-true}
 use Rattle.wavefront.proofs.Lower.{expanded_complete, same_origins_trans}
-use Rattle.wavefront.proofs.Bounds.{spent_least, taken}
+use Rattle.wavefront.proofs.LeastEntry.{spent_least, taken}
 use Rattle.wavefront.proofs.wave.Wave.take_sink.Goals as goal
 
 pub loop-self-preserved-then-saturating_add-entry : goal.loop-self-preserved-then-saturating_add-entry
-loop-self-preserved-then-saturating_add-entry c =
-    let at = ap (λ l. l.key) c.get-label.ensures in
+loop-self-preserved-then-saturating_add-entry g c =
+    let at = ap (λ l. l.key) c.label-label.ensures in
     record {
       wave = c.nearest-entry.ensures.wave;
       complete = c.nearest-entry.ensures.late (omega (arith, at, c.bound.ensures, c.saturating_add.ensures, c.if-saturating_add-entry.true, c.nearest-entry.type_inv));
@@ -14,20 +14,27 @@ loop-self-preserved-then-saturating_add-entry c =
     }
 
 pub returns-then-is_open-clause-origins : goal.returns-then-is_open-clause-origins
-returns-then-is_open-clause-origins c = same_origins_trans c.args.self.now c.loop-self.self c.nearest-entry.new.self c.loop-self.invariant.origins c.nearest-entry.ensures.origins
+returns-then-is_open-clause-origins g c = same_origins_trans c.args.self.now c.loop-self.self c.nearest-entry.new.self c.loop-self.invariant.origins c.nearest-entry.ensures.origins
 
 pub returns-then-is_open-clause-taken : goal.returns-then-is_open-clause-taken
-returns-then-is_open-clause-taken c = taken c.args.space.now c.loop-self.self c.nearest-entry.new.self c.nearest-entry.result c.nearest-entry.ensures (c.is_open.ensures.0 c.if-is_open.true)
+returns-then-is_open-clause-taken g c = taken c.args.space.now c.loop-self.self c.nearest-entry.new.self c.nearest-entry.result c.nearest-entry.ensures (omega (arith, c.limit.ensures, c.if-limit-entry.false)) (c.is_open.ensures.0 c.if-is_open.true)
 
 pub loop-self-preserved : goal.loop-self-preserved
-loop-self-preserved c =
-    let at = ap (λ l. l.key) c.get-label.ensures in
+loop-self-preserved g c =
+    let at = ap (λ l. l.key) c.label-label.ensures in
     let s = c.in_ok-expand.ensures.spreads in
     record {
       wave = c.in_ok-expand.ensures.wave;
-      complete = expanded_complete c.args.space.now c.nearest-entry.new.self c.expand.new.self c.nearest-entry.result.node c.get-label.result.key c.nearest-entry.ensures.others s.lowers at c.in_ok-expand.ensures.went (λ h. false≢true (sym c.if-is_open.false ∙ c.is_open.ensures.1 h));
+      complete = expanded_complete c.args.space.now c.nearest-entry.new.self c.expand.new.self c.nearest-entry.result.node c.label-label.result.key c.nearest-entry.ensures.others s.lowers at c.in_ok-expand.ensures.went (λ h. false≢true (sym c.if-is_open.false ∙ c.is_open.ensures.1 h));
       origins = same_origins_trans c.args.self.now c.nearest-entry.new.self c.expand.new.self (same_origins_trans c.args.self.now c.loop-self.self c.nearest-entry.new.self c.loop-self.invariant.origins c.nearest-entry.ensures.origins) s.origins;
     }
 
 pub returns-clause-spent : goal.returns-clause-spent
-returns-clause-spent c = spent_least c.args.space.now c.loop-self.self c.loop-self.invariant.complete (eqb-true (length c.loop-self.self.queue) 0 (sym c.is_empty.ensures ∙ c.loop-self-test.false))
+returns-clause-spent g c = spent_least c.args.space.now c.loop-self.self c.loop-self.invariant.wave c.loop-self.invariant.complete (eqb-true (length c.loop-self.self.queue) 0 (sym c.is_spent.ensures ∙ c.loop-self-test.false))
+
+pub returns-then-limit-entry-clause-origins : goal.returns-then-limit-entry-clause-origins
+returns-then-limit-entry-clause-origins g c = same_origins_trans c.args.self.now c.loop-self.self c.nearest-entry.new.self c.loop-self.invariant.origins c.nearest-entry.ensures.origins
+
+-- what is dearer than the limit tells nothing of what is left out
+pub returns-then-limit-entry-clause-spent : goal.returns-then-limit-entry-clause-spent
+returns-then-limit-entry-clause-spent g c = λ a b way start aim walk. let least = c.nearest-entry.ensures.least a b way start aim walk in omega (arith, least, c.limit.ensures, c.if-limit-entry.true)

@@ -4,7 +4,7 @@ use Rattle.wavefront.proofs.Traced.{IsTracing}
 use Rattle.wavefront.proofs.wave.Wave.trace_back.Given as goal
 
 abbrev pub invariant-loop-way : goal.invariant-loop-way
-invariant-loop-way l = IsTracing l.space l.self l.node (reverse l.way.items) l.sink
+invariant-loop-way g l = IsTracing l.space l.self l.node (reverse l.way.items) l.sink
 
 abbrev pub decreases-loop-way : goal.decreases-loop-way
-decreases-loop-way l = key_of l.self l.node
+decreases-loop-way g l = key_of l.self l.node

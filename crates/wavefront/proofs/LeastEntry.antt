@@ -1,11 +1,11 @@
 -- What the taking of the least entry says of every way.
-use Rattle.std.proofs.Common.{◌≡◌, ℕ, ◌+◌, ◌<◌, ◌≤◌, List, [], ◌∷◌, length, Contains, slice_index_or, ◌⊎◌, inl, inr, refl, sym, ap, ◌∙◌, arith, sum_by}
+use Rattle.std.proofs.Common.{◌≡◌, ℕ, ◌+◌, ◌<◌, ◌≤◌, List, [], ◌∷◌, length, Contains, slice_index_or, ◌⊎◌, inl, inr, refl, sym, ap, ◌∙◌, arith, sum_by, min}
 use Rattle.std.proofs.lemmas.List.Sorted.{Contains-permutation, IsPermutation-sym, length_permutation}
 use Rattle.std.proofs.lemmas.List.{get_or_past}
 use Rattle.std.proofs.lemmas.Bool.{cases_lt}
 use Rattle.wavefront.specs.declared.labels.TheConstants.{FAR}
 use Rattle.wavefront.specs.declared.queue.Entry.{Entry}
-use Rattle.wavefront.specs.declared.wave.Wave.{Wave}
+use Rattle.wavefront.specs.WaveState.{Wave}
 use Rattle.wavefront.specs.Label.{unreached}
 use Rattle.wavefront.specs.Space.{Space, entry_cost}
 use Rattle.wavefront.specs.Ways.{IsWay, way_cost}
@@ -58,7 +58,7 @@ module _ (s t : Wave) (x : Entry) (p : IsPopped s t x) where
 
   popped_went : (space : Space) (key more b : ℕ) → key ≤ more → WentOn space s key b → WentOn space t more b
   popped_went space key more b up (inl dead) = inl (still_dead space s t b (λ c. (popped_origins c).1) dead)
-  popped_went space key more b up (inr went) = inr (let k = ap (λ l. l.key) (same_labels b) in omega (arith, k, went, up))
+  popped_went space key more b up (inr went) = inr (let k = ap (λ l. l.key) (same_labels b) in let limit = p.limit in omega (arith, k, limit, went, up))
 
   popped_settled : (space : Space) (v : ℕ) → IsSettled space s v → IsSettled space t v
   popped_settled space v settled = record {
@@ -70,6 +70,7 @@ module _ (s t : Wave) (x : Entry) (p : IsPopped s t x) where
   popped_wave space wave = record {
     rows = ap length p.labels ∙ wave.rows;
     near = λ v. let k = ap (λ l. l.key) (same_labels v) in let n = wave.near v in omega (arith, k, n);
+    within = let limit = p.limit in let n = wave.within in omega (arith, limit, n);
     entered = λ v near. let same = same_labels v in let k = ap (λ l. l.key) same in elim (wave.entered v (omega (arith, k, near))) [
       | inl o ↦ inl (same_origin s t v same o)
       | inr e ↦ inr (popped_entered space v e)
@@ -98,9 +99,9 @@ module _ (s t : Wave) (x : Entry) (p : IsPopped s t x) where
     each = λ v. popped_done space v (complete.each v) (λ e low. let k = ap (λ l. l.key) (same_labels x.node) in let d = ap (λ y. key_of s y + bound_of space y) e in omega (arith, k, d, low, less));
   }
 
--- some entry's key is at most k, or all are
+-- some entry's key is at most k, or what costs that much may be left out
 abbrev IsBound : Wave → ℕ → Type 0
-IsBound w k = (FAR ≤ k) ⊎ ((e : Entry) × Contains w.queue e × (e.key ≤ k))
+IsBound w k = (w.limit ≤ k) ⊎ ((e : Entry) × Contains w.queue e × (e.key ≤ k))
 
 bound_up : (w : Wave) (k m : ℕ) → k ≤ m → IsBound w k → IsBound w m
 bound_up w k m up (inl far) = inl (omega (arith, far, up))
@@ -111,9 +112,9 @@ bound_low : (space : Space) (v : ℕ) → bound_of space v ≡ 0
 unfolding bound_of
 bound_low space v = refl
 
-bound_at : (space : Space) (w : Wave) → IsComplete space w → (v k cost : ℕ) → key_of w v ≤ k → bound_of space v ≤ cost → IsBound w (k + cost) ⊎ IsSettled space w v
-bound_at space w complete v k cost above low = elim (cases_lt (key_of w v) FAR) [
-  | inr far ↦ inl (inl (omega (arith, far, above)))
+bound_at : (space : Space) (w : Wave) → w.limit ≤ FAR → IsComplete space w → (v k cost : ℕ) → key_of w v ≤ k → bound_of space v ≤ cost → IsBound w (k + cost) ⊎ IsSettled space w v
+bound_at space w within complete v k cost above low = elim (cases_lt (key_of w v) FAR) [
+  | inr far ↦ inl (inl (omega (arith, far, above, within)))
   | inl near ↦ elim (complete.each v near) [
     | inl waits ↦ inl (inr (waits.entry, waits.there, let at = waits.low in omega (arith, at, above, low)))
     | inr settled ↦ inr settled
@@ -121,40 +122,43 @@ bound_at space w complete v k cost above low = elim (cases_lt (key_of w v) FAR) 
 ]
 
 -- a way to an open sink costs no less than some entry's key
-way_bound : (space : Space) (w : Wave) → IsComplete space w → (way : List ℕ) (v b k : ℕ) → IsWay space v way b → IsOpen space w b → key_of w v ≤ k → IsBound w (k + way_cost space way)
-way_bound space w complete [] v b k e target above = elim (bound_at space w complete v k (way_cost space []) above (let none = bound_low space v in omega (arith, none))) [
+way_bound : (space : Space) (w : Wave) → w.limit ≤ FAR → IsComplete space w → (way : List ℕ) (v b k : ℕ) → IsWay space v way b → IsOpen space w b → key_of w v ≤ k → IsBound w (k + way_cost space way)
+way_bound space w within complete [] v b k e target above = elim (bound_at space w within complete v k (way_cost space []) above (let none = bound_low space v in omega (arith, none))) [
   | inl bound ↦ bound
   | inr settled ↦ absurd (settled.taken (rw e target))
 ]
-way_bound space w complete (u ∷ us) v b k (edge, inside, rest) target above = elim (bound_at space w complete v k (way_cost space (u ∷ us)) above (let none = bound_low space v in omega (arith, none))) [
+way_bound space w within complete (u ∷ us) v b k (edge, inside, rest) target above = elim (bound_at space w within complete v k (way_cost space (u ∷ us)) above (let none = bound_low space v in omega (arith, none))) [
   | inl bound ↦ bound
   | inr settled ↦ elim (settled.relaxed u edge inside) [
     | inl dead ↦ absurd (dead b us target rest)
     | inr step ↦
         let sum = way_cost_more space u us in
-        bound_up w _ _ (omega (arith, sum)) (way_bound space w complete us u b (k + entry_cost space u) rest target (omega (arith, step, above)))
+        elim (cases_lt (k + entry_cost space u) (key_of w u)) [
+          | inl dearer ↦ inl (omega (arith, step, above, sum, dearer))
+          | inr paid ↦ bound_up w _ _ (omega (arith, sum)) (way_bound space w within complete us u b (k + entry_cost space u) rest target (omega (arith, paid)))
+        ]
   ]
 ]
 
-popped_least : (space : Space) (s t : Wave) (x : Entry) → IsPopped s t x → IsWave space s → IsComplete space s → x.key ≤ FAR → IsLeastKey space t x.key
-popped_least space s t x p wave complete near a b way start target walk =
+popped_least : (space : Space) (s t : Wave) (x : Entry) → IsPopped s t x → IsWave space s → IsComplete space s → IsLeastKey space t (min x.key t.limit)
+popped_least space s t x p wave complete a b way start target walk =
     let starts = popped_origins s t x p in
     let from = (starts a).0 start in
     let shut : IsOpen space s b = (target.0, λ o. target.1 ((starts b).1 o)) in
-    elim (way_bound space s complete way a b 0 walk shut (omega (arith, from.0))) [
-      | inl far ↦ omega (arith, far, near)
+    elim (way_bound space s wave.within complete way a b 0 walk shut (omega (arith, from.0))) [
+      | inl far ↦ let same = p.limit in omega (arith, far, same)
       | inr (e, has, low) ↦ let least = p.queue.least e has in omega (arith, least, low)
     ]
 
 -- where nothing waits, no way leads to an open sink
-pub spent_least : (space : Space) (w : Wave) → IsComplete space w → length w.queue ≡ 0 → IsLeastKey space w FAR
-spent_least space w complete spent a b way start target walk = elim (way_bound space w complete way a b 0 walk target (omega (arith, start.0))) [
+pub spent_least : (space : Space) (w : Wave) → IsWave space w → IsComplete space w → length w.queue ≡ 0 → IsLeastKey space w w.limit
+spent_least space w wave complete spent a b way start target walk = elim (way_bound space w wave.within complete way a b 0 walk target (omega (arith, start.0))) [
   | inl far ↦ omega (arith, far)
   | inr (e, (i, lt, _), _) ↦ absurd (omega (arith, lt, spent))
 ]
 
-pub popped_nearest : (space : Space) (s t : Wave) (x : Entry) → IsPopped s t x → IsWave space s → IsComplete space s → x.key ≤ FAR → IsNearest space s t x
-popped_nearest space s t x p wave complete fits =
+pub popped_nearest : (space : Space) (s t : Wave) (x : Entry) → IsPopped s t x → IsWave space s → IsComplete space s → IsNearest space s t x
+popped_nearest space s t x p wave complete =
     let near = popped_near s t x p space wave in
     record {
       wave = popped_wave s t x p space wave;
@@ -162,17 +166,17 @@ popped_nearest space s t x p wave complete fits =
       node_in = reached_in t x.node near.1;
       above = near.0;
       reached = near.1;
-      least = popped_least space s t x p wave complete fits;
+      least = popped_least space s t x p wave complete;
       others = popped_but s t x p space complete;
       late = popped_late s t x p space complete;
       work = popped_work s t x p;
     }
 
 -- an open sink that is nearest is taken
-pub taken : (space : Space) (s t : Wave) (x : Entry) → IsNearest space s t x → IsOpen space t x.node → IsTaken space t x.node
-taken space s t x nearest target = record {
+pub taken : (space : Space) (s t : Wave) (x : Entry) → IsNearest space s t x → x.key ≤ t.limit → IsOpen space t x.node → IsTaken space t x.node
+taken space s t x nearest within target = record {
   «open» = target;
   reached = nearest.reached;
-  least = λ a b way start aim walk. let least = nearest.least a b way start aim walk in let above = nearest.above in omega (arith, least, above);
+  least = λ a b way start aim walk. let least = nearest.least a b way start aim walk in let above = nearest.above in omega (arith, least, above, within);
   others = nearest.others;
 }
