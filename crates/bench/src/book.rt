@@ -13,7 +13,7 @@ use std::rt::{Clock, Runtime};
 use std::time::Instant;
 
 /// By how much a history grows for each net of overuse.
-const ACC: u16 = 20;
+pub const ACC: u16 = 20;
 
 /// Draws so many times: how many nets were given.
 fn draw_each(book: &mut Book, view: &mut View, count: u32) -> u64 {
@@ -25,7 +25,7 @@ fn draw_each(book: &mut Book, view: &mut View, count: u32) -> u64 {
 }
 
 /// Commits each of the trees: how many were recorded.
-fn commit_each(book: &mut Book, trees: Vec<Grown>) -> u64 {
+pub fn commit_each(book: &mut Book, trees: Vec<Grown>) -> u64 {
     let mut recorded = 0u64;
     for grown in trees {
         let is_recorded = book.commit(0, grown.net, grown.tree).is_ok();
@@ -174,10 +174,10 @@ fn books(
 }
 
 /// How many books and views are made where their memory is measured.
-const COPIES: u32 = 16;
+pub const COPIES: u32 = 16;
 
 /// Tells how many bytes each of the copies takes.
-fn print_memory(
+pub fn print_memory(
     rt: &impl Eprint,
     name: &str,
     before: u64,

@@ -9,6 +9,7 @@ use std::alloc::AllocError;
 use std::io;
 use thiserror::Error;
 use vpr_text::ReadFault;
+use wavefront::SearchFault;
 
 #[derive(Debug, Drop, Error)]
 pub enum BenchFault {
@@ -24,6 +25,8 @@ pub enum BenchFault {
     Unsuited,
     #[error("the routing: {0}")]
     Route(#[from] RouteFileFault),
+    #[error("{0}")]
+    Search(#[from] SearchFault),
     #[error("{0}")]
     Read(#[from] ReadFault),
     #[error("{0}")]

@@ -11,6 +11,7 @@ mod look_ups;
 mod reading;
 mod resident;
 mod routes;
+mod search;
 mod size;
 mod spread;
 mod trees;
@@ -49,6 +50,7 @@ fn run(rt: &(impl Runtime + Threads + Sync + AllocGlobal)) -> u8 {
             "read" => run_reading(rt, given),
             "route" => run_routing(rt, given, Measured::Routing),
             "book" => run_routing(rt, given, Measured::Book),
+            "search" => run_routing(rt, given, Measured::Search),
             _ => usage(rt),
         },
     }
@@ -62,7 +64,8 @@ fn words(rt: &(impl Runtime + AllocGlobal)) -> io::Result<Vec<String>> {
 /// Says what the words may be.
 fn usage(rt: &impl Runtime) -> u8 {
     let _ = eprintln!(rt;
-        "usage: bench [device|long [NX NY W]], bench read ARCH NET [PLACE], or bench route|book ARCH NET PLACE ROUTE W"
+        "usage: bench [device|long [NX NY W]], bench read ARCH NET [PLACE], \
+         or bench route|book|search ARCH NET PLACE ROUTE W"
     );
     BAD_WORDS
 }

@@ -2,7 +2,7 @@
 
 use crate::fault::BenchFault;
 use crate::figure::print_once;
-use crate::routes::{measure_book_of, measure_routing};
+use crate::routes::{measure_routing, measure_trees_of};
 use arch_file::Arch;
 use net_file::Netlist;
 use place_file::Placement;
@@ -72,11 +72,12 @@ fn measure_placement(
     Ok(())
 }
 
-/// What is measured of a routing: its reading, judgement and writing, or a congestion book with its trees.
+/// What is measured of a routing: its reading, judgement and writing, a congestion book with its trees, or the search of its nets.
 #[derive(Clone, Copy)]
 pub enum Measured {
     Routing,
     Book,
+    Search,
 }
 
 /// The files of a routed design, by their names.
@@ -104,7 +105,17 @@ fn measure_placed(
         Measured::Routing => {
             measure_routing(rt, arch, netlist, &placement, &routing_bytes, width)
         }
-        Measured::Book => { measure_book_of(rt, arch, netlist, &placement, &routing_bytes, width) }
+        Measured::Book | Measured::Search => {
+            measure_trees_of(
+                rt,
+                arch,
+                netlist,
+                &placement,
+                &routing_bytes,
+                width,
+                measured,
+            )
+        }
     }
 }
 

@@ -5,6 +5,8 @@ ghost use Rattle.std.specs.Prelude.{None, false};
 use crate::book::measure_book;
 use crate::fault::BenchFault;
 use crate::figure::{print_each, print_once};
+use crate::reading::Measured;
+use crate::search::measure_search;
 use crate::trees::measure_trees;
 use arch_file::Arch;
 use net_file::Netlist;
@@ -183,32 +185,38 @@ pub fn measure_routing(
     measure_writing(rt, device, netlist, placement, bytes)
 }
 
-/// Measures a congestion book with the trees of a routing of a design.
+/// Measures a congestion book with the trees of a routing of a design, or the search of its nets.
 #[tactic(auto, using(route_file::proofs::Making::design_made))]
-fn measure_booking(
+fn measure_recorded(
     rt: &(impl Runtime + AllocGlobal),
     device: Device,
     netlist: &Netlist,
     placement: &Placement,
     bytes: &[u8],
+    measured: Measured,
 ) -> Result<(), BenchFault> {
     if !device.suits(netlist, placement) {
         return Err(BenchFault::Unsuited);
     }
     let problem = Problem::new(rt.alloc(), device, netlist, placement)?;
     let routing = parse(rt.alloc(), bytes, netlist, &problem)?;
-    measure_book(rt, &problem, &routing)
+    match measured {
+        Measured::Search => measure_search(rt, &problem, &routing),
+        Measured::Book | Measured::Routing => measure_book(rt, &problem, &routing),
+    }
 }
 
-/// Measures a congestion book with the trees of a routing of a placed design, on a device whose channels have `width` tracks.
-pub fn measure_book_of(
+/// Measures a congestion book with the trees of a routing of a placed design, or the search of its nets, on a device whose channels
+/// have `width` tracks.
+pub fn measure_trees_of(
     rt: &(impl Runtime + AllocGlobal),
     arch: &Arch,
     netlist: &Netlist,
     placement: &Placement,
     bytes: &[u8],
     width: u32,
+    measured: Measured,
 ) -> Result<(), BenchFault> {
     let device = device_of(rt.alloc(), arch, placement, width)?;
-    measure_booking(rt, device, netlist, placement, bytes)
+    measure_recorded(rt, device, netlist, placement, bytes, measured)
 }

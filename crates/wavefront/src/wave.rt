@@ -219,6 +219,14 @@ impl<K: Key> Wave<K> {
         }
     }
 
+    /// Whether the node has a lesser key.
+    fn has_less(&self, node: u32, key: u128) -> bool
+        requires { node < length self.now.labels }
+        ensures { IsTrue result ↔ (key_of self.now node < key) }
+    {
+        self.label(node).key < key
+    }
+
     /// Of ways that cost the same, keeps the one over the least node: no key changes.
     fn prefer(&mut self, node: u32, label: Label)
         requires { node < length self.old.labels }
@@ -252,6 +260,9 @@ impl<K: Key> Wave<K> {
         ensures at { OnOk result (IsInside space.now to → WentOn space.now self.new key to) }
         ensures rows { length self.new.labels ≡ node_count space.now }
     {
+        if self.has_less(to, key) {
+            return Ok(());
+        }
         if !space.is_inside(to) {
             return Ok(());
         }

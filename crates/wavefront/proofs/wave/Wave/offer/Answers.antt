@@ -78,3 +78,10 @@ returns-clause-spreads g c = elim c.prefer.ensures [
   | inl e ↦ rw e (spreads_refl c.args.space.now c.args.self.now)
   | inr r ↦ preferred_spreads c.args.space.now c.args.self.now c.prefer.new.self c.args.to (other g c) r (there g c) (apart g c r)
 ]
+
+-- a node that costs less needs no other way
+pub returns-then-has_less-clause-at : goal.returns-then-has_less-clause-at
+returns-then-has_less-clause-at g c = λ _. inr (let less = c.has_less.ensures.0 c.if-has_less.true in omega (arith, less))
+
+pub has_less-requires : goal.has_less-requires
+has_less-requires g c = omega (arith, c.requires.wave.rows, c.requires.space.range c.args.from c.args.to c.requires.edge)
