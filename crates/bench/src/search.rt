@@ -21,6 +21,7 @@ const PRESENT: u32 = 8;
 const MARGIN: u32 = 3;
 
 /// What the searches of some nets took, and the pairs of their trees.
+#[derive(Clone, Copy)]
 struct Searches {
     time: Duration,
     nets: u64,
