@@ -4,13 +4,14 @@ use crate::fixtures::{
     ABOVE, APART, BELOW, JUMP, MEETING, OTHER, RIGHT, book, book_and_view, expect_close,
     expect_commit, expect_counts, expect_draw, expect_histories, expect_no_tree,
     expect_occupancies, expect_others, expect_pass, expect_path, expect_row, expect_seen_histories,
-    expect_turns, problem, turn,
+    expect_turns, turn,
 };
 use crate::views::{expect_seen, see};
 use congestion_book::{Book, CloseFault, CommitFault, DrawFault, PassFault};
 use node_cost::View;
 use route_tree::TreeFault;
 use rr_graph::Problem;
+use samples::problem_again;
 use std::process::Abort;
 use std::test::Fail;
 
@@ -33,7 +34,7 @@ fn expect_nothing(rt: &impl Abort, book: &Book) {
 fn a_new_book_is_empty(rt: HostRuntime) -> Result<(), Fail> {
     let book = book(&rt, MEETING, 20)?;
     expect_nothing(&rt, &book);
-    expect_problem(&rt, &book, &problem(&rt, MEETING)?);
+    expect_problem(&rt, &book, &problem_again(&rt, MEETING)?);
     Ok(())
 }
 

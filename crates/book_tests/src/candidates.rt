@@ -1,7 +1,7 @@
 //! The nets of the random lists of events, and trees that workers commit for them, worked out by hand.
 
-use crate::fixtures::Part;
 use route_tree::TreeFault;
+use samples::Part;
 
 /// Six nets on the device of one block with one track. Three of them end in the block's sink, which has room for two.
 pub(crate) const CROWDED: &[Part] = &[

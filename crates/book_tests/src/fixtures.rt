@@ -4,14 +4,10 @@ use crate::views::view_again;
 use congestion_book::{Book, CloseFault, CommitFault, DrawFault, PassFault, Turn};
 use node_cost::View;
 use route_tree::Tree;
-use rr_graph::{Problem, Terminals};
-use samples::device_again;
+use samples::{Part, problem_again};
 use std::alloc::{AllocError, Global};
 use std::process::Abort;
 use std::test::Fail;
-
-/// A net of a problem: its number, its source and its sinks.
-pub(crate) type Part = (u32, u32, &'static [u32]);
 
 /// From the first pad on the block's left to the block, and from the block to a pad on its right.
 pub(crate) const APART: &[Part] = &[(0, 0, &[13]), (1, 4, &[16])];
@@ -34,33 +30,11 @@ pub(crate) const RIGHT: &[u32] = &[4, 22, 40, 35, 16];
 /// From an output pin to a wire that it doesn't tap.
 pub(crate) const JUMP: &[u32] = &[0, 18, 37, 31, 13];
 
-fn terminals(alloc: Global, parts: &[Part]) -> Result<Vec<Terminals>, AllocError> {
-    let mut nets = Vec::new(alloc);
-    for (number, source, sinks) in parts {
-        nets.push(Terminals {
-            number: *number,
-            source: *source,
-            sinks: Vec::from_slice(alloc, sinks)?,
-        })?;
-    }
-    Ok(nets)
-}
-
-/// These nets on the device of one block with one track, asked for again where memory was refused.
-pub(crate) fn problem(rt: &impl AllocGlobal, parts: &[Part]) -> Result<Problem, Fail> {
-    let device = device_again(rt, 1)?;
-    let nets = match terminals(rt.alloc(), parts) {
-        Ok(nets) => nets,
-        Err(_) => terminals(rt.alloc(), parts)?,
-    };
-    Ok(Problem::from_parts(device, nets)?)
-}
-
-/// A book on their problem, asked for again where memory was refused.
+/// A book on the problem of these nets, asked for again where memory was refused.
 pub(crate) fn book(rt: &impl AllocGlobal, parts: &[Part], acc: u16) -> Result<Book, Fail> {
-    match Book::new(rt.alloc(), problem(rt, parts)?, acc) {
+    match Book::new(rt.alloc(), problem_again(rt, parts)?, acc) {
         Ok(book) => Ok(book),
-        Err(_) => Ok(Book::new(rt.alloc(), problem(rt, parts)?, acc)?),
+        Err(_) => Ok(Book::new(rt.alloc(), problem_again(rt, parts)?, acc)?),
     }
 }
 

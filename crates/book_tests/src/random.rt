@@ -4,9 +4,10 @@ use crate::candidates::CROWDED;
 use crate::comparisons::expect_all;
 use crate::fixtures::book_and_view;
 use crate::plain::PlainBook;
-use crate::steps::{Dice, event_of, plain_reply, reply, some_step};
+use crate::steps::{event_of, plain_reply, reply, some_step};
 use congestion_book::{Book, CommitFault, Event, Reply};
 use node_cost::View;
+use samples::Dice;
 use std::process::Abort;
 use std::test::Fail;
 

@@ -5,35 +5,9 @@ use crate::plain::{NETS, PlainBook};
 use congestion_book::{Book, Event, Reply};
 use node_cost::View;
 use route_tree::Tree;
+use samples::Dice;
 use std::alloc::{AllocError, Global};
 use std::process::Abort;
-
-/// Numbers that look random, by shifts (Marsaglia 2003).
-#[derive(Drop)]
-pub(crate) struct Dice {
-    state: u32,
-}
-
-impl Dice {
-    /// Other numbers for each seed above 0.
-    pub(crate) fn new(seed: u32) -> Dice {
-        Dice {
-            state: seed.wrapping_mul(2_654_435_761),
-        }
-    }
-
-    fn next(&mut self) -> u32 {
-        self.state ^= self.state << 13;
-        self.state ^= self.state >> 17;
-        self.state ^= self.state << 5;
-        self.state
-    }
-
-    /// A number below the limit, or 0.
-    fn below(&mut self, limit: u32) -> u32 {
-        self.next().checked_rem(limit).unwrap_or(0)
-    }
-}
 
 /// What happens next.
 #[derive(Clone, Copy)]

@@ -5,6 +5,7 @@ ghost use Rattle.std.specs.Prelude.{◌≤◌};
 use crate::plain::{Item, Plan};
 use arch_file::Arch;
 use rr_graph::{Device, Kind, Mode, Node};
+use samples::{HALVES, LONGLINES, MANY_SIDES, ONE_BLOCK};
 use smallvec::SmallVec;
 use std::alloc::AllocError;
 use std::process::Abort;
@@ -248,18 +249,6 @@ fn compare_widths(
     Ok(())
 }
 
-/// Wires of one place, and pins that tap all tracks.
-const ONE_BLOCK: &str =
-    "io_rat 2\nchan_width_io 1\nchan_width_x uniform 1\nchan_width_y uniform 1\ninpin class: 0 bottom\ninpin class: 0 top\noutpin class: 1 right\nswitch_block_type subset\nFc_type fractional\nFc_output 1\nFc_input 1\nFc_pad 1\nsegment frequency: 1 length: 1 wire_switch: 0 opin_switch: 0 Frac_cb: 1. Frac_sb: 1. Rmetal: 0 Cmetal: 0\nswitch 0 buffered: yes R: 0 Cin: 0 Cout: 0 Tdel: 0\n";
-
-/// Fractions that leave halves of tracks, a clock on a dedicated network, and two types of wire.
-const HALVES: &str =
-    "io_rat 1\nchan_width_io 1\nchan_width_x uniform 1\nchan_width_y uniform 1\ninpin class: 0 bottom\ninpin class: 0 left\ninpin class: 0 top\ninpin class: 0 right\noutpin class: 1 bottom\ninpin class: 2 global top\nswitch_block_type subset\nFc_type fractional\nFc_output 0.5\nFc_input 0.25\nFc_pad 0.75\nsegment frequency: 0.5 length: 1 wire_switch: 0 opin_switch: 0 Frac_cb: 1. Frac_sb: 1. Rmetal: 0 Cmetal: 0\nsegment frequency: 0.5 length: 2 wire_switch: 0 opin_switch: 0 Frac_cb: 1. Frac_sb: 1. Rmetal: 0 Cmetal: 0\nswitch 0 buffered: yes R: 0 Cin: 0 Cout: 0 Tdel: 0\n";
-
-/// Pins on several sides and of several classes, counts of tracks with a half, and three types of wire.
-const MANY_SIDES: &str =
-    "io_rat 3\nchan_width_io 1\nchan_width_x uniform 1\nchan_width_y uniform 1\ninpin class: 0 top bottom left right\noutpin class: 1 top right\ninpin class: 2 left bottom\noutpin class: 3 left\ninpin class: 0 right\noutpin class: 1 bottom top\nswitch_block_type subset\nFc_type absolute\nFc_output 2.5\nFc_input 1.499999999\nFc_pad 20\nsegment frequency: 0.3 length: 4 wire_switch: 0 opin_switch: 0 Frac_cb: 1. Frac_sb: 1. Rmetal: 0 Cmetal: 0\nsegment frequency: 0.2 length: 1 wire_switch: 0 opin_switch: 0 Frac_cb: 1. Frac_sb: 1. Rmetal: 0 Cmetal: 0\nsegment frequency: 0.5 length: longline wire_switch: 0 opin_switch: 0 Frac_cb: 1. Frac_sb: 1. Rmetal: 0 Cmetal: 0\nswitch 0 buffered: yes R: 0 Cin: 0 Cout: 0 Tdel: 0\n";
-
 /// A block without inputs but a clock that is on no side, pins that tap next to nothing, and types of wire without a frequency.
 const NO_FREQUENCIES: &str =
     "io_rat 1\nchan_width_io 1\nchan_width_x uniform 1\nchan_width_y uniform 1\noutpin class: 0 left\ninpin class: 1 global\noutpin class: 2 right\nswitch_block_type subset\nFc_type absolute\nFc_output 0\nFc_input 0\nFc_pad 2.499999999\nsegment frequency: 0 length: 16 wire_switch: 0 opin_switch: 0 Frac_cb: 1. Frac_sb: 1. Rmetal: 0 Cmetal: 0\nsegment frequency: 0 length: 4 wire_switch: 0 opin_switch: 0 Frac_cb: 1. Frac_sb: 1. Rmetal: 0 Cmetal: 0\nsegment frequency: 0 length: 2 wire_switch: 0 opin_switch: 0 Frac_cb: 1. Frac_sb: 1. Rmetal: 0 Cmetal: 0\nswitch 0 buffered: yes R: 0 Cin: 0 Cout: 0 Tdel: 0\n";
@@ -267,10 +256,6 @@ const NO_FREQUENCIES: &str =
 /// Wires of sixteen places.
 const SIXTEEN_PLACES: &str =
     "io_rat 1\nchan_width_io 1\nchan_width_x uniform 1\nchan_width_y uniform 1\ninpin class: 0 bottom\noutpin class: 1 top\nswitch_block_type subset\nFc_type absolute\nFc_output 1\nFc_input 2\nFc_pad 1\nsegment frequency: 1 length: 16 wire_switch: 0 opin_switch: 0 Frac_cb: 1. Frac_sb: 1. Rmetal: 0 Cmetal: 0\nswitch 0 buffered: yes R: 0 Cin: 0 Cout: 0 Tdel: 0\n";
-
-/// Wires from one end of their channel to the other, beside a type that has no track.
-const LONGLINES: &str =
-    "io_rat 1\nchan_width_io 1\nchan_width_x uniform 1\nchan_width_y uniform 1\ninpin class: 0 left\noutpin class: 1 right\nswitch_block_type subset\nFc_type fractional\nFc_output 0.5\nFc_input 0.5\nFc_pad 0.5\nsegment frequency: 0 length: 1 wire_switch: 0 opin_switch: 0 Frac_cb: 1. Frac_sb: 1. Rmetal: 0 Cmetal: 0\nsegment frequency: 1 length: longline wire_switch: 0 opin_switch: 0 Frac_cb: 1. Frac_sb: 1. Rmetal: 0 Cmetal: 0\nswitch 0 buffered: yes R: 0 Cin: 0 Cout: 0 Tdel: 0\n";
 
 #[test]
 fn compares_one_block(rt: HostRuntime) -> Result<(), Fail> {

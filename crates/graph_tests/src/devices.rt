@@ -1,7 +1,7 @@
 //! The devices of one small architecture, by numbers that were worked out by hand.
 
 use rr_graph::{Device, DeviceFault, Kind, Label, Mode, Node, Span};
-use samples::{CLOCKED, LONG_WIRES, ONE_BLOCK, arch, device_again, node};
+use samples::{CLOCKED, LONG_WIRES, ONE_BLOCK, ONE_TRACK, arch, device_again, node};
 use smallvec::SmallVec;
 use std::process::Abort;
 use std::test::Fail;
@@ -11,9 +11,6 @@ const TWO_TYPES: &str =
 
 const A_QUARTER: &str =
     "io_rat 2\nchan_width_io 1\nchan_width_x uniform 1\nchan_width_y uniform 1\ninpin class: 0 bottom\ninpin class: 0 top\noutpin class: 1 right\nswitch_block_type subset\nFc_type fractional\nFc_output 1\nFc_input 0.25\nFc_pad 1\nsegment frequency: 1 length: 1 wire_switch: 0 opin_switch: 0 Frac_cb: 1. Frac_sb: 1. Rmetal: 0 Cmetal: 81e-15\nswitch 0 buffered: yes R: 0 Cin: 0 Cout: 0 Tdel: 0\n";
-
-const ONE_TRACK: &str =
-    "io_rat 2\nchan_width_io 1\nchan_width_x uniform 1\nchan_width_y uniform 1\ninpin class: 0 bottom\ninpin class: 0 top\noutpin class: 1 right\nswitch_block_type subset\nFc_type absolute\nFc_output 1\nFc_input 1\nFc_pad 1\nsegment frequency: 1 length: 1 wire_switch: 0 opin_switch: 0 Frac_cb: 1. Frac_sb: 1. Rmetal: 0 Cmetal: 81e-15\nswitch 0 buffered: yes R: 0 Cin: 0 Cout: 0 Tdel: 0\n";
 
 /// Looks a node up both ways, and at its label and capacity.
 fn check_node(rt: &impl Abort, device: &Device, id: u32, node: Node, label: Label, capacity: u32) {

@@ -24,22 +24,41 @@ pub fn one_block(rt: &impl AllocGlobal) -> Result<Device, Fail> {
     Ok(Device::new(rt.alloc(), &arch(rt, ONE_BLOCK)?, 1, 1, 1)?)
 }
 
+/// A net of a problem: its number, its source and its sinks.
+pub type Part = (u32, u32, &'static [u32]);
+
 /// From the pads on the block's left to its inputs.
-fn two_parts(alloc: Global) -> Result<Vec<Terminals>, AllocError> {
+const TO_ONE_BLOCK: &[Part] = &[(0, 0, &[13]), (1, 1, &[13])];
+
+fn terminals(alloc: Global, parts: &[Part]) -> Result<Vec<Terminals>, AllocError> {
     let mut nets = Vec::new(alloc);
-    for number in 0..2 {
+    for (number, source, sinks) in parts {
         nets.push(Terminals {
-            number,
-            source: number,
-            sinks: Vec::from_slice(alloc, &[13])?,
+            number: *number,
+            source: *source,
+            sinks: Vec::from_slice(alloc, sinks)?,
         })?;
     }
     Ok(nets)
 }
 
+/// These nets on a device, asked for again where memory was refused.
+pub fn problem_of(rt: &impl AllocGlobal, device: Device, parts: &[Part]) -> Result<Problem, Fail> {
+    let nets = match terminals(rt.alloc(), parts) {
+        Ok(nets) => nets,
+        Err(_) => terminals(rt.alloc(), parts)?,
+    };
+    Ok(Problem::from_parts(device, nets)?)
+}
+
+/// These nets on the device of one block with one track, asked for again where memory was refused.
+pub fn problem_again(rt: &impl AllocGlobal, parts: &[Part]) -> Result<Problem, Fail> {
+    problem_of(rt, device_again(rt, 1)?, parts)
+}
+
 /// Two nets of one block, from the pads on its left to its inputs.
 pub fn two_nets(rt: &impl AllocGlobal) -> Result<Problem, Fail> {
-    Ok(Problem::from_parts(one_block(rt)?, two_parts(rt.alloc())?)?)
+    problem_of(rt, one_block(rt)?, TO_ONE_BLOCK)
 }
 
 /// An architecture and its device, asked for again where memory was refused.
@@ -56,10 +75,5 @@ pub fn device_again(rt: &impl AllocGlobal, width: u32) -> Result<Device, Fail> {
 
 /// Two nets of one block, asked for again where memory was refused.
 pub fn two_nets_again(rt: &impl AllocGlobal) -> Result<Problem, Fail> {
-    let device = device_again(rt, 1)?;
-    let nets = match two_parts(rt.alloc()) {
-        Ok(nets) => nets,
-        Err(_) => two_parts(rt.alloc())?,
-    };
-    Ok(Problem::from_parts(device, nets)?)
+    problem_again(rt, TO_ONE_BLOCK)
 }
