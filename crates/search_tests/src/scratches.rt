@@ -1,0 +1,206 @@
+//! A scratch that is used over and over, after refusals too, and what a search refuses.
+
+use crate::searches::{expect_pairs, search, see};
+use node_cost::View;
+use rr_graph::{Device, Problem};
+use samples::{ONE_BLOCK, Part, arch, one_block, problem_again, problem_of};
+use std::alloc::{AllocError, Global};
+use std::process::Abort;
+use std::test::Fail;
+use wavefront::{Scratch, SearchFault};
+
+/// To the block, and from the block to a pad and back to its own input.
+const NETS: &[Part] = &[(0, 0, &[13]), (1, 0, &[13, 17]), (2, 4, &[13, 16])];
+
+/// A net, and the pairs of its tree where nothing is seen.
+type Want = (u32, &'static [(u32, u32)]);
+
+const FIRST: Want = (0, &[(0, 18), (18, 39), (39, 37), (37, 31), (31, 13)]);
+
+/// The block is nearer than the pad, whose path begins at the wire below the block.
+const SECOND: Want = (
+    1,
+    &[
+        (0, 18),
+        (18, 39),
+        (39, 37),
+        (37, 31),
+        (31, 13),
+        (37, 40),
+        (40, 36),
+        (36, 17),
+    ],
+);
+
+const THIRD: Want = (
+    2,
+    &[
+        (4, 22),
+        (22, 40),
+        (40, 35),
+        (35, 16),
+        (40, 37),
+        (37, 31),
+        (31, 13),
+    ],
+);
+
+fn expect(
+    rt: &(impl Abort + AllocGlobal),
+    problem: &Problem,
+    view: &View,
+    scratch: &mut Scratch,
+    want: Want,
+) -> Result<(), Fail> {
+    let (net, pairs) = want;
+    let found = search(rt, problem, net, view, 8, 3, scratch)?;
+    expect_pairs(rt, &found, pairs);
+    Ok(())
+}
+
+fn expect_all(
+    rt: &(impl Abort + AllocGlobal),
+    problem: &Problem,
+    view: &View,
+    scratch: &mut Scratch,
+) -> Result<(), Fail> {
+    expect(rt, problem, view, scratch, FIRST)?;
+    expect(rt, problem, view, scratch, SECOND)?;
+    expect(rt, problem, view, scratch, THIRD)
+}
+
+/// More searches than 16 bits count.
+fn expect_often(
+    rt: &(impl Abort + AllocGlobal),
+    problem: &Problem,
+    view: &View,
+    scratch: &mut Scratch,
+) -> Result<(), Fail> {
+    for _ in 0..66_000 {
+        expect(rt, problem, view, scratch, FIRST)?;
+    }
+    expect_all(rt, problem, view, scratch)
+}
+
+#[test]
+fn searches_66000_times(rt: HostRuntime) -> Result<(), Fail> {
+    let problem = problem_again(&rt, NETS)?;
+    let view = View::new(rt.alloc(), 41)?;
+    let mut scratch = Scratch::new(rt.alloc(), &problem)?;
+    expect_often(&rt, &problem, &view, &mut scratch)
+}
+
+/// The view is of another length.
+fn expect_refused(
+    rt: &(impl Abort + AllocGlobal),
+    problem: &Problem,
+    nodes: usize,
+    scratch: &mut Scratch,
+) -> Result<(), Fail> {
+    let view = View::new(rt.alloc(), nodes)?;
+    match search(rt, problem, 1, &view, 8, 3, scratch) {
+        Err(fault) => assert!(rt; fault == SearchFault::ViewSize, "{nodes} nodes"),
+        Ok(_) => assert!(rt; false, "{nodes} nodes"),
+    }
+    Ok(())
+}
+
+#[test]
+fn refuses_views_of_another_length(rt: HostRuntime) -> Result<(), Fail> {
+    let problem = problem_again(&rt, NETS)?;
+    let mut scratch = Scratch::new(rt.alloc(), &problem)?;
+    expect_refused(&rt, &problem, 40, &mut scratch)?;
+    expect_refused(&rt, &problem, 42, &mut scratch)?;
+    expect_refused(&rt, &problem, 0, &mut scratch)?;
+    let view = View::new(rt.alloc(), 41)?;
+    expect_all(&rt, &problem, &view, &mut scratch)
+}
+
+/// A scratch serves each problem whose device has as many nodes, and no other one.
+#[test]
+fn fits_as_many_nodes(rt: HostRuntime) -> Result<(), Fail> {
+    let problem = problem_again(&rt, NETS)?;
+    let mut scratch = Scratch::new(rt.alloc(), &problem)?;
+    assert!(rt; scratch.fits(&problem));
+    assert!(rt; scratch.fits(&problem_of(&rt, one_block(&rt)?, &[])?));
+    let device = Device::global(rt.alloc(), &arch(&rt, ONE_BLOCK)?, 1, 1, 4)?;
+    let global = problem_of(&rt, device, NETS)?;
+    let view = View::new(rt.alloc(), 41)?;
+    expect_all(&rt, &global, &view, &mut scratch)?;
+    expect_all(&rt, &problem, &view, &mut scratch)
+}
+
+#[test]
+fn fits_no_other_device(rt: HostRuntime) -> Result<(), Fail> {
+    let problem = problem_again(&rt, NETS)?;
+    let scratch = Scratch::new(rt.alloc(), &problem)?;
+    let device = Device::new(rt.alloc(), &arch(&rt, ONE_BLOCK)?, 1, 1, 2)?;
+    assert!(rt; !scratch.fits(&problem_of(&rt, device, NETS)?));
+    Ok(())
+}
+
+/// What a search left in the scratch does not count, after a path that costs much either.
+#[test]
+fn searches_on_several_views(rt: HostRuntime) -> Result<(), Fail> {
+    let problem = problem_again(&rt, NETS)?;
+    let mut scratch = Scratch::new(rt.alloc(), &problem)?;
+    let empty = View::new(rt.alloc(), 41)?;
+    expect_all(&rt, &problem, &empty, &mut scratch)?;
+    let mut dear = View::new(rt.alloc(), 41)?;
+    see(&mut dear, 37, 65_535, 1 << 42);
+    let above = &[(0, 18), (18, 39), (39, 38), (38, 32), (32, 13)];
+    expect(&rt, &problem, &dear, &mut scratch, (0, above))?;
+    expect_all(&rt, &problem, &empty, &mut scratch)
+}
+
+/// A view of the problem's 41 nodes, and a scratch.
+fn view_and_scratch(alloc: Global, problem: &Problem) -> Result<(View, Scratch), AllocError> {
+    Ok((View::new(alloc, 41)?, Scratch::new(alloc, problem)?))
+}
+
+/// Searches a net, again where memory was refused: then the scratch can be used as before.
+fn expect_again(
+    rt: &(impl Abort + AllocGlobal),
+    problem: &Problem,
+    view: &View,
+    scratch: &mut Scratch,
+    want: Want,
+) -> Result<(), Fail> {
+    let (net, pairs) = want;
+    let found = match search(rt, problem, net, view, 8, 3, scratch) {
+        Ok(found) => found,
+        Err(fault) => {
+            assert!(rt; fault == SearchFault::Memory);
+            search(rt, problem, net, view, 8, 3, scratch)?
+        }
+    };
+    expect_pairs(rt, &found, pairs);
+    Ok(())
+}
+
+#[test]
+fn searches_without_memory(rt: HostRuntime) -> Result<(), Fail> {
+    let problem = problem_again(&rt, NETS)?;
+    let (view, mut scratch) = match view_and_scratch(rt.alloc(), &problem) {
+        Ok(both) => both,
+        Err(_) => view_and_scratch(rt.alloc(), &problem)?,
+    };
+    expect_again(&rt, &problem, &view, &mut scratch, FIRST)?;
+    expect_again(&rt, &problem, &view, &mut scratch, SECOND)?;
+    expect_again(&rt, &problem, &view, &mut scratch, THIRD)
+}
+
+fn expect_text(
+    rt: &(impl Abort + AllocGlobal),
+    fault: SearchFault,
+    want: &str,
+) -> Result<(), Fail> {
+    assert!(rt; format!(in rt.alloc(); "{fault}")?.as_str() == want);
+    Ok(())
+}
+
+#[test]
+fn says_what_is_wrong(rt: HostRuntime) -> Result<(), Fail> {
+    expect_text(&rt, SearchFault::ViewSize, "the view is of another device")?;
+    expect_text(&rt, SearchFault::Memory, "out of memory")
+}
