@@ -3,7 +3,7 @@
 use crate::searches::{Seen, expect_no_path, expect_pairs, find};
 use rr_graph::{Device, Kind, Problem};
 use samples::{
-    LONG_WIRES, ONE_BLOCK, ONE_TRACK, Part, arch, node, one_block, problem_again, problem_of,
+    LONG_WIRES, ONE_BLOCK, ONE_TRACK, Part, arch, net, node, one_block, problem_again, problem_of,
 };
 use std::process::Abort;
 use std::test::Fail;
@@ -45,12 +45,15 @@ fn on_two_tracks(rt: &impl AllocGlobal, parts: &[Part]) -> Result<Problem, Fail>
     problem_of(rt, device, parts)
 }
 
+fn expect_lower_numbers(rt: &(impl Abort + AllocGlobal), problem: &Problem) -> Result<(), Fail> {
+    expect(rt, problem, 0, 8, &[], BELOW)?;
+    expect(rt, problem, 0, 0, &[], BELOW)
+}
+
 /// Both wires and both input pins cost the same, and the lower numbers are taken.
 #[test]
 fn takes_lower_numbers_first(rt: HostRuntime) -> Result<(), Fail> {
-    let problem = problem_again(&rt, MEETING)?;
-    expect(&rt, &problem, 0, 8, &[], BELOW)?;
-    expect(&rt, &problem, 0, 0, &[], BELOW)
+    expect_lower_numbers(&rt, &problem_again(&rt, MEETING)?)
 }
 
 /// The other net is on the wire that both need, and on the one below.
@@ -76,11 +79,9 @@ fn goes_around_one_node(rt: HostRuntime) -> Result<(), Fail> {
     expect(&rt, &problem, 0, 0, &[(37, 1, 0)], BELOW)
 }
 
-#[test]
-fn takes_a_track_each(rt: HostRuntime) -> Result<(), Fail> {
-    let problem = on_two_tracks(&rt, MEETING)?;
+fn expect_a_track_each(rt: &(impl Abort + AllocGlobal), problem: &Problem) -> Result<(), Fail> {
     let first = [(0, 18), (18, 41), (41, 37), (37, 31), (31, 13)];
-    expect(&rt, &problem, 0, 8, &[], &first)?;
+    expect(rt, problem, 0, 8, &[], &first)?;
     let seen = [
         (0, 1, 0),
         (18, 1, 0),
@@ -90,7 +91,12 @@ fn takes_a_track_each(rt: HostRuntime) -> Result<(), Fail> {
         (13, 1, 0),
     ];
     let second = [(1, 19), (19, 42), (42, 40), (40, 32), (32, 13)];
-    expect(&rt, &problem, 1, 8, &seen, &second)
+    expect(rt, problem, 1, 8, &seen, &second)
+}
+
+#[test]
+fn takes_a_track_each(rt: HostRuntime) -> Result<(), Fail> {
+    expect_a_track_each(&rt, &on_two_tracks(&rt, MEETING)?)
 }
 
 /// Two nets from below share an input pin, until it costs more than the way around the block.
@@ -131,16 +137,22 @@ fn leaves_a_node_by_its_present_cost(rt: HostRuntime) -> Result<(), Fail> {
     expect(&rt, &problem, 0, 64, &seen, &around)
 }
 
-/// The net of two blocks in a row with wires of two places, and its pairs.
-fn along_a_long_wire(rt: &(impl Abort + AllocGlobal)) -> Result<(), Fail> {
+/// A net from a pad to the second of two blocks in a row, with wires of two places.
+fn on_long_wires(rt: &(impl Abort + AllocGlobal)) -> Result<Problem, Fail> {
     let device = Device::new(rt.alloc(), &arch(rt, LONG_WIRES)?, 2, 1, 1)?;
-    let opin = id(rt, &device, Kind::Opin, 0, 1, 0);
-    let left = id(rt, &device, Kind::Chany, 0, 1, 0);
-    let ipin = id(rt, &device, Kind::Ipin, 2, 1, 0);
     let sink = id(rt, &device, Kind::Sink, 2, 1, 0);
     let mut nets = Vec::new(rt.alloc());
-    nets.push(samples::net(rt, 0, 0, &[sink])?)?;
-    let problem = Problem::from_parts(device, nets)?;
+    nets.push(net(rt, 0, 0, &[sink])?)?;
+    Ok(Problem::from_parts(device, nets)?)
+}
+
+/// The way by the wire 58, which passes both blocks.
+fn expect_long_way(rt: &(impl Abort + AllocGlobal), problem: &Problem) -> Result<(), Fail> {
+    let device = problem.device();
+    let opin = id(rt, device, Kind::Opin, 0, 1, 0);
+    let left = id(rt, device, Kind::Chany, 0, 1, 0);
+    let ipin = id(rt, device, Kind::Ipin, 2, 1, 0);
+    let sink = id(rt, device, Kind::Sink, 2, 1, 0);
     let want = [
         (0, opin),
         (opin, left),
@@ -148,7 +160,7 @@ fn along_a_long_wire(rt: &(impl Abort + AllocGlobal)) -> Result<(), Fail> {
         (58, ipin),
         (ipin, sink),
     ];
-    expect(rt, &problem, 0, 8, &[], &want)
+    expect(rt, problem, 0, 8, &[], &want)
 }
 
 /// The number of a node that there is.
@@ -158,7 +170,7 @@ fn id(rt: &impl Abort, device: &Device, kind: Kind, x: u32, y: u32, number: u32)
 
 #[test]
 fn goes_along_a_long_wire(rt: HostRuntime) -> Result<(), Fail> {
-    along_a_long_wire(&rt)
+    expect_long_way(&rt, &on_long_wires(&rt)?)
 }
 
 /// In a global device the wire on the left has room for both nets, and the one below too; the other pin is cheaper.

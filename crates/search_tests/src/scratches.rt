@@ -3,7 +3,7 @@
 use crate::searches::{expect_pairs, search, see};
 use node_cost::View;
 use rr_graph::{Device, Problem};
-use samples::{ONE_BLOCK, Part, arch, one_block, problem_again, problem_of};
+use samples::{ONE_BLOCK, Part, arch, problem_again, problem_of};
 use std::alloc::{AllocError, Global};
 use std::process::Abort;
 use std::test::Fail;
@@ -16,6 +16,8 @@ const NETS: &[Part] = &[(0, 0, &[13]), (1, 0, &[13, 17]), (2, 4, &[13, 16])];
 type Want = (u32, &'static [(u32, u32)]);
 
 const FIRST: Want = (0, &[(0, 18), (18, 39), (39, 37), (37, 31), (31, 13)]);
+
+const ABOVE: Want = (0, &[(0, 18), (18, 39), (39, 38), (38, 32), (32, 13)]);
 
 /// The block is nearer than the pad, whose path begins at the wire below the block.
 const SECOND: Want = (
@@ -69,6 +71,16 @@ fn expect_all(
     expect(rt, problem, view, scratch, THIRD)
 }
 
+/// On a view that shows nothing.
+fn expect_unseen(
+    rt: &(impl Abort + AllocGlobal),
+    problem: &Problem,
+    scratch: &mut Scratch,
+) -> Result<(), Fail> {
+    let view = View::new(rt.alloc(), 41)?;
+    expect_all(rt, problem, &view, scratch)
+}
+
 /// More searches than 16 bits count.
 fn expect_often(
     rt: &(impl Abort + AllocGlobal),
@@ -105,52 +117,87 @@ fn expect_refused(
     Ok(())
 }
 
+fn expect_all_refused(
+    rt: &(impl Abort + AllocGlobal),
+    problem: &Problem,
+    scratch: &mut Scratch,
+) -> Result<(), Fail> {
+    expect_refused(rt, problem, 40, scratch)?;
+    expect_refused(rt, problem, 42, scratch)?;
+    expect_refused(rt, problem, 0, scratch)?;
+    expect_unseen(rt, problem, scratch)
+}
+
+/// A refusal changes nothing: the next search finds its tree.
 #[test]
 fn refuses_views_of_another_length(rt: HostRuntime) -> Result<(), Fail> {
     let problem = problem_again(&rt, NETS)?;
     let mut scratch = Scratch::new(rt.alloc(), &problem)?;
-    expect_refused(&rt, &problem, 40, &mut scratch)?;
-    expect_refused(&rt, &problem, 42, &mut scratch)?;
-    expect_refused(&rt, &problem, 0, &mut scratch)?;
-    let view = View::new(rt.alloc(), 41)?;
-    expect_all(&rt, &problem, &view, &mut scratch)
+    expect_all_refused(&rt, &problem, &mut scratch)
 }
 
-/// A scratch serves each problem whose device has as many nodes, and no other one.
+/// The nets on a global device of one block, which has as many nodes as the detailed one with one track.
+fn on_global_wires(rt: &impl AllocGlobal) -> Result<Problem, Fail> {
+    let device = Device::global(rt.alloc(), &arch(rt, ONE_BLOCK)?, 1, 1, 4)?;
+    problem_of(rt, device, NETS)
+}
+
+/// A scratch serves another problem whose device has as many nodes.
+fn expect_fit(
+    rt: &(impl Abort + AllocGlobal),
+    problem: &Problem,
+    scratch: &mut Scratch,
+) -> Result<(), Fail> {
+    assert!(rt; scratch.fits(problem));
+    expect_unseen(rt, problem, scratch)
+}
+
 #[test]
 fn fits_as_many_nodes(rt: HostRuntime) -> Result<(), Fail> {
-    let problem = problem_again(&rt, NETS)?;
-    let mut scratch = Scratch::new(rt.alloc(), &problem)?;
-    assert!(rt; scratch.fits(&problem));
-    assert!(rt; scratch.fits(&problem_of(&rt, one_block(&rt)?, &[])?));
-    let device = Device::global(rt.alloc(), &arch(&rt, ONE_BLOCK)?, 1, 1, 4)?;
-    let global = problem_of(&rt, device, NETS)?;
-    let view = View::new(rt.alloc(), 41)?;
-    expect_all(&rt, &global, &view, &mut scratch)?;
-    expect_all(&rt, &problem, &view, &mut scratch)
+    let mut scratch = Scratch::new(rt.alloc(), &problem_again(&rt, &[])?)?;
+    expect_fit(&rt, &problem_again(&rt, NETS)?, &mut scratch)?;
+    expect_fit(&rt, &on_global_wires(&rt)?, &mut scratch)?;
+    expect_fit(&rt, &problem_again(&rt, NETS)?, &mut scratch)
+}
+
+fn expect_no_fit(rt: &(impl Abort + AllocGlobal), scratch: &Scratch) -> Result<(), Fail> {
+    let device = Device::new(rt.alloc(), &arch(rt, ONE_BLOCK)?, 1, 1, 2)?;
+    assert!(rt; !scratch.fits(&problem_of(rt, device, NETS)?));
+    Ok(())
 }
 
 #[test]
 fn fits_no_other_device(rt: HostRuntime) -> Result<(), Fail> {
-    let problem = problem_again(&rt, NETS)?;
-    let scratch = Scratch::new(rt.alloc(), &problem)?;
-    let device = Device::new(rt.alloc(), &arch(&rt, ONE_BLOCK)?, 1, 1, 2)?;
-    assert!(rt; !scratch.fits(&problem_of(&rt, device, NETS)?));
-    Ok(())
+    expect_no_fit(&rt, &Scratch::new(rt.alloc(), &problem_again(&rt, NETS)?)?)
 }
 
-/// What a search left in the scratch does not count, after a path that costs much either.
+/// On a view that shows so many nets on the wire below the block that the way leads above it.
+fn expect_above(
+    rt: &(impl Abort + AllocGlobal),
+    problem: &Problem,
+    scratch: &mut Scratch,
+) -> Result<(), Fail> {
+    let mut view = View::new(rt.alloc(), 41)?;
+    see(&mut view, 37, 65_535, 1 << 42);
+    expect(rt, problem, &view, scratch, ABOVE)
+}
+
+/// What a search left in the scratch does not count.
+fn expect_in_turn(
+    rt: &(impl Abort + AllocGlobal),
+    problem: &Problem,
+    scratch: &mut Scratch,
+) -> Result<(), Fail> {
+    expect_unseen(rt, problem, scratch)?;
+    expect_above(rt, problem, scratch)?;
+    expect_unseen(rt, problem, scratch)
+}
+
 #[test]
 fn searches_on_several_views(rt: HostRuntime) -> Result<(), Fail> {
     let problem = problem_again(&rt, NETS)?;
     let mut scratch = Scratch::new(rt.alloc(), &problem)?;
-    let empty = View::new(rt.alloc(), 41)?;
-    expect_all(&rt, &problem, &empty, &mut scratch)?;
-    let mut dear = View::new(rt.alloc(), 41)?;
-    see(&mut dear, 37, 65_535, 1 << 42);
-    let above = &[(0, 18), (18, 39), (39, 38), (38, 32), (32, 13)];
-    expect(&rt, &problem, &dear, &mut scratch, (0, above))?;
-    expect_all(&rt, &problem, &empty, &mut scratch)
+    expect_in_turn(&rt, &problem, &mut scratch)
 }
 
 /// A view of the problem's 41 nodes, and a scratch.
@@ -178,16 +225,29 @@ fn expect_again(
     Ok(())
 }
 
+fn expect_all_again(
+    rt: &(impl Abort + AllocGlobal),
+    problem: &Problem,
+    view: &View,
+    scratch: &mut Scratch,
+) -> Result<(), Fail> {
+    expect_again(rt, problem, view, scratch, FIRST)?;
+    expect_again(rt, problem, view, scratch, SECOND)?;
+    expect_again(rt, problem, view, scratch, THIRD)
+}
+
+/// Searches with a view and a scratch, asked for again where memory was refused.
+fn expect_made_again(rt: &(impl Abort + AllocGlobal), problem: &Problem) -> Result<(), Fail> {
+    let (view, mut scratch) = match view_and_scratch(rt.alloc(), problem) {
+        Ok(both) => both,
+        Err(_) => view_and_scratch(rt.alloc(), problem)?,
+    };
+    expect_all_again(rt, problem, &view, &mut scratch)
+}
+
 #[test]
 fn searches_without_memory(rt: HostRuntime) -> Result<(), Fail> {
-    let problem = problem_again(&rt, NETS)?;
-    let (view, mut scratch) = match view_and_scratch(rt.alloc(), &problem) {
-        Ok(both) => both,
-        Err(_) => view_and_scratch(rt.alloc(), &problem)?,
-    };
-    expect_again(&rt, &problem, &view, &mut scratch, FIRST)?;
-    expect_again(&rt, &problem, &view, &mut scratch, SECOND)?;
-    expect_again(&rt, &problem, &view, &mut scratch, THIRD)
+    expect_made_again(&rt, &problem_again(&rt, NETS)?)
 }
 
 fn expect_text(
