@@ -3,3 +3,4 @@ pub mod Draws
 pub mod Telling
 pub mod Counts
 pub mod Searching
+pub mod Faulting

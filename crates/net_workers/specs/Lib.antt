@@ -1,3 +1,4 @@
 pub mod Evenness
 pub mod Searches
 pub mod Agreement
+pub mod Faults

@@ -1,9 +1,10 @@
 //! An iteration of several workers on one book.
 
-ghost use Rattle.std.specs.Prelude.{◌≡◌, ◌<◌, ◌≤◌, length, vec_len, sum_by, All, IfOk};
+ghost use Rattle.std.specs.Prelude.{◌≡◌, ◌<◌, ◌≤◌, length, vec_len, sum_by, All, None, Err, IfOk, IfSome};
 ghost use Rattle.node_cost.specs.Options.{present_of};
 ghost use Rattle.net_workers.specs.Agreement.{IsFresh, Agrees};
 ghost use Rattle.net_workers.specs.Evenness.{AreParts, IsLater};
+ghost use Rattle.net_workers.specs.Faults.{first_of, first_met};
 ghost use Rattle.net_workers.specs.Searches.{AreFound};
 
 use crate::comparison::{all_begin, is_done};
@@ -23,12 +24,28 @@ use std::sync::ledger::Blank;
 use std::sync::{Mutex, Wait};
 use std::thread::Threads;
 
-/// The lesser of two faults, where there are any.
-fn first_fault(a: Option<WorkFault>, b: WorkFault) -> WorkFault {
-    match a {
-        Some(a) => a.min(b),
-        None => b,
+/// The first of a fault and those that were met before.
+fn first_of(met: Option<WorkFault>, fault: WorkFault) -> WorkFault
+    ensures { result ≡ first_of met fault }
+{
+    match met {
+        Some(met) => met.min(fault),
+        None => fault,
     }
+}
+
+/// The first of the workers' faults, if there are any.
+fn first_fault<L: Round>(results: &[Result<Finished<L>, WorkFault>]) -> Option<WorkFault>
+    ensures { result ≡ first_met None results.now }
+{
+    let mut met = None;
+    for result in results {
+        met = match result {
+            Ok(_) => met,
+            Err(fault) => Some(first_of(met, *fault)),
+        };
+    }
+    met
 }
 
 /// What the workers hand back, or the first of their faults.
@@ -36,20 +53,17 @@ fn all_finished<L: Round>(
     alloc: Global,
     results: Vec<Result<Finished<L>, WorkFault>>,
 ) -> Result<Vec<Finished<L>>, WorkFault>
-    ensures { IfOk result (λ all. vec_len all ≡ vec_len results) }
+    ensures all { IfOk result (λ all. vec_len all ≡ vec_len results) }
+    ensures first { IfSome (first_met None results.items) (λ fault. result ≡ Err fault) }
 {
+    if let Some(fault) = first_fault(&results) {
+        return Err(fault);
+    }
     let mut all = Vec::with_capacity(alloc, results.len())?;
-    let mut fault = None;
     for result in results {
-        match result {
-            Ok(finished) => all.push_reserved(finished),
-            Err(found) => fault = Some(first_fault(fault, found)),
-        }
+        all.push_reserved(result?);
     }
-    match fault {
-        Some(fault) => Err(fault),
-        None => Ok(all),
-    }
+    Ok(all)
 }
 
 /// The shares and the reports, which have together as many entries as the shares have counted.
