@@ -4,3 +4,4 @@ pub mod Telling
 pub mod Counts
 pub mod Searching
 pub mod Faulting
+pub mod Reports

@@ -32,3 +32,7 @@ IsFound c present bb e = (view : List Seen) × IsSeenIn c view × IsFoundIn (spa
 
 abbrev pub AreFound : Content → (present bb : ℕ) → List Entry → Type 0
 AreFound c present bb entries = All (IsFound c present bb) entries
+
+-- a search for the net, which sees what the net may see in an iteration of the book, finds it stuck
+unfoldable pub IsStuckNet : Content → (present bb net : ℕ) → Type 0
+IsStuckNet c present bb net = (view : List Seen) × IsSeenIn c view × ((sink : ℕ) × IsStuck (space_of c.problem net view present bb) sink)
