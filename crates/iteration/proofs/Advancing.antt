@@ -1,0 +1,133 @@
+-- What stays true of a negotiation from iteration to iteration, and what it comes to in the end.
+use Rattle.std.proofs.Common.{◌≡◌, ℕ, ◌+◌, ◌<◌, ◌≤◌, ◌==◌, nat_lt, true, false, ◌&&◌, ◌||◌, [], ◌∷◌, List, length, None, refl, sym, ap, subst, ◌∙◌, arith, length-append}
+use Rattle.std.proofs.lemmas.Bool.Decides.{nat_tests}
+use Rattle.rr_graph.specs.Problems.{RoutingProblem}
+use Rattle.node_cost.specs.Options.{RouterOptions, present_of}
+use Rattle.congestion_book.specs.declared.turn.Turn.{Turn}
+use Rattle.congestion_book.specs.Turns.{NameEachOnce, IsFirstWaiting}
+use Rattle.congestion_book.specs.Recorded.{list_in}
+use Rattle.congestion_book.specs.Histories.{row_of}
+use Rattle.congestion_book.specs.Contents.{Content, opening}
+use Rattle.net_workers.specs.Agreement.{IsFresh}
+use Rattle.net_workers.specs.Searches.{IsStuckNet}
+use Rattle.net_workers.proofs.Reports.{stuck_net}
+use Rattle.route_check.specs.Routed.{Lists, IsRouted}
+use Rattle.iteration.specs.declared.outcome.Outcome.{Outcome}
+use Rattle.iteration.specs.declared.outcome.Outcome.TheVariants.{Success, NotRouted}
+use Rattle.iteration.specs.Progress.{Standing, IsIteration, Follows, IsReached, begun, followed, goes_on, unrouted_of, overused_of}
+use Rattle.iteration.specs.Outcomes.{Tells, Ends, IsBookAfter, IsOutcome}
+use Rattle.iteration.proofs.Successes.{routed_by}
+
+pub fresh_opening : (c : Content) (p : RoutingProblem) (acc : ℕ) → c ≡ opening p acc → IsFresh c
+fresh_opening c p acc is = record { drawn = ap (λ (k : Content). k.drawn) is; turns = ap (λ (k : Content). k.turns) is }
+
+pub all_done : (nets : ℕ) (turns : List Turn) → NameEachOnce nets turns → IsFirstWaiting turns nets None
+all_done nets turns once i low = let one = once i in grind (arith, nat_tests, one)
+
+-- ---- an iteration
+module _ (o : RouterOptions) (crew : ℕ) (old new : Content) (made : IsIteration o crew old new) where
+  pub fresh_after : IsFresh new
+  fresh_after = record { drawn = ap (λ (k : Content). k.drawn) made.closed; turns = ap (λ (k : Content). k.turns) made.closed }
+
+  pub problem_after : new.problem ≡ old.problem
+  problem_after = ap (λ (k : Content). k.problem) made.closed ∙ made.agrees.later.problem
+
+  acc_after : new.acc ≡ old.acc
+  acc_after = ap (λ (k : Content). k.acc) made.closed ∙ made.agrees.later.acc
+
+  pub rows_after : length new.rows ≡ length old.rows + 1
+  rows_after =
+      ap (λ (k : Content). length k.rows) made.closed
+      ∙ length-append made.between.rows (row_of made.between.problem made.between.lists ∷ [])
+      ∙ ap (λ (k : List (List (ℕ × ℕ))). length k + 1) made.agrees.later.rows
+
+  lists_after : new.lists ≡ made.between.lists
+  lists_after = ap (λ (k : Content). k.lists) made.closed
+
+  -- what has no tree behind it is stuck in it
+  stuck_after : (i : ℕ) → i < length old.problem.nets → list_in new.lists i ≡ None → IsStuckNet old (present_of o (length old.rows + 1)) o.bb i
+  stuck_after i low none =
+      let nets : length made.between.problem.nets ≡ length old.problem.nets = ap (λ (q : RoutingProblem). length q.nets) made.agrees.later.problem in
+      stuck_net old made.between (present_of o (length old.rows + 1)) o.bb crew made.reports made.agrees i (omega (arith, low, nets))
+      (sym (ap (λ ls. list_in ls i) lists_after) ∙ none)
+
+-- ---- where a negotiation may stand
+module _ (p : RoutingProblem) (o : RouterOptions) (workers : ℕ) where
+  pub book_reached : (s : Standing) → IsReached p o workers s → IsBookAfter p o (length s.book.rows) s.book
+  book_reached _ begun = record { problem = refl; acc = refl; rows = refl }
+  book_reached _ (followed old new reached on follows) =
+      let before = book_reached old reached in
+      record {
+        problem = problem_after o old.crew old.book new.book follows.made ∙ before.problem;
+        acc = acc_after o old.crew old.book new.book follows.made ∙ before.acc;
+        rows = refl;
+      }
+
+  few_more : (rows u v : ℕ) → (rows == 0 || ((u == 0) && nat_lt 0 v && nat_lt rows o.iterations)) ≡ true → 1 ≤ o.iterations → rows < o.iterations
+  few_more rows u v on some = grind (arith, nat_tests)
+
+  pub few_rows : (s : Standing) → 1 ≤ o.iterations → goes_on o s.book ≡ true → length s.book.rows < o.iterations
+  few_rows s some on = few_more (length s.book.rows) (unrouted_of s.book) (overused_of s.book) on some
+
+  early_end : (rows u v : ℕ) → (rows == 0 || ((u == 0) && nat_lt 0 v && nat_lt rows o.iterations)) ≡ false → 1 ≤ u + v → rows < o.iterations → 1 ≤ u
+  early_end rows u v ended some low = grind (arith, nat_tests)
+
+  -- the last iteration of a negotiation that ended
+  record LastOf (s : Standing) : Type 0 where
+    before : Standing
+    reached : IsReached p o workers before
+    on : goes_on o before.book ≡ true
+    follows : Follows o workers before s
+
+  last_of : (s : Standing) → IsReached p o workers s → goes_on o s.book ≡ false → LastOf s
+  last_of _ begun ended = cc
+  last_of _ (followed old new reached on follows) ended = record { before = old; reached = reached; on = on; follows = follows }
+
+  module _ (some : 1 ≤ o.iterations) (s : Standing) (reached : IsReached p o workers s) (ended : goes_on o s.book ≡ false) where
+    last : LastOf s
+    last = last_of s reached ended
+
+    more_rows : length s.book.rows ≡ length last.before.book.rows + 1
+    more_rows = rows_after o last.before.crew last.before.book s.book last.follows.made
+
+    within : length s.book.rows ≤ o.iterations
+    within = omega (arith, more_rows, few_rows last.before some last.on)
+
+    routes : (lists : Lists) (k : ℕ) → Tells s.book (Success lists k) → IsOutcome p o (Success lists k)
+    routes lists k told =
+        let routed = routed_by s.book last.follows.made.sound told.2 told.3 in
+        let is = book_reached s reached in (
+          subst (λ ls. IsRouted p ls) (sym told.0) (subst (λ q. IsRouted q s.book.lists) is.problem routed),
+          omega (arith, told.1, more_rows),
+          omega (arith, told.1, within),
+        )
+
+    leaves : (u v k : ℕ) → Tells s.book (NotRouted u v k) → IsOutcome p o (NotRouted u v k)
+    leaves u v k told =
+        let is = book_reached s reached in
+        let was = book_reached last.before last.reached in
+        let now : length last.before.book.rows + 1 ≡ k = omega (arith, told.2, more_rows) in
+        let nets : length last.before.book.problem.nets ≡ length p.nets = ap (λ (q : RoutingProblem). length q.nets) was.problem in
+        record {
+          some = told.3;
+          least = omega (arith, now);
+          most = omega (arith, told.2, within);
+          early = λ low. omega (arith, told.0, early_end (length s.book.rows) (unrouted_of s.book) (overused_of s.book) ended (omega (arith, told.0, told.1, told.3)) (omega (arith, low, told.2)));
+          before = last.before.book;
+          book = s.book;
+          begins = record { problem = was.problem; acc = was.acc; rows = omega (arith, now) };
+          ends = record { problem = is.problem; acc = is.acc; rows = sym told.2 };
+          sound = last.follows.made.sound;
+          without = sym told.0;
+          over = sym told.1;
+          stuck = λ i low none.
+              subst (λ n. IsStuckNet last.before.book (present_of o n) o.bb i) now
+              (stuck_after o last.before.crew last.before.book s.book last.follows.made i (omega (arith, low, nets)) none);
+        }
+
+    tells_outcome : (out : Outcome) → Tells s.book out → IsOutcome p o out
+    tells_outcome (Success lists k) told = routes lists k told
+    tells_outcome (NotRouted u v k) told = leaves u v k told
+
+  pub outcome_of : (out : Outcome) → 1 ≤ o.iterations → Ends p o workers out → IsOutcome p o out
+  outcome_of out some ends = tells_outcome some ends.last ends.reached ends.ended out ends.told

@@ -1,0 +1,3 @@
+pub mod Routings
+pub mod Successes
+pub mod Advancing

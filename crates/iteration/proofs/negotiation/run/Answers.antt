@@ -1,0 +1,32 @@
+use Rattle.std.proofs.Common.{◌≡◌, true, sym, subst, ◌∙◌, arith}
+use Rattle.iteration.specs.Progress.{IsReached, begun, followed, goes_on}
+use Rattle.iteration.proofs.Advancing.{few_rows, rows_after}
+use Rattle.iteration.proofs.negotiation.run.Goals as goal
+
+pub loop-alloc-init : goal.loop-alloc-init
+loop-alloc-init g c = subst (IsReached c.args.problem c.args.settings.now c.args.workers) (sym c.in_ok-negotiation.ensures) begun
+
+pub advance-requires-clause-few : goal.advance-requires-clause-few
+advance-requires-clause-few g c κs within =
+    let old = c.loop-alloc.negotiation in
+    let on : goes_on c.args.settings.now old.book ≡ true = sym c.goes_on.ensures ∙ c.loop-alloc-test.true in
+    few_rows c.args.problem c.args.settings.now c.args.workers old c.iterations-limits.ensures.limits.iterations_least on
+
+pub loop-alloc-smaller : goal.loop-alloc-smaller
+loop-alloc-smaller g c =
+    let old = c.loop-alloc.negotiation in
+    let new = c.in_ok-negotiation-2.negotiation in
+    let on : goes_on c.args.settings.now old.book ≡ true = sym c.goes_on.ensures ∙ c.loop-alloc-test.true in
+    let few = few_rows c.args.problem c.args.settings.now c.args.workers old c.iterations-limits.ensures.limits.iterations_least on in
+    let follows = c.in_ok-negotiation-2.ensures in
+    let more = rows_after c.args.settings.now old.crew old.book new.book follows.made in
+    omega (arith, few, more)
+
+pub loop-alloc-preserved : goal.loop-alloc-preserved
+loop-alloc-preserved g c =
+    let old = c.loop-alloc.negotiation in
+    let on : goes_on c.args.settings.now old.book ≡ true = sym c.goes_on.ensures ∙ c.loop-alloc-test.true in
+    followed old c.in_ok-negotiation-2.negotiation c.loop-alloc.invariant on c.in_ok-negotiation-2.ensures
+
+pub returns-clause-ended : goal.returns-clause-ended
+returns-clause-ended g c = sym c.goes_on.ensures ∙ c.loop-alloc-test.false

@@ -1,0 +1,51 @@
+//! An iteration, from its first draw to its close.
+
+ghost use Rattle.std.specs.Prelude.{◌≡◌, ◌+◌, ◌<◌, ◌≤◌, length, None, IfOk, OnOk};
+ghost use Rattle.congestion_book.specs.Turns.{IsFirstWaiting};
+ghost use Rattle.congestion_book.specs.Contents.{net_count};
+ghost use Rattle.congestion_book.specs.Steps.{after_close};
+ghost use Rattle.net_workers.specs.Agreement.{IsFresh};
+ghost use Rattle.iteration.specs.Progress.{IsIteration};
+
+use congestion_book::{Book, CloseFault};
+use net_workers::{Gate, WorkFault, iterate};
+use node_cost::Settings;
+use std::alloc::Global;
+use std::sync::Wait;
+use std::thread::Threads;
+
+/// Closes the open iteration, in which each net had its turn.
+fn close(alloc: Global, book: &mut Book) -> Result<(), WorkFault>
+    requires done { IsFirstWaiting book.old.turns (net_count book.old) None }
+    requires few { length book.old.rows < 500 }
+    ensures { OnOk result (book.new ≡ after_close book.old) }
+{
+    match book.close(alloc) {
+        Ok(()) => Ok(()),
+        Err(CloseFault::Memory) => Err(WorkFault::Memory),
+        Err(CloseFault::Unfinished(_)) => unreachable!(),
+        Err(CloseFault::Full) => unreachable!(),
+    }
+}
+
+/// Makes the next iteration of a book by so many workers, closes it, and tells the gate.
+pub(crate) fn make_iteration<R: Threads + Wait + Sync, G: Gate + Sync>(
+    rt: &R,
+    alloc: Global,
+    book: Book,
+    settings: &Settings,
+    crew: u32,
+    gate: &G,
+) -> Result<Book, WorkFault>
+    requires fresh { IsFresh book }
+    requires few { length book.rows < 500 }
+    requires crew { (1 ≤ crew) × (crew ≤ 16) }
+    ensures { IfOk result (IsIteration settings.now crew book) }
+{
+    let iteration = book.rows().len() as u32 + 1;
+    let (mut book, _reports) = iterate(rt, alloc, book, settings, iteration, crew, gate)?;
+    close(alloc, &mut book)?;
+    let _sound = book.problem();
+    gate.closed(iteration, book.unrouted(), book.overused());
+    Ok(book)
+}

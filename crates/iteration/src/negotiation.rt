@@ -1,0 +1,200 @@
+//! A negotiation, iteration by iteration.
+
+ghost use Rattle.std.specs.Prelude.{◌≡◌, ◌<◌, ◌≤◌, false, length, IfOk};
+ghost use Rattle.iteration.specs.Progress.{Follows, IsReached, beginning, goes_on, unrouted_of, overused_of};
+ghost use Rattle.iteration.specs.Outcomes.{Tells, Ends, IsOutcome};
+
+use crate::closing::make_iteration;
+use crate::crew::{Made, largest_crew, next_crew};
+use crate::outcome::Outcome;
+use crate::routing::routing_of;
+use congestion_book::Book;
+use net_workers::{Gate, WorkFault};
+use node_cost::Settings;
+use route_check::check_routing;
+use route_tree::Routing;
+use rr_graph::Problem;
+use std::alloc::{AllocError, Global};
+use std::marker::Model;
+use std::sync::Wait;
+use std::thread::Threads;
+
+/// Where a negotiation stands between two iterations. Contracts see the record of the book, of how many workers make the next iteration,
+/// and of how many nodes were overused after the last one.
+#[derive(Drop)]
+struct Negotiation {
+    book: Book,
+    crew: u32,
+    overused: Option<u32>,
+}
+
+impl Model for Negotiation {
+    ghost use Rattle.std.specs.Prelude.{◌≤◌};
+    ghost use Rattle.net_workers.specs.Agreement.{IsFresh};
+    ghost use Rattle.iteration.specs.Progress.{Standing};
+
+    ghost Value = { Standing };
+
+    ghost view = { λ n. record { book = n.book; crew = n.crew; overused = n.overused } };
+
+    ghost invariant = { λ n. IsFresh n.book × (1 ≤ n.crew) × (n.crew ≤ 16) };
+}
+
+impl Negotiation {
+    /// Before the first iteration, which all workers make.
+    #[tactic(auto, using(crate::proofs::Advancing::fresh_opening))]
+    fn begin(
+        alloc: Global,
+        problem: Problem,
+        settings: &Settings,
+        workers: u32,
+    ) -> Result<Negotiation, AllocError>
+        requires { (1 ≤ workers) × (workers ≤ 16) }
+        ensures { IfOk result (λ n. n ≡ beginning problem settings.now workers) }
+    {
+        Ok(Negotiation {
+            book: Book::new(alloc, problem, settings.acc())?,
+            crew: workers,
+            overused: None,
+        })
+    }
+
+    /// Whether another iteration follows.
+    fn goes_on(&self, settings: &Settings) -> bool
+        ensures { result ≡ goes_on settings.now self.now.book }
+    {
+        let limit = settings.iterations() as usize;
+        let made = self.book.rows().len();
+        made == 0 || (self.book.unrouted() == 0 && 0 < self.book.overused() && made < limit)
+    }
+
+    /// Makes the next iteration.
+    #[tactic(auto, using(crate::proofs::Advancing::fresh_after))]
+    fn advance<R: Threads + Wait + Sync, G: Gate + Sync>(
+        self,
+        rt: &R,
+        alloc: Global,
+        settings: &Settings,
+        workers: u32,
+        gate: &G,
+    ) -> Result<Negotiation, WorkFault>
+        requires workers { (1 ≤ workers) × (workers ≤ 16) }
+        requires few { length self.book.rows < settings.now.iterations }
+        ensures { IfOk result (Follows settings.now workers self) }
+    {
+        let Negotiation {
+            book,
+            crew,
+            overused: before,
+        } = self;
+        let iteration = book.rows().len() as u32 + 1;
+        let limit = settings.iterations();
+        let book = make_iteration(rt, alloc, book, settings, crew, gate)?;
+        let overused = book.overused();
+        let made = Made {
+            iteration,
+            crew,
+            before,
+            overused,
+        };
+        let largest = largest_crew(workers, book.problem().nets());
+        Ok(Negotiation {
+            book,
+            crew: next_crew(limit, largest, made),
+            overused: Some(overused),
+        })
+    }
+
+    /// What it comes to where it ends here.
+    fn outcome<R: Threads + Wait + Sync>(
+        &self,
+        rt: &R,
+        alloc: Global,
+        problem: &Problem,
+    ) -> Result<Outcome, WorkFault>
+        requires { problem.now ≡ self.now.book.problem }
+        ensures { IfOk result (Tells self.now.book) }
+    {
+        let unrouted = self.book.unrouted();
+        let overused = self.book.overused();
+        let iterations = self.book.rows().len() as u32;
+        if unrouted > 0 || overused > 0 {
+            return Ok(Outcome::NotRouted {
+                unrouted,
+                overused,
+                iterations,
+            });
+        }
+        let routing = success(rt, alloc, problem, &self.book)?;
+        Ok(Outcome::Success(routing, iterations))
+    }
+}
+
+/// The routing of a book in which each net has a tree and no node is overused, judged anew on a copy of its problem.
+fn success<R: Threads + Wait + Sync>(
+    rt: &R,
+    alloc: Global,
+    problem: &Problem,
+    book: &Book,
+) -> Result<Routing, AllocError>
+    requires problem { problem.now ≡ book.now.problem }
+    requires routed { unrouted_of book.now ≡ 0 }
+    requires within { overused_of book.now ≡ 0 }
+    ensures { IfOk result (λ r. r ≡ book.now.lists) }
+{
+    let _sound = book.problem();
+    let routing = routing_of(alloc, book)?;
+    match check_routing(rt, alloc, problem, &routing)? {
+        None => Ok(routing),
+        Some(_) => unreachable!(),
+    }
+}
+
+/// Makes iterations until none follows.
+fn run<R: Threads + Wait + Sync, G: Gate + Sync>(
+    rt: &R,
+    alloc: Global,
+    problem: Problem,
+    settings: &Settings,
+    workers: u32,
+    gate: &G,
+) -> Result<Negotiation, WorkFault>
+    requires { (1 ≤ workers) × (workers ≤ 16) }
+    ensures reached { IfOk result (IsReached problem settings.now workers) }
+    ensures ended { IfOk result (λ n. goes_on settings.now n.book ≡ false) }
+    ensures limit { 1 ≤ settings.now.iterations }
+{
+    let _limits = settings.iterations();
+    let mut negotiation = Negotiation::begin(alloc, problem, settings, workers)?;
+    while negotiation.goes_on(settings) {
+        negotiation = negotiation.advance(rt, alloc, settings, workers, gate)?;
+    }
+    Ok(negotiation)
+}
+
+/// Negotiates a routing of the problem. Iteration by iteration each net is routed anew by so many workers (the first iteration by all of
+/// them, the others by as many as `next_crew` says), on one congestion book, and the iteration is closed: nodes that stay overused cost
+/// more from then on. It ends where each net has a tree and no node is overused; else behind the iteration in which a net found no path,
+/// and behind the last one that the settings allow. After each close the gate is told.
+///
+/// `NoThread`, `Memory` and `Astray` as `iterate` answers them; `Memory` also where a copy, a close or the last check found none. The call
+/// waits for the workers.
+pub fn negotiate<R: Threads + Wait + Sync, G: Gate + Sync>(
+    rt: &R,
+    alloc: Global,
+    problem: Problem,
+    settings: &Settings,
+    workers: u32,
+    gate: &G,
+) -> Result<Outcome, WorkFault>
+    requires workers { (1 ≤ workers) × (workers ≤ 16) }
+    // A success routes the problem; else what is left of it is told.
+    ensures outcome { IfOk result (IsOutcome problem settings.now) }
+    // It is where iterations by these rules first end.
+    ensures run { IfOk result (Ends problem settings.now workers) }
+{
+    let own = problem.copy(alloc)?;
+    let negotiation = run(rt, alloc, problem, settings, workers, gate)?;
+    let outcome = negotiation.outcome(rt, alloc, &own)?;
+    Ok(outcome)
+}

@@ -1,0 +1,33 @@
+//! The routing that a book records.
+
+ghost use Rattle.std.specs.Prelude.{◌≡◌, ◌<◌, length, IfOk};
+ghost use Rattle.route_tree.specs.TreeLists.{list_of_tree};
+ghost use Rattle.congestion_book.specs.Recorded.{list_in};
+ghost use Rattle.congestion_book.specs.Contents.{net_count};
+
+use congestion_book::Book;
+use route_tree::{Routing, Tree};
+use std::alloc::{AllocError, Global};
+
+/// A copy of the recorded tree of a net, or none.
+fn tree_of(alloc: Global, book: &Book, net: u32) -> Result<Option<Tree>, AllocError>
+    ensures { IfOk result (λ t. list_of_tree t ≡ list_in book.now.lists net) }
+{
+    match book.tree(net) {
+        None => Ok(None),
+        Some(tree) => Ok(Some(tree.copy(alloc)?)),
+    }
+}
+
+/// The pairs of the recorded trees, or none where a net has no tree.
+#[tactic(auto, using(crate::proofs::Routings::trees_more, crate::proofs::Routings::trees_all))]
+pub(crate) fn routing_of(alloc: Global, book: &Book) -> Result<Routing, AllocError>
+    ensures { IfOk result (λ r. r ≡ book.now.lists) }
+{
+    let nets = book.problem().nets();
+    let mut trees = Vec::with_capacity(alloc, nets as usize)?;
+    for net in 0..nets {
+        trees.push_reserved(tree_of(alloc, book, net)?);
+    }
+    Routing::of_trees(alloc, &trees)
+}
