@@ -155,7 +155,8 @@ impl Book {
 
     /// Full where there are as many rows as there may be.
     fn full(&self) -> Option<CloseFault>
-        ensures { result ≡ (if nat_le 500 (length self.now.rows) then Some CloseFault.Full else None) }
+        ensures { result ≡
+            (if nat_le 500 (length self.now.rows) then Some CloseFault.Full else None) }
     {
         if self.history.rows().len() >= MOST_ITERATIONS {
             Some(CloseFault::Full)

@@ -53,7 +53,8 @@ impl Book {
     ) -> Result<Vec<Reply>, RunFault>
         ensures done { IfOk result
             (λ replies. Runs self.old view.old events.now replies.items self.new view.new) }
-        ensures stopped { IfErr result (λ fault. StopsAfter self.old view.old events.now fault self.new view.new) }
+        ensures stopped { IfErr result
+            (λ fault. StopsAfter self.old view.old events.now fault self.new view.new) }
     {
         let mut replies = match Vec::with_capacity(alloc, events.len()) {
             Ok(replies) => replies,
@@ -73,7 +74,8 @@ impl Book {
 
     /// Lets an event happen.
     fn step(&mut self, alloc: Global, event: &Event, view: &mut View) -> Result<Reply, AllocError>
-        ensures step { IfOk result (λ reply. Steps self.old view.old event.now reply self.new view.new) }
+        ensures step { IfOk result
+            (λ reply. Steps self.old view.old event.now reply self.new view.new) }
         ensures refused { OnErr result (self.new ≡ self.old) }
         ensures unseen { OnErr result (view.new ≡ view.old) }
     {

@@ -70,7 +70,8 @@ fn add_amount(histories: &mut Histories, acc: u16, amount: (u32, u32))
 impl History {
     /// No rows, and no history for any of the nodes.
     pub(crate) fn new(alloc: Global, nodes: usize, acc: u16) -> Result<History, AllocError>
-        ensures { IfOk result (λ h. h ≡ record { acc = acc; rows = []; histories = replicate nodes 0 }) }
+        ensures { IfOk result
+            (λ h. h ≡ record { acc = acc; rows = []; histories = replicate nodes 0 }) }
     {
         let rows = Vec::with_capacity(alloc, MOST_ITERATIONS)?;
         let histories = Arc::new(alloc, Histories::new(alloc, nodes)?)?;
@@ -104,7 +105,8 @@ impl History {
         requires few { length self.old.rows < 500 }
         requires bounded { (a : ℕ) → amount_in row a ≤ 65535 }
         requires size { length (arc_value histories) ≡ length self.old.histories }
-        requires exact { AreHistories self.old.acc (self.old.rows ++ row ∷ []) (arc_value histories) }
+        requires exact { AreHistories self.old.acc (self.old.rows ++ row ∷ [])
+            (arc_value histories) }
         ensures { self.new ≡ record {
           acc = self.old.acc;
           rows = self.old.rows ++ row ∷ [];

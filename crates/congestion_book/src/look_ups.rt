@@ -27,7 +27,8 @@ impl Book {
     pub fn tree(&self, net: u32) -> Option<&Tree>
         ensures exact { MatchOption result (list_in self.now.lists net ≡ None)
             (λ t. list_in self.now.lists net ≡ Some (pairs_of t.now)) }
-        ensures routes { MatchOption result (Unit {0}) (λ t. IsRoute self.now.problem net (pairs_of t.now)) }
+        ensures routes { MatchOption result (Unit {0})
+            (λ t. IsRoute self.now.problem net (pairs_of t.now)) }
     {
         match self.routes.trees.get(net as usize) {
             None => None,

@@ -40,7 +40,8 @@ fn gain_rows(usage: &mut Usage, problem: &Problem, net: u32, rows: &[Row])
     requires each { length usage.old.counts ≡ node_count_of problem.now.device }
     requires room { HasRoom problem.now net (Some (pairs_of rows.now)) usage.old.counts }
     requires counted { usage.old.overused ≡ overused_by problem.now.device usage.old.counts }
-    ensures counts { GainsNet problem.now net (Some (pairs_of rows.now)) usage.old.counts usage.new.counts }
+    ensures counts { GainsNet problem.now net (Some (pairs_of rows.now))
+        usage.old.counts usage.new.counts }
     ensures counted { usage.new.overused ≡ overused_by problem.now.device usage.new.counts }
 {
     let device = problem.device();
@@ -54,7 +55,8 @@ fn gain_net(usage: &mut Usage, problem: &Problem, net: u32, tree: &Option<Tree>)
     requires each { length usage.old.counts ≡ node_count_of problem.now.device }
     requires room { HasRoom problem.now net (list_of_tree tree.now) usage.old.counts }
     requires counted { usage.old.overused ≡ overused_by problem.now.device usage.old.counts }
-    ensures counts { GainsNet problem.now net (list_of_tree tree.now) usage.old.counts usage.new.counts }
+    ensures counts { GainsNet problem.now net (list_of_tree tree.now)
+        usage.old.counts usage.new.counts }
     ensures counted { usage.new.overused ≡ overused_by problem.now.device usage.new.counts }
 {
     match tree {
@@ -71,7 +73,8 @@ fn lose_rows(usage: &mut Usage, problem: &Problem, net: u32, rows: &[Row])
     requires each { length usage.old.counts ≡ node_count_of problem.now.device }
     requires used { IsCounted problem.now net (Some (pairs_of rows.now)) usage.old.counts }
     requires counted { usage.old.overused ≡ overused_by problem.now.device usage.old.counts }
-    ensures counts { LosesNet problem.now net (Some (pairs_of rows.now)) usage.old.counts usage.new.counts }
+    ensures counts { LosesNet problem.now net (Some (pairs_of rows.now))
+        usage.old.counts usage.new.counts }
     ensures counted { usage.new.overused ≡ overused_by problem.now.device usage.new.counts }
 {
     let device = problem.device();
@@ -85,7 +88,8 @@ fn lose_net(usage: &mut Usage, problem: &Problem, net: u32, tree: &Option<Tree>)
     requires each { length usage.old.counts ≡ node_count_of problem.now.device }
     requires used { IsCounted problem.now net (list_of_tree tree.now) usage.old.counts }
     requires counted { usage.old.overused ≡ overused_by problem.now.device usage.old.counts }
-    ensures counts { LosesNet problem.now net (list_of_tree tree.now) usage.old.counts usage.new.counts }
+    ensures counts { LosesNet problem.now net (list_of_tree tree.now)
+        usage.old.counts usage.new.counts }
     ensures counted { usage.new.overused ≡ overused_by problem.now.device usage.new.counts }
 {
     match tree {
@@ -106,8 +110,8 @@ fn change_net(
     requires after { RoutesOrNone problem.now net (list_of_tree after.now) }
     requires each { length usage.old.counts ≡ node_count_of problem.now.device }
     requires used { IsCounted problem.now net (list_of_tree before.now) usage.old.counts }
-    requires room { HasRoomInPlace problem.now net (list_of_tree before.now) (list_of_tree after.now)
-        usage.old.counts }
+    requires room { HasRoomInPlace problem.now net (list_of_tree before.now)
+        (list_of_tree after.now) usage.old.counts }
     requires counted { usage.old.overused ≡ overused_by problem.now.device usage.old.counts }
     ensures counts { ChangesNet problem.now net (list_of_tree before.now) (list_of_tree after.now)
         usage.old.counts usage.new.counts }

@@ -81,8 +81,8 @@ pub(crate) fn show(
     requires counts { length counts.now ≡ node_count_of problem.now.device }
     requires histories { length (arc_value histories.now) ≡ node_count_of problem.now.device }
     requires used { IsCounted problem.now net (list_of_tree tree.now) counts.now }
-    ensures { SeesOthers problem.now net (list_of_tree tree.now) counts.now (arc_value histories.now)
-        view.new }
+    ensures { SeesOthers problem.now net (list_of_tree tree.now) counts.now
+        (arc_value histories.now) view.new }
 {
     view.look_at(counts, histories);
     leave_net(view, problem, net, tree);

@@ -64,7 +64,8 @@ impl Usage {
         requires there { id < node_count_of device.now }
         requires room { get_or self.old.counts id 0 < 65535 }
         requires counted { self.old.overused ≡ overused_by device.now self.old.counts }
-        ensures counts { self.new.counts ≡ set self.old.counts id (get_or self.old.counts id 0 + 1) }
+        ensures counts { self.new.counts ≡
+            set self.old.counts id (get_or self.old.counts id 0 + 1) }
         ensures counted { self.new.overused ≡ overused_by device.now self.new.counts }
     {
         let count = self.counts.get(id);
@@ -80,7 +81,8 @@ impl Usage {
         requires there { id < node_count_of device.now }
         requires used { 1 ≤ get_or self.old.counts id 0 }
         requires counted { self.old.overused ≡ overused_by device.now self.old.counts }
-        ensures counts { self.new.counts ≡ set self.old.counts id (get_or self.old.counts id 0 - 1) }
+        ensures counts { self.new.counts ≡
+            set self.old.counts id (get_or self.old.counts id 0 - 1) }
         ensures counted { self.new.overused ≡ overused_by device.now self.new.counts }
     {
         let count = self.counts.get(id) - 1;
@@ -93,7 +95,8 @@ impl Usage {
         requires limits { IsFabric device.now }
         requires each { length self.old.counts ≡ node_count_of device.now }
         requires there { All (λ r. r.node < node_count_of device.now) rows.now }
-        requires room { (a : ℕ) → get_or self.old.counts a 0 + times_in (nodes_of rows.now) a ≤ 65535 }
+        requires room { (a : ℕ) →
+            get_or self.old.counts a 0 + times_in (nodes_of rows.now) a ≤ 65535 }
         requires counted { self.old.overused ≡ overused_by device.now self.old.counts }
         ensures counts { AddsEach self.old.counts (nodes_of rows.now) self.new.counts }
         ensures counted { self.new.overused ≡ overused_by device.now self.new.counts }

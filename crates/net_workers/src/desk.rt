@@ -110,7 +110,8 @@ impl<L: Round> Desk<L> {
     ) -> Result<(), (CommitFault, Tree)>
         ensures exactly { IsOk result ↔ (holder_in self.old.holders net ≡ Some share.old.worker)
             × IsRoute self.old.problem net (pairs_of tree) }
-        ensures step { Commits self.old share.old.worker net (pairs_of tree) (fault_alone result) self.new }
+        ensures step { Commits self.old share.old.worker net (pairs_of tree)
+            (fault_alone result) self.new }
         ensures back { IfErr result (λ e. e.1 ≡ tree) }
         ensures counted { OnOk result (share.new ≡ one_more share.old) }
         ensures uncounted { OnErr result (share.new ≡ share.old) }

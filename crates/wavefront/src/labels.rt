@@ -109,7 +109,8 @@ impl<K: Key> Labels<K> {
     /// Puts a label on a node.
     pub(crate) fn set(&mut self, node: u32, key: K, parent: u32)
         requires { node < length self.old }
-        ensures { self.new ≡ slice_set self.old node (record { key = K.value key; parent = parent }) }
+        ensures { self.new ≡
+            slice_set self.old node (record { key = K.value key; parent = parent }) }
     {
         self.rows[node as usize] = Row {
             key,

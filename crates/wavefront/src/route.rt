@@ -39,7 +39,8 @@ pub fn route_net(
     requires bb { (1 ≤ bb) × (bb ≤ 255) }
     ensures found { IfOk result (IsAnswer (space_of problem.now net view.now present bb)) }
     ensures routed { IfOk result (IsRouted problem.now net) }
-    ensures view_size { (result ≡ Err ViewSize) ↔ (length view.now ≡ node_count_of problem.now.device → ⊥) }
+    ensures view_size { (result ≡ Err ViewSize) ↔
+        (length view.now ≡ node_count_of problem.now.device → ⊥) }
     ensures fits { node_total scratch.new ≡ node_count_of problem.now.device }
 {
     if view.len() != problem.device().node_count() as usize {
