@@ -71,6 +71,7 @@ module _ (s t : Wave) (x : Entry) (p : IsPopped s t x) where
     rows = ap length p.labels ∙ wave.rows;
     near = λ v. let k = ap (λ l. l.key) (same_labels v) in let n = wave.near v in omega (arith, k, n);
     within = let limit = p.limit in let n = wave.within in omega (arith, limit, n);
+    known = rw p.entrances wave.known;
     entered = λ v near. let same = same_labels v in let k = ap (λ l. l.key) same in elim (wave.entered v (omega (arith, k, near))) [
       | inl o ↦ inl (same_origin s t v same o)
       | inr e ↦ inr (popped_entered space v e)

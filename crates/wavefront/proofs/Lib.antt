@@ -1,11 +1,12 @@
 -- lists
 pub mod Lists
 -- labels
-pub mod Stamped
+pub mod StampedRows
+pub mod KeptLabels
 -- steps of the wave
 pub mod Lower
 pub mod Preferred
-pub mod LeftOut
+pub mod Unchanged
 pub mod Waits
 pub mod Went
 pub mod Wanted

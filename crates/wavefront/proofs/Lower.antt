@@ -89,6 +89,7 @@ module _ (space : Space) where
         rows = ap length r.labels ∙ length-set _ _ _ ∙ wave.rows;
         near = λ v. let d = down v in let n = wave.near v in omega (arith, d, n);
         within = let same = r.limit in let n = wave.within in omega (arith, same, n);
+        known = rw r.entrances wave.known;
         entered = λ v reached. elim (cases_eq v node) [
           | inl e ↦ rw e way
           | inr ne ↦

@@ -57,6 +57,7 @@ preferred_wave space s t node key label r wave lt above near edge inside cost = 
   rows = ap length r.labels ∙ length-set _ _ _ ∙ wave.rows;
   near = λ v. let k = same_key s t node label v r lt in let n = wave.near v in omega (arith, k, n);
   within = let bound = r.limit in let n = wave.within in omega (arith, bound, n);
+  known = rw r.entrances wave.known;
   entered = λ v reached. elim (cases_eq v node) [
     | inl e ↦
         let key_here : key_of t node ≡ label.key = ap (λ l. l.key) (here s t node label r lt) in

@@ -1,8 +1,10 @@
 pub mod Boxes
 pub mod Space
 pub mod Ways
+pub mod Entrances
 pub mod Label
 pub mod Stamps
+pub mod Labels
 pub mod Entries
 pub mod Queues
 pub mod WaveState

@@ -13,12 +13,14 @@ use Rattle.wavefront.specs.Wave.{IsComplete, IsCompleteBut, IsOpen, IsOrigin, Is
 -- t is w where all that costs this key, or more, may be left out
 pub record LeavesOut (w t : Wave) (key : ℕ) : Type 0 where
   pub labels : t.labels ≡ w.labels
+  pub entrances : t.entrances ≡ w.entrances
   pub queue : t.queue ≡ w.queue
   pub limit : t.limit ≡ min w.limit key
 
 -- t is w with the label of a node set, and with an entry for it
 pub record IsLowered (s : Space) (w t : Wave) (node : ℕ) (label : Label) : Type 0 where
   pub labels : t.labels ≡ slice_set w.labels node label
+  pub entrances : t.entrances ≡ w.entrances
   pub key : ℕ
   pub above : label.key ≤ key
   pub low : key ≤ label.key + bound_of s node
@@ -28,6 +30,7 @@ pub record IsLowered (s : Space) (w t : Wave) (node : ℕ) (label : Label) : Typ
 -- t is w with another parent at a node that is no origin; its key is as it was
 pub record IsPreferred (w t : Wave) (node : ℕ) (label : Label) : Type 0 where
   pub labels : t.labels ≡ slice_set w.labels node label
+  pub entrances : t.entrances ≡ w.entrances
   pub queue : t.queue ≡ w.queue
   pub limit : t.limit ≡ w.limit
   pub same : label.key ≡ key_of w node
@@ -37,7 +40,14 @@ pub record IsPreferred (w t : Wave) (node : ℕ) (label : Label) : Type 0 where
 -- t is w without the entry x, its least
 pub record IsPopped (w t : Wave) (x : Entry) : Type 0 where
   pub labels : t.labels ≡ w.labels
+  pub entrances : t.entrances ≡ w.entrances
   pub queue : queues.IsPopped w.queue t.queue x
+  pub limit : t.limit ≡ w.limit
+
+-- t is w but for what is known of how nodes are entered
+pub record IsNoted (w t : Wave) : Type 0 where
+  pub labels : t.labels ≡ w.labels
+  pub queue : t.queue ≡ w.queue
   pub limit : t.limit ≡ w.limit
 
 -- along each edge from v the key was offered

@@ -8,6 +8,7 @@ use Rattle.wavefront.specs.WaveState.{Wave}
 use Rattle.wavefront.specs.Label.{unreached}
 use Rattle.wavefront.specs.Space.{Space, HasEdge, IsInside, IsWanted, entry_cost, node_count}
 use Rattle.wavefront.specs.Ways.{IsWay}
+use Rattle.wavefront.specs.Entrances.{Knows}
 
 -- a node's label; a number that is no node is never reached
 abbrev pub label_at : Wave → ℕ → Label
@@ -74,6 +75,7 @@ pub record IsWave (s : Space) (w : Wave) : Type 0 where
   pub rows : length w.labels ≡ node_count s
   pub near : (v : ℕ) → key_of w v ≤ FAR
   pub within : w.limit ≤ FAR
+  pub known : Knows s w.entrances
   pub entered : (v : ℕ) → key_of w v < FAR → IsOrigin w v ⊎ IsEntered s w v
   pub entries : (e : Entry) → Contains w.queue e → (key_of w e.node ≤ e.key) × (key_of w e.node < FAR)
 

@@ -1,17 +1,20 @@
--- What a wave is: labels, entries that wait, and from what cost on ways may have been left out.
-use Rattle.std.specs.Prelude.{ℕ, ◌≤◌, List}
+-- What a wave is: labels, what is known of how nodes are entered, entries that wait, and from what cost on ways may have been left out.
+use Rattle.std.specs.Prelude.{◌≡◌, ℕ, ◌≤◌, List, Option, length}
 use Rattle.wavefront.specs.declared.labels.Label.{Label}
+use Rattle.wavefront.specs.declared.entrances.Entrance.{Entrance}
 use Rattle.wavefront.specs.declared.queue.Entry.{Entry}
 use Rattle.wavefront.specs.declared.wave.Wave.TheInside.{Inside}
 
 pub record Wave : Type 0 where
   pub labels : List Label
+  pub entrances : List (Option Entrance)
   pub queue : List Entry
   pub limit : ℕ
 
 abbrev pub wave_of : {K : Type 0} → Inside K → Wave
-wave_of w = record { labels = w.labels; queue = w.queue; limit = w.limit }
+wave_of w = record { labels = w.labels; entrances = w.entrances; queue = w.queue; limit = w.limit }
 
--- nothing is left out that fits
-abbrev pub LeavesOutNoneBelow : {K : Type 0} → (range : ℕ) → Inside K → Type 0
-LeavesOutNoneBelow range w = range ≤ w.limit
+-- nothing is left out that fits, and entrances are kept for the same nodes as labels
+pub record IsWaveState {K : Type 0} (range : ℕ) (w : Inside K) : Type 0 where
+  pub limit : range ≤ w.limit
+  pub nodes : length w.entrances ≡ length w.labels

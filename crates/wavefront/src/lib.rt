@@ -4,6 +4,7 @@
 
 mod bounds;
 mod boxes;
+mod entrances;
 mod found;
 mod keys;
 mod labels;
@@ -11,6 +12,7 @@ mod queue;
 mod route;
 mod scratch;
 mod space;
+mod stamped;
 mod wave;
 
 pub use found::{Found, SearchFault};

@@ -7,6 +7,7 @@ ghost use Rattle.std.specs.Option.{option_map_or};
 ghost use Rattle.wavefront.specs.Boxes.{is_in_box};
 ghost use Rattle.wavefront.specs.Space.{IsSpace, IsInside, IsWanted, HasEdge, LeadsOnlyTo, entry_cost, node_count, base_cost};
 ghost use Rattle.wavefront.specs.Growth.{space_of};
+ghost use Rattle.wavefront.specs.Entrances.{LeadsNowhere};
 
 use crate::boxes::BoundingBox;
 use node_cost::{GREATEST_PRESENT, View, cost};
@@ -148,9 +149,20 @@ impl<'a> SearchSpace<'a> {
         self.problem.device().successors(node, list)
     }
 
+    /// Whether it is an input pin that leads to none of the net's sinks.
+    pub(crate) fn is_dead_end(&self, node: u32) -> bool
+        requires { IsSpace self.now }
+        ensures { IsTrue result → LeadsNowhere self.now node }
+    {
+        match self.sink_of(node) {
+            Some(sink) => !self.wants(sink),
+            None => false,
+        }
+    }
+
     /// The sink to which an input pin leads, and to nothing else; None for what is no input pin.
     #[tactic(auto, using(crate::proofs::Spaces::pin_leads))]
-    pub(crate) fn sink_of(&self, node: u32) -> Option<u32>
+    fn sink_of(&self, node: u32) -> Option<u32>
         ensures { IfSome result (λ sink. LeadsOnlyTo self.now node sink) }
     {
         self.problem.device().sink_of(node)

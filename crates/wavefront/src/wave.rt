@@ -3,18 +3,23 @@
 ghost use Rattle.std.specs.Prelude.{◌≡◌, ℕ, ◌+◌, ◌<◌, ◌≤◌};
 
 use crate::bounds::Bounds;
+use crate::entrances::Entrance;
 use crate::keys::Key;
 use crate::labels::{FAR, Label, Labels};
 use crate::queue::{Entry, Queue};
 use crate::space::SearchSpace;
+use crate::stamped::Stamped;
 use smallvec::SmallVec;
 use std::alloc::{AllocError, Global};
 use std::marker::Model;
 
-/// The labels, and the nodes whose labels have yet to go along their edges. Contracts see the record of both.
+/// The labels, and the nodes whose labels have yet to go along their edges. Contracts see the
+/// record of what counts.
 #[derive(Drop)]
 pub(crate) struct Wave<K: Key> {
     labels: Labels<K>,
+    /// How the net enters nodes, of those that it came to.
+    entrances: Stamped<Entrance>,
     queue: Queue<K>,
     /// What costs this or more may have been left out.
     limit: u128,
@@ -26,11 +31,11 @@ impl<K: Key> Model for Wave<K> {
 
     ghost Value = { Wave };
 
-    ghost use Rattle.wavefront.specs.WaveState.{wave_of, LeavesOutNoneBelow};
+    ghost use Rattle.wavefront.specs.WaveState.{wave_of, IsWaveState};
 
     ghost view = { wave_of };
 
-    ghost invariant = { LeavesOutNoneBelow K.range };
+    ghost invariant = { IsWaveState K.range };
 }
 
 impl<K: Key> Wave<K> {
@@ -45,6 +50,7 @@ impl<K: Key> Wave<K> {
     {
         Ok(Wave {
             labels: Labels::new(alloc, nodes)?,
+            entrances: Stamped::new(alloc, nodes, Entrance::Closed)?,
             queue: Queue::new(alloc),
             limit: FAR,
             bounds: Bounds,
@@ -66,6 +72,7 @@ impl<K: Key> Wave<K> {
         ensures origins { NoOrigins self.new }
     {
         self.labels.clear();
+        self.entrances.clear();
         self.queue.clear();
         self.limit = FAR;
     }
@@ -186,8 +193,9 @@ impl<K: Key> Wave<K> {
 impl<K: Key> Wave<K> {
     ghost use Rattle.std.specs.Prelude.{length, IfOk, OnOk, IfSome, IfNone, IsTrue, ◌↔◌, ◌⊎◌, [], Contains, reverse};
     ghost use Rattle.wavefront.specs.Space.{IsSpace, HasEdge, IsInside, entry_cost, node_count};
-    ghost use Rattle.wavefront.specs.Wave.{IsWave, IsComplete, StillComplete, IsOrigin, IsOpen, IsDead, WentOn, bound_of, key_of, parent_of};
-    ghost use Rattle.wavefront.specs.Steps.{IsPopped, IsNearest, IsLowered, IsPreferred, Spreads, SameOrigins, MoreOrigins, WentAlong, NoOrigins, IsTaken, IsLeastKey, IsTraced};
+    ghost use Rattle.wavefront.specs.Wave.{IsWave, IsComplete, StillComplete, IsOrigin, IsOpen, WentOn, bound_of, key_of, parent_of};
+    ghost use Rattle.wavefront.specs.Entrances.{IsClosed, IsEntrance, Knows, Tells};
+    ghost use Rattle.wavefront.specs.Steps.{IsPopped, IsNearest, IsNoted, IsLowered, IsPreferred, Spreads, SameOrigins, MoreOrigins, WentAlong, NoOrigins, IsTaken, IsLeastKey, IsTraced};
 
     /// Whether the wave starts here.
     pub(crate) fn starts_at(&self, node: u32) -> bool
@@ -207,16 +215,34 @@ impl<K: Key> Wave<K> {
         space.wants(node) && !self.starts_at(node)
     }
 
-    /// Whether it is an input pin that leads to no sink that the wave has yet to take.
-    fn is_dead_end(&self, space: &SearchSpace<'_>, node: u32) -> bool
+    /// How the net enters a node: worked out where the wave comes to it first.
+    fn entrance(&mut self, space: &SearchSpace<'_>, node: u32) -> Entrance
         requires space { IsSpace space.now }
-        requires rows { length self.now.labels ≡ node_count space.now }
-        ensures { IsTrue result → IsDead space.now self.now node }
+        requires wave { IsWave space.now self.old }
+        requires node_in { node < node_count space.now }
+        ensures told { Tells space.now node result }
+        ensures known { Knows space.now self.new.entrances }
+        ensures noted { IsNoted self.old self.new }
     {
-        match space.sink_of(node) {
-            Some(sink) => !self.is_open(space, sink),
-            None => false,
+        if let Some(known) = self.entrances.get(node) {
+            return known;
         }
+        let entrance = Entrance::of(space, node);
+        self.entrances.set(node, entrance);
+        entrance
+    }
+
+    /// What the net pays to enter a node, if it has a use for it.
+    fn cost(&mut self, space: &SearchSpace<'_>, node: u32) -> Option<u128>
+        requires space { IsSpace space.now }
+        requires wave { IsWave space.now self.old }
+        requires node_in { node < node_count space.now }
+        ensures wave { IsWave space.now self.new }
+        ensures noted { IsNoted self.old self.new }
+        ensures closed { IfNone result (IsClosed space.now node) }
+        ensures cost { IfSome result (IsEntrance space.now node) }
+    {
+        self.entrance(space, node).cost(space, node)
     }
 
     /// Whether the node has a lesser key.
@@ -263,14 +289,34 @@ impl<K: Key> Wave<K> {
         if self.has_less(to, key) {
             return Ok(());
         }
-        if !space.is_inside(to) {
-            return Ok(());
+        match self.cost(space, to) {
+            Some(cost) => self.enter(space, from, key, to, cost),
+            None => Ok(()),
         }
-        if self.is_dead_end(space, to) {
-            return Ok(());
-        }
+    }
+
+    /// Enters a node by the way over `from`, at the cost given, where none is better.
+    fn enter(
+        &mut self,
+        space: &SearchSpace<'_>,
+        from: u32,
+        key: u128,
+        to: u32,
+        cost: u128,
+    ) -> Result<(), AllocError>
+        requires space { IsSpace space.now }
+        requires wave { IsWave space.now self.old }
+        requires from { key_of self.old from ≤ key }
+        requires near { key < FAR }
+        requires edge { HasEdge space.now from to }
+        requires entrance { IsEntrance space.now to cost }
+        ensures wave { OnOk result (IsWave space.now self.new) }
+        ensures spreads { OnOk result (Spreads space.now self.old self.new) }
+        ensures at { OnOk result (WentOn space.now self.new key to) }
+        ensures rows { length self.new.labels ≡ node_count space.now }
+    {
         let label = Label {
-            key: key.saturating_add(space.cost(to)),
+            key: key.saturating_add(cost),
             parent: from,
         };
         if label.key < self.label(to).key {

@@ -1,15 +1,5 @@
-use Rattle.std.proofs.Common.{length, ap, sym, ◌≡◌, ◌∙◌}
-use Rattle.std.proofs.lemmas.List.{length-map}
-use Rattle.wavefront.proofs.Stamped.{cleared, cleared_off}
+use Rattle.wavefront.proofs.KeptLabels.{labels_cleared}
 use Rattle.wavefront.proofs.labels.Labels.clear.Goals as goal
-use Rattle.wavefront.proofs.labels.Labels.clear.Goals.{then-self, else-self}
-use Rattle.wavefront.proofs.labels.Labels.clear.Given.{Over}
-
-count : (g : Over) (c : goal.After-self-2-1 g) → length c.self.inside.rows.items ≡ length c.args.self.now
-count g c = sym (length-map c.self.inside.rows.items _) ∙ ap length c.self.view_is
 
 pub returns : goal.returns
-returns g c = elim c.if-self.branch [
-  | then-self w ↦ rw (w.self-inside-is, ← count g c, ← w.take_stamps_off.ensures.size) (cleared_off g.K.Key.value w.take_stamps_off.new.rows.items w.take_stamps_off.ensures.off)
-  | else-self w ↦ rw (w.self-inside-is, ← count g c) (cleared g.K.Key.value c.self.inside.stamp c.self.inside.rows.items c.self.invariant)
-]
+returns g c = labels_cleared g.K.Key.value c.self.inside.kept _ c.args.self.now c.clear.ensures c.self.view_is

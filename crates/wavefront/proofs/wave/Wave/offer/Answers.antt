@@ -1,87 +1,28 @@
-use Rattle.std.proofs.Common.{◌≡◌, ◌+◌, ◌<◌, arith, ap, refl, subst, inl, inr, sym, ◌∙◌, length}
+use Rattle.std.proofs.Common.{arith, ap, sym, ◌∙◌, inr}
 use Rattle.std.proofs.lemmas.Result.{on_ok_weaker}
-use Rattle.wavefront.specs.declared.labels.Label.{Label}
-use Rattle.wavefront.specs.declared.labels.TheConstants.{FAR}
-use Rattle.wavefront.specs.Space.{HasEdge, entry_cost}
-use Rattle.wavefront.specs.Wave.{key_of}
-use Rattle.wavefront.specs.Steps.{IsPreferred}
-use Rattle.wavefront.proofs.Lower.{lowered_wave, lowered_here, offered_spreads, offered_entered, spreads_refl}
-use Rattle.wavefront.proofs.Preferred.{preferred_wave, preferred_spreads}
-use Rattle.wavefront.proofs.LeftOut.{left_wave, left_spreads}
+use Rattle.wavefront.proofs.Lower.{spreads_trans}
+use Rattle.wavefront.proofs.DeadEnds.{closed_went}
+use Rattle.wavefront.proofs.Unchanged.{noted_key, noted_spreads}
 use Rattle.wavefront.proofs.wave.Wave.offer.Goals as goal
-use Rattle.wavefront.proofs.wave.Wave.offer.Goals.{After-lower, After-prefer}
-use Rattle.wavefront.proofs.wave.Wave.offer.Given.{Over}
 
-abbrev label : (g : Over) → After-lower g → Label
-label g c = record { key = c.saturating_add.result; parent = c.args.from }
-
-inside : (g : Over) → (c : After-lower g) → c.args.to < length c.args.self.now.labels
-inside g c = omega (arith, c.requires.wave.rows, c.requires.space.range c.args.from c.args.to c.requires.edge)
-
-cheaper : (g : Over) → (c : After-lower g) → c.saturating_add.result < key_of c.args.self.now c.args.to
-cheaper g c = let e = ap (λ l. l.key) c.label.ensures in omega (arith, e, c.if-label.true)
-
--- since the sum is below a key, it is not cut off
-exact : (g : Over) → (c : After-lower g) → c.saturating_add.result ≡ c.args.key + entry_cost c.args.space.now c.args.to
-exact g c =
-    let near = c.requires.wave.near c.args.to in
-    let less = cheaper g c in
-    omega (arith, near, less, c.cost.ensures, c.saturating_add.ensures)
-
-pub returns-then-label-clause-wave : goal.returns-then-label-clause-wave
-returns-then-label-clause-wave g c = on_ok_weaker c.lower.result (λ h. elim h [
-  | inl r ↦
-      let near = c.requires.wave.near c.args.to in
-      let less = cheaper g c in
-      let entered = offered_entered c.args.space.now c.args.self.now c.lower.new.self c.args.from c.args.to c.args.key (label g c) r (inside g c) refl less c.requires.from c.requires.near c.requires.edge (sym c.is_inside.ensures ∙ c.if-not-is_inside.false) (exact g c) in
-      lowered_wave c.args.space.now c.args.self.now c.lower.new.self c.args.to (label g c) r c.requires.wave (c.requires.space.range c.args.from c.args.to c.requires.edge) (omega (arith, less)) (omega (arith, near, less)) (inr entered)
-  | inr left ↦ left_wave c.args.space.now c.args.self.now c.lower.new.self c.saturating_add.result left c.requires.wave
-]) c.lower.ensures.lowered
-
-pub returns-then-label-clause-spreads : goal.returns-then-label-clause-spreads
-returns-then-label-clause-spreads g c = on_ok_weaker c.lower.result (λ h. elim h [
-  | inl r ↦ offered_spreads c.args.space.now c.args.self.now c.lower.new.self c.args.to (label g c) r (inside g c) (cheaper g c) (omega (arith, c.requires.from, exact g c))
-  | inr left ↦ left_spreads c.args.space.now c.args.self.now c.lower.new.self c.saturating_add.result left
-]) c.lower.ensures.lowered
-
-pub returns-then-label-clause-at : goal.returns-then-label-clause-at
-returns-then-label-clause-at g c = on_ok_weaker c.lower.result (λ h _. inr (elim h [
-  | inl r ↦ let here = lowered_here c.args.space.now c.args.self.now c.lower.new.self c.args.to (label g c) r (inside g c) in omega (arith, here, exact g c)
-  | inr left ↦ let limit = left.limit in omega (arith, limit, exact g c)
-])) c.lower.ensures.lowered
-
-abbrev other : (g : Over) → After-prefer g → Label
-other g c = record { key = c.saturating_add.result; parent = c.args.from }
-
-there : (g : Over) → (c : After-prefer g) → c.args.to < length c.args.self.now.labels
-there g c = omega (arith, c.requires.wave.rows, c.requires.space.range c.args.from c.args.to c.requires.edge)
-
-exact_other : (g : Over) → (c : After-prefer g) → c.saturating_add.result < FAR → c.saturating_add.result ≡ c.args.key + entry_cost c.args.space.now c.args.to
-exact_other g c near = omega (arith, near, c.cost.ensures, c.saturating_add.ensures)
-
--- a node that leads to itself is no way to itself
-apart : (g : Over) → (c : After-prefer g) → IsPreferred c.args.self.now c.prefer.new.self c.args.to (other g c) → c.args.from ≡ c.args.to → ⊥
-apart g c r e =
-    let loop = subst (λ x. HasEdge c.args.space.now x c.args.to) e c.requires.edge in
-    let costs = c.requires.space.costly c.args.to c.args.to c.args.to loop loop in
-    let k = ap (key_of c.args.self.now) e in
-    omega (arith, costs, k, r.same, exact_other g c r.reached, c.requires.from)
-
-pub returns-clause-wave : goal.returns-clause-wave
-returns-clause-wave g c = elim c.prefer.ensures [
-  | inl e ↦ rw e c.requires.wave
-  | inr r ↦ preferred_wave c.args.space.now c.args.self.now c.prefer.new.self c.args.to c.args.key (other g c) r c.requires.wave (there g c) c.requires.from c.requires.near c.requires.edge (sym c.is_inside.ensures ∙ c.if-not-is_inside.false) (exact_other g c r.reached)
-]
-
-pub returns-clause-spreads : goal.returns-clause-spreads
-returns-clause-spreads g c = elim c.prefer.ensures [
-  | inl e ↦ rw e (spreads_refl c.args.space.now c.args.self.now)
-  | inr r ↦ preferred_spreads c.args.space.now c.args.self.now c.prefer.new.self c.args.to (other g c) r (there g c) (apart g c r)
-]
+pub has_less-requires : goal.has_less-requires
+has_less-requires g c = omega (arith, c.requires.wave.rows, c.requires.space.range c.args.from c.args.to c.requires.edge)
 
 -- a node that costs less needs no other way
 pub returns-then-has_less-clause-at : goal.returns-then-has_less-clause-at
 returns-then-has_less-clause-at g c = λ _. inr (let less = c.has_less.ensures.0 c.if-has_less.true in omega (arith, less))
 
-pub has_less-requires : goal.has_less-requires
-has_less-requires g c = omega (arith, c.requires.wave.rows, c.requires.space.range c.args.from c.args.to c.requires.edge)
+pub returns-in-None-clause-spreads : goal.returns-in-None-clause-spreads
+returns-in-None-clause-spreads g c = noted_spreads c.args.space.now c.args.self.now c.cost.new.self c.cost.ensures.noted
+
+pub returns-in-None-clause-at : goal.returns-in-None-clause-at
+returns-in-None-clause-at g c = λ inside. closed_went c.args.space.now c.cost.new.self c.args.key c.args.to (rw c.in-None.is at c.cost.ensures.closed) inside
+
+pub enter-requires-clause-from : goal.enter-requires-clause-from
+enter-requires-clause-from g c = let same = noted_key c.args.space.now c.args.self.now c.cost.new.self c.cost.ensures.noted c.args.from in omega (arith, same, c.requires.from)
+
+pub returns-in-Some-clause-spreads : goal.returns-in-Some-clause-spreads
+returns-in-Some-clause-spreads g c = on_ok_weaker c.enter.result (spreads_trans c.args.space.now c.args.self.now c.cost.new.self c.enter.new.self (noted_spreads c.args.space.now c.args.self.now c.cost.new.self c.cost.ensures.noted)) c.enter.ensures.spreads
+
+pub returns-in-Some-clause-at : goal.returns-in-Some-clause-at
+returns-in-Some-clause-at g c = on_ok_weaker c.enter.result (λ went _. went) c.enter.ensures.at

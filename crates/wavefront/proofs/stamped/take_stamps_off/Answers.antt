@@ -1,7 +1,7 @@
 use Rattle.std.proofs.Common.{arith, refl, ◌∙◌}
 use Rattle.std.proofs.lemmas.List.{length-set}
-use Rattle.wavefront.proofs.Stamped.{off_more, all_off}
-use Rattle.wavefront.proofs.labels.take_stamps_off.Goals as goal
+use Rattle.wavefront.proofs.StampedRows.{off_more, all_off}
+use Rattle.wavefront.proofs.stamped.take_stamps_off.Goals as goal
 
 pub loop-place-init : goal.loop-place-init
 loop-place-init g c = record { size = refl; off = λ k d lt within. absurd (omega (arith, lt)) }

@@ -1,6 +1,6 @@
 use Rattle.std.proofs.Common.{◌≡◌, length}
-use Rattle.wavefront.proofs.Stamped.{AreOff}
-use Rattle.wavefront.proofs.labels.take_stamps_off.Given as goal
+use Rattle.wavefront.proofs.StampedRows.{AreOff}
+use Rattle.wavefront.proofs.stamped.take_stamps_off.Given as goal
 
 abbrev pub invariant-loop-place : goal.invariant-loop-place
 invariant-loop-place g l = record {
