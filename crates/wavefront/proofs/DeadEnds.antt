@@ -1,12 +1,12 @@
 -- Where an input pin leads to no sink that is wanted.
-use Rattle.std.proofs.Common.{◌≡◌, ◌<◌, ℕ, [], ◌∷◌, Option, Some, None, Bool, true, false, not, IsTrue, inl, inr, refl, sym, ◌∙◌, ◌↔◌, ap, rules, subst, List, length, slice_index_or, slice_set, get_or-set_same, get_or-set_other}
+use Rattle.std.proofs.Common.{◌<◌, ℕ, [], ◌∷◌, Option, Some, None, Bool, true, false, not, IsTrue, inl, inr, sym, ◌∙◌, ◌↔◌, rules, subst, List, length, slice_set, get_or-set_same, get_or-set_other}
 use Rattle.std.proofs.lemmas.Bool.{cases_eq, false≢true}
 use Rattle.std.proofs.lemmas.List.{length-set}
 use Rattle.wavefront.specs.declared.entrances.Entrance.{Entrance}
 use Rattle.wavefront.specs.WaveState.{Wave}
 use Rattle.wavefront.specs.Space.{Space, IsSpace, LeadsOnlyTo, HasEdge, IsInside, IsWanted}
-use Rattle.wavefront.specs.Entrances.{IsClosed, Knows, LeadsNowhere, Tells, TellsIfKnown}
-use Rattle.wavefront.specs.Wave.{IsDead, WentOn}
+use Rattle.wavefront.specs.Entrances.{IsClosed, Knows, LeadsNowhere, Tells}
+use Rattle.wavefront.specs.Wave.{WentOn}
 
 -- no way leads on from a pin whose sink is not the net's
 pub pin_dead : (space : Space) (v sink : ℕ) → IsSpace space → LeadsOnlyTo space v sink → (IsWanted space sink → ⊥) → LeadsNowhere space v

@@ -1,5 +1,5 @@
 -- What the taking of the least entry says of every way.
-use Rattle.std.proofs.Common.{◌≡◌, ℕ, ◌+◌, ◌<◌, ◌≤◌, List, [], ◌∷◌, length, Contains, slice_index_or, ◌⊎◌, inl, inr, refl, sym, ap, ◌∙◌, arith, sum_by, min}
+use Rattle.std.proofs.Common.{◌≡◌, ℕ, ◌+◌, ◌<◌, ◌≤◌, List, [], ◌∷◌, length, Contains, slice_index_or, ◌⊎◌, inl, inr, sym, ap, ◌∙◌, arith, sum_by, min}
 use Rattle.std.proofs.lemmas.List.Sorted.{Contains-permutation, IsPermutation-sym, length_permutation}
 use Rattle.std.proofs.lemmas.List.{get_or_past}
 use Rattle.std.proofs.lemmas.Bool.{cases_lt}
@@ -9,10 +9,10 @@ use Rattle.wavefront.specs.WaveState.{Wave}
 use Rattle.wavefront.specs.Label.{unreached}
 use Rattle.wavefront.specs.Space.{Space, entry_cost}
 use Rattle.wavefront.specs.Ways.{IsWay, way_cost}
-use Rattle.wavefront.specs.Wave.{IsWave, IsComplete, IsCompleteBut, IsDone, IsEntered, IsSettled, IsOpen, WentOn, bound_of, key_of, label_at, work_of, parent_of}
+use Rattle.wavefront.specs.Wave.{IsWave, IsComplete, IsCompleteBut, IsDone, IsEntered, IsSettled, IsOpen, WentOn, key_of, label_at, work_of, parent_of}
 use Rattle.wavefront.specs.Steps.{IsPopped, IsLeastKey, IsNearest, IsTaken, SameOrigins}
 use Rattle.wavefront.proofs.Lists.{contains_first, contains_later, contains_cases}
-use Rattle.wavefront.proofs.Lower.{same_origin, still_dead}
+use Rattle.wavefront.proofs.Lower.{same_origin, still_dead, still_open, still_serves}
 use Rattle.wavefront.proofs.WayNodes.{way_cost_more}
 
 pub reached_in : (w : Wave) (v : ℕ) → key_of w v < FAR → v < length w.labels
@@ -36,7 +36,7 @@ module _ (s t : Wave) (x : Entry) (p : IsPopped s t x) where
   popped_in = Contains-permutation _ _ x (IsPermutation-sym _ _ p.queue.moved) (contains_first x t.queue)
 
   popped_near : (space : Space) → IsWave space s → (key_of t x.node ≤ x.key) × (key_of t x.node < FAR)
-  popped_near space wave = let b = wave.entries x popped_in in let k = ap (λ l. l.key) (same_labels x.node) in (omega (arith, k, b.0), omega (arith, k, b.1))
+  popped_near space wave = let b = wave.entries x popped_in in let k = ap (λ l. l.key) (same_labels x.node) in (omega (arith, k, b.0, b.1), omega (arith, k, b.2))
 
   popped_work : work_of t + 1 ≡ work_of s
   popped_work = let sum = ap (λ ls. sum_by (λ l. l.key) ls) p.labels in let count = length_permutation _ _ p.queue.moved in omega (arith, sum, count)
@@ -72,21 +72,28 @@ module _ (s t : Wave) (x : Entry) (p : IsPopped s t x) where
     near = λ v. let k = ap (λ l. l.key) (same_labels v) in let n = wave.near v in omega (arith, k, n);
     within = let limit = p.limit in let n = wave.within in omega (arith, limit, n);
     known = rw p.entrances wave.known;
+    boxes = still_serves space s t p.boxes (λ v. (popped_origins v).1) wave.boxes;
     entered = λ v near. let same = same_labels v in let k = ap (λ l. l.key) same in elim (wave.entered v (omega (arith, k, near))) [
       | inl o ↦ inl (same_origin s t v same o)
       | inr e ↦ inr (popped_entered space v e)
     ];
-    entries = λ e h. let k = ap (λ l. l.key) (same_labels e.node) in let b = wave.entries e (still_in e h) in (omega (arith, k, b.0), omega (arith, k, b.1));
+    entries = λ e h. let k = ap (λ l. l.key) (same_labels e.node) in let b = wave.entries e (still_in e h) in (omega (arith, k, b.0), b.1, omega (arith, k, b.2));
   }
 
   -- a node is done after the taking where its entry is not the one taken
-  popped_done : (space : Space) (v : ℕ) → IsDone space s v → (v ≡ x.node → x.key ≤ key_of s v + bound_of space v → ⊥) → IsDone space t v
+  popped_done : (space : Space) (v : ℕ) → IsDone space s v → (v ≡ x.node → x.label ≡ key_of s v → ⊥) → IsDone space t v
   popped_done space v done other near =
       let k = ap (λ l. l.key) (same_labels v) in
       elim (done (omega (arith, k, near))) [
         | inl waits ↦ elim (contains_cases x waits.entry t.queue (Contains-permutation _ _ _ p.queue.moved waits.there)) [
-          | inl same ↦ absurd (other (sym waits.node ∙ ap (λ y. y.node) same) (let low = waits.low in let key = ap (λ y. y.key) same in omega (arith, low, key)))
-          | inr later ↦ inl (record { entry = waits.entry; there = later; node = waits.node; low = let low = waits.low in omega (arith, low, k) })
+          | inl same ↦ absurd (other (sym waits.node ∙ ap (λ y. y.node) same) (sym (ap (λ y. y.label) same) ∙ waits.label))
+          | inr later ↦ inl (record {
+            entry = waits.entry;
+            there = later;
+            node = waits.node;
+            label = waits.label ∙ sym k;
+            low = λ b way target walk. let low = waits.low b way (still_open space s t b (λ v. (popped_origins v).1) target) walk in omega (arith, low, k);
+          })
         ]
         | inr settled ↦ inr (popped_settled space v settled)
       ]
@@ -95,40 +102,35 @@ module _ (s t : Wave) (x : Entry) (p : IsPopped s t x) where
   popped_but space complete = record { each = λ v ne. popped_done space v (complete.each v) (λ e _. ne e) }
 
   -- an entry that is late is nobody's
-  popped_late : (space : Space) → IsComplete space s → key_of t x.node + bound_of space x.node < x.key → IsComplete space t
+  popped_late : (space : Space) → IsComplete space s → key_of t x.node < x.label → IsComplete space t
   popped_late space complete less = record {
-    each = λ v. popped_done space v (complete.each v) (λ e low. let k = ap (λ l. l.key) (same_labels x.node) in let d = ap (λ y. key_of s y + bound_of space y) e in omega (arith, k, d, low, less));
+    each = λ v. popped_done space v (complete.each v) (λ e same. let k = ap (λ l. l.key) (same_labels x.node) in let d = ap (key_of s) e in omega (arith, k, d, same, less));
   }
 
 -- some entry's key is at most k, or what costs that much may be left out
-abbrev IsBound : Wave → ℕ → Type 0
-IsBound w k = (w.limit ≤ k) ⊎ ((e : Entry) × Contains w.queue e × (e.key ≤ k))
+abbrev HasEntryBelow : Wave → ℕ → Type 0
+HasEntryBelow w k = (w.limit ≤ k) ⊎ ((e : Entry) × Contains w.queue e × (e.key ≤ k))
 
-bound_up : (w : Wave) (k m : ℕ) → k ≤ m → IsBound w k → IsBound w m
-bound_up w k m up (inl far) = inl (omega (arith, far, up))
-bound_up w k m up (inr (e, has, low)) = inr (e, has, omega (arith, low, up))
+below_up : (w : Wave) (k m : ℕ) → k ≤ m → HasEntryBelow w k → HasEntryBelow w m
+below_up w k m up (inl far) = inl (omega (arith, far, up))
+below_up w k m up (inr (e, has, low)) = inr (e, has, omega (arith, low, up))
 
--- the bound of a node is low
-bound_low : (space : Space) (v : ℕ) → bound_of space v ≡ 0
-unfolding bound_of
-bound_low space v = refl
-
-bound_at : (space : Space) (w : Wave) → w.limit ≤ FAR → IsComplete space w → (v k cost : ℕ) → key_of w v ≤ k → bound_of space v ≤ cost → IsBound w (k + cost) ⊎ IsSettled space w v
-bound_at space w within complete v k cost above low = elim (cases_lt (key_of w v) FAR) [
+bound_at : (space : Space) (w : Wave) → w.limit ≤ FAR → IsComplete space w → (v k b : ℕ) (way : List ℕ) → key_of w v ≤ k → IsOpen space w b → IsWay space v way b → HasEntryBelow w (k + way_cost space way) ⊎ IsSettled space w v
+bound_at space w within complete v k b way above target walk = elim (cases_lt (key_of w v) FAR) [
   | inr far ↦ inl (inl (omega (arith, far, above, within)))
   | inl near ↦ elim (complete.each v near) [
-    | inl waits ↦ inl (inr (waits.entry, waits.there, let at = waits.low in omega (arith, at, above, low)))
+    | inl waits ↦ inl (inr (waits.entry, waits.there, let low = waits.low b way target walk in omega (arith, low, above)))
     | inr settled ↦ inr settled
   ]
 ]
 
 -- a way to an open sink costs no less than some entry's key
-way_bound : (space : Space) (w : Wave) → w.limit ≤ FAR → IsComplete space w → (way : List ℕ) (v b k : ℕ) → IsWay space v way b → IsOpen space w b → key_of w v ≤ k → IsBound w (k + way_cost space way)
-way_bound space w within complete [] v b k e target above = elim (bound_at space w within complete v k (way_cost space []) above (let none = bound_low space v in omega (arith, none))) [
+way_bound : (space : Space) (w : Wave) → w.limit ≤ FAR → IsComplete space w → (way : List ℕ) (v b k : ℕ) → IsWay space v way b → IsOpen space w b → key_of w v ≤ k → HasEntryBelow w (k + way_cost space way)
+way_bound space w within complete [] v b k e target above = elim (bound_at space w within complete v k b [] above target e) [
   | inl bound ↦ bound
   | inr settled ↦ absurd (settled.taken (rw e target))
 ]
-way_bound space w within complete (u ∷ us) v b k (edge, inside, rest) target above = elim (bound_at space w within complete v k (way_cost space (u ∷ us)) above (let none = bound_low space v in omega (arith, none))) [
+way_bound space w within complete (u ∷ us) v b k (edge, inside, rest) target above = elim (bound_at space w within complete v k b (u ∷ us) above target (edge, inside, rest)) [
   | inl bound ↦ bound
   | inr settled ↦ elim (settled.relaxed u edge inside) [
     | inl dead ↦ absurd (dead b us target rest)
@@ -136,7 +138,7 @@ way_bound space w within complete (u ∷ us) v b k (edge, inside, rest) target a
         let sum = way_cost_more space u us in
         elim (cases_lt (k + entry_cost space u) (key_of w u)) [
           | inl dearer ↦ inl (omega (arith, step, above, sum, dearer))
-          | inr paid ↦ bound_up w _ _ (omega (arith, sum)) (way_bound space w within complete us u b (k + entry_cost space u) rest target (omega (arith, paid)))
+          | inr paid ↦ below_up w _ _ (omega (arith, sum)) (way_bound space w within complete us u b (k + entry_cost space u) rest target (omega (arith, paid)))
         ]
   ]
 ]

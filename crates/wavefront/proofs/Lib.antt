@@ -10,6 +10,12 @@ pub mod Unchanged
 pub mod Waits
 pub mod Went
 pub mod Wanted
+pub mod WireSteps
+pub mod PinSteps
+pub mod WaysLeft
+pub mod ShortWires
+pub mod Bounded
+pub mod Covering
 pub mod Spaces
 pub mod DeadEnds
 pub mod LeastEntry
@@ -19,6 +25,7 @@ pub mod Traced
 -- from way to way
 pub mod Started
 pub mod Counted
+pub mod Aimed
 pub mod Shortcut
 pub mod Added
 pub mod Whole

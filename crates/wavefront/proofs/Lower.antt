@@ -11,7 +11,7 @@ use Rattle.wavefront.specs.declared.queue.Entry.{Entry}
 use Rattle.wavefront.specs.WaveState.{Wave}
 use Rattle.wavefront.specs.Label.{unreached}
 use Rattle.wavefront.specs.Space.{Space, HasEdge, IsInside, entry_cost, node_count}
-use Rattle.wavefront.specs.Wave.{IsWave, IsComplete, IsCompleteBut, IsOrigin, IsOpen, IsEntered, IsSettled, IsDone, IsWaiting, IsDead, WentOn, StillComplete, key_of, parent_of, label_at, work_of}
+use Rattle.wavefront.specs.Wave.{IsWave, IsComplete, IsCompleteBut, IsOrigin, IsOpen, IsEntered, IsSettled, IsDone, IsWaiting, IsDead, WentOn, StillComplete, Serves, key_of, parent_of, label_at, work_of}
 use Rattle.wavefront.specs.Steps.{IsLowered, Lowers, Spreads, SameOrigins, MoreOrigins, WentAlong}
 use Rattle.wavefront.proofs.Lists.{contains_first, contains_later, contains_cases}
 
@@ -23,6 +23,14 @@ pub same_origins_trans : (s t u : Wave) → SameOrigins s t → SameOrigins t u 
 same_origins_trans s t u a b v = (λ o. (a v).0 ((b v).0 o), λ o. (b v).1 ((a v).1 o))
 
 module _ (space : Space) where
+  -- a sink that is open was so before, while origins stay
+  pub still_open : (s t : Wave) (b : ℕ) → ((v : ℕ) → IsOrigin s v → IsOrigin t v) → IsOpen space t b → IsOpen space s b
+  still_open s t b starts target = (target.0, λ o. target.1 (starts b o))
+
+  pub still_serves : (s t : Wave) → t.boxes ≡ s.boxes → ((v : ℕ) → IsOrigin s v → IsOrigin t v) → Serves space s → Serves space t
+  still_serves s t same starts (inl none) = inl (same ∙ none)
+  still_serves s t same starts (inr (short, around)) = inr (short, λ b target. rw same (around b (still_open s t b starts target)))
+
   pub label_here : (s t : Wave) (node : ℕ) (label : Label) → IsLowered space s t node label → node < length s.labels → label_at t node ≡ label
   label_here s t node label r lt = ap (λ xs. slice_index_or xs node unreached) r.labels ∙ get_or-set_same s.labels node label unreached lt
 
@@ -31,7 +39,7 @@ module _ (space : Space) where
 
   -- the entry that is put in
   abbrev put : (s t : Wave) (node : ℕ) (label : Label) → IsLowered space s t node label → Entry
-  put s t node label r = record { key = r.key; node = node }
+  put s t node label r = record { key = r.key; label = label.key; node = node }
 
   put_in : (s t : Wave) (node : ℕ) (label : Label) (r : IsLowered space s t node label) → Contains t.queue (put s t node label r)
   put_in s t node label r = Contains-permutation _ _ _ r.moved (contains_first _ s.queue)
@@ -43,25 +51,34 @@ module _ (space : Space) where
   ]
 
   -- the node waits then
-  lowered_waits : (s t : Wave) (node : ℕ) (label : Label) → IsLowered space s t node label → node < length s.labels → IsWaiting space t node
-  lowered_waits s t node label r lt =
+  lowered_waits : (s t : Wave) (node : ℕ) (label : Label) → IsLowered space s t node label → node < length s.labels → ((v : ℕ) → IsOrigin s v → IsOrigin t v) → IsWaiting space t node
+  lowered_waits s t node label r lt starts =
       let here = ap (λ l. l.key) (label_here s t node label r lt) in
-      let low = r.low in
-      record { entry = put s t node label r; there = put_in s t node label r; node = refl; low = omega (arith, here, low) }
+      record {
+        entry = put s t node label r;
+        there = put_in s t node label r;
+        node = refl;
+        label = sym here;
+        low = λ b way target walk. let low = r.low b way (still_open s t b starts target) walk in omega (arith, here, low);
+      }
+
+  -- an origin stays one where the lowered node does
+  lowered_starts : (s t : Wave) (node : ℕ) (label : Label) → IsLowered space s t node label → (IsOrigin s node → IsOrigin t node) → (v : ℕ) → IsOrigin s v → IsOrigin t v
+  lowered_starts s t node label r stays v = elim (cases_eq v node) [
+    | inl e ↦ rw e stays
+    | inr ne ↦ same_origin s t v (label_there s t node label v r ne)
+  ]
 
   pub lowered_lowers : (s t : Wave) (node : ℕ) (label : Label) → IsLowered space s t node label → node < length s.labels → label.key ≤ key_of s node → (IsOrigin s node → IsOrigin t node) → Lowers space s t
   lowered_lowers s t node label r lt less stays = record {
     down = lowered_down s t node label r lt less;
     wait = λ v. elim (cases_eq v node) [
-      | inl e ↦ inr (rw e (lowered_waits s t node label r lt))
+      | inl e ↦ inr (rw e (lowered_waits s t node label r lt (lowered_starts s t node label r stays)))
       | inr ne ↦ inl (ap (λ l. l.key) (label_there s t node label v r ne))
     ];
     kept = λ e h. Contains-permutation _ _ e r.moved (contains_later _ e s.queue h);
     limit = let same = r.limit in omega (arith, same);
-    starts = λ v. elim (cases_eq v node) [
-      | inl e ↦ rw e stays
-      | inr ne ↦ same_origin s t v (label_there s t node label v r ne)
-    ];
+    starts = lowered_starts s t node label r stays;
   }
 
   pub entered_lower : (s t : Wave) (v : ℕ) → ((x : ℕ) → key_of t x ≤ key_of s x) → label_at t v ≡ label_at s v → IsEntered space s v → IsEntered space t v
@@ -78,8 +95,8 @@ module _ (space : Space) where
         paid = rw (parent, key) (omega (arith, d, paid));
       }
 
-  pub lowered_wave : (s t : Wave) (node : ℕ) (label : Label) → IsLowered space s t node label → IsWave space s → node < node_count space → label.key ≤ key_of s node → label.key < FAR → IsOrigin t node ⊎ IsEntered space t node → IsWave space t
-  lowered_wave s t node label r wave lt less near way =
+  pub lowered_wave : (s t : Wave) (node : ℕ) (label : Label) → IsLowered space s t node label → IsWave space s → node < node_count space → label.key ≤ key_of s node → label.key < FAR → (IsOrigin s node → IsOrigin t node) → IsOrigin t node ⊎ IsEntered space t node → IsWave space t
+  lowered_wave s t node label r wave lt less near stays way =
       let rows = wave.rows in
       let inside : node < length s.labels = omega (arith, rows) in
       let here = ap (λ l. l.key) (label_here s t node label r inside) in
@@ -90,6 +107,7 @@ module _ (space : Space) where
         near = λ v. let d = down v in let n = wave.near v in omega (arith, d, n);
         within = let same = r.limit in let n = wave.within in omega (arith, same, n);
         known = rw r.entrances wave.known;
+        boxes = still_serves s t r.boxes (lowered_starts s t node label r stays) wave.boxes;
         entered = λ v reached. elim (cases_eq v node) [
           | inl e ↦ rw e way
           | inr ne ↦
@@ -101,8 +119,8 @@ module _ (space : Space) where
               ]
         ];
         entries = λ e h. elim (contains_cases _ e s.queue (Contains-permutation _ _ e (IsPermutation-sym _ _ r.moved) h)) [
-          | inl f ↦ rw f (omega (arith, here, above), omega (arith, here, near))
-          | inr later ↦ let b = wave.entries e later in let d = down e.node in (omega (arith, b.0, d), omega (arith, b.1, d))
+          | inl f ↦ rw f (omega (arith, here), omega (arith, above), omega (arith, here, near))
+          | inr later ↦ let b = wave.entries e later in let d = down e.node in (omega (arith, b.0, d), b.1, omega (arith, b.2, d))
         ];
       }
 
@@ -126,9 +144,15 @@ module _ (space : Space) where
   }
 
   still_waits : (s t : Wave) (v : ℕ) → Lowers space s t → key_of t v ≡ key_of s v → IsWaiting space s v → IsWaiting space t v
-  still_waits s t v low same w = record { entry = w.entry; there = low.kept w.entry w.there; node = w.node; low = let l = w.low in omega (arith, l, same) }
+  still_waits s t v low same w = record {
+    entry = w.entry;
+    there = low.kept w.entry w.there;
+    node = w.node;
+    label = w.label ∙ sym same;
+    low = λ b way target walk. let l = w.low b way (still_open s t b low.starts target) walk in omega (arith, l, same);
+  }
 
-  still_done : (s t : Wave) → Lowers space s t → (v : ℕ) → IsDone space s v → IsDone space t v
+  pub still_done : (s t : Wave) → Lowers space s t → (v : ℕ) → IsDone space s v → IsDone space t v
   still_done s t low v done reached = elim (low.wait v) [
     | inr waiting ↦ inl waiting
     | inl same ↦ elim (done (omega (arith, same, reached))) [
@@ -144,7 +168,7 @@ module _ (space : Space) where
         record { each = λ v ne. still_done s t low v (but.each v ne) },
         λ e. record {
           each = λ v reached. elim (cases_eq v node) [
-            | inl f ↦ inl (rw f (lowered_waits s t node label r lt))
+            | inl f ↦ inl (rw f (lowered_waits s t node label r lt low.starts))
             | inr ne ↦ still_done s t low v (but.each v (λ f. ne (f ∙ e))) reached
           ];
         },

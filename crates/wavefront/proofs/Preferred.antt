@@ -10,7 +10,7 @@ use Rattle.wavefront.specs.Label.{unreached}
 use Rattle.wavefront.specs.Space.{Space, HasEdge, IsInside, entry_cost}
 use Rattle.wavefront.specs.Wave.{IsWave, key_of, parent_of, label_at}
 use Rattle.wavefront.specs.Steps.{IsPreferred, Spreads, SameOrigins}
-use Rattle.wavefront.proofs.Lower.{same_origin, entered_lower}
+use Rattle.wavefront.proofs.Lower.{same_origin, entered_lower, still_serves}
 
 here : (s t : Wave) (node : ℕ) (label : Label) → IsPreferred s t node label → node < length s.labels → label_at t node ≡ label
 here s t node label r lt = ap (λ xs. slice_index_or xs node unreached) r.labels ∙ get_or-set_same s.labels node label unreached lt
@@ -52,12 +52,13 @@ preferred_spreads space s t node label r lt other =
       work = omega (arith, sums, sum, count, same);
     }
 
-pub preferred_wave : (space : Space) (s t : Wave) (node key : ℕ) (label : Label) → IsPreferred s t node label → IsWave space s → node < length s.labels → key_of s label.parent ≤ key → key < FAR → HasEdge space label.parent node → IsInside space node → label.key ≡ key + entry_cost space node → IsWave space t
-preferred_wave space s t node key label r wave lt above near edge inside cost = record {
+pub preferred_wave : (space : Space) (s t : Wave) (node key : ℕ) (label : Label) → IsPreferred s t node label → IsWave space s → node < length s.labels → key_of s label.parent ≤ key → key < FAR → HasEdge space label.parent node → IsInside space node → label.key ≡ key + entry_cost space node → (label.parent ≡ node → ⊥) → IsWave space t
+preferred_wave space s t node key label r wave lt above near edge inside cost other = record {
   rows = ap length r.labels ∙ length-set _ _ _ ∙ wave.rows;
   near = λ v. let k = same_key s t node label v r lt in let n = wave.near v in omega (arith, k, n);
   within = let bound = r.limit in let n = wave.within in omega (arith, bound, n);
   known = rw r.entrances wave.known;
+  boxes = still_serves space s t r.boxes (λ v. (same_starts s t node label r lt other v).1) wave.boxes;
   entered = λ v reached. elim (cases_eq v node) [
     | inl e ↦
         let key_here : key_of t node ≡ label.key = ap (λ l. l.key) (here s t node label r lt) in
@@ -77,5 +78,5 @@ preferred_wave space s t node key label r wave lt above near edge inside cost = 
           | inr e ↦ inr (entered_lower space s t v (λ x. let m = same_key s t node label x r lt in omega (arith, m)) same e)
         ]
   ];
-  entries = λ e h. let k = same_key s t node label e.node r lt in let b = wave.entries e (rw r.queue at h) in (omega (arith, k, b.0), omega (arith, k, b.1));
+  entries = λ e h. let k = same_key s t node label e.node r lt in let b = wave.entries e (rw r.queue at h) in (omega (arith, k, b.0), b.1, omega (arith, k, b.2));
 }

@@ -116,6 +116,7 @@ is_space space fabric net few present others histories =
     let f = space.device in
     let sinks : (v : ℕ) → IsWanted space v → is_sink f v ≡ true = λ v wanted. All-contains (λ s. is_sink f s ≡ true) space.net.sinks v net.sinks wanted in
     record {
+      fabric = fabric;
       few = few;
       range = λ a b edge. edge_to_node f a b edge;
       source_in = source_node f space.net.source net.source;

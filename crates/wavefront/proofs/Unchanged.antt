@@ -1,12 +1,12 @@
 -- What is kept where no label and no entry changes.
-use Rattle.std.proofs.Common.{◌≡◌, ◌≤◌, ℕ, length, slice_index_or, inl, inr, sym, ap, ◌∙◌, arith, subst, sum_by}
+use Rattle.std.proofs.Common.{◌≡◌, ◌≤◌, ℕ, length, slice_index_or, inl, inr, sym, ap, ◌∙◌, arith, sum_by}
 use Rattle.wavefront.specs.WaveState.{Wave}
 use Rattle.wavefront.specs.Label.{unreached}
 use Rattle.wavefront.specs.Space.{Space}
 use Rattle.wavefront.specs.Entrances.{Knows}
-use Rattle.wavefront.specs.Wave.{IsWave, key_of, label_at}
+use Rattle.wavefront.specs.Wave.{IsWave, Serves, key_of, label_at}
 use Rattle.wavefront.specs.Steps.{IsNoted, LeavesOut, Spreads}
-use Rattle.wavefront.proofs.Lower.{same_origin, entered_lower}
+use Rattle.wavefront.proofs.Lower.{same_origin, entered_lower, still_serves}
 
 module _ (space : Space) (s t : Wave) (labels : t.labels ≡ s.labels) (queue : t.queue ≡ s.queue) (limit : t.limit ≤ s.limit) where
   same_label : (v : ℕ) → label_at t v ≡ label_at s v
@@ -15,7 +15,7 @@ module _ (space : Space) (s t : Wave) (labels : t.labels ≡ s.labels) (queue : 
   same_key : (v : ℕ) → key_of t v ≡ key_of s v
   same_key v = ap (λ l. l.key) (same_label v)
 
-  unchanged_spreads : Spreads space s t
+  pub unchanged_spreads : Spreads space s t
   unchanged_spreads =
       let sum = ap (λ ls. sum_by (λ l. l.key) ls) labels in
       let count = ap length queue in
@@ -31,17 +31,18 @@ module _ (space : Space) (s t : Wave) (labels : t.labels ≡ s.labels) (queue : 
         work = omega (arith, sum, count);
       }
 
-  unchanged_wave : Knows space t.entrances → IsWave space s → IsWave space t
-  unchanged_wave known wave = record {
+  pub unchanged_wave : Knows space t.entrances → Serves space t → IsWave space s → IsWave space t
+  unchanged_wave known boxes wave = record {
     rows = ap length labels ∙ wave.rows;
     near = λ v. let k = same_key v in let n = wave.near v in omega (arith, k, n);
     within = let n = wave.within in omega (arith, limit, n);
     known = known;
+    boxes = boxes;
     entered = λ v reached. let k = same_key v in elim (wave.entered v (omega (arith, k, reached))) [
       | inl o ↦ inl (same_origin s t v (same_label v) o)
       | inr e ↦ inr (entered_lower space s t v (λ x. let m = same_key x in omega (arith, m)) (same_label v) e)
     ];
-    entries = λ e h. let k = same_key e.node in let b = wave.entries e (rw queue at h) in (omega (arith, k, b.0), omega (arith, k, b.1));
+    entries = λ e h. let k = same_key e.node in let b = wave.entries e (rw queue at h) in (omega (arith, k, b.0), b.1, omega (arith, k, b.2));
   }
 
 -- where a way is left out
@@ -53,7 +54,7 @@ module _ (space : Space) (s t : Wave) (key : ℕ) (left : LeavesOut s t key) whe
   left_spreads = unchanged_spreads space s t left.labels left.queue limit_down
 
   pub left_wave : IsWave space s → IsWave space t
-  left_wave wave = unchanged_wave space s t left.labels left.queue limit_down (rw left.entrances wave.known) wave
+  left_wave wave = unchanged_wave space s t left.labels left.queue limit_down (rw left.entrances wave.known) (still_serves space s t left.boxes left_spreads.lowers.starts wave.boxes) wave
 
 -- where more is known of how nodes are entered
 module _ (space : Space) (s t : Wave) (noted : IsNoted s t) where
@@ -67,4 +68,4 @@ module _ (space : Space) (s t : Wave) (noted : IsNoted s t) where
   noted_spreads = unchanged_spreads space s t noted.labels noted.queue limit_same
 
   pub noted_wave : Knows space t.entrances → IsWave space s → IsWave space t
-  noted_wave = unchanged_wave space s t noted.labels noted.queue limit_same
+  noted_wave known wave = unchanged_wave space s t noted.labels noted.queue limit_same known (still_serves space s t noted.boxes noted_spreads.lowers.starts wave.boxes) wave

@@ -2,6 +2,7 @@ pub mod Boxes
 pub mod Space
 pub mod Ways
 pub mod Entrances
+pub mod Bounds
 pub mod Label
 pub mod Stamps
 pub mod Labels

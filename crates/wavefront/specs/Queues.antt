@@ -1,4 +1,4 @@
--- Entries that wait, and the order in which they are taken: the least key first, and of equal ones the least node.
+-- Entries that wait, and the order in which they are taken: the least key first.
 use Rattle.std.specs.Prelude.{ℕ, ◌≤◌, List, ◌∷◌, Contains, map}
 use Rattle.std.specs.BinaryHeap.{heap_items, IsHeap}
 use Rattle.std.specs.List.Sorted.{IsPermutation}
@@ -8,7 +8,7 @@ use Rattle.wavefront.specs.declared.queue.Queue.TheInside.{Inside}
 use Rattle.wavefront.specs.Entries.{entry_cmp}
 
 abbrev pub entry_of : {K : Type 0} → (value : K → ℕ) → Waiting K → Entry
-entry_of value e = record { key = value e.key; node = e.node }
+entry_of value e = record { key = value e.key; label = value e.label; node = e.node }
 
 abbrev pub entries_of : {K : Type 0} → (value : K → ℕ) → Inside K → List Entry
 entries_of value q = map (entry_of value) (heap_items q.heap)

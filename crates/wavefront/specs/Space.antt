@@ -4,7 +4,7 @@ use Rattle.std.specs.Option.{option_map_or}
 use Rattle.std.specs.List.Sorted.{IsStrictlyIncreasing}
 use Rattle.rr_graph.specs.declared.parts.Kind.{Kind}
 use Rattle.rr_graph.specs.declared.parts.Kind.TheVariants.{Source, Sink, Opin, Ipin, Chanx, Chany}
-use Rattle.rr_graph.specs.Fabric.{Fabric}
+use Rattle.rr_graph.specs.Fabric.{Fabric, IsFabric}
 use Rattle.rr_graph.specs.Nodes.{node_at, node_count_of, kind_of_node}
 use Rattle.rr_graph.specs.Edges.{edge_between}
 use Rattle.rr_graph.specs.Problems.{Net, is_sink}
@@ -50,6 +50,7 @@ IsWanted s v = Contains s.net.sinks v
 
 -- what every search finds
 pub record IsSpace (s : Space) : Type 0 where
+  pub fabric : IsFabric s.device
   pub few : node_count s < 8388608
   pub range : (a b : ℕ) → HasEdge s a b → b < node_count s
   pub source_in : s.net.source < node_count s

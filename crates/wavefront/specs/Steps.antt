@@ -1,5 +1,5 @@
 -- What each step of the wave does.
-use Rattle.std.specs.Prelude.{◌≡◌, ℕ, ◌+◌, ◌<◌, ◌≤◌, ◌⊎◌, ◌↔◌, List, ◌∷◌, length, slice_set, Contains, min}
+use Rattle.std.specs.Prelude.{◌≡◌, ℕ, ◌+◌, ◌-◌, ◌<◌, ◌≤◌, ◌⊎◌, ◌↔◌, List, ◌∷◌, length, slice_set, Contains, min}
 use Rattle.std.specs.List.Sorted.{IsPermutation}
 use Rattle.wavefront.specs.declared.labels.Label.{Label}
 use Rattle.wavefront.specs.declared.labels.TheConstants.{FAR}
@@ -8,7 +8,7 @@ use Rattle.wavefront.specs.WaveState.{Wave}
 use Rattle.wavefront.specs.Queues as queues
 use Rattle.wavefront.specs.Space.{Space, HasEdge, IsInside}
 use Rattle.wavefront.specs.Ways.{AreDistinct, IsWay, way_cost}
-use Rattle.wavefront.specs.Wave.{IsComplete, IsCompleteBut, IsOpen, IsOrigin, IsWaiting, IsWave, WentOn, bound_of, key_of, work_of}
+use Rattle.wavefront.specs.Wave.{IsComplete, IsCompleteBut, IsOpen, IsOrigin, IsWaiting, IsWave, WentOn, IsBound, key_of, work_of}
 
 -- t is w where all that costs this key, or more, may be left out
 pub record LeavesOut (w t : Wave) (key : ℕ) : Type 0 where
@@ -16,6 +16,7 @@ pub record LeavesOut (w t : Wave) (key : ℕ) : Type 0 where
   pub entrances : t.entrances ≡ w.entrances
   pub queue : t.queue ≡ w.queue
   pub limit : t.limit ≡ min w.limit key
+  pub boxes : t.boxes ≡ w.boxes
 
 -- t is w with the label of a node set, and with an entry for it
 pub record IsLowered (s : Space) (w t : Wave) (node : ℕ) (label : Label) : Type 0 where
@@ -23,9 +24,10 @@ pub record IsLowered (s : Space) (w t : Wave) (node : ℕ) (label : Label) : Typ
   pub entrances : t.entrances ≡ w.entrances
   pub key : ℕ
   pub above : label.key ≤ key
-  pub low : key ≤ label.key + bound_of s node
-  pub moved : IsPermutation ((record { key = key; node = node }) ∷ w.queue) t.queue
+  pub low : IsBound s w node (key - label.key)
+  pub moved : IsPermutation ((record { key = key; label = label.key; node = node }) ∷ w.queue) t.queue
   pub limit : t.limit ≡ w.limit
+  pub boxes : t.boxes ≡ w.boxes
 
 -- t is w with another parent at a node that is no origin; its key is as it was
 pub record IsPreferred (w t : Wave) (node : ℕ) (label : Label) : Type 0 where
@@ -33,6 +35,7 @@ pub record IsPreferred (w t : Wave) (node : ℕ) (label : Label) : Type 0 where
   pub entrances : t.entrances ≡ w.entrances
   pub queue : t.queue ≡ w.queue
   pub limit : t.limit ≡ w.limit
+  pub boxes : t.boxes ≡ w.boxes
   pub same : label.key ≡ key_of w node
   pub reached : label.key < FAR
   pub later : IsOrigin w node → ⊥
@@ -43,10 +46,19 @@ pub record IsPopped (w t : Wave) (x : Entry) : Type 0 where
   pub entrances : t.entrances ≡ w.entrances
   pub queue : queues.IsPopped w.queue t.queue x
   pub limit : t.limit ≡ w.limit
+  pub boxes : t.boxes ≡ w.boxes
 
 -- t is w but for what is known of how nodes are entered
 pub record IsNoted (w t : Wave) : Type 0 where
   pub labels : t.labels ≡ w.labels
+  pub queue : t.queue ≡ w.queue
+  pub limit : t.limit ≡ w.limit
+  pub boxes : t.boxes ≡ w.boxes
+
+-- t is w but for its boxes
+pub record IsAimed (w t : Wave) : Type 0 where
+  pub labels : t.labels ≡ w.labels
+  pub entrances : t.entrances ≡ w.entrances
   pub queue : t.queue ≡ w.queue
   pub limit : t.limit ≡ w.limit
 
@@ -92,7 +104,7 @@ pub record IsNearest (s : Space) (w t : Wave) (x : Entry) : Type 0 where
   pub reached : key_of t x.node < FAR
   pub least : IsLeastKey s t (min x.key t.limit)
   pub others : IsCompleteBut s t x.node
-  pub late : key_of t x.node + bound_of s x.node < x.key → IsComplete s t
+  pub late : key_of t x.node < x.label → IsComplete s t
   pub work : work_of t + 1 ≡ work_of w
 
 -- a sink is taken at its key, the least

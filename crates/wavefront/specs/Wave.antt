@@ -1,5 +1,5 @@
 -- What the wave keeps true (Dijkstra 1959).
-use Rattle.std.specs.Prelude.{◌≡◌, ℕ, ◌+◌, ◌*◌, ◌<◌, ◌≤◌, ◌⊎◌, List, length, slice_index_or, Contains, Bool, eqb, not, ◌&&◌, min}
+use Rattle.std.specs.Prelude.{◌≡◌, ℕ, ◌+◌, ◌-◌, ◌*◌, ◌<◌, ◌≤◌, ◌⊎◌, List, [], length, slice_index_or, Contains, Bool, eqb, not, ◌&&◌, min}
 use Rattle.std.specs.List.{sum_by, count_by}
 use Rattle.wavefront.specs.declared.labels.Label.{Label}
 use Rattle.wavefront.specs.declared.labels.TheConstants.{FAR}
@@ -7,8 +7,10 @@ use Rattle.wavefront.specs.declared.queue.Entry.{Entry}
 use Rattle.wavefront.specs.WaveState.{Wave}
 use Rattle.wavefront.specs.Label.{unreached}
 use Rattle.wavefront.specs.Space.{Space, HasEdge, IsInside, IsWanted, entry_cost, node_count}
-use Rattle.wavefront.specs.Ways.{IsWay}
+use Rattle.wavefront.specs.Ways.{IsWay, way_cost}
 use Rattle.wavefront.specs.Entrances.{Knows}
+use Rattle.wavefront.specs.Bounds.{AreShort, Surrounds}
+use Rattle.wavefront.specs.declared.boxes.BoundingBox.{BoundingBox}
 
 -- a node's label; a number that is no node is never reached
 abbrev pub label_at : Wave → ℕ → Label
@@ -28,9 +30,13 @@ IsOrigin w v = (key_of w v ≡ 0) × (parent_of w v ≡ v)
 abbrev pub IsOpen : Space → Wave → ℕ → Type 0
 IsOpen s w v = IsWanted s v × (IsOrigin w v → ⊥)
 
--- no way to an open sink costs less than this from the node on
-unfoldable pub bound_of : Space → ℕ → ℕ
-bound_of s v = 0
+-- no way from v to an open sink costs less
+abbrev pub IsBound : Space → Wave → (v k : ℕ) → Type 0
+IsBound s w v k = (b : ℕ) (way : List ℕ) → IsOpen s w b → IsWay s v way b → k ≤ way_cost s way
+
+-- each open sink stands in one of the boxes, and wires are short; or there are none
+abbrev pub Serves : Space → Wave → Type 0
+Serves s w = (w.boxes ≡ []) ⊎ (AreShort s.device × ((b : ℕ) → IsOpen s w b → (box : BoundingBox) × Contains w.boxes box × Surrounds s.device box b))
 
 -- v is entered from its parent, at a cost that its key covers
 pub record IsEntered (s : Space) (w : Wave) (v : ℕ) : Type 0 where
@@ -39,12 +45,13 @@ pub record IsEntered (s : Space) (w : Wave) (v : ℕ) : Type 0 where
   pub reached : key_of w (parent_of w v) < FAR
   pub paid : key_of w (parent_of w v) + entry_cost s v ≤ key_of w v
 
--- an entry waits whose key no way over v to an open sink can undercut
+-- an entry of v's label waits, whose key no way over v to an open sink can undercut
 pub record IsWaiting (s : Space) (w : Wave) (v : ℕ) : Type 0 where
   pub entry : Entry
   pub there : Contains w.queue entry
   pub node : entry.node ≡ v
-  pub low : entry.key ≤ key_of w v + bound_of s v
+  pub label : entry.label ≡ key_of w v
+  pub low : IsBound s w v (entry.key - key_of w v)
 
 -- no way leads on from v to an open sink
 abbrev pub IsDead : Space → Wave → ℕ → Type 0
@@ -76,8 +83,9 @@ pub record IsWave (s : Space) (w : Wave) : Type 0 where
   pub near : (v : ℕ) → key_of w v ≤ FAR
   pub within : w.limit ≤ FAR
   pub known : Knows s w.entrances
+  pub boxes : Serves s w
   pub entered : (v : ℕ) → key_of w v < FAR → IsOrigin w v ⊎ IsEntered s w v
-  pub entries : (e : Entry) → Contains w.queue e → (key_of w e.node ≤ e.key) × (key_of w e.node < FAR)
+  pub entries : (e : Entry) → Contains w.queue e → (key_of w e.node ≤ e.label) × (e.label ≤ e.key) × (key_of w e.node < FAR)
 
 -- a node that is reached waits, or is settled
 abbrev pub IsDone : Space → Wave → ℕ → Type 0

@@ -1,8 +1,10 @@
--- What a wave is: labels, what is known of how nodes are entered, entries that wait, and from what cost on ways may have been left out.
+-- What a wave is: labels, what is known of how nodes are entered, entries that wait, from what cost on ways may have been left out,
+-- and boxes around the sinks that it has yet to take.
 use Rattle.std.specs.Prelude.{◌≡◌, ℕ, ◌≤◌, List, Option, length}
 use Rattle.wavefront.specs.declared.labels.Label.{Label}
 use Rattle.wavefront.specs.declared.entrances.Entrance.{Entrance}
 use Rattle.wavefront.specs.declared.queue.Entry.{Entry}
+use Rattle.wavefront.specs.declared.boxes.BoundingBox.{BoundingBox}
 use Rattle.wavefront.specs.declared.wave.Wave.TheInside.{Inside}
 
 pub record Wave : Type 0 where
@@ -10,9 +12,10 @@ pub record Wave : Type 0 where
   pub entrances : List (Option Entrance)
   pub queue : List Entry
   pub limit : ℕ
+  pub boxes : List BoundingBox
 
 abbrev pub wave_of : {K : Type 0} → Inside K → Wave
-wave_of w = record { labels = w.labels; entrances = w.entrances; queue = w.queue; limit = w.limit }
+wave_of w = record { labels = w.labels; entrances = w.entrances; queue = w.queue; limit = w.limit; boxes = w.bounds.boxes.items }
 
 -- nothing is left out that fits, and entrances are kept for the same nodes as labels
 pub record IsWaveState {K : Type 0} (range : ℕ) (w : Inside K) : Type 0 where

@@ -30,7 +30,7 @@ impl BoundingBox {
     }
 
     /// The places of a node.
-    fn of_node(device: &Device, node: u32) -> BoundingBox
+    pub(crate) fn of_node(device: &Device, node: u32) -> BoundingBox
         ensures { result ≡ box_of_node device.now node }
     {
         match device.span(node) {
@@ -45,7 +45,7 @@ impl BoundingBox {
     }
 
     /// The least box around two.
-    fn around(self, other: BoundingBox) -> BoundingBox
+    pub(crate) fn around(self, other: BoundingBox) -> BoundingBox
         ensures { result ≡ box_around self other }
     {
         BoundingBox {

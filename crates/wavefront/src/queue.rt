@@ -3,10 +3,10 @@
 ghost use Rattle.std.specs.Prelude.{◌≡◌, ◌<◌, ◌∷◌, ◌&&◌, [], length, eqb, OnOk};
 ghost use Rattle.std.specs.List.Sorted.{IsPermutation};
 ghost use Rattle.std.proofs.Common.{rules};
-ghost use Rattle.std.specs.Cmp.{partial_order_from_own_ties};
+ghost use Rattle.std.specs.Cmp.{partial_order_from_own_ties, partial_order_from_total};
 ghost use Rattle.std.specs.Cmp.Rules.{comparing};
 ghost use Rattle.std.specs.Ordering.{as_partial_cmp};
-ghost use Rattle.wavefront.specs.Entries.{entry_cmp};
+ghost use Rattle.wavefront.specs.Entries.{entry_cmp, entry_total};
 ghost use Rattle.std.specs.BinaryHeap.{heap_items, heap_len, IsHeap};
 ghost use Rattle.wavefront.specs.Queues.{IsPopped, TakesLeast};
 
@@ -16,27 +16,32 @@ use std::cmp::Ordering;
 use std::collections::BinaryHeap;
 use std::marker::Model;
 
-/// A node that waits, and its key.
+/// A node that waits: its label's key when it was put in, and that with what a way from it to a sink costs at least.
 #[derive(Clone, Copy, Debug, PartialEq, Eq)]
 pub(crate) struct Entry {
     pub(crate) key: u128,
+    pub(crate) label: u128,
     pub(crate) node: u32,
 }
 
-/// An entry as it is kept. The least key is the greatest, and of equal ones the least node.
+/// An entry as it is kept. The least key is the greatest. Of equal ones the least label is, so that a
+/// wire, behind which something is left, comes before pins and sinks; and then the least node.
 #[derive(Clone, Copy, Drop)]
 struct Waiting<K> {
     key: K,
+    label: K,
     node: u32,
 }
 
 impl<K: Key> PartialEq for Waiting<K> {
-    ghost eq = { λ a b. eqb (K.value a.key) (K.value b.key) && eqb a.node b.node };
+    ghost eq = { λ a b. eqb (K.value a.key) (K.value b.key)
+        && (eqb (K.value a.label) (K.value b.label) && eqb a.node b.node) };
 
     ghost laws = { Prim.search (comparing, rules) };
 
     fn eq(&self, other: &Waiting<K>) -> bool {
-        self.key.compare(&other.key) == Ordering::Equal && self.node == other.node
+        self.key.compare(&other.key) == Ordering::Equal
+            && (self.label.compare(&other.label) == Ordering::Equal && self.node == other.node)
     }
 }
 
@@ -47,24 +52,28 @@ impl<K: Key> Eq for Waiting<K> {
 impl<K: Key> Ord for Waiting<K> {
     ghost cmp = { entry_cmp K.value };
 
-    ghost total = { Prim.search (comparing, rules) };
+    ghost total = { entry_total K.value };
 
     ghost matches_partial_cmp = { Prim.search (comparing, rules) };
 
     ghost matches_eq = { Prim.search (comparing, rules) };
 
     fn cmp(&self, other: &Waiting<K>) -> Ordering {
-        other
-            .key
-            .compare(&self.key)
-            .then(other.node.cmp(&self.node))
+        other.key.compare(&self.key).then(
+            other
+                .label
+                .compare(&self.label)
+                .then(other.node.cmp(&self.node)),
+        )
     }
 }
 
 impl<K: Key> PartialOrd for Waiting<K> {
     ghost partial_cmp = { as_partial_cmp (entry_cmp K.value) };
 
-    ghost laws = { partial_order_from_own_ties (Prim.search (comparing, rules)) (Prim.search (comparing, rules)) };
+    ghost laws = { partial_order_from_own_ties
+        (partial_order_from_total (entry_total K.value))
+        (Prim.search (comparing, rules)) };
 
     fn partial_cmp(&self, other: &Waiting<K>) -> Option<Ordering> {
         Some(self.cmp(other))
@@ -124,11 +133,12 @@ impl<K: Key> Queue<K> {
     }
 
     /// Puts an entry in.
-    pub(crate) fn push(&mut self, key: K, node: u32) -> Result<(), AllocError>
-        ensures { OnOk result
-            (IsPermutation (record { key = K.value key; node = node } ∷ self.old) self.new) }
+    pub(crate) fn push(&mut self, key: K, label: K, node: u32) -> Result<(), AllocError>
+        ensures { OnOk result (IsPermutation
+            (record { key = K.value key; label = K.value label; node = node } ∷ self.old)
+            self.new) }
     {
-        self.heap.push(Waiting { key, node })?;
+        self.heap.push(Waiting { key, label, node })?;
         Ok(())
     }
 
@@ -140,6 +150,7 @@ impl<K: Key> Queue<K> {
         let waiting = take_least(&mut self.heap);
         Entry {
             key: waiting.key.wide(),
+            label: waiting.label.wide(),
             node: waiting.node,
         }
     }

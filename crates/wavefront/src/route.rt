@@ -86,6 +86,7 @@ fn grow_tree<K: Key>(
     let mut tree = Tree::start(alloc, space.source())?;
     scratch.wave.clear(space);
     scratch.wave.start(space, space.source())?;
+    scratch.wave.aim(space)?;
     for sink in space.sinks() {
         while !scratch.wave.starts_at(*sink) {
             if !add_way(space, scratch, &mut tree)? {
@@ -133,6 +134,7 @@ fn add_way<K: Key>(
     leave_source(space, &mut scratch.wave, tree);
     tree.attach(row_of(tree.as_slice(), start), &scratch.way)?;
     start_all(space, &mut scratch.wave, &scratch.way)?;
+    scratch.wave.aim(space)?;
     Ok(true)
 }
 
@@ -169,6 +171,7 @@ fn start_all<K: Key>(
     wave: &mut Wave<K>,
     nodes: &[u32],
 ) -> Result<(), AllocError>
+    requires space { IsSpace space.now }
     requires wave { IsWave space.now wave.old }
     requires nodes { (v : ℕ) → Contains nodes.now v → v < node_count space.now }
     ensures started { OnOk result (IsStarted space.now wave.old wave.new nodes.now) }

@@ -1,17 +1,20 @@
 //! What a search of one net may enter, and at what cost.
 
-ghost use Rattle.std.specs.Prelude.{◌≡◌, ◌<◌, ◌≤◌, ◌^◌, ◌↔◌, IsTrue, IfSome, IfNone, OnOk, ℕ, Contains, length, [], ◌∷◌};
+ghost use Rattle.std.specs.Prelude.{◌≡◌, ◌<◌, ◌≤◌, ◌^◌, ◌↔◌, All, IsTrue, IfSome, IfNone, OnOk, ℕ, Contains, length, [], ◌∷◌};
 ghost use Rattle.rr_graph.specs.Nodes.{node_count_of};
 ghost use Rattle.rr_graph.specs.declared.parts.Kind.{Kind};
 ghost use Rattle.std.specs.Option.{option_map_or};
-ghost use Rattle.wavefront.specs.Boxes.{is_in_box};
+ghost use Rattle.wavefront.specs.Boxes.{box_of_node, is_in_box};
+ghost use Rattle.wavefront.specs.Bounds.{AreShort, IsWireAt};
+ghost use Rattle.arch_file.specs.declared.parts.SegmentLength.TheVariants.{Places};
 ghost use Rattle.wavefront.specs.Space.{IsSpace, IsInside, IsWanted, HasEdge, LeadsOnlyTo, entry_cost, node_count, base_cost};
 ghost use Rattle.wavefront.specs.Growth.{space_of};
 ghost use Rattle.wavefront.specs.Entrances.{LeadsNowhere};
 
 use crate::boxes::BoundingBox;
+use arch_file::{Segment, SegmentLength};
 use node_cost::{GREATEST_PRESENT, View, cost};
-use rr_graph::{Kind, Problem};
+use rr_graph::{Kind, Mode, Node, Problem};
 use smallvec::SmallVec;
 use std::alloc::AllocError;
 use std::marker::Model;
@@ -48,6 +51,28 @@ fn base_cost(kind: Option<Kind>) -> u32
         Some(Kind::Ipin) => 19,
         Some(Kind::Source | Kind::Opin | Kind::Chanx | Kind::Chany) => 20,
     }
+}
+
+/// Whether wires of a length are one place long.
+fn is_short(length: SegmentLength) -> bool
+    ensures { IsTrue result → length ≡ Places 1 }
+{
+    match length {
+        SegmentLength::Places(places) => places == 1,
+        SegmentLength::Longline => false,
+    }
+}
+
+/// Whether all wires are one place long.
+fn are_short(segments: &[Segment]) -> bool
+    ensures { IsTrue result → All (λ s. s.length ≡ Places 1) segments.now }
+{
+    for segment in segments {
+        if !is_short(segment.length) {
+            return false;
+        }
+    }
+    true
 }
 
 impl<'a> SearchSpace<'a> {
@@ -157,6 +182,37 @@ impl<'a> SearchSpace<'a> {
         match self.sink_of(node) {
             Some(sink) => !self.wants(sink),
             None => false,
+        }
+    }
+
+    /// The wire of a number; None for what is no wire.
+    pub(crate) fn wire(&self, node: u32) -> Option<Node>
+        ensures { IfSome result (IsWireAt self.now.device node) }
+    {
+        match self.problem.device().node(node) {
+            Some(wire) => match wire.kind {
+                Kind::Chanx | Kind::Chany => Some(wire),
+                Kind::Source | Kind::Sink | Kind::Opin | Kind::Ipin => None,
+            },
+            None => None,
+        }
+    }
+
+    /// The place of a node, as a box.
+    pub(crate) fn place_of(&self, node: u32) -> BoundingBox
+        ensures { result ≡ box_of_node self.now.device node }
+    {
+        BoundingBox::of_node(self.problem.device(), node)
+    }
+
+    /// Whether each wire is one place long.
+    pub(crate) fn has_short_wires(&self) -> bool
+        ensures { IsTrue result → AreShort self.now.device }
+    {
+        let device = self.problem.device();
+        match device.mode() {
+            Mode::Global => true,
+            Mode::Detailed => are_short(device.architecture().segments()),
         }
     }
 

@@ -1,6 +1,6 @@
 //! A wave of labels that spreads from a tree, the least key first, until it takes a sink, and goes on when the tree has grown.
 
-ghost use Rattle.std.specs.Prelude.{◌≡◌, ℕ, ◌+◌, ◌<◌, ◌≤◌};
+ghost use Rattle.std.specs.Prelude.{◌≡◌, ℕ, ◌+◌, ◌-◌, ◌<◌, ◌≤◌};
 
 use crate::bounds::Bounds;
 use crate::entrances::Entrance;
@@ -23,6 +23,7 @@ pub(crate) struct Wave<K: Key> {
     queue: Queue<K>,
     /// What costs this or more may have been left out.
     limit: u128,
+    /// What is left of ways at least.
     bounds: Bounds,
 }
 
@@ -40,8 +41,8 @@ impl<K: Key> Model for Wave<K> {
 
 impl<K: Key> Wave<K> {
     ghost use Rattle.std.specs.Prelude.{length, ◌==◌, ◌⊎◌, OnOk, IfOk, IsTrue, eqb, not};
-    ghost use Rattle.wavefront.specs.Space.{node_count};
-    ghost use Rattle.wavefront.specs.Wave.{IsWave, IsComplete, IsOrigin, StillComplete, bound_of, key_of, label_at};
+    ghost use Rattle.wavefront.specs.Space.{IsSpace, node_count};
+    ghost use Rattle.wavefront.specs.Wave.{IsWave, IsComplete, IsOrigin, StillComplete, IsBound, key_of, label_at};
     ghost use Rattle.wavefront.specs.Steps.{IsPopped, IsLowered, IsPreferred, LeavesOut, MoreOrigins, NoOrigins};
 
     /// A wave over so many nodes.
@@ -53,7 +54,7 @@ impl<K: Key> Wave<K> {
             entrances: Stamped::new(alloc, nodes, Entrance::Closed)?,
             queue: Queue::new(alloc),
             limit: FAR,
-            bounds: Bounds,
+            bounds: Bounds::new(alloc),
         })
     }
 
@@ -75,6 +76,7 @@ impl<K: Key> Wave<K> {
         self.entrances.clear();
         self.queue.clear();
         self.limit = FAR;
+        self.bounds.clear(0);
     }
 
     /// A node's label.
@@ -85,9 +87,11 @@ impl<K: Key> Wave<K> {
         self.labels.get(node)
     }
 
-    /// No way from the node to a sink costs less.
+    /// No way from the node to a sink that the wave has yet to take costs less.
     fn bound(&self, space: &SearchSpace<'_>, node: u32) -> u128
-        ensures { result ≡ bound_of space.now node }
+        requires space { IsSpace space.now }
+        requires wave { IsWave space.now self.now }
+        ensures { IsBound space.now self.now node result }
     {
         self.bounds.at(space, node)
     }
@@ -114,6 +118,20 @@ impl<K: Key> Wave<K> {
         self.limit != FAR
     }
 
+    /// A node's label and what a way from it costs at least, or the label alone where that doesn't fit.
+    fn nearest_by(&self, space: &SearchSpace<'_>, node: u32, key: K) -> K
+        requires space { IsSpace space.now }
+        requires wave { IsWave space.now self.now }
+        ensures above { K.value key ≤ K.value result }
+        ensures low { IsBound space.now self.now node (K.value result - K.value key) }
+    {
+        let bound = self.bound(space, node);
+        match K::fit(key.wide().saturating_add(bound)) {
+            Some(nearest) => nearest,
+            None => key,
+        }
+    }
+
     /// Puts a label that fits, and lets the node wait.
     fn put(
         &mut self,
@@ -122,14 +140,16 @@ impl<K: Key> Wave<K> {
         key: K,
         parent: u32,
     ) -> Result<(), AllocError>
-        requires { node < length self.old.labels }
+        requires space { IsSpace space.now }
+        requires wave { IsWave space.now self.old }
+        requires node_in { node < length self.old.labels }
         ensures lowered { OnOk result (IsLowered space.now self.old self.new node
             (record { key = K.value key; parent = parent })) }
         ensures rows { length self.new.labels ≡ length self.old.labels }
     {
+        let nearest = self.nearest_by(space, node, key);
         self.labels.set(node, key, parent);
-        let nearest = K::fit(key.wide().saturating_add(self.bounds.at(space, node))).unwrap_or(key);
-        self.queue.push(nearest, node)
+        self.queue.push(nearest, key, node)
     }
 
     /// Leaves out what costs so much or more.
@@ -142,7 +162,9 @@ impl<K: Key> Wave<K> {
 
     /// Lowers a node's label, or leaves it out where it doesn't fit.
     fn lower(&mut self, space: &SearchSpace<'_>, node: u32, label: Label) -> Result<(), AllocError>
-        requires { node < length self.old.labels }
+        requires space { IsSpace space.now }
+        requires wave { IsWave space.now self.old }
+        requires node_in { node < length self.old.labels }
         ensures lowered { OnOk result (IsLowered space.now self.old self.new node label ⊎
             LeavesOut self.old self.new label.key) }
         ensures rows { length self.new.labels ≡ length self.old.labels }
@@ -171,6 +193,7 @@ impl<K: Key> Wave<K> {
 
     /// Lets the wave start at `node` too.
     pub(crate) fn start(&mut self, space: &SearchSpace<'_>, node: u32) -> Result<(), AllocError>
+        requires space { IsSpace space.now }
         requires wave { IsWave space.now self.old }
         requires node_in { node < node_count space.now }
         ensures wave { OnOk result (IsWave space.now self.new) }
@@ -193,9 +216,11 @@ impl<K: Key> Wave<K> {
 impl<K: Key> Wave<K> {
     ghost use Rattle.std.specs.Prelude.{length, IfOk, OnOk, IfSome, IfNone, IsTrue, ◌↔◌, ◌⊎◌, [], Contains, reverse};
     ghost use Rattle.wavefront.specs.Space.{IsSpace, HasEdge, IsInside, entry_cost, node_count};
-    ghost use Rattle.wavefront.specs.Wave.{IsWave, IsComplete, StillComplete, IsOrigin, IsOpen, WentOn, bound_of, key_of, parent_of};
+    ghost use Rattle.wavefront.specs.Wave.{IsWave, IsComplete, StillComplete, IsOrigin, IsOpen, WentOn, key_of, parent_of};
+    ghost use Rattle.wavefront.specs.Boxes.{box_of_node};
+    ghost use Rattle.wavefront.specs.Bounds.{CoversMore, IsCovered};
     ghost use Rattle.wavefront.specs.Entrances.{IsClosed, IsEntrance, Knows, Tells};
-    ghost use Rattle.wavefront.specs.Steps.{IsPopped, IsNearest, IsNoted, IsLowered, IsPreferred, Spreads, SameOrigins, MoreOrigins, WentAlong, NoOrigins, IsTaken, IsLeastKey, IsTraced};
+    ghost use Rattle.wavefront.specs.Steps.{IsAimed, IsPopped, IsNearest, IsNoted, IsLowered, IsPreferred, Spreads, SameOrigins, MoreOrigins, WentAlong, NoOrigins, IsTaken, IsLeastKey, IsTraced};
 
     /// Whether the wave starts here.
     pub(crate) fn starts_at(&self, node: u32) -> bool
@@ -266,6 +291,55 @@ impl<K: Key> Wave<K> {
         {
             self.set(node, label);
         }
+    }
+
+    /// How many sinks the wave has yet to take.
+    fn open_sinks(&self, space: &SearchSpace<'_>) -> usize
+        requires space { IsSpace space.now }
+        requires rows { length self.now.labels ≡ node_count space.now }
+    {
+        let mut count = 0usize;
+        for sink in space.sinks() {
+            if self.is_open(space, *sink) {
+                count = count.saturating_add(1);
+            }
+        }
+        count
+    }
+
+    /// Puts a box around a sink, if the wave has yet to take it.
+    fn surround(&mut self, space: &SearchSpace<'_>, sink: u32) -> Result<(), AllocError>
+        requires space { IsSpace space.now }
+        requires rows { length self.old.labels ≡ node_count space.now }
+        ensures aimed { OnOk result (IsAimed self.old self.new) }
+        ensures place { OnOk result (IsOpen space.now self.old sink →
+            IsCovered self.new.boxes (box_of_node space.now.device sink)) }
+        ensures kept { OnOk result (CoversMore self.old.boxes self.new.boxes) }
+        ensures rows { length self.new.labels ≡ node_count space.now }
+    {
+        if self.is_open(space, sink) {
+            self.bounds.surround(space.place_of(sink))?;
+        }
+        Ok(())
+    }
+
+    /// Bounds ways anew by the sinks that the wave has yet to take.
+    pub(crate) fn aim(&mut self, space: &SearchSpace<'_>) -> Result<(), AllocError>
+        requires space { IsSpace space.now }
+        requires wave { IsWave space.now self.old }
+        ensures wave { OnOk result (IsWave space.now self.new) }
+        ensures spreads { OnOk result (Spreads space.now self.old self.new) }
+        ensures rows { length self.new.labels ≡ node_count space.now }
+    {
+        let sinks = self.open_sinks(space);
+        self.bounds.clear(sinks);
+        if !space.has_short_wires() {
+            return Ok(());
+        }
+        for sink in space.sinks() {
+            self.surround(space, *sink)?;
+        }
+        Ok(())
     }
 
     /// Offers a node the way over `from`, whose key is given.
@@ -404,7 +478,7 @@ impl<K: Key> Wave<K> {
                 return Ok(None);
             }
             let label = self.label(entry.node);
-            if label.key.saturating_add(self.bound(space, entry.node)) < entry.key {
+            if label.key < entry.label {
                 continue;
             }
             if self.is_open(space, entry.node) {

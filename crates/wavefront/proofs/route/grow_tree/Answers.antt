@@ -1,12 +1,13 @@
 use Rattle.std.proofs.Common.{arith, ap, sym, ◌∙◌, slice_index}
 use Rattle.std.proofs.lemmas.Bool.{false≢true}
 use Rattle.std.proofs.lemmas.Option.{IfSome_then}
+use Rattle.wavefront.proofs.Aimed.{aimed_growth}
 use Rattle.wavefront.proofs.Whole.{begun, is_sink_at, stuck, taken_more, whole}
 use Rattle.wavefront.proofs.route.grow_tree.Goals as goal
 
 pub loop-sink-init : goal.loop-sink-init
 loop-sink-init g c = record {
-  growth = begun c.args.space.now c.clear.new.self c.start-2.new.self c.in_ok-tree.tree (rw c.source.ensures at c.in_ok-tree.ensures) c.in_ok-start.ensures.wave c.clear.ensures.complete c.clear.ensures.origins (rw c.source-2.ensures at c.in_ok-start.ensures.complete) (rw c.source-2.ensures at c.in_ok-start.ensures.origins);
+  growth = aimed_growth c.args.space.now c.in_ok-tree.tree c.start-2.new.self c.aim.new.self (begun c.args.space.now c.clear.new.self c.start-2.new.self c.in_ok-tree.tree (rw c.source.ensures at c.in_ok-tree.ensures) c.in_ok-start.ensures.wave c.clear.ensures.complete c.clear.ensures.origins (rw c.source-2.ensures at c.in_ok-start.ensures.complete) (rw c.source-2.ensures at c.in_ok-start.ensures.origins)) c.in_ok-aim.ensures.wave c.in_ok-aim.ensures.spreads;
   taken = λ k lt. absurd (omega (arith, lt));
 }
 

@@ -1,4 +1,4 @@
-use Rattle.std.proofs.Common.{◌≡◌, ◌+◌, ◌<◌, arith, ap, refl, subst, inl, inr, sym, ◌∙◌, length}
+use Rattle.std.proofs.Common.{◌≡◌, ◌+◌, ◌<◌, arith, ap, refl, subst, inl, inr, length}
 use Rattle.std.proofs.lemmas.Result.{on_ok_weaker}
 use Rattle.wavefront.specs.declared.labels.Label.{Label}
 use Rattle.wavefront.specs.declared.labels.TheConstants.{FAR}
@@ -34,7 +34,7 @@ returns-then-label-clause-wave g c = on_ok_weaker c.lower.result (λ h. elim h [
       let near = c.requires.wave.near c.args.to in
       let less = cheaper g c in
       let entered = offered_entered c.args.space.now c.args.self.now c.lower.new.self c.args.from c.args.to c.args.key (label g c) r (inside g c) refl less c.requires.from c.requires.near c.requires.edge (c.requires.entrance.inside) (exact g c) in
-      lowered_wave c.args.space.now c.args.self.now c.lower.new.self c.args.to (label g c) r c.requires.wave (c.requires.space.range c.args.from c.args.to c.requires.edge) (omega (arith, less)) (omega (arith, near, less)) (inr entered)
+      lowered_wave c.args.space.now c.args.self.now c.lower.new.self c.args.to (label g c) r c.requires.wave (c.requires.space.range c.args.from c.args.to c.requires.edge) (omega (arith, less)) (omega (arith, near, less)) (λ o. absurd (omega (arith, o.0, less))) (inr entered)
   | inr left ↦ left_wave c.args.space.now c.args.self.now c.lower.new.self c.saturating_add.result left c.requires.wave
 ]) c.lower.ensures.lowered
 
@@ -70,7 +70,7 @@ apart g c r e =
 pub returns-clause-wave : goal.returns-clause-wave
 returns-clause-wave g c = elim c.prefer.ensures [
   | inl e ↦ rw e c.requires.wave
-  | inr r ↦ preferred_wave c.args.space.now c.args.self.now c.prefer.new.self c.args.to c.args.key (other g c) r c.requires.wave (there g c) c.requires.from c.requires.near c.requires.edge (c.requires.entrance.inside) (exact_other g c r.reached)
+  | inr r ↦ preferred_wave c.args.space.now c.args.self.now c.prefer.new.self c.args.to c.args.key (other g c) r c.requires.wave (there g c) c.requires.from c.requires.near c.requires.edge (c.requires.entrance.inside) (exact_other g c r.reached) (apart g c r)
 ]
 
 pub returns-clause-spreads : goal.returns-clause-spreads

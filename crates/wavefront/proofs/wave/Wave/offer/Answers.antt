@@ -1,4 +1,4 @@
-use Rattle.std.proofs.Common.{arith, ap, sym, ◌∙◌, inr}
+use Rattle.std.proofs.Common.{arith, inr}
 use Rattle.std.proofs.lemmas.Result.{on_ok_weaker}
 use Rattle.wavefront.proofs.Lower.{spreads_trans}
 use Rattle.wavefront.proofs.DeadEnds.{closed_went}

@@ -4,12 +4,12 @@ use Rattle.wavefront.proofs.Lower.{expanded_complete, same_origins_trans}
 use Rattle.wavefront.proofs.LeastEntry.{spent_least, taken}
 use Rattle.wavefront.proofs.wave.Wave.take_sink.Goals as goal
 
-pub loop-self-preserved-then-saturating_add-entry : goal.loop-self-preserved-then-saturating_add-entry
-loop-self-preserved-then-saturating_add-entry g c =
+pub loop-self-preserved-then-label-entry : goal.loop-self-preserved-then-label-entry
+loop-self-preserved-then-label-entry g c =
     let at = ap (λ l. l.key) c.label-label.ensures in
     record {
       wave = c.nearest-entry.ensures.wave;
-      complete = c.nearest-entry.ensures.late (omega (arith, at, c.bound.ensures, c.saturating_add.ensures, c.if-saturating_add-entry.true, c.nearest-entry.type_inv));
+      complete = c.nearest-entry.ensures.late (omega (arith, at, c.if-label-entry.true));
       origins = same_origins_trans c.args.self.now c.loop-self.self c.nearest-entry.new.self c.loop-self.invariant.origins c.nearest-entry.ensures.origins;
     }
 
