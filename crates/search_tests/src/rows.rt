@@ -17,6 +17,16 @@ const ABOVE: &[(u32, u32)] = &[(0, 18), (18, 39), (39, 38), (38, 32), (32, 13)];
 /// The other pad's way to the block, through the wire above it.
 const OTHER: &[(u32, u32)] = &[(1, 19), (19, 39), (39, 38), (38, 32), (32, 13)];
 
+/// What the other net sees of the first one, which goes below.
+const BELOW_SEEN: &[Seen] = &[
+    (0, 1, 0),
+    (18, 1, 0),
+    (39, 1, 0),
+    (37, 1, 0),
+    (31, 1, 0),
+    (13, 1, 0),
+];
+
 /// The nets of both pads on the block's left, to the block.
 const MEETING: &[Part] = &[(0, 0, &[13]), (1, 1, &[13])];
 
@@ -60,15 +70,7 @@ fn takes_lower_numbers_first(rt: HostRuntime) -> Result<(), Fail> {
 #[test]
 fn goes_around_a_net(rt: HostRuntime) -> Result<(), Fail> {
     let problem = problem_again(&rt, MEETING)?;
-    let seen = [
-        (0, 1, 0),
-        (18, 1, 0),
-        (39, 1, 0),
-        (37, 1, 0),
-        (31, 1, 0),
-        (13, 1, 0),
-    ];
-    expect(&rt, &problem, 1, 8, &seen, OTHER)
+    expect(&rt, &problem, 1, 8, BELOW_SEEN, OTHER)
 }
 
 #[test]
@@ -179,15 +181,7 @@ fn shares_a_wire_of_a_global_device(rt: HostRuntime) -> Result<(), Fail> {
     let device = Device::global(rt.alloc(), &arch(&rt, ONE_BLOCK)?, 1, 1, 2)?;
     let problem = problem_of(&rt, device, MEETING)?;
     expect(&rt, &problem, 0, 8, &[], BELOW)?;
-    let seen = [
-        (0, 1, 0),
-        (18, 1, 0),
-        (39, 1, 0),
-        (37, 1, 0),
-        (31, 1, 0),
-        (13, 1, 0),
-    ];
-    expect(&rt, &problem, 1, 8, &seen, OTHER)
+    expect(&rt, &problem, 1, 8, BELOW_SEEN, OTHER)
 }
 
 /// The block's output taps the first track, and the second pad on the right the second one.
