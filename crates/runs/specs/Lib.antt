@@ -9,5 +9,6 @@ pub mod Faults
 pub mod Runs
 pub mod GraphRun
 pub mod Inputs
+pub mod Stages
 pub mod Verdict
 pub mod CheckRun

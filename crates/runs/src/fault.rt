@@ -93,7 +93,9 @@ fn put_line_fault<W: ByteSink>(
     line: u32,
     name: &[u8],
 )
-    ensures { Sends (stream (W.taken sink.old) (W.failed sink.old) out.old) (stream (W.taken sink.new) (W.failed sink.new) out.new) (line_fault_text (input_text file) line name.now) }
+    ensures { Sends (stream (W.taken sink.old) (W.failed sink.old) out.old)
+        (stream (W.taken sink.new) (W.failed sink.new) out.new)
+        (line_fault_text (input_text file) line name.now) }
 {
     out.push(sink, b"error: ");
     out.push(sink, input_name(file));
@@ -106,7 +108,8 @@ fn put_line_fault<W: ByteSink>(
 
 /// Prints the line of an input file that cannot be read.
 fn put_unread<W: ByteSink>(out: &mut OutputBuffer, sink: &mut W, file: InputFile)
-    ensures { Sends (stream (W.taken sink.old) (W.failed sink.old) out.old) (stream (W.taken sink.new) (W.failed sink.new) out.new) (unread_text (input_text file)) }
+    ensures { Sends (stream (W.taken sink.old) (W.failed sink.old) out.old)
+        (stream (W.taken sink.new) (W.failed sink.new) out.new) (unread_text (input_text file)) }
 {
     out.push(sink, b"error: ");
     out.push(sink, input_name(file));
@@ -115,7 +118,8 @@ fn put_unread<W: ByteSink>(out: &mut OutputBuffer, sink: &mut W, file: InputFile
 
 /// Prints a fault's line through a buffer.
 fn put_fault<W: ByteSink>(out: &mut OutputBuffer, sink: &mut W, fault: &AppFault)
-    ensures { Sends (stream (W.taken sink.old) (W.failed sink.old) out.old) (stream (W.taken sink.new) (W.failed sink.new) out.new) (fault_text fault.now) }
+    ensures { Sends (stream (W.taken sink.old) (W.failed sink.old) out.old)
+        (stream (W.taken sink.new) (W.failed sink.new) out.new) (fault_text fault.now) }
 {
     match fault {
         AppFault::Arch(fault) => {

@@ -3,6 +3,7 @@
 
 mod arch_fault;
 mod check;
+mod design;
 mod fault;
 mod graph;
 mod inputs;
