@@ -2,3 +2,4 @@ pub mod Ending
 pub mod Lines
 pub mod Stages
 pub mod Designs
+pub mod Writing

@@ -15,7 +15,7 @@ use Rattle.route_file.specs.Reading.{routing_of}
 use Rattle.runs.specs.declared.fault.InputFile.{InputFile}
 use Rattle.runs.specs.declared.fault.InputFile.TheVariants as file
 use Rattle.runs.specs.declared.fault.AppFault.{AppFault}
-use Rattle.runs.specs.declared.fault.AppFault.TheVariants.{Arch, Net, Place, Route, Unread, Unwritten, Memory}
+use Rattle.runs.specs.declared.fault.AppFault.TheVariants.{Arch, Net, Place, Route, Unread, Unwritten, Memory, NoThread, Astray}
 use Rattle.runs.specs.Runs.{Input, DesignFiles, bytes_in, with_fault, ◌>>=◌}
 
 -- ---- what the bytes of a file say
@@ -80,6 +80,8 @@ file_of (Route f) = Some file.Route
 file_of (Unread at) = Some at
 file_of Unwritten = None
 file_of Memory = None
+file_of NoThread = None
+file_of Astray = None
 
 -- a run ended with a fault in a file that is read before this one
 abbrev pub ends_before : {R : Type 0} → InputFile → Result R AppFault → Bool

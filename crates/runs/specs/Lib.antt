@@ -12,3 +12,4 @@ pub mod Inputs
 pub mod Stages
 pub mod Verdict
 pub mod CheckRun
+pub mod RouteRun
