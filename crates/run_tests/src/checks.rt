@@ -1,6 +1,9 @@
 ghost use Rattle.std.specs.Prelude.{◌≤◌};
 
 use crate::fakes::{CountingSink, ONE_BLOCK, ShortSink, ShortSource};
+use crate::texts::{
+    PADS, PADS_PLACED, PADS_ROUTED, SPARE, SPARE_PLACED, TWO, TWO_PLACED, TWO_ROUTED, UNROUTED,
+};
 use arch_file::ArchFault;
 use net_file::NetFault;
 use place_file::PlaceFault;
@@ -13,32 +16,6 @@ use std::process::Abort;
 use std::test::Fail;
 use std::thread::Threads;
 use vpr_text::{Adapted, ByteSink};
-
-/// A pad and the logic block that it drives.
-const TWO: &[u8] = b".input a\npinlist: a\n.clb c\npinlist: a open open\n";
-
-const TWO_PLACED: &[u8] =
-    b"Netlist file: t.net  Architecture file: a.arch\nArray size: 1 x 1 logic blocks\na 0 1 0\nc 1 1 0\n";
-
-const TWO_ROUTED: &[u8] =
-    b"Array size: 1 x 1 logic blocks.\n\nRouting:\n\nNet 0 (a)\n\nSOURCE (0,1)  Pad: 0\n  OPIN (0,1)  Pad: 0\n CHANY (0,1)  Track: 0\n CHANX (1,0)  Track: 0\n  IPIN (1,1)  Pin: 0\n  SINK (1,1)  Class: 0\n";
-
-/// The same behind a pad that drives nothing.
-const SPARE: &[u8] = b".input d\npinlist: d\n.input a\npinlist: a\n.clb c\npinlist: a open open\n";
-
-const SPARE_PLACED: &[u8] =
-    b"Netlist file: t.net  Architecture file: a.arch\nArray size: 1 x 1 logic blocks\nd 0 1 1\na 0 1 0\nc 1 1 0\n";
-
-/// Two pads at one place that drive one logic block.
-const PADS: &[u8] = b".input a\npinlist: a\n.input b\npinlist: b\n.clb c\npinlist: a b open\n";
-
-const PADS_PLACED: &[u8] =
-    b"Netlist file: t.net  Architecture file: a.arch\nArray size: 1 x 1 logic blocks\na 0 1 0\nb 0 1 1\nc 1 1 0\n";
-
-const PADS_ROUTED: &[u8] =
-    b"Array size: 1 x 1 logic blocks.\n\nRouting:\n\nNet 0 (a)\n\nSOURCE (0,1)  Pad: 0\n  OPIN (0,1)  Pad: 0\n CHANY (0,1)  Track: 0\n CHANX (1,0)  Track: 0\n  IPIN (1,1)  Pin: 0\n  SINK (1,1)  Class: 0\n\nNet 1 (b)\n\nSOURCE (0,1)  Pad: 1\n  OPIN (0,1)  Pad: 1\n CHANY (0,1)  Track: 0\n CHANX (1,1)  Track: 0\n  IPIN (1,1)  Pin: 1\n  SINK (1,1)  Class: 0\n";
-
-const UNROUTED: &[u8] = b"Array size: 1 x 1 logic blocks.\n\nRouting:\n";
 
 /// A wrong switch: CHANY (0,1) doesn't lead to an input pin of the block.
 const WRONG_SWITCH: &[u8] =

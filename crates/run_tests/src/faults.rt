@@ -285,7 +285,9 @@ fn prints_the_other_faults(rt: HostRuntime) -> Result<(), Fail> {
         5,
     )?;
     prints(&rt, AppFault::Unwritten, b"error: cannot write\n", 5)?;
-    prints(&rt, AppFault::Memory, b"error: memory\n", 6)
+    prints(&rt, AppFault::Memory, b"error: memory\n", 6)?;
+    prints(&rt, AppFault::NoThread, b"error: no thread\n", 6)?;
+    prints(&rt, AppFault::Astray, b"error: astray\n", 6)
 }
 
 #[test]

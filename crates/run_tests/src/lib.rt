@@ -9,3 +9,7 @@ mod fakes;
 mod faults;
 #[cfg(test)]
 mod listings;
+#[cfg(test)]
+mod routes;
+#[cfg(test)]
+mod texts;

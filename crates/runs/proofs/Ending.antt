@@ -13,7 +13,7 @@ use Rattle.runs.specs.declared.fault.AppFault.TheVariants.{Unwritten}
 use Rattle.runs.specs.Listing.{listing_of}
 use Rattle.runs.specs.Texts.{counts_line}
 use Rattle.runs.specs.Verdict.{net_fault_text, overuse_text, verdict_text}
-use Rattle.runs.specs.Runs.{TakesFront, PrintsText}
+use Rattle.runs.specs.Runs.{TakesFront, PrintsText, writing}
 
 pub Keeps-same : (known : Option (List ℕ)) → Keeps known known
 Keeps-same None = tt
@@ -40,19 +40,19 @@ module _ {R : Type 0} (value : R) (taken taken' : Option (List ℕ)) (failed fai
       let whole : text ≡ p.front = sym (append-nil text) ∙ (p.whole ∙ (ap (λ (h : List ℕ). p.front ++ h) empty ∙ append-nil p.front)) in
       elim p.sound [ inl f ↦ f | inr none ↦ absurd (omega (arith, ap length (whole ∙ none.0), some)) ]
 
-  pub printed : buffer.broken ≡ false → buffer.held ≡ [] → 0 < length text → PrintsText failed' taken taken' text value (Ok value)
+  pub printed : buffer.broken ≡ false → buffer.held ≡ [] → 0 < length text → PrintsText (writing taken taken' failed') text value (Ok value)
   printed sound empty some =
-      subst (λ (b : Bool). PrintsText b taken taken' text value (Ok value)) (sym (is_sound sound empty some)) (refl, handed_out sound empty)
+      subst (λ (b : Bool). PrintsText (writing taken taken' b) text value (Ok value)) (sym (is_sound sound empty some)) (refl, handed_out sound empty)
 
   -- a front of a text was handed out, and the sink failed
   pub broke_off : buffer.broken ≡ true → failed' ≡ true
   broke_off broken = (all.breaks refl broken).failed
 
-  pub broken_text : buffer.broken ≡ true → PrintsText failed' taken taken' text value (Err Unwritten)
+  pub broken_text : buffer.broken ≡ true → PrintsText (writing taken taken' failed') text value (Err Unwritten)
   broken_text broken =
       let b = all.breaks refl broken in
-      let front : TakesFront taken taken' text = (b.front, b.rest, sym (append-nil text) ∙ b.whole, b.taken) in
-      subst (λ (f : Bool). PrintsText f taken taken' text value (Err Unwritten)) (sym b.failed) (refl, front)
+      let front : TakesFront (writing taken taken' failed') text = (b.front, b.rest, sym (append-nil text) ∙ b.whole, b.taken) in
+      subst (λ (f : Bool). PrintsText (writing taken taken' f) text value (Err Unwritten)) (sym b.failed) (refl, front)
 
 -- a listing isn't empty
 pub listing_filled : (f : Fabric) → 0 < length (listing_of f)

@@ -1,4 +1,5 @@
 pub mod Ending
 pub mod Lines
 pub mod Stages
-pub mod Judged
+pub mod Designs
+pub mod Writing

@@ -1,36 +1,52 @@
 -- How a run meets its input files, and stops at one or goes on behind it.
 use Rattle.std.proofs.Common.{◌≡◌, ℕ, ◌+◌, ◌^◌, Bool, true, false, take, List, [], Option, Some, None, Result, Ok, Err, refl, sym, ap, subst, ◌∙◌}
+use Rattle.std.specs.Prelude.{nat_lt}
+use Rattle.std.specs.Option.{option_map_or}
+use Rattle.std.proofs.lemmas.Bool.{false≢true}
 use Rattle.vpr_text.specs.Transfer.{ReadsFront}
 use Rattle.runs.specs.declared.fault.InputFile.{InputFile}
+use Rattle.runs.specs.declared.fault.InputFile.TheVariants as file
 use Rattle.runs.specs.declared.fault.AppFault.{AppFault}
 use Rattle.runs.specs.declared.fault.AppFault.TheVariants.{Unread}
-use Rattle.runs.specs.Runs.{Input, AreRead, IsMet, Meets, bytes_in, ◌>>=◌, Ends}
-use Rattle.runs.proofs.Ending.{Keeps-same}
+use Rattle.runs.specs.Inputs.{ends_before, file_of, turn_of}
+use Rattle.runs.specs.Runs.{Input, Reading, reading, AreRead, IsMet, Meets, DesignFiles, MeetsDesign, bytes_in, ◌>>=◌, Ends}
 
 -- any source is met as some input
-met : (known : Option (List ℕ)) (failed : Bool) → (input : Input) × IsMet known failed input
+met : (had : Option (List ℕ)) (failed : Bool) → (input : Input) × IsMet (reading had failed) input
 met None failed = (record { failed = failed; bytes = [] }, record { fails = refl; read = tt })
 met (Some all) failed = (record { failed = failed; bytes = take (2 ^ 24 + 1) all }, record { fails = refl; read = refl })
 
-pub meets_any : {P : Input → Type 0} (known : Option (List ℕ)) (failed : Bool) → ((input : Input) → P input) → Meets known failed P
-meets_any known failed always = let some = met known failed in (some.0, some.1, always some.0)
+pub meets_any : {P : Input → Type 0} (r : Reading) → ((input : Input) → P input) → Meets r P
+meets_any r always = let some = met r.had r.failed in (some.0, some.1, always some.0)
 
-pub meets_so : {P Q : Input → Type 0} (known : Option (List ℕ)) (failed : Bool) → Meets known failed P → ((input : Input) → P input → Q input) → Meets known failed Q
-meets_so known failed m so = (m.0, m.1, so m.0 m.2)
+pub meets_some : (r : Reading) → Meets r (λ _. Unit {0})
+meets_some r = meets_any r (λ input. tt)
+
+pub meets_so : {P Q : Input → Type 0} (r : Reading) → Meets r P → ((input : Input) → P input → Q input) → Meets r Q
+meets_so r m so = (m.0, m.1, so m.0 m.2)
+
+-- the files of a design, of which the first two and the third were met so
+pub meets_files : {P : Input → Input → Type 0} {Q : Input → Type 0} {R : DesignFiles → Type 0} (arch net place : Reading)
+    → Meets arch (λ a. Meets net (P a)) → Meets place Q
+    → ((files : DesignFiles) → P files.arch files.net → Q files.place → R files) → MeetsDesign arch net place R
+meets_files arch net place two third so =
+    let files : DesignFiles = record { arch = two.0; net = two.2.0; place = third.0 } in
+    (files, two.1, two.2.1, third.1, so files two.2.2 third.2)
 
 are_read : (old new : Option (List ℕ)) (bytes : List ℕ) → ReadsFront (2 ^ 24 + 1) old new bytes → AreRead old bytes
 are_read None new bytes r = tt
 are_read (Some all) new bytes r = r.0
 
 -- a source that failed
-pub unread : (file : InputFile) (known : Option (List ℕ)) (failed : Bool) → failed ≡ true → Meets known failed (λ input. bytes_in file input ≡ Err (Unread file))
-unread file known failed e =
-    let some = met known failed in
+pub unread : (file : InputFile) (had : Option (List ℕ)) (failed : Bool) → failed ≡ true
+    → Meets (reading had failed) (λ input. bytes_in file input ≡ Err (Unread file))
+unread file had failed e =
+    let some = met had failed in
     (some.0, some.1, subst (λ (f : Bool). bytes_in file (record { failed = f; bytes = some.0.bytes }) ≡ Err (Unread file)) (sym (some.1.fails ∙ e)) refl)
 
 -- a source that was read
 pub was_read : (file : InputFile) (old new : Option (List ℕ)) (failed : Bool) (bytes : List ℕ) → ReadsFront (2 ^ 24 + 1) old new bytes → failed ≡ false
-    → Meets old failed (λ input. bytes_in file input ≡ Ok bytes)
+    → Meets (reading old failed) (λ input. bytes_in file input ≡ Ok bytes)
 was_read file old new failed bytes r e =
     (record { failed = failed; bytes = bytes }, record { fails = refl; read = are_read old new bytes r }, subst (λ (f : Bool). bytes_in file (record { failed = f; bytes = bytes }) ≡ Ok bytes) (sym e) refl)
 
@@ -42,8 +58,32 @@ pub gives_by : {A B : Type 0} (f : A → Result B AppFault) (given : Result A Ap
 gives_by f given x h = ap (λ g. g >>= f) h
 
 -- a run whose inputs have a fault ends with it
-pub stops : {X R : Type 0} (taken : Option (List ℕ)) (goes_on : X → Result R AppFault → Type 0) (given : Result X AppFault) (e : AppFault) → given ≡ Err e → Ends taken taken goes_on given (Err e)
-stops taken goes_on given e h = subst (λ g. Ends taken taken goes_on g (Err e)) (sym h) (refl, Keeps-same taken)
+pub stops : {X R : Type 0} (untouched : Type 0) (goes_on : X → Result R AppFault → Type 0) (given : Result X AppFault) (e : AppFault) → untouched → given ≡ Err e
+    → Ends untouched goes_on given (Err e)
+stops untouched goes_on given e was h = subst (λ g. Ends untouched goes_on g (Err e)) (sym h) (refl, was)
+
+-- ---- at which file a run ended
+
+late_file : (at : InputFile) (o : Option InputFile) → option_map_or (λ x. nat_lt (turn_of x) 3) o false ≡ false
+    → option_map_or (λ x. nat_lt (turn_of x) (turn_of at)) o false ≡ false
+late_file at None h = refl
+late_file at (Some file.Arch) h = absurd (false≢true (sym h))
+late_file at (Some file.Net) h = absurd (false≢true (sym h))
+late_file at (Some file.Place) h = absurd (false≢true (sym h))
+late_file file.Arch (Some file.Route) h = refl
+late_file file.Net (Some file.Route) h = refl
+late_file file.Place (Some file.Route) h = refl
+late_file file.Route (Some file.Route) h = refl
+
+-- a run that didn't end before the routing ended before no file
+pub ends_late : {R : Type 0} (at : InputFile) (result : Result R AppFault) → ends_before file.Route result ≡ false → ends_before at result ≡ false
+ends_late at (Ok value) h = refl
+ends_late at (Err f) h = late_file at (file_of f) h
+
+pub ends_not : {R P : Type 0} (at : InputFile) (result : Result R AppFault) → ends_before file.Route result ≡ false → ends_before at result ≡ true → P
+ends_not at result late before = absurd (false≢true (sym (ends_late at result late) ∙ before))
+
+-- ---- whether a source failed
 
 pub not_failed : (failed : Bool) → (failed ≡ true → ⊥) → failed ≡ false
 not_failed true never = absurd (never refl)

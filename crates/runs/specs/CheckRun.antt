@@ -1,16 +1,32 @@
 -- What a run of `check` answers and prints (ours).
-use Rattle.std.specs.Prelude.{ℕ, Bool, List, Option, Result}
+use Rattle.std.specs.Prelude.{ℕ, List, Option, Result, Ok}
+use Rattle.rr_graph.specs.declared.parts.Mode.{Mode}
+use Rattle.route_tree.specs.Paths.{Pair}
 use Rattle.route_check.specs.declared.fault.RouteFault.{RouteFault}
 use Rattle.runs.specs.declared.fault.AppFault.{AppFault}
-use Rattle.runs.specs.Inputs.{Judged}
-use Rattle.runs.specs.Runs.{Ends, PrintsText}
+use Rattle.runs.specs.Inputs.{PlacedDesign, design_in, routing_in}
+use Rattle.runs.specs.Runs.{DesignFiles, Ends, Input, PrintsText, TakesNothing, Writing, ◌>>=◌}
 use Rattle.runs.specs.Verdict.{IsVerdict, verdict_text}
 
+-- a routing, and the design that it is meant for
+pub record Judged : Type 0 where
+  pub design : PlacedDesign
+  pub routing : List (Option (List Pair))
+
+unfoldable pub judged_on : PlacedDesign → (route : Input) → Result Judged AppFault
+judged_on d route = routing_in d.netlist d.problem route >>= λ routing. Ok (record { design = d; routing = routing })
+
+-- what the files of a design and a routing file say, for a device of this width and mode
+unfoldable pub judged_in : (width : ℕ) → Mode → DesignFiles → (route : Input) → Result Judged AppFault
+judged_in width mode files route = design_in width mode files >>= λ d. judged_on d route
+
 -- the line of the verdict is printed, and the verdict is the answer
-abbrev pub PrintsVerdict : (sink_failed : Bool) → (taken taken' : Option (List ℕ)) → Judged → Result (Option RouteFault) AppFault → Type 0
-PrintsVerdict sink_failed taken taken' j result =
-    (verdict : Option RouteFault) × IsVerdict j.problem j.routing verdict × PrintsText sink_failed taken taken' (verdict_text j.netlist j.problem verdict) verdict result
+abbrev pub PrintsVerdict : Writing → Judged → Result (Option RouteFault) AppFault → Type 0
+PrintsVerdict out j result =
+    (verdict : Option RouteFault)
+    × IsVerdict j.design.problem j.routing verdict
+    × PrintsText out (verdict_text j.design.netlist j.design.problem verdict) verdict result
 
 -- A run of `check`, memory aside: where its files say a routing of a problem, there is a verdict on it, whose line is printed.
-abbrev pub RunsCheck : (sink_failed : Bool) → (taken taken' : Option (List ℕ)) → Result Judged AppFault → Result (Option RouteFault) AppFault → Type 0
-RunsCheck sink_failed taken taken' = Ends taken taken' (PrintsVerdict sink_failed taken taken')
+abbrev pub RunsCheck : (out : Writing) → Result Judged AppFault → Result (Option RouteFault) AppFault → Type 0
+RunsCheck out = Ends (TakesNothing out) (PrintsVerdict out)

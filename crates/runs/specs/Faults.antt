@@ -1,15 +1,17 @@
 -- Faults of the program: their exit status and their texts (ours).
-use Rattle.std.specs.Prelude.{ℕ, List, ◌++◌, codes, decimal}
+use Rattle.std.specs.Prelude.{ℕ, Bool, true, false, List, ◌++◌, codes, decimal, Result, Ok, Err}
+use Rattle.net_workers.specs.declared.fault.WorkFault.{WorkFault}
+use Rattle.net_workers.specs.declared.fault.WorkFault.TheVariants as work
 use Rattle.runs.specs.declared.fault.InputFile.{InputFile}
 use Rattle.runs.specs.declared.fault.InputFile.TheVariants as input
 use Rattle.runs.specs.declared.fault.AppFault.{AppFault}
-use Rattle.runs.specs.declared.fault.AppFault.TheVariants.{Arch, Net, Place, Route, Unread, Unwritten, Memory}
+use Rattle.runs.specs.declared.fault.AppFault.TheVariants.{Arch, Net, Place, Route, Unread, Unwritten, Memory, NoThread, Astray}
 use Rattle.runs.specs.ArchFaults.{arch_line, arch_name}
 use Rattle.runs.specs.NetFaults.{net_line, net_name}
 use Rattle.runs.specs.PlaceFaults.{place_line, place_name}
 use Rattle.runs.specs.RouteFaults.{route_line, route_name}
 
--- 4 for bad input, 5 for reading or writing that failed, 6 for memory
+-- 4 for bad input, 5 for reading or writing that failed, 6 for the free faults
 abbrev pub status_of : AppFault → ℕ
 status_of (Arch f) = 4
 status_of (Net f) = 4
@@ -18,6 +20,8 @@ status_of (Route f) = 4
 status_of (Unread file) = 5
 status_of Unwritten = 5
 status_of Memory = 6
+status_of NoThread = 6
+status_of Astray = 6
 
 abbrev pub input_text : InputFile → List ℕ
 input_text input.Arch = codes "arch"
@@ -42,3 +46,28 @@ fault_text (Route f) = line_fault_text (codes "route") (route_line f) (route_nam
 fault_text (Unread file) = unread_text (input_text file)
 fault_text Unwritten = codes "error: cannot write\n"
 fault_text Memory = codes "error: memory\n"
+fault_text NoThread = codes "error: no thread\n"
+fault_text Astray = codes "error: astray\n"
+
+-- the fault of a run whose negotiation has this one
+abbrev pub fault_of_work : WorkFault → AppFault
+fault_of_work work.NoThread = NoThread
+fault_of_work work.Memory = Memory
+fault_of_work work.Astray = Astray
+
+-- the faults that no clause rules out: want of memory, a thread that can't be started, and a worker that went astray
+abbrev pub is_free : AppFault → Bool
+is_free (Arch f) = false
+is_free (Net f) = false
+is_free (Place f) = false
+is_free (Route f) = false
+is_free (Unread file) = false
+is_free Unwritten = false
+is_free Memory = true
+is_free NoThread = true
+is_free Astray = true
+
+-- a run ended with such a fault
+abbrev pub ends_free : {R : Type 0} → Result R AppFault → Bool
+ends_free (Ok value) = false
+ends_free (Err f) = is_free f

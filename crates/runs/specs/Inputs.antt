@@ -15,8 +15,8 @@ use Rattle.route_file.specs.Reading.{routing_of}
 use Rattle.runs.specs.declared.fault.InputFile.{InputFile}
 use Rattle.runs.specs.declared.fault.InputFile.TheVariants as file
 use Rattle.runs.specs.declared.fault.AppFault.{AppFault}
-use Rattle.runs.specs.declared.fault.AppFault.TheVariants.{Arch, Net, Place, Route, Unread, Unwritten, Memory}
-use Rattle.runs.specs.Runs.{Input, bytes_in, with_fault, ◌>>=◌}
+use Rattle.runs.specs.declared.fault.AppFault.TheVariants.{Arch, Net, Place, Route, Unread, Unwritten, Memory, NoThread, Astray}
+use Rattle.runs.specs.Runs.{Input, DesignFiles, bytes_in, with_fault, ◌>>=◌}
 
 -- ---- what the bytes of a file say
 
@@ -46,29 +46,21 @@ placement_in a netlist input = bytes_in file.Place input >>= placement_from a ne
 unfoldable pub routing_in : Netlist → RoutingProblem → Input → Result (List (Option (List Pair))) AppFault
 routing_in netlist problem input = bytes_in file.Route input >>= routing_from netlist problem
 
--- ---- what the files of `check` say
+-- ---- what the files of a design say
 
--- a routing, the problem that it is meant for, and the netlist with the names of its nets
-pub record Judged : Type 0 where
+-- a placed design, and the problem of routing it on the device of its array
+pub record PlacedDesign : Type 0 where
   pub netlist : Netlist
+  pub placement : Placement
   pub problem : RoutingProblem
-  pub routing : List (Option (List Pair))
 
-unfoldable pub judged_for : Netlist → RoutingProblem → (route : Input) → Result Judged AppFault
-judged_for netlist problem route =
-    routing_in netlist problem route >>= λ routing. Ok (record { netlist = netlist; problem = problem; routing = routing })
+abbrev pub design_with : (width : ℕ) → Mode → Architecture → Netlist → Placement → PlacedDesign
+design_with width mode a netlist p = record { netlist = netlist; placement = p; problem = problem_with width mode a netlist p }
 
--- the device has the size of the placement's array
-unfoldable pub judged_on : (width : ℕ) → Mode → Architecture → Netlist → (place route : Input) → Result Judged AppFault
-judged_on width mode a netlist place route =
-    placement_in a netlist place >>= λ p. judged_for netlist (problem_with width mode a netlist p) route
-
-unfoldable pub judged_with : (width : ℕ) → Mode → Architecture → (net place route : Input) → Result Judged AppFault
-judged_with width mode a net place route = netlist_in a net >>= λ netlist. judged_on width mode a netlist place route
-
--- what the four files say, for a device of this width and mode
-unfoldable pub judged_in : (width : ℕ) → Mode → (arch net place route : Input) → Result Judged AppFault
-judged_in width mode arch net place route = arch_in arch >>= λ a. judged_with width mode a net place route
+-- what the architecture, the netlist and its placement say, for a device of this width and mode
+unfoldable pub design_in : (width : ℕ) → Mode → DesignFiles → Result PlacedDesign AppFault
+design_in width mode files =
+    arch_in files.arch >>= λ a. netlist_in a files.net >>= λ n. placement_in a n files.place >>= λ p. Ok (design_with width mode a n p)
 
 -- ---- which file a run ended at
 
@@ -88,6 +80,8 @@ file_of (Route f) = Some file.Route
 file_of (Unread at) = Some at
 file_of Unwritten = None
 file_of Memory = None
+file_of NoThread = None
+file_of Astray = None
 
 -- a run ended with a fault in a file that is read before this one
 abbrev pub ends_before : {R : Type 0} → InputFile → Result R AppFault → Bool

@@ -9,5 +9,7 @@ pub mod Faults
 pub mod Runs
 pub mod GraphRun
 pub mod Inputs
+pub mod Stages
 pub mod Verdict
 pub mod CheckRun
+pub mod RouteRun

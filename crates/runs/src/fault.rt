@@ -4,7 +4,7 @@ ghost use Rattle.std.specs.Prelude.{◌≡◌, OnOk, OnErr, IsTrue};
 ghost use Rattle.std.specs.Io.KnownBytes.{Appends};
 ghost use Rattle.vpr_text.specs.Output.{Sends, stream};
 ghost use Rattle.runs.specs.declared.fault.AppFault.TheVariants.{Memory};
-ghost use Rattle.runs.specs.Faults.{fault_text, input_text, line_fault_text, status_of, unread_text};
+ghost use Rattle.runs.specs.Faults.{fault_of_work, fault_text, input_text, line_fault_text, status_of, unread_text};
 
 use crate::arch_fault::{arch_line, arch_name};
 use crate::net_fault::{net_line, net_name};
@@ -12,6 +12,7 @@ use crate::place_fault::{place_line, place_name};
 use crate::route_fault::{route_line, route_name};
 use arch_file::ArchFault;
 use net_file::NetFault;
+use net_workers::WorkFault;
 use place_file::PlaceFault;
 use route_file::RouteFileFault;
 use route_file::text::put_number;
@@ -52,6 +53,12 @@ pub enum AppFault {
     /// Memory ran out.
     #[error("memory ran out")]
     Memory,
+    /// A worker's thread could not be started.
+    #[error("a thread could not be started")]
+    NoThread,
+    /// A worker's report disagrees with the congestion book.
+    #[error("a worker went astray")]
+    Astray,
 }
 
 impl From<AllocError> for AppFault {
@@ -62,14 +69,27 @@ impl From<AllocError> for AppFault {
     }
 }
 
-/// The exit status that a fault gives: 4 for bad input, 5 for reading or writing that failed, 6 for memory.
+impl From<WorkFault> for AppFault {
+    ghost from_gives = { λ fault e. e ≡ fault_of_work fault };
+
+    fn from(fault: WorkFault) -> AppFault {
+        match fault {
+            WorkFault::NoThread => AppFault::NoThread,
+            WorkFault::Memory => AppFault::Memory,
+            WorkFault::Astray => AppFault::Astray,
+        }
+    }
+}
+
+/// The exit status that a fault gives: 4 for bad input, 5 for reading or writing that failed, 6 for memory, a thread, or a
+/// worker that went astray.
 pub fn status(fault: &AppFault) -> u8
     ensures { result ≡ status_of fault.now }
 {
     match fault {
         AppFault::Arch(_) | AppFault::Net(_) | AppFault::Place(_) | AppFault::Route(_) => 4,
         AppFault::Unread(_) | AppFault::Unwritten => 5,
-        AppFault::Memory => 6,
+        AppFault::Memory | AppFault::NoThread | AppFault::Astray => 6,
     }
 }
 
@@ -93,7 +113,9 @@ fn put_line_fault<W: ByteSink>(
     line: u32,
     name: &[u8],
 )
-    ensures { Sends (stream (W.taken sink.old) (W.failed sink.old) out.old) (stream (W.taken sink.new) (W.failed sink.new) out.new) (line_fault_text (input_text file) line name.now) }
+    ensures { Sends (stream (W.taken sink.old) (W.failed sink.old) out.old)
+        (stream (W.taken sink.new) (W.failed sink.new) out.new)
+        (line_fault_text (input_text file) line name.now) }
 {
     out.push(sink, b"error: ");
     out.push(sink, input_name(file));
@@ -106,7 +128,8 @@ fn put_line_fault<W: ByteSink>(
 
 /// Prints the line of an input file that cannot be read.
 fn put_unread<W: ByteSink>(out: &mut OutputBuffer, sink: &mut W, file: InputFile)
-    ensures { Sends (stream (W.taken sink.old) (W.failed sink.old) out.old) (stream (W.taken sink.new) (W.failed sink.new) out.new) (unread_text (input_text file)) }
+    ensures { Sends (stream (W.taken sink.old) (W.failed sink.old) out.old)
+        (stream (W.taken sink.new) (W.failed sink.new) out.new) (unread_text (input_text file)) }
 {
     out.push(sink, b"error: ");
     out.push(sink, input_name(file));
@@ -115,7 +138,8 @@ fn put_unread<W: ByteSink>(out: &mut OutputBuffer, sink: &mut W, file: InputFile
 
 /// Prints a fault's line through a buffer.
 fn put_fault<W: ByteSink>(out: &mut OutputBuffer, sink: &mut W, fault: &AppFault)
-    ensures { Sends (stream (W.taken sink.old) (W.failed sink.old) out.old) (stream (W.taken sink.new) (W.failed sink.new) out.new) (fault_text fault.now) }
+    ensures { Sends (stream (W.taken sink.old) (W.failed sink.old) out.old)
+        (stream (W.taken sink.new) (W.failed sink.new) out.new) (fault_text fault.now) }
 {
     match fault {
         AppFault::Arch(fault) => {
@@ -157,6 +181,8 @@ fn put_fault<W: ByteSink>(out: &mut OutputBuffer, sink: &mut W, fault: &AppFault
         AppFault::Unread(file) => put_unread(out, sink, *file),
         AppFault::Unwritten => out.push(sink, b"error: cannot write\n"),
         AppFault::Memory => out.push(sink, b"error: memory\n"),
+        AppFault::NoThread => out.push(sink, b"error: no thread\n"),
+        AppFault::Astray => out.push(sink, b"error: astray\n"),
     }
 }
 

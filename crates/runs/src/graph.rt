@@ -1,10 +1,9 @@
 //! The `graph` command over any source and sink.
 
 ghost use Rattle.std.specs.Prelude.{◌≡◌, ◌≢◌, ◌≤◌, Err};
-ghost use Rattle.std.specs.Io.KnownBytes.{Keeps};
 ghost use Rattle.runs.specs.Inputs.{arch_in};
 ghost use Rattle.runs.specs.Listing.{listing_of};
-ghost use Rattle.runs.specs.Runs.{Meets, PrintsText};
+ghost use Rattle.runs.specs.Runs.{Meets, PrintsText, TakesNothing, reading, writing};
 ghost use Rattle.rr_graph.specs.Fabric.{fabric_with};
 ghost use Rattle.runs.specs.GraphRun.{RunsGraph};
 
@@ -17,15 +16,18 @@ use std::alloc::Global;
 use vpr_text::{ByteSink, ByteSource, OutputBuffer};
 
 /// Prints the listing of a device. Nothing is printed where memory runs out.
-fn print_listing<W: ByteSink>(alloc: Global, device: &Device, sink: &mut W) -> Result<(), AppFault>
-    ensures memory { result ≡ Err AppFault.Memory → Keeps (W.taken sink.old) (W.taken sink.new) }
-    ensures printed { result ≢ Err AppFault.Memory → PrintsText (W.failed sink.new) (W.taken sink.old) (W.taken sink.new) (listing_of device.now) tt result }
+fn print_listing<W: ByteSink>(alloc: Global, device: &Device, out: &mut W) -> Result<(), AppFault>
+    ensures memory { result ≡ Err AppFault.Memory
+        → TakesNothing (writing (W.taken out.old) (W.taken out.new) (W.failed out.new)) }
+    ensures printed { result ≢ Err AppFault.Memory
+        → PrintsText (writing (W.taken out.old) (W.taken out.new) (W.failed out.new))
+        (listing_of device.now) tt result }
 {
     let mut list: SmallVec<u32, 8> = SmallVec::new(alloc);
     make_room(device, &mut list)?;
-    let mut out = OutputBuffer::new();
-    put_listing(&mut out, sink, device, &mut list);
-    match out.finish(sink) {
+    let mut buffer = OutputBuffer::new();
+    put_listing(&mut buffer, out, device, &mut list);
+    match buffer.finish(out) {
         Ok(()) => Ok(()),
         Err(_) => Err(AppFault::Unwritten),
     }
@@ -48,8 +50,14 @@ pub fn graph_run<S: ByteSource, W: ByteSink>(
     requires columns { (1 ≤ nx) × (nx ≤ 100) }
     requires rows { (1 ≤ ny) × (ny ≤ 100) }
     requires tracks { (1 ≤ width) × (width ≤ 256) }
-    ensures runs { result ≢ Err AppFault.Memory → Meets (S.remaining arch.old) (S.failed arch.new) (λ a. RunsGraph (W.failed out.new) (W.taken out.old) (W.taken out.new) (fabric_with nx ny width mode) (arch_in a) result) }
-    ensures memory { result ≡ Err AppFault.Memory → Keeps (W.taken out.old) (W.taken out.new) }
+    // What the file says decides, and where it says an architecture, the listing of its device is printed.
+    ensures runs { result ≢ Err AppFault.Memory
+        → Meets (reading (S.remaining arch.old) (S.failed arch.new))
+        (λ a. RunsGraph (writing (W.taken out.old) (W.taken out.new) (W.failed out.new))
+        (fabric_with nx ny width mode) (arch_in a) result) }
+    // Nothing is written where memory runs out.
+    ensures memory { result ≡ Err AppFault.Memory
+        → TakesNothing (writing (W.taken out.old) (W.taken out.new) (W.failed out.new)) }
 {
     let arch = match read_arch(alloc, arch) {
         Ok(arch) => arch,

@@ -4,7 +4,7 @@ ghost use Rattle.std.specs.Prelude.{◌≡◌, false, length, map, IfOk};
 ghost use Rattle.net_file.specs.Reads.{ReadsBytes};
 ghost use Rattle.net_file.specs.Routed.{routed_numbers};
 ghost use Rattle.place_file.specs.Placement.{IsPlaced};
-ghost use Rattle.runs.specs.Runs.{Gives, Meets, bytes_in};
+ghost use Rattle.runs.specs.Runs.{Gives, Meets, bytes_in, reading};
 ghost use Rattle.runs.specs.Inputs.{arch_from, arch_in, ends_before, netlist_from, placement_from, placement_in, routing_from, routing_in};
 
 use crate::arch_fault::of_arch;
@@ -26,7 +26,8 @@ pub fn read_input<S: ByteSource>(
     source: &mut S,
     file: InputFile,
 ) -> Result<Vec<u8>, AppFault>
-    ensures read { Meets (S.remaining source.old) (S.failed source.new) (λ input. Gives (λ v. v.items) result (bytes_in file input)) }
+    ensures read { Meets (reading (S.remaining source.old) (S.failed source.new))
+        (λ input. Gives (λ v. v.items) result (bytes_in file input)) }
     ensures turn { ends_before file result ≡ false }
 {
     match read_all(alloc, source) {
@@ -99,7 +100,8 @@ pub fn parse_routing(
 
 /// Reads an architecture from a source.
 pub fn read_arch<S: ByteSource>(alloc: Global, source: &mut S) -> Result<Arch, AppFault>
-    ensures { Meets (S.remaining source.old) (S.failed source.new) (λ input. Gives (λ a. a) result (arch_in input)) }
+    ensures { Meets (reading (S.remaining source.old) (S.failed source.new))
+        (λ input. Gives (λ a. a) result (arch_in input)) }
 {
     let bytes = match read_input(alloc, source, InputFile::Arch) {
         Ok(bytes) => bytes,
@@ -118,7 +120,8 @@ pub fn read_placement<S: ByteSource>(
     arch: &Arch,
     netlist: &Netlist<'_>,
 ) -> Result<Placement, AppFault>
-    ensures given { Meets (S.remaining source.old) (S.failed source.new) (λ input. Gives (λ p. p) result (placement_in arch.now netlist.now input)) }
+    ensures given { Meets (reading (S.remaining source.old) (S.failed source.new))
+        (λ input. Gives (λ p. p) result (placement_in arch.now netlist.now input)) }
     ensures placed { IfOk result (λ p. IsPlaced arch.now.io_rat netlist.now.blocks p) }
     ensures turn { ends_before InputFile.Place result ≡ false }
 {
@@ -140,7 +143,8 @@ pub fn read_routing<S: ByteSource>(
     problem: &Problem,
 ) -> Result<Routing, AppFault>
     requires { map (λ n. n.number) problem.now.nets ≡ routed_numbers netlist.now }
-    ensures given { Meets (S.remaining source.old) (S.failed source.new) (λ input. Gives (λ r. r) result (routing_in netlist.now problem.now input)) }
+    ensures given { Meets (reading (S.remaining source.old) (S.failed source.new))
+        (λ input. Gives (λ r. r) result (routing_in netlist.now problem.now input)) }
     ensures fits { IfOk result (λ r. length r ≡ length problem.now.nets) }
     ensures turn { ends_before InputFile.Route result ≡ false }
 {

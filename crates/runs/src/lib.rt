@@ -3,12 +3,16 @@
 
 mod arch_fault;
 mod check;
+mod design;
 mod fault;
 mod graph;
 mod inputs;
 mod listing;
 mod net_fault;
+mod outcome;
 mod place_fault;
+mod progress;
+mod route;
 mod route_fault;
 mod text;
 mod text_fault;
@@ -17,4 +21,7 @@ mod verdict;
 pub use check::check_run;
 pub use fault::{AppFault, InputFile, print_fault, status};
 pub use graph::graph_run;
+pub use outcome::outcome_status;
+pub use progress::Progress;
+pub use route::route_run;
 pub use verdict::verdict_status;

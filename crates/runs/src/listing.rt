@@ -18,7 +18,8 @@ use vpr_text::{ByteSink, OutputBuffer};
 
 /// Prints the first line: how many nodes and edges there are.
 fn put_counts<W: ByteSink>(out: &mut OutputBuffer, sink: &mut W, nodes: u32, edges: u64)
-    ensures { Sends (stream (W.taken sink.old) (W.failed sink.old) out.old) (stream (W.taken sink.new) (W.failed sink.new) out.new) (counts_line nodes edges) }
+    ensures { Sends (stream (W.taken sink.old) (W.failed sink.old) out.old)
+        (stream (W.taken sink.new) (W.failed sink.new) out.new) (counts_line nodes edges) }
 {
     put_number(out, sink, nodes);
     out.push(sink, b" nodes, ");
@@ -28,7 +29,8 @@ fn put_counts<W: ByteSink>(out: &mut OutputBuffer, sink: &mut W, nodes: u32, edg
 
 /// Prints the line of the node of a number, nothing for what is no node.
 fn put_line<W: ByteSink>(out: &mut OutputBuffer, sink: &mut W, device: &Device, id: u32)
-    ensures { Sends (stream (W.taken sink.old) (W.failed sink.old) out.old) (stream (W.taken sink.new) (W.failed sink.new) out.new) (line_at device.now id) }
+    ensures { Sends (stream (W.taken sink.old) (W.failed sink.old) out.old)
+        (stream (W.taken sink.new) (W.failed sink.new) out.new) (line_at device.now id) }
 {
     let node = match device.node(id) {
         Some(node) => node,
@@ -56,7 +58,9 @@ fn put_line<W: ByteSink>(out: &mut OutputBuffer, sink: &mut W, device: &Device, 
 
 /// Prints the lines of all nodes, or until the sink breaks.
 fn put_lines<W: ByteSink>(out: &mut OutputBuffer, sink: &mut W, device: &Device)
-    ensures { Sends (stream (W.taken sink.old) (W.failed sink.old) out.old) (stream (W.taken sink.new) (W.failed sink.new) out.new) (flat_map (line_at device.now) (numbers_below (node_count_of device.now))) }
+    ensures { Sends (stream (W.taken sink.old) (W.failed sink.old) out.old)
+        (stream (W.taken sink.new) (W.failed sink.new) out.new)
+        (flat_map (line_at device.now) (numbers_below (node_count_of device.now))) }
 {
     for id in 0..device.node_count() {
         put_line(out, sink, device, id);
@@ -68,7 +72,8 @@ fn put_lines<W: ByteSink>(out: &mut OutputBuffer, sink: &mut W, device: &Device)
 
 /// Prints the line of an edge.
 fn put_edge_line<W: ByteSink>(out: &mut OutputBuffer, sink: &mut W, from: u32, to: u32)
-    ensures { Sends (stream (W.taken sink.old) (W.failed sink.old) out.old) (stream (W.taken sink.new) (W.failed sink.new) out.new) (edge_line from to) }
+    ensures { Sends (stream (W.taken sink.old) (W.failed sink.old) out.old)
+        (stream (W.taken sink.new) (W.failed sink.new) out.new) (edge_line from to) }
 {
     put_number(out, sink, from);
     out.push(sink, b" -> ");
@@ -78,7 +83,9 @@ fn put_edge_line<W: ByteSink>(out: &mut OutputBuffer, sink: &mut W, from: u32, t
 
 /// Prints the lines of the edges from a node to the nodes of a list.
 fn put_edge_lines<W: ByteSink>(out: &mut OutputBuffer, sink: &mut W, from: u32, list: &[u32])
-    ensures { Sends (stream (W.taken sink.old) (W.failed sink.old) out.old) (stream (W.taken sink.new) (W.failed sink.new) out.new) (flat_map (edge_line from) list.now) }
+    ensures { Sends (stream (W.taken sink.old) (W.failed sink.old) out.old)
+        (stream (W.taken sink.new) (W.failed sink.new) out.new)
+        (flat_map (edge_line from) list.now) }
 {
     for to in list {
         put_edge_line(out, sink, from, *to);
@@ -94,7 +101,8 @@ fn put_edges_of<W: ByteSink>(
     list: &mut SmallVec<u32, 8>,
 )
     requires { length (successors_of device.now id) ≤ list.old.capacity }
-    ensures sends { Sends (stream (W.taken sink.old) (W.failed sink.old) out.old) (stream (W.taken sink.new) (W.failed sink.new) out.new) (edge_lines_at device.now id) }
+    ensures sends { Sends (stream (W.taken sink.old) (W.failed sink.old) out.old)
+        (stream (W.taken sink.new) (W.failed sink.new) out.new) (edge_lines_at device.now id) }
     ensures kept { list.old.capacity ≤ list.new.capacity }
 {
     device.successors(id, list).unwrap();
@@ -117,7 +125,9 @@ fn put_edges<W: ByteSink>(
     list: &mut SmallVec<u32, 8>,
 )
     requires { (i : ℕ) → length (successors_of device.now i) ≤ list.old.capacity }
-    ensures { Sends (stream (W.taken sink.old) (W.failed sink.old) out.old) (stream (W.taken sink.new) (W.failed sink.new) out.new) (flat_map (edge_lines_at device.now) (numbers_below (node_count_of device.now))) }
+    ensures { Sends (stream (W.taken sink.old) (W.failed sink.old) out.old)
+        (stream (W.taken sink.new) (W.failed sink.new) out.new)
+        (flat_map (edge_lines_at device.now) (numbers_below (node_count_of device.now))) }
 {
     for id in 0..device.node_count() {
         put_edges_of(out, sink, device, id, list);
@@ -135,7 +145,8 @@ pub(crate) fn put_listing<W: ByteSink>(
     list: &mut SmallVec<u32, 8>,
 )
     requires { (i : ℕ) → length (successors_of device.now i) ≤ list.old.capacity }
-    ensures { Sends (stream (W.taken sink.old) (W.failed sink.old) out.old) (stream (W.taken sink.new) (W.failed sink.new) out.new) (listing_of device.now) }
+    ensures { Sends (stream (W.taken sink.old) (W.failed sink.old) out.old)
+        (stream (W.taken sink.new) (W.failed sink.new) out.new) (listing_of device.now) }
 {
     put_counts(out, sink, device.node_count(), device.edge_count());
     put_lines(out, sink, device);

@@ -31,7 +31,8 @@ pub fn put_node<W: ByteSink>(
     label: Label,
     number: u32,
 )
-    ensures { Sends (stream (W.taken sink.old) (W.failed sink.old) out.old) (stream (W.taken sink.new) (W.failed sink.new) out.new) (node_text kind span label number) }
+    ensures { Sends (stream (W.taken sink.old) (W.failed sink.old) out.old)
+        (stream (W.taken sink.new) (W.failed sink.new) out.new) (node_text kind span label number) }
 {
     out.push(sink, kind_name(kind));
     out.push(sink, b" ");

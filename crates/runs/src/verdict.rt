@@ -61,7 +61,9 @@ fn put_net_line<W: ByteSink>(
     name: &[u8],
     fault: &[u8],
 )
-    ensures { Sends (stream (W.taken sink.old) (W.failed sink.old) out.old) (stream (W.taken sink.new) (W.failed sink.new) out.new) (net_fault_text number name.now fault.now) }
+    ensures { Sends (stream (W.taken sink.old) (W.failed sink.old) out.old)
+        (stream (W.taken sink.new) (W.failed sink.new) out.new)
+        (net_fault_text number name.now fault.now) }
 {
     out.push(sink, b"not legal: net ");
     put_number(out, sink, number);
@@ -81,7 +83,9 @@ fn put_net_fault<W: ByteSink>(
     net: u32,
     fault: &[u8],
 )
-    ensures { Sends (stream (W.taken sink.old) (W.failed sink.old) out.old) (stream (W.taken sink.new) (W.failed sink.new) out.new) (text_of_net netlist.now problem.now net fault.now) }
+    ensures { Sends (stream (W.taken sink.old) (W.failed sink.old) out.old)
+        (stream (W.taken sink.new) (W.failed sink.new) out.new)
+        (text_of_net netlist.now problem.now net fault.now) }
 {
     let number = number_of_net(problem, net);
     put_net_line(out, sink, number, net_name(netlist, number), fault);
@@ -89,7 +93,9 @@ fn put_net_fault<W: ByteSink>(
 
 /// Prints the node of a number; nothing for what is no node.
 fn put_node_of<W: ByteSink>(out: &mut OutputBuffer, sink: &mut W, device: &Device, id: u32)
-    ensures { Sends (stream (W.taken sink.old) (W.failed sink.old) out.old) (stream (W.taken sink.new) (W.failed sink.new) out.new) (text_of_node device.now (node_at device.now id)) }
+    ensures { Sends (stream (W.taken sink.old) (W.failed sink.old) out.old)
+        (stream (W.taken sink.new) (W.failed sink.new) out.new)
+        (text_of_node device.now (node_at device.now id)) }
 {
     let node = match device.node(id) {
         Some(node) => node,
@@ -108,7 +114,8 @@ fn put_node_of<W: ByteSink>(out: &mut OutputBuffer, sink: &mut W, device: &Devic
 
 /// Prints the line of a node that too many nets use.
 fn put_overuse<W: ByteSink>(out: &mut OutputBuffer, sink: &mut W, device: &Device, id: u32, by: u32)
-    ensures { Sends (stream (W.taken sink.old) (W.failed sink.old) out.old) (stream (W.taken sink.new) (W.failed sink.new) out.new) (overuse_text device.now id by) }
+    ensures { Sends (stream (W.taken sink.old) (W.failed sink.old) out.old)
+        (stream (W.taken sink.new) (W.failed sink.new) out.new) (overuse_text device.now id by) }
 {
     out.push(sink, b"not legal: node ");
     put_number(out, sink, id);
@@ -127,7 +134,9 @@ pub fn put_verdict<W: ByteSink>(
     problem: &Problem,
     verdict: Option<RouteFault>,
 )
-    ensures { Sends (stream (W.taken sink.old) (W.failed sink.old) out.old) (stream (W.taken sink.new) (W.failed sink.new) out.new) (verdict_text netlist.now problem.now verdict) }
+    ensures { Sends (stream (W.taken sink.old) (W.failed sink.old) out.old)
+        (stream (W.taken sink.new) (W.failed sink.new) out.new)
+        (verdict_text netlist.now problem.now verdict) }
 {
     match verdict {
         None => out.push(sink, b"legal\n"),

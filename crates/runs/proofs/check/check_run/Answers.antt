@@ -1,8 +1,10 @@
-use Rattle.std.proofs.Common.{Err, ap, subst, sym}
-use Rattle.runs.specs.CheckRun.{PrintsVerdict, RunsCheck}
-use Rattle.runs.specs.Inputs.{judged_in}
-use Rattle.runs.proofs.Judged.{judged_in_fails, judged_in_goes}
-use Rattle.runs.proofs.Stages.{meets_any, meets_so, stops}
+use Rattle.std.proofs.Common.{Err, ap, subst, sym, ◌∙◌}
+use Rattle.runs.specs.declared.fault.InputFile.TheVariants as file
+use Rattle.runs.specs.CheckRun.{PrintsVerdict, RunsCheck, judged_in}
+use Rattle.runs.specs.Runs.{TakesNothing, reading, writing}
+use Rattle.runs.proofs.Designs.{design_fails, judged_goes, text_fails, text_goes}
+use Rattle.runs.proofs.Ending.{Keeps-same}
+use Rattle.runs.proofs.Stages.{meets_any, meets_files, meets_so, meets_some, ends_not, stops}
 use Rattle.runs.proofs.check.check_run.Goals as goal
 
 pub returns-in-Err-clause-runs : goal.returns-in-Err-clause-runs
@@ -13,13 +15,32 @@ returns-in-Err-clause-runs g c =
     let route = g.R.ByteSource in
     let sink = g.W.ByteSink in
     let taken = sink.taken c.args.out.now in
+    let out = writing taken taken (sink.failed c.args.out.now) in
     let e = c.in-Err.fault in
-    λ ne. meets_so (arch.remaining c.args.arch.now) (arch.failed c.read_arch.new.source) c.in-Err.ensures
-    (λ a h. meets_any (net.remaining c.args.net.now) (net.failed c.args.net.now)
-    (λ n. meets_any (place.remaining c.args.place.now) (place.failed c.args.place.now)
-    (λ p. meets_any (route.remaining c.args.route.now) (route.failed c.args.route.now)
-    (λ r. stops taken (PrintsVerdict (sink.failed c.args.out.now) taken taken) (judged_in c.args.width c.args.mode a n p r) e
-    (judged_in_fails c.args.width c.args.mode a n p r e (h (λ same. ne (ap Err same))))))))
+    let reading_place = reading (place.remaining c.args.place.now) (place.failed c.args.place.now) in
+    λ ne. meets_files (reading (arch.remaining c.args.arch.now) (arch.failed c.read.new.arch)) (reading (net.remaining c.args.net.now) (net.failed c.read.new.net))
+    reading_place c.in-Err.ensures.given (meets_some reading_place)
+    (λ files h _. meets_any (reading (route.remaining c.args.route.now) (route.failed c.args.route.now))
+    (λ r. stops (TakesNothing out) (PrintsVerdict out) (judged_in c.args.width c.args.mode files r) e (Keeps-same taken)
+    (design_fails c.args.width c.args.mode files r e (text_fails c.args.width c.args.mode files e (h (λ same. ne (ap Err same)))))))
+
+pub returns-in-Err-read-clause-runs : goal.returns-in-Err-read-clause-runs
+returns-in-Err-read-clause-runs g c =
+    let arch = g.A.ByteSource in
+    let net = g.N.ByteSource in
+    let place = g.P.ByteSource in
+    let route = g.R.ByteSource in
+    let sink = g.W.ByteSink in
+    let taken = sink.taken c.args.out.now in
+    let out = writing taken taken (sink.failed c.args.out.now) in
+    let e = c.in-Err-read.fault in
+    let width = c.args.width in
+    let mode = c.args.mode in
+    λ ne. meets_files (reading (arch.remaining c.args.arch.now) (arch.failed c.read.new.arch)) (reading (net.remaining c.args.net.now) (net.failed c.read.new.net))
+    (reading (place.remaining c.args.place.now) (place.failed c.read-2.new.place)) c.in-Ok.ensures.given c.in-Err-read.ensures.given
+    (λ files h k. meets_any (reading (route.remaining c.args.route.now) (route.failed c.args.route.now))
+    (λ r. stops (TakesNothing out) (PrintsVerdict out) (judged_in width mode files r) e (Keeps-same taken)
+    (design_fails width mode files r e (text_goes width mode files c.in-Ok.text h ∙ k (λ same. ne (ap Err same))))))
 
 pub returns-clause-runs : goal.returns-clause-runs
 returns-clause-runs g c =
@@ -28,9 +49,18 @@ returns-clause-runs g c =
     let place = g.P.ByteSource in
     let route = g.R.ByteSource in
     let sink = g.W.ByteSink in
-    λ ne. meets_so (arch.remaining c.args.arch.now) (arch.failed c.read_arch.new.source) c.in-Ok.ensures
-    (λ a h. meets_so (net.remaining c.args.net.now) (net.failed c.check_arch.new.net) (c.check_arch.ensures.runs ne)
-    (λ n met. meets_so (place.remaining c.args.place.now) (place.failed c.check_arch.new.place) met
-    (λ p met-too. meets_so (route.remaining c.args.route.now) (route.failed c.check_arch.new.route) met-too
-    (λ r runs. subst (λ given. RunsCheck (sink.failed c.check_arch.new.out) (sink.taken c.args.out.now) (sink.taken c.check_arch.new.out) given c.check_arch.result)
-    (sym (judged_in_goes c.args.width c.args.mode a n p r c.in-Ok.arch h)) runs))))
+    let out = writing (sink.taken c.args.out.now) (sink.taken c.check_design.new.out) (sink.failed c.check_design.new.out) in
+    let width = c.args.width in
+    let mode = c.args.mode in
+    let d = c.in-Ok-read.design in
+    λ ne. meets_files (reading (arch.remaining c.args.arch.now) (arch.failed c.read.new.arch)) (reading (net.remaining c.args.net.now) (net.failed c.read.new.net))
+    (reading (place.remaining c.args.place.now) (place.failed c.read-2.new.place)) c.in-Ok.ensures.given c.in-Ok-read.ensures.given
+    (λ files h k. meets_so (reading (route.remaining c.args.route.now) (route.failed c.check_design.new.route)) (c.check_design.ensures.runs ne)
+    (λ r runs. subst (λ given. RunsCheck out given c.check_design.result)
+    (sym (judged_goes width mode files r d (text_goes width mode files c.in-Ok.text h ∙ k))) runs))
+
+pub returns-clause-net : goal.returns-clause-net
+returns-clause-net g c = ends_not file.Net c.check_design.result c.check_design.ensures.late
+
+pub returns-clause-place : goal.returns-clause-place
+returns-clause-place g c = ends_not file.Place c.check_design.result c.check_design.ensures.late

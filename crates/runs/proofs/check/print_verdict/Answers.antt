@@ -9,8 +9,8 @@ returns-in-Ok g c =
     let sink = g.W.ByteSink in
     let t = stream (sink.taken c.put_verdict.new.sink) (sink.failed c.put_verdict.new.sink) c.put_verdict.new.out in
     let text = verdict_text c.args.netlist.now c.args.problem.now c.args.verdict in
-    let sent = subst (λ (b : Buffer). Sends (stream (sink.taken c.args.sink.now) (sink.failed c.args.sink.now) b) t text) c.new-out.ensures c.put_verdict.ensures in
-    printed c.args.verdict (sink.taken c.args.sink.now) (sink.taken c.finish.new.sink) (sink.failed c.args.sink.now) (sink.failed c.finish.new.sink) c.finish.new.self t text sent c.in-Ok.ensures.sends (sym c.in-Ok.ensures.broken) c.in-Ok.ensures.empty
+    let sent = subst (λ (b : Buffer). Sends (stream (sink.taken c.args.out.now) (sink.failed c.args.out.now) b) t text) c.new-buffer.ensures c.put_verdict.ensures in
+    printed c.args.verdict (sink.taken c.args.out.now) (sink.taken c.finish.new.sink) (sink.failed c.args.out.now) (sink.failed c.finish.new.sink) c.finish.new.self t text sent c.in-Ok.ensures.sends (sym c.in-Ok.ensures.broken) c.in-Ok.ensures.empty
     (verdict_filled c.args.netlist.now c.args.problem.now c.args.verdict)
 
 pub returns-in-Err : goal.returns-in-Err
@@ -18,5 +18,5 @@ returns-in-Err g c =
     let sink = g.W.ByteSink in
     let t = stream (sink.taken c.put_verdict.new.sink) (sink.failed c.put_verdict.new.sink) c.put_verdict.new.out in
     let text = verdict_text c.args.netlist.now c.args.problem.now c.args.verdict in
-    let sent = subst (λ (b : Buffer). Sends (stream (sink.taken c.args.sink.now) (sink.failed c.args.sink.now) b) t text) c.new-out.ensures c.put_verdict.ensures in
-    broken_text c.args.verdict (sink.taken c.args.sink.now) (sink.taken c.finish.new.sink) (sink.failed c.args.sink.now) (sink.failed c.finish.new.sink) c.finish.new.self t text sent c.in-Err.ensures.sends (sym c.in-Err.ensures.broken)
+    let sent = subst (λ (b : Buffer). Sends (stream (sink.taken c.args.out.now) (sink.failed c.args.out.now) b) t text) c.new-buffer.ensures c.put_verdict.ensures in
+    broken_text c.args.verdict (sink.taken c.args.out.now) (sink.taken c.finish.new.sink) (sink.failed c.args.out.now) (sink.failed c.finish.new.sink) c.finish.new.self t text sent c.in-Err.ensures.sends (sym c.in-Err.ensures.broken)

@@ -1,4 +1,5 @@
 use Rattle.std.proofs.Common.{Err, ap, refl}
+use Rattle.runs.specs.Runs.{reading}
 use Rattle.runs.proofs.Stages.{meets_any, meets_so, not_failed, unread, was_read}
 use Rattle.runs.proofs.inputs.read_input.Goals as goal
 
@@ -11,11 +12,11 @@ returns-in-Ok-clause-read g c =
 pub returns-in-Err-Failed-clause-read : goal.returns-in-Err-Failed-clause-read
 returns-in-Err-Failed-clause-read g c =
     let source = g.S.ByteSource in
-    let known = source.remaining c.args.source.now in
+    let had = source.remaining c.args.source.now in
     let failed = source.failed c.read_all.new.source in
-    meets_so known failed (unread c.args.file known failed (c.in-Err-Failed.ensures.failed.0 (ap Err c.in-Err-Failed.field-0-is))) (λ input h _. h)
+    meets_so (reading had failed) (unread c.args.file had failed (c.in-Err-Failed.ensures.failed.0 (ap Err c.in-Err-Failed.field-0-is))) (λ input h _. h)
 
 pub returns-in-Err-Memory-clause-read : goal.returns-in-Err-Memory-clause-read
 returns-in-Err-Memory-clause-read g c =
     let source = g.S.ByteSource in
-    meets_any (source.remaining c.args.source.now) (source.failed c.read_all.new.source) (λ input ne. absurd (ne refl))
+    meets_any (reading (source.remaining c.args.source.now) (source.failed c.read_all.new.source)) (λ input ne. absurd (ne refl))

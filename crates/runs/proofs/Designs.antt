@@ -1,0 +1,106 @@
+-- Designs that are read, stage by stage.
+use Rattle.std.proofs.Common.{◌≡◌, ℕ, true, List, Option, Result, Ok, Err, refl, sym, ap, ◌∙◌}
+use Rattle.arch_file.specs.Architecture.{Architecture}
+use Rattle.net_file.specs.Netlist.{Netlist}
+use Rattle.place_file.specs.Placement.{Placement}
+use Rattle.rr_graph.specs.declared.parts.Mode.{Mode}
+use Rattle.rr_graph.specs.Designs.{problem_from, problem_with, suits_design}
+use Rattle.rr_graph.specs.Fabric.{fabric_with}
+use Rattle.rr_graph.specs.Problems.{RoutingProblem}
+use Rattle.route_tree.specs.Paths.{Pair}
+use Rattle.route_file.specs.Design.{IsDesign}
+use Rattle.route_file.proofs.Making.{design_made}
+use Rattle.runs.specs.declared.fault.InputFile.TheVariants as file
+use Rattle.runs.specs.declared.fault.AppFault.{AppFault}
+use Rattle.runs.specs.Runs.{DesignFiles, Input, bytes_in, ◌>>=◌}
+use Rattle.runs.specs.Inputs.{PlacedDesign, arch_in, design_in, design_with, netlist_from, netlist_in, placement_in, routing_in}
+use Rattle.runs.specs.Stages.{NetlistText, design_of, text_in}
+use Rattle.runs.specs.CheckRun.{judged_in, judged_on}
+
+-- ---- the first stage
+
+module _ (arch net : Input) where
+  pub arch_fails : (e : AppFault) → arch_in arch ≡ Err e → text_in arch net ≡ Err e
+  unfolding text_in
+  arch_fails e h = rw h refl
+
+  pub bytes_fail : (a : Architecture) (e : AppFault) → arch_in arch ≡ Ok a → bytes_in file.Net net ≡ Err e → text_in arch net ≡ Err e
+  unfolding text_in
+  bytes_fail a e h k = rw (h, k) refl
+
+  pub text_read : (a : Architecture) (bytes : List ℕ) → arch_in arch ≡ Ok a → bytes_in file.Net net ≡ Ok bytes
+      → text_in arch net ≡ Ok (record { arch = a; bytes = bytes })
+  unfolding text_in
+  text_read a bytes h k = rw (h, k) refl
+
+-- ---- both stages
+
+two_stages : (a : Result Architecture AppFault) (b : Result (List ℕ) AppFault) (rest : Architecture → Netlist → Result PlacedDesign AppFault)
+    → (a >>= λ x. (b >>= netlist_from x) >>= rest x)
+    ≡ ((a >>= λ x. b >>= λ bytes. Ok (record { arch = x; bytes = bytes })) >>= λ (t : NetlistText). netlist_from t.arch t.bytes >>= rest t.arch)
+two_stages (Err e) b rest = refl
+two_stages (Ok x) (Err e) rest = refl
+two_stages (Ok x) (Ok bytes) rest = refl
+
+module _ (width : ℕ) (mode : Mode) (files : DesignFiles) where
+  by_stages : design_in width mode files ≡ (text_in files.arch files.net >>= λ t. design_of width mode t files.place)
+  unfolding design_in netlist_in text_in design_of
+  by_stages =
+      two_stages (arch_in files.arch) (bytes_in file.Net files.net)
+      (λ a n. placement_in a n files.place >>= λ p. Ok (design_with width mode a n p))
+
+  pub text_fails : (e : AppFault) → text_in files.arch files.net ≡ Err e → design_in width mode files ≡ Err e
+  text_fails e h = by_stages ∙ ap (λ given. given >>= λ t. design_of width mode t files.place) h
+
+  pub text_goes : (t : NetlistText) → text_in files.arch files.net ≡ Ok t → design_in width mode files ≡ design_of width mode t files.place
+  text_goes t h = by_stages ∙ ap (λ given. given >>= λ t. design_of width mode t files.place) h
+
+-- ---- the second stage
+
+module _ (width : ℕ) (mode : Mode) (t : NetlistText) (place : Input) where
+  pub netlist_fails : (e : AppFault) → netlist_from t.arch t.bytes ≡ Err e → design_of width mode t place ≡ Err e
+  unfolding design_of
+  netlist_fails e h = rw h refl
+
+  pub placement_fails : (n : Netlist) (e : AppFault) → netlist_from t.arch t.bytes ≡ Ok n → placement_in t.arch n place ≡ Err e
+      → design_of width mode t place ≡ Err e
+  unfolding design_of
+  placement_fails n e h k = rw (h, k) refl
+
+  pub design_goes : (n : Netlist) (p : Placement) → netlist_from t.arch t.bytes ≡ Ok n → placement_in t.arch n place ≡ Ok p
+      → design_of width mode t place ≡ Ok (design_with width mode t.arch n p)
+  unfolding design_of
+  design_goes n p h k = rw (h, k) refl
+
+-- ---- the problem of a design
+
+module _ (width : ℕ) (mode : Mode) (a : Architecture) (n : Netlist) (p : Placement) (problem : RoutingProblem) (made : problem ≡ problem_with width mode a n p) where
+  pub device_made : problem.device ≡ fabric_with p.nx p.ny width mode a
+  unfolding problem_from
+  device_made = ap (λ (q : RoutingProblem). q.device) made
+
+  -- a design that fits the device of its problem
+  pub design_fits : suits_design problem.device n p ≡ true → IsDesign n p problem
+  design_fits suits =
+      design_made n p problem (fabric_with p.nx p.ny width mode a) (ap (λ f. suits_design f n p) (sym device_made) ∙ suits) made
+
+-- ---- a routing of a design
+
+module _ (d : PlacedDesign) (route : Input) where
+  pub routing_fails : (e : AppFault) → routing_in d.netlist d.problem route ≡ Err e → judged_on d route ≡ Err e
+  unfolding judged_on
+  routing_fails e h = rw h refl
+
+  pub routing_goes : (routing : List (Option (List Pair))) → routing_in d.netlist d.problem route ≡ Ok routing
+      → judged_on d route ≡ Ok (record { design = d; routing = routing })
+  unfolding judged_on
+  routing_goes routing h = rw h refl
+
+module _ (width : ℕ) (mode : Mode) (files : DesignFiles) (route : Input) where
+  pub design_fails : (e : AppFault) → design_in width mode files ≡ Err e → judged_in width mode files route ≡ Err e
+  unfolding judged_in
+  design_fails e h = rw h refl
+
+  pub judged_goes : (d : PlacedDesign) → design_in width mode files ≡ Ok d → judged_in width mode files route ≡ judged_on d route
+  unfolding judged_in
+  judged_goes d h = rw h refl

@@ -1,0 +1,20 @@
+-- The two stages in which a design is read: the architecture and the text of the netlist, and then, from these, the rest (ours).
+use Rattle.std.specs.Prelude.{ℕ, List, Result, Ok}
+use Rattle.arch_file.specs.Architecture.{Architecture}
+use Rattle.rr_graph.specs.declared.parts.Mode.{Mode}
+use Rattle.runs.specs.declared.fault.InputFile.TheVariants as file
+use Rattle.runs.specs.declared.fault.AppFault.{AppFault}
+use Rattle.runs.specs.Runs.{Input, bytes_in, ◌>>=◌}
+use Rattle.runs.specs.Inputs.{PlacedDesign, arch_in, design_with, netlist_from, placement_in}
+
+-- an architecture, and the bytes of a netlist for it
+pub record NetlistText : Type 0 where
+  pub arch : Architecture
+  pub bytes : List ℕ
+
+unfoldable pub text_in : (arch net : Input) → Result NetlistText AppFault
+text_in arch net = arch_in arch >>= λ a. bytes_in file.Net net >>= λ bytes. Ok (record { arch = a; bytes = bytes })
+
+unfoldable pub design_of : (width : ℕ) → Mode → NetlistText → (place : Input) → Result PlacedDesign AppFault
+design_of width mode t place =
+    netlist_from t.arch t.bytes >>= λ n. placement_in t.arch n place >>= λ p. Ok (design_with width mode t.arch n p)

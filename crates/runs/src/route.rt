@@ -1,0 +1,212 @@
+//! The `route` command over any sources and sinks.
+
+ghost use Rattle.std.specs.Prelude.{◌≡◌, ◌≤◌, true, false, IfErr, IfOk};
+ghost use Rattle.route_check.specs.Routed.{IsRouted};
+ghost use Rattle.route_file.specs.Text.{text_of};
+ghost use Rattle.iteration.specs.Outcomes as negotiation;
+ghost use Rattle.runs.specs.Faults.{ends_free, is_free};
+ghost use Rattle.runs.specs.Runs.{MeetsDesign, PrintsText, TakesNothing, reading, writing};
+ghost use Rattle.runs.specs.Inputs.{design_in, ends_before};
+ghost use Rattle.runs.specs.RouteRun.{RoutesDesign, RoutesProblem, RunsRoute, WritesOutcome, WritesSuccess, outcome_text};
+
+use crate::design::{Design, NetlistText};
+use crate::fault::{AppFault, InputFile};
+use crate::outcome::put_outcome;
+use iteration::{Outcome, negotiate};
+use net_workers::Gate;
+use node_cost::Settings;
+use route_file::WriteFault;
+use route_tree::Routing;
+use rr_graph::Mode;
+use std::alloc::AllocGlobal;
+use std::sync::Wait;
+use std::thread::Threads;
+use vpr_text::{ByteSink, ByteSource, OutputBuffer};
+
+/// Writes the text of a routing of a design.
+#[tactic(auto, using(route_check::proofs::Fitting::routed_fits))]
+fn write_routing<R: ByteSink>(
+    design: &Design<'_>,
+    routing: &Routing,
+    route: &mut R,
+) -> Result<(), AppFault>
+    requires { IsRouted design.now.problem routing.now }
+    ensures { PrintsText (writing (R.taken route.old) (R.taken route.new) (R.failed route.new))
+        (text_of design.now.netlist design.now.placement design.now.problem routing.now) tt result }
+{
+    let (netlist, placement) = (design.netlist(), design.placement());
+    match route_file::write(netlist, placement, design.problem(), routing, route) {
+        Ok(()) => Ok(()),
+        Err(WriteFault::Failed) => Err(AppFault::Unwritten),
+    }
+}
+
+/// Prints the line of an outcome, and answers the outcome.
+fn print_outcome<W: ByteSink>(outcome: Outcome, out: &mut W) -> Result<Outcome, AppFault>
+    ensures { PrintsText (writing (W.taken out.old) (W.taken out.new) (W.failed out.new))
+        (outcome_text outcome) outcome result }
+{
+    let mut buffer = OutputBuffer::new();
+    put_outcome(&mut buffer, out, &outcome);
+    match buffer.finish(out) {
+        Ok(()) => Ok(outcome),
+        Err(_) => Err(AppFault::Unwritten),
+    }
+}
+
+/// Writes the routing of a success, and then prints the line of the outcome.
+fn write_success<R: ByteSink, W: ByteSink>(
+    design: &Design<'_>,
+    routing: Routing,
+    iterations: u32,
+    route: &mut R,
+    out: &mut W,
+) -> Result<Outcome, AppFault>
+    requires { IsRouted design.now.problem routing }
+    ensures { WritesSuccess (writing (R.taken route.old) (R.taken route.new) (R.failed route.new))
+        (writing (W.taken out.old) (W.taken out.new) (W.failed out.new))
+        design.now routing iterations result }
+{
+    match write_routing(design, &routing, route) {
+        Ok(()) => {}
+        Err(fault) => return Err(fault),
+    }
+    print_outcome(Outcome::Success(routing, iterations), out)
+}
+
+/// Writes the routing, where the outcome is one, and then prints the line of the outcome.
+fn write_outcome<R: ByteSink, W: ByteSink>(
+    design: &Design<'_>,
+    outcome: Outcome,
+    route: &mut R,
+    out: &mut W,
+) -> Result<Outcome, AppFault>
+    requires { RoutesProblem design.now.problem outcome }
+    ensures { WritesOutcome (writing (R.taken route.old) (R.taken route.new) (R.failed route.new))
+        (writing (W.taken out.old) (W.taken out.new) (W.failed out.new)) design.now outcome result }
+{
+    match outcome {
+        Outcome::Success(routing, iterations) => write_success(
+            design, routing, iterations, route, out,
+        ),
+        Outcome::NotRouted {
+            unrouted,
+            overused,
+            iterations,
+        } => {
+            let left = Outcome::NotRouted {
+                unrouted,
+                overused,
+                iterations,
+            };
+            print_outcome(left, out)
+        }
+    }
+}
+
+/// Negotiates a routing of a design.
+fn negotiate_design<T: Threads + Wait + Sync + AllocGlobal, G: Gate + Sync>(
+    rt: &T,
+    design: &Design<'_>,
+    settings: &Settings,
+    workers: u32,
+    gate: &G,
+) -> Result<Outcome, AppFault>
+    requires workers { (1 ≤ workers) × (workers ≤ 16) }
+    ensures outcome { IfOk result (negotiation.IsOutcome design.now.problem settings.now) }
+    ensures run { IfOk result (negotiation.Ends design.now.problem settings.now workers) }
+    ensures free { IfErr result (λ e. is_free e ≡ true) }
+{
+    let problem = design.problem().copy(rt.alloc())?;
+    let outcome = negotiate(rt, rt.alloc(), problem, settings, workers, gate)?;
+    Ok(outcome)
+}
+
+/// Negotiates a routing of a design, and writes the outcome.
+fn route_design<T: Threads + Wait + Sync + AllocGlobal, R: ByteSink, W: ByteSink, G: Gate + Sync>(
+    rt: &T,
+    design: &Design<'_>,
+    route: &mut R,
+    out: &mut W,
+    settings: &Settings,
+    workers: u32,
+    gate: &G,
+) -> Result<Outcome, AppFault>
+    requires workers { (1 ≤ workers) × (workers ≤ 16) }
+    ensures runs { ends_free result ≡ false → RoutesDesign settings.now workers
+        (writing (R.taken route.old) (R.taken route.new) (R.failed route.new))
+        (writing (W.taken out.old) (W.taken out.new) (W.failed out.new)) design.now result }
+    ensures route { ends_free result ≡ true
+        → TakesNothing (writing (R.taken route.old) (R.taken route.new) (R.failed route.new)) }
+    ensures out { ends_free result ≡ true
+        → TakesNothing (writing (W.taken out.old) (W.taken out.new) (W.failed out.new)) }
+    ensures late { ends_before InputFile.Route result ≡ false }
+{
+    let outcome = match negotiate_design(rt, design, settings, workers, gate) {
+        Ok(outcome) => outcome,
+        Err(fault) => return Err(fault),
+    };
+    write_outcome(design, outcome, route, out)
+}
+
+/// Reads an architecture, a netlist and its placement, in this order and each only where those before it are without fault;
+/// negotiates a routing on the device of the placement's size; writes the routing to `route`, where there is one, and then
+/// prints the line of the outcome. The call waits for the workers.
+///
+/// # Errors
+/// NoThread, Memory and Astray as `negotiate` answers them, and Memory wherever it ran out: then neither sink took anything.
+/// These aside, exactly the first fault of the files by the order of reading, and neither sink took anything; else Unwritten
+/// exactly where writing failed: of `route`, which then took a front of the routing's text, and `out` took nothing; or of
+/// `out`, which took a front of the line.
+pub fn route_run<
+    T: Threads + Wait + Sync + AllocGlobal,
+    N: ByteSource,
+    A: ByteSource,
+    P: ByteSource,
+    R: ByteSink,
+    W: ByteSink,
+    G: Gate + Sync,
+>(
+    rt: &T,
+    net: &mut N,
+    arch: &mut A,
+    place: &mut P,
+    route: &mut R,
+    out: &mut W,
+    width: u32,
+    mode: Mode,
+    settings: &Settings,
+    workers: u32,
+    gate: &G,
+) -> Result<Outcome, AppFault>
+    requires tracks { (1 ≤ width) × (width ≤ 256) }
+    requires workers { (1 ≤ workers) × (workers ≤ 16) }
+    // What the files say decides; where they say a design, its problem is negotiated, and a success is a routing of it, whose
+    // text is written.
+    ensures runs { ends_free result ≡ false
+        → MeetsDesign (reading (A.remaining arch.old) (A.failed arch.new))
+        (reading (N.remaining net.old) (N.failed net.new))
+        (reading (P.remaining place.old) (P.failed place.new))
+        (λ files. RunsRoute settings.now workers
+        (writing (R.taken route.old) (R.taken route.new) (R.failed route.new))
+        (writing (W.taken out.old) (W.taken out.new) (W.failed out.new))
+        (design_in width mode files) result) }
+    // Nothing is written where memory runs out, a thread can't be started or a worker goes astray.
+    ensures route { ends_free result ≡ true
+        → TakesNothing (writing (R.taken route.old) (R.taken route.new) (R.failed route.new)) }
+    ensures out { ends_free result ≡ true
+        → TakesNothing (writing (W.taken out.old) (W.taken out.new) (W.failed out.new)) }
+    // A file is not read where the run ended at one before it.
+    ensures net { ends_before InputFile.Net result ≡ true → net.new ≡ net.old }
+    ensures place { ends_before InputFile.Place result ≡ true → place.new ≡ place.old }
+{
+    let text = match NetlistText::read(rt.alloc(), arch, net) {
+        Ok(text) => text,
+        Err(fault) => return Err(fault),
+    };
+    let design = match Design::read(rt.alloc(), &text, place, width, mode) {
+        Ok(design) => design,
+        Err(fault) => return Err(fault),
+    };
+    route_design(rt, &design, route, out, settings, workers, gate)
+}
