@@ -106,10 +106,10 @@ impl Bounds {
         ensures low { (place : BoundingBox) → Contains self.now.boxes.items place →
             result ≤ left_by wire.kind place wire.x wire.y }
     {
-        let Some(first) = self.boxes.first() else {
+        if self.boxes.is_empty() {
             return 0;
-        };
-        let mut least = left(*first, wire);
+        }
+        let mut least = u64::MAX;
         for place in &self.boxes {
             least = least.min(left(*place, wire));
         }

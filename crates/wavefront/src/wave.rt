@@ -300,7 +300,7 @@ impl<K: Key> Wave<K> {
     {
         let mut count = 0usize;
         for sink in space.sinks() {
-            if self.is_open(space, *sink) {
+            if !self.starts_at(*sink) {
                 count = count.saturating_add(1);
             }
         }
@@ -309,15 +309,14 @@ impl<K: Key> Wave<K> {
 
     /// Puts a box around a sink, if the wave has yet to take it.
     fn surround(&mut self, space: &SearchSpace<'_>, sink: u32) -> Result<(), AllocError>
-        requires space { IsSpace space.now }
-        requires rows { length self.old.labels ≡ node_count space.now }
+        requires sink { sink < length self.old.labels }
         ensures aimed { OnOk result (IsAimed self.old self.new) }
         ensures place { OnOk result (IsOpen space.now self.old sink →
             IsCovered self.new.boxes (box_of_node space.now.device sink)) }
         ensures kept { OnOk result (CoversMore self.old.boxes self.new.boxes) }
-        ensures rows { length self.new.labels ≡ node_count space.now }
+        ensures rows { length self.new.labels ≡ length self.old.labels }
     {
-        if self.is_open(space, sink) {
+        if !self.starts_at(sink) {
             self.bounds.surround(space.place_of(sink))?;
         }
         Ok(())

@@ -1,5 +1,6 @@
 use Rattle.std.proofs.Common.{ap, arith, inl, slice_index, length}
 use Rattle.wavefront.proofs.Aimed.{aimed_spreads, aimed_wave, covered_more, covered_serves, aimed_trans}
+use Rattle.wavefront.proofs.Whole.{is_sink_at}
 use Rattle.wavefront.proofs.wave.Wave.aim.Goals as goal
 
 pub returns-then-not-has_short_wires-clause-wave : goal.returns-then-not-has_short_wires-clause-wave
@@ -19,6 +20,13 @@ loop-sink-preserved g c =
       short = c.loop-sink.invariant.short;
       covered = covered_more c.args.space.now c.loop-sink.self c.surround.new.self c.loop-sink.sink-index c.loop-sink.invariant.covered c.in_ok-surround.ensures.aimed c.in_ok-surround.ensures.kept (rw at at c.in_ok-surround.ensures.place);
     }
+
+pub surround-requires : goal.surround-requires
+surround-requires g c =
+    let at = ap (λ xs. slice_index xs c.loop-sink.sink-index) c.sinks-sink-items.ensures in
+    let wanted = is_sink_at c.args.space.now c.loop-sink.sink-index (rw c.sinks-sink-items.ensures at c.loop-sink-test.true) in
+    let rows = ap length c.loop-sink.invariant.aimed.labels in
+    omega (arith, at, c.requires.space.sinks_in _ wanted, c.requires.wave.rows, rows)
 
 pub returns-clause-wave : goal.returns-clause-wave
 returns-clause-wave g c =
