@@ -102,13 +102,9 @@ impl Bounds {
 
     /// The least that a box tells of a wire.
     fn nearest(&self, wire: Node) -> u64
-        ensures none { self.now.boxes.items ≡ [] → result ≡ 0 }
         ensures low { (place : BoundingBox) → Contains self.now.boxes.items place →
             result ≤ left_by wire.kind place wire.x wire.y }
     {
-        if self.boxes.is_empty() {
-            return 0;
-        }
         let mut least = u64::MAX;
         for place in &self.boxes {
             least = least.min(left(*place, wire));
@@ -120,6 +116,9 @@ impl Bounds {
     pub(crate) fn at(&self, space: &SearchSpace<'_>, node: u32) -> u128
         ensures { IsLeast space.now.device self.now.boxes.items node result }
     {
+        if self.boxes.is_empty() {
+            return 0;
+        }
         match space.wire(node) {
             Some(wire) => u128::from(self.nearest(wire)),
             None => 0,

@@ -24,7 +24,7 @@ impl Entrance {
         requires node_in { node < node_count space.now }
         ensures { Tells space.now node result }
     {
-        if !space.is_inside(node) || space.is_dead_end(node) {
+        if space.is_dead_end(node) || !space.is_inside(node) {
             return Entrance::Closed;
         }
         match u32::try_from(space.cost(node)) {

@@ -19,9 +19,11 @@ loop-place-preserved c k d lt within = elim (cases_lt k c.loop-place.place-index
       omega (arith, told, c.left.ensures, c.min-least.ensures)
 ]
 
-pub returns-clause-low : goal.returns-clause-low
-returns-clause-low c place (k, lt, found) =
-    let all = ap length c.deref-place-items.ensures.value in
-    let told = ap (λ b. left_by c.args.wire.kind b c.args.wire.x c.args.wire.y) found in
-    let low = c.loop-place.invariant k place (omega (arith, lt, all, c.loop-place-test.false)) lt in
-    omega (arith, told, low)
+pub returns : goal.returns
+returns c = record {
+  low = λ place has.
+      let all = ap length c.deref-place-items.ensures.value in
+      let told = ap (λ b. left_by c.args.wire.kind b c.args.wire.x c.args.wire.y) has.2 in
+      let low = c.loop-place.invariant has.0 place (omega (arith, has.1, all, c.loop-place-test.false)) has.1 in
+      omega (arith, told, low);
+}
