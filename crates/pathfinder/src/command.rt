@@ -3,6 +3,7 @@
 ghost use Rattle.std.specs.Prelude.{◌≤◌, IfSome};
 
 use clap::{Arg, ArgAction, ArgMatches, Command, value_parser};
+use node_cost::Settings;
 use std::alloc::{AllocError, Global};
 
 /// The greatest array size on each side, in logic blocks.
@@ -10,6 +11,17 @@ const GREATEST_SIDE: u32 = 100;
 
 /// The greatest channel width, in tracks.
 const MOST_TRACKS: u32 = 256;
+
+/// The most workers of a negotiation.
+const MOST_WORKERS: u32 = 16;
+
+/// The greatest present-congestion factor.
+const GREATEST_PRESENT: u32 = 1_048_576;
+
+/// What the help ends with, to be tried in `examples/uart`.
+const EXAMPLE: &str = "Example, in examples/uart:
+  pathfinder route uart.net k4n1.arch uart.place new.route --width 6
+  pathfinder check uart.net k4n1.arch uart.place new.route --width 6";
 
 fn number<'a>(alloc: Global, name: &'a str, most: u32, help: &'a str) -> Arg<'a> {
     Arg::new(alloc, name)
@@ -33,6 +45,94 @@ fn width<'a>(alloc: Global) -> Arg<'a> {
     number(alloc, "width", MOST_TRACKS, "Tracks in a channel")
         .long("width")
         .value_name("W")
+}
+
+/// A number of a negotiation, which need not be given.
+fn setting<'a>(
+    alloc: Global,
+    name: &'a str,
+    least: u32,
+    most: u32,
+    standard: &'a str,
+    help: &'a str,
+) -> Arg<'a> {
+    Arg::new(alloc, name)
+        .long(name)
+        .value_name("N")
+        .value_parser(value_parser!(u32).range(i64::from(least)..=i64::from(most)))
+        .help(help)
+        .default_value(standard)
+}
+
+/// A command with the numbers of a negotiation.
+fn with_settings<'a>(alloc: Global, command: Command<'a>) -> Result<Command<'a>, AllocError> {
+    command
+        .arg(setting(
+            alloc,
+            "workers",
+            1,
+            MOST_WORKERS,
+            "1",
+            "Threads that route at once",
+        ))?
+        .arg(setting(alloc, "iterations", 1, 500, "30", "The most iterations"))?
+        .arg(setting(
+            alloc,
+            "first-pres",
+            0,
+            GREATEST_PRESENT,
+            "8",
+            "The present-congestion factor of the first iteration",
+        ))?
+        .arg(setting(
+            alloc,
+            "init-pres",
+            0,
+            GREATEST_PRESENT,
+            "8",
+            "The present-congestion factor of the second iteration",
+        ))?
+        .arg(setting(
+            alloc,
+            "mult",
+            16,
+            256,
+            "32",
+            "By how many sixteenths the factor grows from then on",
+        ))?
+        .arg(setting(
+            alloc,
+            "acc",
+            0,
+            65_535,
+            "20",
+            "How much an overused node's cost grows with each iteration",
+        ))?
+        .arg(setting(
+            alloc,
+            "bb",
+            1,
+            255,
+            "3",
+            "How far from its terminals a net may be routed",
+        ))
+}
+
+fn route_command<'a>(alloc: Global) -> Result<Command<'a>, AllocError> {
+    let command = Command::new(alloc, "route")
+        .about("Route a placed netlist")
+        .after_help(EXAMPLE)
+        .arg(input(alloc, "NET", "The netlist"))?
+        .arg(input(alloc, "ARCH", "The architecture file"))?
+        .arg(input(alloc, "PLACE", "The placement"))?
+        .arg(input(
+            alloc,
+            "ROUTE",
+            "The routing file that is written; without a routing it is left alone",
+        ))?
+        .arg(width(alloc))?
+        .arg(global_flag(alloc))?;
+    with_settings(alloc, command)
 }
 
 fn check_command<'a>(alloc: Global) -> Result<Command<'a>, AllocError> {
@@ -64,10 +164,25 @@ fn graph_command<'a>(alloc: Global) -> Result<Command<'a>, AllocError> {
 pub fn command<'a>(alloc: Global) -> Result<Command<'a>, AllocError> {
     Command::new(alloc, "pathfinder")
         .about("Routes placed designs in the text formats of VPR 4.30")
+        .after_help(EXAMPLE)
         .subcommand_required(true)
         .arg_required_else_help(true)
+        .subcommand(route_command(alloc)?)?
         .subcommand(check_command(alloc)?)?
         .subcommand(graph_command(alloc)?)
+}
+
+/// What the `route` command was given.
+#[derive(Clone, Copy)]
+pub struct RouteWords<'a> {
+    pub net: &'a str,
+    pub arch: &'a str,
+    pub place: &'a str,
+    pub route: &'a str,
+    pub width: u32,
+    pub global: bool,
+    pub workers: u32,
+    pub settings: Settings,
 }
 
 /// What the `check` command was given.
@@ -101,6 +216,34 @@ fn number_within(matches: &ArgMatches<'_>, name: &str, most: u32) -> Option<u32>
     } else {
         None
     }
+}
+
+/// The numbers of a negotiation; None where one is out of its range, which the parser refuses.
+fn settings(matches: &ArgMatches<'_>) -> Option<Settings> {
+    let first = matches.get_one::<u32>("first-pres")?;
+    let init = matches.get_one::<u32>("init-pres")?;
+    let mult = matches.get_one::<u32>("mult")?;
+    let acc = matches.get_one::<u32>("acc")?;
+    let bb = matches.get_one::<u32>("bb")?;
+    let iterations = matches.get_one::<u32>("iterations")?;
+    Settings::new(first, init, mult, acc, bb, iterations).ok()
+}
+
+/// The words of the `route` command; None where one is out of its range.
+pub fn route_words<'a>(matches: &ArgMatches<'a>) -> Option<RouteWords<'a>>
+    ensures tracks { IfSome result (λ r. (1 ≤ r.width) × (r.width ≤ 256)) }
+    ensures workers { IfSome result (λ r. (1 ≤ r.workers) × (r.workers ≤ 16)) }
+{
+    Some(RouteWords {
+        net: matches.get_str("NET")?,
+        arch: matches.get_str("ARCH")?,
+        place: matches.get_str("PLACE")?,
+        route: matches.get_str("ROUTE")?,
+        width: number_within(matches, "width", MOST_TRACKS)?,
+        global: matches.get_flag("global"),
+        workers: number_within(matches, "workers", MOST_WORKERS)?,
+        settings: settings(matches)?,
+    })
 }
 
 /// The words of the `check` command; None where one is out of its range.

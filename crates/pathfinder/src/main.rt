@@ -2,17 +2,25 @@
 #![tactic(auto)]
 
 mod command;
+mod files;
 
 ghost use Rattle.std.specs.Prelude.{◌≤◌};
 
 use clap::error::ErrorKind;
 use clap::{ArgMatches, Error as ClapError};
-use command::{CheckWords, GraphWords};
+use command::{CheckWords, GraphWords, RouteWords};
+use files::{BehindProgress, NewFile};
+use iteration::Outcome;
 use route_check::RouteFault;
 use rr_graph::Mode;
-use runs::{AppFault, InputFile, check_run, graph_run, print_fault, status, verdict_status};
+use runs::{
+    AppFault, InputFile, Progress, check_run, graph_run, outcome_status, print_fault, route_run,
+    status, verdict_status,
+};
+use std::io::IsTerminal;
 use std::process::ExitCode;
 use std::rt::Runtime;
+use std::sync::Wait;
 use std::thread::Threads;
 use std::{env, fs, io};
 use vpr_text::Adapted;
@@ -21,11 +29,13 @@ use vpr_text::Adapted;
 const BAD_WORDS: u8 = 2;
 
 fn main(rt: HostRuntime) -> ExitCode {
-    ExitCode::from(run(&rt))
+    let is_watched = rt.stderr().is_terminal();
+    ExitCode::from(run(&rt, is_watched))
 }
 
-/// Runs the command that the command line names, and answers its exit status.
-fn run(rt: &(impl Runtime + Threads + Sync + AllocGlobal)) -> u8 {
+/// Runs the command that the command line names, and answers its exit status. Where standard error is watched, on a terminal, it
+/// shows how far a negotiation is.
+fn run(rt: &(impl Runtime + Threads + Wait + Sync + AllocGlobal), is_watched: bool) -> u8 {
     let words = match words(rt) {
         Ok(words) => words,
         Err(error) if error.kind() == io::ErrorKind::OutOfMemory => return refused(
@@ -45,9 +55,28 @@ fn run(rt: &(impl Runtime + Threads + Sync + AllocGlobal)) -> u8 {
         Err(error) => return explained(rt, &error),
     };
     match matches.subcommand() {
+        Some(("route", given)) => run_route(rt, given, is_watched),
         Some(("check", given)) => run_check(rt, given),
         Some(("graph", given)) => run_graph(rt, given),
         _ => BAD_WORDS,
+    }
+}
+
+/// Runs `route`, and answers its status.
+fn run_route(
+    rt: &(impl Runtime + Threads + Wait + Sync + AllocGlobal),
+    given: &ArgMatches<'_>,
+    is_watched: bool,
+) -> u8 {
+    let Some(given) = command::route_words(given) else {
+        return BAD_WORDS;
+    };
+    let progress = Progress::new(rt, is_watched);
+    let answer = route(rt, given, &progress);
+    progress.end();
+    match answer {
+        Ok(outcome) => outcome_status(&outcome),
+        Err(fault) => refused(rt, fault),
     }
 }
 
@@ -108,6 +137,37 @@ fn open<R: Runtime>(rt: &R, name: &str, file: InputFile) -> Result<Adapted<R::Fi
         Ok(opened) => Ok(Adapted::new(opened)),
         Err(_) => Err(AppFault::Unread(file)),
     }
+}
+
+/// The `route` command. The inputs are opened, in the order in which they are read, before one is read, and stay open to the end: so
+/// the routing file never gets the descriptor of a standard stream that was closed.
+fn route<R: Runtime + Threads + Wait + Sync + AllocGlobal>(
+    rt: &R,
+    given: RouteWords<'_>,
+    progress: &Progress<'_, R>,
+) -> Result<Outcome, AppFault>
+    requires tracks { (1 ≤ given.width) × (given.width ≤ 256) }
+    requires workers { (1 ≤ given.workers) × (given.workers ≤ 16) }
+{
+    let mut arch = open(rt, given.arch, InputFile::Arch)?;
+    let mut net = open(rt, given.net, InputFile::Net)?;
+    let mut place = open(rt, given.place, InputFile::Place)?;
+    let mut route = Adapted::new(NewFile::new(rt, given.route));
+    let mut out = Adapted::new(BehindProgress::new(io::writer(rt), progress));
+    let (width, mode, settings) = (given.width, mode_of(given.global), given.settings);
+    route_run(
+        rt,
+        &mut net,
+        &mut arch,
+        &mut place,
+        &mut route,
+        &mut out,
+        width,
+        mode,
+        &settings,
+        given.workers,
+        progress,
+    )
 }
 
 /// The `check` command. All files are opened, in the order in which they are read, before one is read.
