@@ -144,7 +144,7 @@ fn leave_source<K: Key>(space: &SearchSpace<'_>, wave: &mut Wave<K>, tree: &Tree
     ensures { IsLeft space.now (pairs_of tree.now) wave.old wave.new }
 {
     if tree.pairs() == 0 {
-        wave.clear(space);
+        wave.begin_anew(space);
     }
 }
 

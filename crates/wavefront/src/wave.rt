@@ -40,7 +40,8 @@ impl<K: Key> Model for Wave<K> {
 }
 
 impl<K: Key> Wave<K> {
-    ghost use Rattle.std.specs.Prelude.{length, ◌==◌, ◌⊎◌, OnOk, IfOk, IsTrue, eqb, not};
+    ghost use Rattle.std.specs.Prelude.{length, replicate, [], ◌==◌, ◌⊎◌, OnOk, IfOk, IsTrue, eqb, not};
+    ghost use Rattle.wavefront.specs.Label.{unreached};
     ghost use Rattle.wavefront.specs.Space.{IsSpace, node_count};
     ghost use Rattle.wavefront.specs.Wave.{IsWave, IsComplete, IsOrigin, StillComplete, IsBound, key_of, label_at};
     ghost use Rattle.wavefront.specs.Steps.{IsPopped, IsLowered, IsPreferred, LeavesOut, MoreOrigins, NoOrigins};
@@ -72,8 +73,29 @@ impl<K: Key> Wave<K> {
         ensures complete { IsComplete space.now self.new }
         ensures origins { NoOrigins self.new }
     {
-        self.labels.clear();
         self.entrances.clear();
+        self.take_off();
+    }
+
+    /// Takes all labels off, and keeps what is known of how nodes are entered.
+    pub(crate) fn begin_anew(&mut self, space: &SearchSpace<'_>)
+        requires { IsWave space.now self.old }
+        ensures wave { IsWave space.now self.new }
+        ensures complete { IsComplete space.now self.new }
+        ensures origins { NoOrigins self.new }
+    {
+        self.take_off();
+    }
+
+    /// Takes all labels off, all entries out and all boxes away.
+    fn take_off(&mut self)
+        ensures labels { self.new.labels ≡ replicate (length self.old.labels) unreached }
+        ensures entrances { self.new.entrances ≡ self.old.entrances }
+        ensures queue { self.new.queue ≡ [] }
+        ensures limit { self.new.limit ≡ FAR }
+        ensures boxes { self.new.boxes ≡ [] }
+    {
+        self.labels.clear();
         self.queue.clear();
         self.limit = FAR;
         self.bounds.clear(0);
