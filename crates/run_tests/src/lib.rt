@@ -10,6 +10,8 @@ mod faults;
 #[cfg(test)]
 mod listings;
 #[cfg(test)]
+mod progress;
+#[cfg(test)]
 mod routes;
 #[cfg(test)]
 mod texts;

@@ -1,6 +1,6 @@
 ghost use Rattle.std.specs.Prelude.{◌≤◌};
 
-use crate::fakes::{ONE_BLOCK, ShortSink, ShortSource};
+use crate::fakes::{CountingSink, ONE_BLOCK, ShortSink, ShortSource};
 use crate::texts::{
     PADS, PADS_PLACED, PADS_ROUTED, THREE, THREE_PLACED, THREE_ROUTED, TWO, TWO_PLACED, TWO_ROUTED,
 };
@@ -395,4 +395,29 @@ fn a_routing_stays_where_its_line_cannot_be_printed(rt: HostRuntime) {
     for room in 0..21 {
         cannot_tell(&rt, room);
     }
+}
+
+/// Routes two nets on two tracks, and says only with what status.
+fn route_pair(
+    rt: &(impl Threads + Wait + Sync + AllocGlobal),
+    route: &mut CountingSink,
+    out: &mut CountingSink,
+) -> Result<u8, AppFault> {
+    status_of(run(rt, PAIR, at(2), route, out))
+}
+
+/// Nothing is written where memory runs out, or a thread can't be started; the same run succeeds when there is memory again.
+#[test]
+fn route_without_memory(rt: HostRuntime) {
+    let mut route = CountingSink { count: 0 };
+    let mut out = CountingSink { count: 0 };
+    let mut answer = route_pair(&rt, &mut route, &mut out);
+    if answer == Err(AppFault::Memory) || answer == Err(AppFault::NoThread) {
+        assert_eq!(rt; route.count, 0);
+        assert_eq!(rt; out.count, 0);
+        answer = route_pair(&rt, &mut route, &mut out);
+    }
+    assert!(rt; answer == Ok(0));
+    assert_eq!(rt; route.count, PAIR_ROUTED.len());
+    assert_eq!(rt; out.count, 21);
 }

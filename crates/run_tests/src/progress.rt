@@ -1,0 +1,82 @@
+//! Tests of the line that tells how far a negotiation is.
+
+use net_workers::Gate;
+use runs::Progress;
+use std::fmt::Display;
+use std::io::{Eprint, Result};
+use std::sync::atomic::{AtomicU32, AtomicU64, Ordering};
+use std::time::{Clock, Duration};
+
+/// Counts what is printed; its clock goes on by 60 milliseconds a look.
+#[derive(Drop)]
+struct Screen {
+    prints: AtomicU32,
+    looks: AtomicU64,
+}
+
+impl Screen {
+    fn new() -> Screen {
+        Screen {
+            prints: AtomicU32::new(0),
+            looks: AtomicU64::new(0),
+        }
+    }
+
+    fn prints(&self) -> u32 {
+        self.prints.load(Ordering::SeqCst)
+    }
+}
+
+impl Eprint for Screen {
+    fn eprint<D: Display + Drop>(&self, _value: D) -> Result<()> {
+        self.prints.fetch_add(1, Ordering::SeqCst);
+        Ok(())
+    }
+
+    fn eprintln<D: Display + Drop>(&self, _value: D) -> Result<()> {
+        self.prints.fetch_add(1, Ordering::SeqCst);
+        Ok(())
+    }
+}
+
+impl Clock for Screen {
+    fn monotonic(&self) -> Result<Duration> {
+        let looks = self.looks.fetch_add(1, Ordering::SeqCst);
+        Ok(Duration::from_millis(looks.saturating_mul(60)))
+    }
+
+    fn since_1970(&self) -> Result<Duration> {
+        Ok(Duration::ZERO)
+    }
+}
+
+#[test]
+fn shows_a_line_at_most_ten_times_a_second(rt: HostRuntime) {
+    let screen = Screen::new();
+    let progress = Progress::new(&screen, true);
+    progress.searched(0, 0);
+    assert_eq!(rt; screen.prints(), 0);
+    progress.searched(0, 1);
+    assert_eq!(rt; screen.prints(), 1);
+    progress.searched(1, 2);
+    assert_eq!(rt; screen.prints(), 1);
+    progress.closed(1, 0, 5);
+    progress.searched(0, 0);
+    assert_eq!(rt; screen.prints(), 2);
+    progress.end();
+    assert_eq!(rt; screen.prints(), 3);
+    progress.end();
+    assert_eq!(rt; screen.prints(), 3);
+}
+
+#[test]
+fn shows_nothing_where_nobody_looks(rt: HostRuntime) {
+    let screen = Screen::new();
+    let progress = Progress::new(&screen, false);
+    progress.searched(0, 0);
+    progress.searched(0, 1);
+    progress.closed(1, 0, 0);
+    progress.searched(0, 0);
+    progress.end();
+    assert_eq!(rt; screen.prints(), 0);
+}
