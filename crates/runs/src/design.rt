@@ -169,7 +169,8 @@ impl<'a> Design<'a> {
     pub(crate) fn problem(&self) -> &Problem
         ensures problem { result.now ≡ self.now.problem }
         ensures design { IsDesign self.now.netlist self.now.placement self.now.problem }
-        ensures numbers { map (λ n. n.number) self.now.problem.nets ≡ routed_numbers self.now.netlist }
+        ensures numbers { map (λ n. n.number) self.now.problem.nets
+            ≡ routed_numbers self.now.netlist }
     {
         &self.problem
     }

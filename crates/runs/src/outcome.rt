@@ -27,7 +27,8 @@ fn put_left<W: ByteSink>(
     iterations: u32,
 )
     ensures { Sends (stream (W.taken sink.old) (W.failed sink.old) out.old)
-        (stream (W.taken sink.new) (W.failed sink.new) out.new) (left_text unrouted overused iterations) }
+        (stream (W.taken sink.new) (W.failed sink.new) out.new)
+        (left_text unrouted overused iterations) }
 {
     out.push(sink, b"not routed: unrouted ");
     put_number(out, sink, unrouted);
