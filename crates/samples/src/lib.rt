@@ -10,5 +10,5 @@ pub use archs::{
 };
 pub use dice::Dice;
 pub use problems::{
-    Part, device_again, net, one_block, problem_again, problem_of, two_nets, two_nets_again,
+    Part, crowd, device_again, net, one_block, problem_again, problem_of, two_nets, two_nets_again,
 };

@@ -77,3 +77,26 @@ pub fn device_again(rt: &impl AllocGlobal, width: u32) -> Result<Device, Fail> {
 pub fn two_nets_again(rt: &impl AllocGlobal) -> Result<Problem, Fail> {
     problem_again(rt, TO_ONE_BLOCK)
 }
+
+/// How many nets `crowd` has.
+const CROWD: u32 = 11;
+
+fn crowd_net(rt: &impl AllocGlobal, number: u32) -> Result<Terminals, Fail> {
+    let first = 33u32.saturating_add(number);
+    let sinks = [
+        first,
+        first.saturating_add(CROWD),
+        first.saturating_add(2 * CROWD),
+    ];
+    net(rt, number, number.saturating_mul(3), &sinks)
+}
+
+/// Eleven nets of three sinks each on nine blocks. The device's first 33 nodes are its sources, and the next 33 its sinks.
+pub fn crowd(rt: &impl AllocGlobal, width: u32) -> Result<Problem, Fail> {
+    let mut nets = Vec::new(rt.alloc());
+    for number in 0..CROWD {
+        nets.push(crowd_net(rt, number)?)?;
+    }
+    let device = Device::new(rt.alloc(), &arch(rt, ONE_BLOCK)?, 3, 3, width)?;
+    Ok(Problem::from_parts(device, nets)?)
+}
