@@ -5,8 +5,8 @@ use net_workers::Gate;
 use node_cost::Settings;
 use route_check::check_routing;
 use route_tree::{Pairs, Routing};
-use rr_graph::{Device, Problem, Terminals};
-use samples::{ONE_BLOCK, arch, device_again, net};
+use rr_graph::{Problem, Terminals};
+use samples::device_again;
 use std::alloc::{AllocError, Global};
 use std::process::Abort;
 use std::sync::Wait;
@@ -45,29 +45,6 @@ pub(crate) fn nets(alloc: Global, parts: &[Part]) -> Result<Vec<Terminals>, Allo
 /// These nets on the device of one block.
 pub(crate) fn problem(rt: &impl AllocGlobal, width: u32, parts: &[Part]) -> Result<Problem, Fail> {
     Ok(Problem::from_parts(device_again(rt, width)?, nets(rt.alloc(), parts)?)?)
-}
-
-/// How many nets `crowd` has.
-const CROWD: u32 = 11;
-
-fn crowd_net(rt: &impl AllocGlobal, number: u32) -> Result<Terminals, Fail> {
-    let first = 33u32.saturating_add(number);
-    let sinks = [
-        first,
-        first.saturating_add(CROWD),
-        first.saturating_add(2 * CROWD),
-    ];
-    net(rt, number, number.saturating_mul(3), &sinks)
-}
-
-/// Eleven nets of three sinks each on nine blocks. The device's first 33 nodes are its sources, and the next 33 its sinks.
-pub(crate) fn crowd(rt: &impl AllocGlobal, width: u32) -> Result<Problem, Fail> {
-    let mut nets = Vec::new(rt.alloc());
-    for number in 0..CROWD {
-        nets.push(crowd_net(rt, number)?)?;
-    }
-    let device = Device::new(rt.alloc(), &arch(rt, ONE_BLOCK)?, 3, 3, width)?;
-    Ok(Problem::from_parts(device, nets)?)
 }
 
 /// The standard settings with this history factor and this limit of iterations.
