@@ -45,3 +45,4 @@ pub mod Designs
 pub mod DesignsRead
 pub mod DevicesMade
 pub mod DesignExamples
+pub mod Divisors

@@ -1,6 +1,6 @@
 -- Which node has a number that a division has taken apart.
 use Rattle.std.proofs.Common.{◌≡◌, ℕ, ◌+◌, ◌-◌, ◌*◌, ◌/◌, ◌%◌, ◌<◌, ◌≤◌, true, false, inl, inr, [], length, map, get_or, Some, None, refl, sym, ap, ◌∙◌, subst, arith}
-use Rattle.std.specs.Prelude.{nat_le, if◌then◌else◌, slice_get}
+use Rattle.std.specs.Prelude.{nat_le, if◌then◌else◌, slice_get, max}
 use Rattle.std.specs.List.{flat_map}
 use Rattle.std.specs.Option.{option_map}
 use Rattle.std.proofs.lemmas.Bool.{cases_Bool, cases_lt}
@@ -17,6 +17,7 @@ use Rattle.rr_graph.specs.Nodes.{numbers_at, node_of, node_at, nodes_of, node_co
 use Rattle.rr_graph.specs.Starts.{kind_length, kind_start, column_start, place_start}
 use Rattle.rr_graph.specs.Numbering.{is_terminal, column_length, columns_length, rows_length, inner_rows_length, block_numbers}
 use Rattle.rr_graph.specs.Tables.{starting_at, wires_before, beginning_of, beginnings_of}
+use Rattle.rr_graph.specs.Strides.{stride_at, column_stride}
 use Rattle.rr_graph.proofs.Lengths.{length_times}
 use Rattle.rr_graph.proofs.Windows.{slice_get-flat_map, slice_get_from_flat_map, slice_get_from_map}
 use Rattle.rr_graph.proofs.Pieces.{node_at_place}
@@ -177,16 +178,20 @@ row_of_beginning f at b e =
           found_above f at p ((at - (f.ny + 1) * before) / step) j t inside.1 (omega (arith, row.0)) stands (omega (arith, row.2)) ∙ ap (λ n. Some (node_of Chanx p ((at - (f.ny + 1) * before) / step) n)) same;
     }
 
-pub row_of_number : (f : Fabric) (at h place before step : ℕ) (b : Beginning) → h ≡ f.ny → slice_get (beginnings_of f f.nx) (at / (h + 1)) ≡ Some b
-    → place ≡ b.place → before ≡ wires_before f f.nx place → step ≡ length (starting_at f f.nx place) → RowFound f at h place before step
-row_of_number f at h place before step b e first p q r =
-    let start = ap (λ m. slice_get (beginnings_of f f.nx) (at / (m + 1))) (sym e) ∙ first in
-    rw (r, q, p, e) (row_of_beginning f at b start)
+-- a count of one at least
+one_at_least : (n : ℕ) → 0 < n → n ≡ max n 1
+one_at_least n some = omega (arith, some)
 
-pub index_above : (f : Fabric) (at h : ℕ) → h ≡ f.ny → at < kind_length f Chanx → at / (h + 1) < wires_before f f.nx (f.nx + 1)
-index_above f at h e l =
-    let some : 0 < h + 1 = omega arith in
-    let within : at < wires_before f f.nx (f.nx + 1) * (h + 1) = omega (arith, l, above_count f, ap (λ n. (n + 1) * wires_before f f.nx (f.nx + 1)) e) in
+pub row_of_number : (f : Fabric) (at h place before : ℕ) (b : Beginning) → h ≡ f.ny → slice_get (beginnings_of f f.nx) (at / (f.ny + 1)) ≡ Some b
+    → place ≡ b.place → before ≡ wires_before f f.nx place → RowFound f at h place before (stride_at f place)
+row_of_number f at h place before b e first p q =
+    let row = row_of_beginning f at b first in
+    rw (q, p, e) (subst (RowFound f at f.ny b.place (wires_before f f.nx b.place)) (one_at_least (length (starting_at f f.nx b.place)) row.some) row)
+
+pub index_above : (f : Fabric) (at : ℕ) → at < kind_length f Chanx → at / (f.ny + 1) < wires_before f f.nx (f.nx + 1)
+index_above f at l =
+    let some : 0 < f.ny + 1 = omega arith in
+    let within : at < wires_before f f.nx (f.nx + 1) * (f.ny + 1) = omega (arith, l, above_count f) in
     (div-lt_iff_lt-mul some).1 within
 
 some_right : (f : Fabric) (at : ℕ) → at < kind_length f Chany → 0 < wires_before f f.ny (f.ny + 1)
@@ -218,8 +223,8 @@ column_of_beginning f at l =
           found_right f at (at / step) b.place begun.index b.track (omega (arith, column)) inside.1 begun.stands (omega (arith, div-add-mod' at step, begun.number));
     }
 
-pub column_of_number : (f : Fabric) (at step : ℕ) → step ≡ wires_before f f.ny (f.ny + 1) → at < kind_length f Chany → ColumnFound f at step
-column_of_number f at step e l = rw e (column_of_beginning f at l)
+pub column_of_number : (f : Fabric) (at : ℕ) → at < kind_length f Chany → ColumnFound f at (column_stride f)
+column_of_number f at l = subst (ColumnFound f at) (one_at_least (wires_before f f.ny (f.ny + 1)) (some_right f at l)) (column_of_beginning f at l)
 
 pub none_past : (f : Fabric) (i : ℕ) → node_count_of f ≤ i → node_at f i ≡ None
 none_past f i l = slice_get_past (nodes_of f) i l

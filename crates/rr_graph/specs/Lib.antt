@@ -13,6 +13,8 @@ pub mod TappingTables
 pub mod PinSuccessors
 pub mod Fields
 pub mod Tables
+pub mod Divisors
+pub mod Strides
 pub mod Numbers
 pub mod Pushes
 pub mod Fanouts

@@ -5,6 +5,7 @@ use Rattle.rr_graph.specs.declared.channel.Channel.{Channel}
 use Rattle.rr_graph.specs.declared.pins.TapCounts.{TapCounts}
 use Rattle.rr_graph.specs.declared.sides.BlockSides.{BlockSides}
 use Rattle.rr_graph.specs.declared.starts.Starts.{Starts}
+use Rattle.rr_graph.specs.declared.strides.Strides.{Strides}
 use Rattle.rr_graph.specs.declared.parts.Kind.TheVariants.{Source, Sink, Opin, Ipin, Chanx, Chany}
 use Rattle.rr_graph.specs.Fabric.{Fabric}
 use Rattle.rr_graph.specs.Pins.{tap_count}
@@ -13,6 +14,7 @@ use Rattle.rr_graph.specs.Starts.{kind_start}
 use Rattle.rr_graph.specs.Numbering.{block_numbers}
 use Rattle.rr_graph.specs.Tables.{IsChannel}
 use Rattle.rr_graph.specs.TappingTables.{IsSides}
+use Rattle.rr_graph.specs.Strides.{AreStrides}
 
 -- the numbers of a block's nodes
 pub record IsBlock (f : Fabric) (b : Block) : Type 0 where
@@ -37,10 +39,11 @@ pub record IsTapCounts (f : Fabric) (t : TapCounts) : Type 0 where
   pub pad : t.pad ≡ tap_count f.architecture.fc_type f.architecture.fc_pad f.width
 
 -- the tables of a device
-pub record IsTabled (f : Fabric) (b : Block) (r c : Channel) (p : BlockSides) (s : Starts) (t : TapCounts) : Type 0 where
+pub record IsTabled (f : Fabric) (b : Block) (r c : Channel) (p : BlockSides) (s : Starts) (t : TapCounts) (d : Strides) : Type 0 where
   pub block : IsBlock f b
   pub rows : IsChannel f f.nx r
   pub columns : IsChannel f f.ny c
   pub sides : IsSides f p
   pub starts : IsStarts f s
   pub counts : IsTapCounts f t
+  pub strides : AreStrides f d

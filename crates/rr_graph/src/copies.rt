@@ -26,6 +26,7 @@ impl Device {
         let sides = layout.sides(alloc)?;
         let starts = layout.starts(&block, &rows, &columns);
         let counts = layout.tap_counts();
+        let strides = layout.strides(alloc, &rows, &columns)?;
         Ok(Device {
             layout,
             block,
@@ -34,6 +35,7 @@ impl Device {
             sides,
             starts,
             counts,
+            strides,
         })
     }
 

@@ -1,6 +1,6 @@
 //! The node of a number, and its kind alone, by arithmetic. What makes a node is inlined: through a call it would pass through memory.
 
-ghost use Rattle.std.specs.Prelude.{◌≡◌, ◌+◌, ◌-◌, ◌*◌, ◌≤◌, ◌<◌, true, false, length, slice_get, Some};
+ghost use Rattle.std.specs.Prelude.{◌≡◌, ◌+◌, ◌-◌, ◌*◌, ◌/◌, ◌%◌, ◌≤◌, ◌<◌, true, false, length, slice_get, Some};
 ghost use Rattle.std.specs.Option.{option_map};
 ghost use Rattle.rr_graph.specs.Numbering.{is_terminal, column_length, columns_length, inner_rows_length, inner_place_length, terminals_length, block_numbers};
 ghost use Rattle.rr_graph.specs.Fabric.{is_between};
@@ -8,10 +8,12 @@ ghost use Rattle.rr_graph.specs.Nodes.{node_at, node_count_of};
 ghost use Rattle.rr_graph.specs.Starts.{kind_length, kind_start, column_start};
 ghost use Rattle.rr_graph.specs.Tables.{wires_before, beginnings_of, IsChannel};
 ghost use Rattle.rr_graph.specs.Numbers.{IsBlock};
+ghost use Rattle.rr_graph.specs.Strides.{stride_at, column_stride};
 
 use crate::block::Block;
 use crate::channel::{Beginning, Channel};
 use crate::device::Device;
+use crate::divisor::Divisor;
 use crate::layout::Layout;
 use crate::parts::{Kind, Node};
 
@@ -224,6 +226,32 @@ impl Device {
             .beginning_at(&self.columns, self.layout.ny(), index)
     }
 
+    /// How many rows of channels go into a number.
+    fn by_rows(&self, at: u32) -> u32
+        ensures { result ≡ at / (self.now.ny + 1) }
+    {
+        self.strides.rows.quotient(at)
+    }
+
+    /// How often what begins at place `x` of a channel above a row goes into a number, and what is left.
+    #[tactic(auto, using(crate::proofs::Ranges::length_below, crate::proofs::Ranges::get_below))]
+    fn by_place(&self, x: u32, rest: u32) -> (u32, u32)
+        requires { x ≤ self.now.nx }
+        ensures quotient { result.0 ≡ rest / stride_at self.now x }
+        ensures rest { result.1 ≡ rest % stride_at self.now x }
+    {
+        let places: &[Divisor] = &self.strides.places;
+        places[x as usize].split(rest)
+    }
+
+    /// How often the wires right of a column go into a number, and what is left.
+    fn by_column(&self, at: u32) -> (u32, u32)
+        ensures quotient { result.0 ≡ at / column_stride self.now }
+        ensures rest { result.1 ≡ at % column_stride self.now }
+    {
+        self.strides.column.split(at)
+    }
+
     /// The wire above a row before which `at` such wires stand.
     #[inline(always)]
     fn above_found(&self, at: u32) -> Node
@@ -231,15 +259,14 @@ impl Device {
         ensures { node_at self.now (kind_start self.now Kind.Chanx + at) ≡ Some result }
     {
         let rows = self.ny() + 1;
-        let x = u32::from(self.beginning_above(at / rows).place);
+        let x = u32::from(self.beginning_above(self.by_rows(at)).place);
         let before = self.above_before(x);
-        let step = self.above_step(x);
-        let rest = at - rows * before;
-        let track = self.beginning_above(before + rest % step).track;
+        let (y, index) = self.by_place(x, at - rows * before);
+        let track = self.beginning_above(before + index).track;
         Node {
             kind: Kind::Chanx,
             x,
-            y: rest / step,
+            y,
             number: u32::from(track),
         }
     }
@@ -250,11 +277,11 @@ impl Device {
         requires { at < kind_length self.now Kind.Chany }
         ensures { node_at self.now (kind_start self.now Kind.Chany + at) ≡ Some result }
     {
-        let step = self.right_step();
-        let wire = self.beginning_right(at % step);
+        let (x, index) = self.by_column(at);
+        let wire = self.beginning_right(index);
         Node {
             kind: Kind::Chany,
-            x: at / step,
+            x,
             y: u32::from(wire.place),
             number: u32::from(wire.track),
         }

@@ -15,6 +15,7 @@ use crate::parts::{Kind, Label, Mode, Node, Span};
 use crate::pins::TapCounts;
 use crate::sides::BlockSides;
 use crate::starts::Starts;
+use crate::strides::Strides;
 use arch_file::Arch;
 use smallvec::SmallVec;
 use std::alloc::{AllocError, Global};
@@ -31,6 +32,7 @@ pub struct Device {
     pub(crate) sides: BlockSides,
     pub(crate) starts: Starts,
     pub(crate) counts: TapCounts,
+    pub(crate) strides: Strides,
 }
 
 impl Model for Device {
@@ -43,7 +45,7 @@ impl Model for Device {
 
     ghost view = { λ d. d.layout };
 
-    ghost invariant = { λ d. IsFabric d.layout × IsTabled d.layout d.block d.rows d.columns d.sides d.starts d.counts };
+    ghost invariant = { λ d. IsFabric d.layout × IsTabled d.layout d.block d.rows d.columns d.sides d.starts d.counts d.strides };
 }
 
 impl Device {
