@@ -46,3 +46,4 @@ pub mod DesignsRead
 pub mod DevicesMade
 pub mod DesignExamples
 pub mod Divisors
+pub mod InputPins

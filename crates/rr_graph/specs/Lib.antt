@@ -25,3 +25,4 @@ pub mod NodeSuccessors
 pub mod Found
 pub mod Same
 pub mod SameLaws
+pub mod InputPins
