@@ -10,6 +10,7 @@ use Rattle.rr_graph.specs.declared.parts.Kind.TheVariants.{Sink, Ipin, Chanx}
 use Rattle.rr_graph.specs.declared.parts.Node.{Node}
 use Rattle.rr_graph.specs.Fabric.{Fabric, IsFabric, numbers_below, is_block, is_pad}
 use Rattle.rr_graph.specs.Nodes.{numbers_at, node_of, nodes_of_kind, node_at, kind_of_node, number_of}
+use Rattle.rr_graph.specs.Edges.{successors_of}
 use Rattle.rr_graph.specs.Numbering.{block_numbers}
 use Rattle.rr_graph.specs.Starts.{kind_start, place_start}
 use Rattle.rr_graph.specs.Terminals.{sink_beside, sink_label}
@@ -40,6 +41,13 @@ few_there f x y j n h = elim (cases_Bool (is_block f x y)) [
 kind_found : (found : Option Node) (k : Kind) → option_map (λ n. n.kind) found ≡ Some k → (a : Node) × (found ≡ Some a) × (a.kind ≡ k)
 kind_found None k e = absurd (none-some k e)
 kind_found (Some a) k e = (a, refl, same_Some a.kind k e)
+
+-- an input pin leads to a sink
+pub pin_leads_on : (f : Fabric) → IsFabric f → (pin : ℕ) → kind_of_node f pin ≡ Some Ipin → (sink : ℕ) × (successors_of f pin ≡ sink ∷ [])
+pin_leads_on f within pin kind =
+    let node = kind_found (node_at f pin) Ipin kind in
+    let lead = leads_to_sink f within pin node.0 node.1 node.2 in
+    (lead.sink, lead.alone)
 
 -- the sink of a pin stands where the pin does
 found_beside : (f : Fabric) (a : Node) (sink : ℕ) (label : Option ℕ) → sink_label f a ≡ label → sink_beside f a ≡ Some sink

@@ -46,7 +46,7 @@ pub enum Label {
 }
 
 /// Nodes whose numbers follow each other: from the first number to the one before the end.
-#[derive(Clone, Copy, Debug, PartialEq, Eq)]
+#[derive(Clone, Copy, Debug, Default, PartialEq, Eq)]
 pub struct NodeRange {
     pub first: u32,
     pub end: u32,
