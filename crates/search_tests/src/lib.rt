@@ -4,7 +4,11 @@
 #[cfg(test)]
 mod comparisons;
 #[cfg(test)]
+mod every_way;
+#[cfg(test)]
 mod great_costs;
+#[cfg(test)]
+mod least_ways;
 #[cfg(test)]
 mod plain;
 #[cfg(test)]

@@ -86,7 +86,7 @@ fn is_inside(bounds: Span, places: Span) -> bool {
     beside && above
 }
 
-fn is_among(nodes: &[u32], node: u32) -> bool {
+pub(crate) fn is_among(nodes: &[u32], node: u32) -> bool {
     for other in nodes {
         if *other == node {
             return true;
@@ -95,7 +95,7 @@ fn is_among(nodes: &[u32], node: u32) -> bool {
     false
 }
 
-fn is_sink(device: &Device, node: u32) -> bool {
+pub(crate) fn is_sink(device: &Device, node: u32) -> bool {
     device.kind(node) == Some(Kind::Sink)
 }
 
@@ -133,7 +133,7 @@ impl Order<'_> {
     }
 
     /// Of each node, whether it is inside the box, and no sink of another net and not the source.
-    fn free_nodes(&self, alloc: Global) -> Result<Vec<bool>, AllocError> {
+    pub(crate) fn free_nodes(&self, alloc: Global) -> Result<Vec<bool>, AllocError> {
         let terminals = bounding_box(self.device, self.source, self.sinks);
         let bounds = widened(terminals, self.bb);
         let mut free = Vec::new(alloc);
@@ -143,7 +143,8 @@ impl Order<'_> {
         Ok(free)
     }
 
-    fn entry_costs(&self, alloc: Global) -> Result<Vec<u128>, AllocError> {
+    /// What it costs to enter each node.
+    pub(crate) fn entry_costs(&self, alloc: Global) -> Result<Vec<u128>, AllocError> {
         let mut costs = Vec::new(alloc);
         for node in 0..self.device.node_count() {
             costs.push(self.entry_cost(node))?;

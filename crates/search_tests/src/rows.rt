@@ -2,9 +2,7 @@
 
 use crate::searches::{Seen, expect_no_path, expect_pairs, find};
 use rr_graph::{Device, Kind, Problem};
-use samples::{
-    LONG_WIRES, ONE_BLOCK, ONE_TRACK, Part, arch, net, node, one_block, problem_again, problem_of,
-};
+use samples::{LONG_WIRES, ONE_BLOCK, ONE_TRACK, Part, arch, net, node, problem_again, problem_of};
 use std::process::Abort;
 use std::test::Fail;
 
@@ -60,10 +58,25 @@ fn expect_lower_numbers(rt: &(impl Abort + AllocGlobal), problem: &Problem) -> R
     expect(rt, problem, 0, 0, &[], BELOW)
 }
 
+/// These nets on the device of one block with one track: in detail, with wires that could be longer, and as a global device, which has
+/// the same nodes and edges there.
+fn on_one_track(rt: &impl AllocGlobal, parts: &[Part]) -> Result<[Problem; 3], Fail> {
+    let long = Device::new(rt.alloc(), &arch(rt, LONG_WIRES)?, 1, 1, 1)?;
+    let global = Device::global(rt.alloc(), &arch(rt, ONE_BLOCK)?, 1, 1, 1)?;
+    Ok([
+        problem_again(rt, parts)?,
+        problem_of(rt, long, parts)?,
+        problem_of(rt, global, parts)?,
+    ])
+}
+
 /// Both wires and both input pins cost the same, and the lower numbers are taken.
 #[test]
 fn takes_lower_numbers_first(rt: HostRuntime) -> Result<(), Fail> {
-    expect_lower_numbers(&rt, &problem_again(&rt, MEETING)?)
+    for problem in &on_one_track(&rt, MEETING)? {
+        expect_lower_numbers(&rt, problem)?;
+    }
+    Ok(())
 }
 
 /// The other net is on the wire that both need, and on the one below.
@@ -73,12 +86,19 @@ fn goes_around_a_net(rt: HostRuntime) -> Result<(), Fail> {
     expect(&rt, &problem, 1, 8, BELOW_SEEN, OTHER)
 }
 
+/// Another net on the wire below, or a history of the pin there, makes the way above the cheaper one; without a factor nets cost nothing.
+fn expect_ways_around(rt: &(impl Abort + AllocGlobal), problem: &Problem) -> Result<(), Fail> {
+    expect(rt, problem, 0, 8, &[(37, 1, 0)], ABOVE)?;
+    expect(rt, problem, 0, 8, &[(31, 0, 20)], ABOVE)?;
+    expect(rt, problem, 0, 0, &[(37, 1, 0)], BELOW)
+}
+
 #[test]
 fn goes_around_one_node(rt: HostRuntime) -> Result<(), Fail> {
-    let problem = problem_again(&rt, MEETING)?;
-    expect(&rt, &problem, 0, 8, &[(37, 1, 0)], ABOVE)?;
-    expect(&rt, &problem, 0, 8, &[(31, 0, 20)], ABOVE)?;
-    expect(&rt, &problem, 0, 0, &[(37, 1, 0)], BELOW)
+    for problem in &on_one_track(&rt, MEETING)? {
+        expect_ways_around(&rt, problem)?;
+    }
+    Ok(())
 }
 
 fn expect_a_track_each(rt: &(impl Abort + AllocGlobal), problem: &Problem) -> Result<(), Fail> {
@@ -194,19 +214,23 @@ fn finds_no_path_between_tracks(rt: HostRuntime) -> Result<(), Fail> {
     Ok(())
 }
 
-/// The pad costs 1584, and the block 16304: it is reached second, from the first path's second wire.
+/// The pad's sink, and then the block's, from the first way's second wire.
+const NEAREST_FIRST: &[(u32, u32)] = &[
+    (0, 18),
+    (18, 39),
+    (39, 37),
+    (37, 40),
+    (40, 36),
+    (36, 17),
+    (37, 31),
+    (31, 13),
+];
+
+/// The pad costs 1584, and the block 16304, though fewer nodes lead to it.
 #[test]
 fn reaches_the_nearest_sink_first(rt: HostRuntime) -> Result<(), Fail> {
-    let problem = problem_of(&rt, one_block(&rt)?, &[(0, 0, &[13, 17])])?;
-    let want = [
-        (0, 18),
-        (18, 39),
-        (39, 37),
-        (37, 40),
-        (40, 36),
-        (36, 17),
-        (37, 31),
-        (31, 13),
-    ];
-    expect(&rt, &problem, 0, 8, &[(13, 0, 1_000)], &want)
+    for problem in &on_one_track(&rt, &[(0, 0, &[13, 17])])? {
+        expect(&rt, problem, 0, 8, &[(13, 0, 1_000)], NEAREST_FIRST)?;
+    }
+    Ok(())
 }

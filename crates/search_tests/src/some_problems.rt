@@ -42,6 +42,28 @@ fn some_device(alloc: Global, dice: &mut Dice, arch: &Arch) -> Result<Device, De
     }
 }
 
+/// The columns and rows of one block or two.
+fn tiny_array(dice: &mut Dice) -> (u32, u32)
+    ensures least { (1 ≤ result.0) × (1 ≤ result.1) }
+    ensures greatest { (result.0 ≤ 100) × (result.1 ≤ 100) }
+{
+    match dice.below(4) {
+        0 => (1, 1),
+        1 => (1, 2),
+        _ => (2, 1),
+    }
+}
+
+/// A device of one block or two and of one track or two.
+fn tiny_device(alloc: Global, dice: &mut Dice, arch: &Arch) -> Result<Device, DeviceFault> {
+    let (nx, ny) = tiny_array(dice);
+    let width = dice.below(2).saturating_add(1);
+    match some_mode(dice) {
+        Mode::Global => Device::global(alloc, arch, nx, ny, width),
+        Mode::Detailed => Device::new(alloc, arch, nx, ny, width),
+    }
+}
+
 /// The nodes of a kind.
 fn nodes_of(alloc: Global, device: &Device, kind: Kind) -> Result<Vec<u32>, AllocError> {
     let mut nodes = Vec::new(alloc);
@@ -96,6 +118,14 @@ fn some_nets(
     Ok(nets)
 }
 
+/// Ten nets on a device.
+fn some_nets_on(rt: &impl AllocGlobal, dice: &mut Dice, device: Device) -> Result<Problem, Fail> {
+    let sources = nodes_of(rt.alloc(), &device, Kind::Source)?;
+    let sinks = nodes_of(rt.alloc(), &device, Kind::Sink)?;
+    let nets = some_nets(rt.alloc(), dice, &sources, &sinks)?;
+    Ok(Problem::from_parts(device, nets)?)
+}
+
 /// Ten nets on a small device.
 pub(crate) fn some_problem(
     rt: &impl AllocGlobal,
@@ -103,8 +133,15 @@ pub(crate) fn some_problem(
     arch: &Arch,
 ) -> Result<Problem, Fail> {
     let device = some_device(rt.alloc(), dice, arch)?;
-    let sources = nodes_of(rt.alloc(), &device, Kind::Source)?;
-    let sinks = nodes_of(rt.alloc(), &device, Kind::Sink)?;
-    let nets = some_nets(rt.alloc(), dice, &sources, &sinks)?;
-    Ok(Problem::from_parts(device, nets)?)
+    some_nets_on(rt, dice, device)
+}
+
+/// Ten nets on a device of one block or two.
+pub(crate) fn tiny_problem(
+    rt: &impl AllocGlobal,
+    dice: &mut Dice,
+    arch: &Arch,
+) -> Result<Problem, Fail> {
+    let device = tiny_device(rt.alloc(), dice, arch)?;
+    some_nets_on(rt, dice, device)
 }

@@ -82,6 +82,14 @@ pub(crate) fn some_present(dice: &mut Dice) -> u32 {
     }
 }
 
+/// A present-congestion factor, of all that there are every other time.
+pub(crate) fn any_present(dice: &mut Dice) -> u32 {
+    match dice.below(2) {
+        0 => some_present(dice),
+        _ => dice.below(GREATEST_PRESENT.saturating_add(1)),
+    }
+}
+
 /// How far a net's box goes beyond its terminals: by one place, by a few, or beyond the device.
 pub(crate) fn some_bb(dice: &mut Dice) -> u32 {
     match dice.below(4) {
