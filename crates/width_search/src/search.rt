@@ -1,0 +1,87 @@
+//! The search of widths, trial by trial.
+
+ghost use Rattle.std.specs.Prelude.{◌≡◌, ℕ, ◌≤◌, List, IfOk};
+ghost use Rattle.net_file.specs.Reads.{ReadsBytes};
+ghost use Rattle.place_file.specs.Placement.{IsPlaced};
+ghost use Rattle.width_search.specs.Reports.{IsWidthReport, Negotiates, problem_at};
+
+use crate::gate::TrialGate;
+use crate::report::WidthReport;
+use crate::trial::next_width;
+use arch_file::Arch;
+use iteration::{Outcome, negotiate};
+use net_file::Netlist;
+use net_workers::WorkFault;
+use node_cost::Settings;
+use place_file::Placement;
+use rr_graph::{Mode, Problem};
+use std::alloc::Global;
+use std::sync::Wait;
+use std::thread::Threads;
+
+/// Negotiates a routing of a placed netlist on a device of this width.
+fn try_width<R: Threads + Wait + Sync, G: TrialGate + Sync>(
+    rt: &R,
+    alloc: Global,
+    arch: &Arch,
+    netlist: &Netlist<'_>,
+    placement: &Placement,
+    settings: &Settings,
+    width: u32,
+    mode: Mode,
+    workers: u32,
+    gate: &G,
+) -> Result<Outcome, WorkFault>
+    requires tracks { (1 ≤ width) × (width ≤ 256) }
+    requires workers { (1 ≤ workers) × (workers ≤ 16) }
+    requires read { (bytes : List ℕ) × ReadsBytes arch.now.pins bytes netlist.now }
+    requires placed { IsPlaced arch.now.io_rat netlist.now.blocks placement.now }
+    ensures { IfOk result (Negotiates (problem_at mode arch.now netlist.now placement.now)
+        settings.now workers width) }
+{
+    gate.tries(width);
+    let problem = Problem::from_design(alloc, arch, netlist, placement, width, mode)?;
+    let outcome = negotiate(rt, alloc, problem, settings, workers, gate)?;
+    gate.tried(width, &outcome);
+    Ok(outcome)
+}
+
+/// Searches for the least channel width at which a netlist, read and placed for this architecture, is routed. The widths from `start`
+/// on double up to 256, until one is routed; from then on the gap between the greatest width that was not routed and the least that
+/// was is halved. Each trial is a negotiation on a new book, on a device of its own. The gate is told of each trial.
+///
+/// The least width found is not the least possible: the search tries some widths alone, and a greater width may fail where a lesser
+/// one does not.
+///
+/// # Errors
+/// `NoThread`, `Memory` and `Astray` as `negotiate` answers them; `Memory` also where a device, a problem or the list of trials found
+/// none. The call waits for the workers.
+pub fn least_width<R: Threads + Wait + Sync, G: TrialGate + Sync>(
+    rt: &R,
+    alloc: Global,
+    arch: &Arch,
+    netlist: &Netlist<'_>,
+    placement: &Placement,
+    settings: &Settings,
+    start: u32,
+    mode: Mode,
+    workers: u32,
+    gate: &G,
+) -> Result<WidthReport, WorkFault>
+    requires start { (1 ≤ start) × (start ≤ 256) }
+    requires workers { (1 ≤ workers) × (workers ≤ 16) }
+    requires read { (bytes : List ℕ) × ReadsBytes arch.now.pins bytes netlist.now }
+    requires placed { IsPlaced arch.now.io_rat netlist.now.blocks placement.now }
+    // The trials are those that the search makes, and the routing is that of the least width that was routed.
+    ensures { IfOk result (IsWidthReport (Negotiates
+        (problem_at mode arch.now netlist.now placement.now) settings.now workers) start) }
+{
+    let mut report = WidthReport::new(alloc);
+    while let Some(width) = next_width(start, report.trials()) {
+        let outcome = try_width(
+            rt, alloc, arch, netlist, placement, settings, width, mode, workers, gate,
+        )?;
+        report.add(width, outcome)?;
+    }
+    Ok(report)
+}
