@@ -4,7 +4,7 @@ ghost use Rattle.std.specs.Prelude.{◌≤◌};
 
 use crate::plain::{Item, Plan};
 use arch_file::Arch;
-use rr_graph::{Device, Kind, Mode, Node};
+use rr_graph::{Device, Kind, Mode, Node, NodeRange};
 use samples::{HALVES, LONGLINES, MANY_SIDES, ONE_BLOCK};
 use smallvec::SmallVec;
 use std::alloc::AllocError;
@@ -113,6 +113,48 @@ fn compare_kinds(rt: &impl Abort, device: &Device, plan: Plan<'_>) {
     compare_kind(rt, device, plan, Kind::Chany);
 }
 
+/// Whether a node's number is one of the range's.
+fn is_within(range: NodeRange, id: u32) -> bool {
+    range.first <= id && id < range.end
+}
+
+/// The input pins beside a sink are those at its place; beside another node it may be any.
+fn compare_pins_beside(
+    rt: &impl Abort,
+    device: &Device,
+    items: &[Item],
+    sink: Node,
+    pins: NodeRange,
+) {
+    let mut id = 0u32;
+    for item in items {
+        let node = item.node;
+        let is_beside = node.kind == Kind::Ipin && node.x == sink.x && node.y == sink.y;
+        check(
+            rt,
+            device,
+            is_within(pins, id) == is_beside,
+            "pin beside",
+            id,
+        );
+        id = id.saturating_add(1);
+    }
+}
+
+/// The input pins are in the range of all of them, and in those of the sinks at their places.
+fn compare_pins(rt: &impl Abort, device: &Device, items: &[Item]) {
+    let mut id = 0u32;
+    for item in items {
+        let is_pin = item.node.kind == Kind::Ipin;
+        let good = is_within(device.input_pins(), id) == is_pin;
+        check(rt, device, good, "input pin", id);
+        if item.node.kind == Kind::Sink {
+            compare_pins_beside(rt, device, items, item.node, device.pins_beside(id));
+        }
+        id = id.saturating_add(1);
+    }
+}
+
 /// The successors of a node are those wanted; of an input pin they are its sink.
 fn compare_list(
     rt: &impl Abort,
@@ -203,6 +245,7 @@ fn compare_device(
     );
     if items.len() < MOST_FOR_PAIRS {
         compare_pairs(rt, device, plan, items);
+        compare_pins(rt, device, items);
     }
     Ok(())
 }

@@ -1,6 +1,6 @@
 //! The devices of one small architecture, by numbers that were worked out by hand.
 
-use rr_graph::{Device, DeviceFault, Kind, Label, Mode, Node, Span};
+use rr_graph::{Device, DeviceFault, Kind, Label, Mode, Node, NodeRange, Span};
 use samples::{CLOCKED, LONG_WIRES, ONE_BLOCK, ONE_TRACK, arch, device_again, node};
 use smallvec::SmallVec;
 use std::process::Abort;
@@ -318,6 +318,18 @@ fn input_pins_lead_to_sinks(rt: HostRuntime) -> Result<(), Fail> {
     assert!(rt; device.sink_of(31) == Some(13) && device.sink_of(32) == Some(13));
     assert!(rt; device.sink_of(33) == Some(14) && device.sink_of(36) == Some(17));
     assert!(rt; device.sink_of(26).is_none() && device.sink_of(37).is_none());
+    Ok(())
+}
+
+/// At each place their numbers follow each other.
+#[test]
+fn input_pins_stand_beside_sinks(rt: HostRuntime) -> Result<(), Fail> {
+    let device = Device::new(rt.alloc(), &arch(&rt, ONE_BLOCK)?, 1, 1, 1)?;
+    assert!(rt; device.input_pins() == NodeRange { first: 27, end: 37 });
+    assert!(rt; device.pins_beside(9) == NodeRange { first: 27, end: 29 });
+    assert!(rt; device.pins_beside(10) == NodeRange { first: 27, end: 29 });
+    assert!(rt; device.pins_beside(13) == device.pins_beside(14));
+    assert!(rt; device.pins_beside(41) == NodeRange { first: 0, end: 0 });
     Ok(())
 }
 

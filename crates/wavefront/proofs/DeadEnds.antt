@@ -1,18 +1,29 @@
 -- Where an input pin leads to no sink that is wanted.
-use Rattle.std.proofs.Common.{◌<◌, ℕ, [], ◌∷◌, Option, Some, None, Bool, true, false, not, IsTrue, inl, inr, sym, ◌∙◌, ◌↔◌, rules, subst, List, length, slice_set, get_or-set_same, get_or-set_other}
+use Rattle.std.proofs.Common.{◌≡◌, ◌<◌, ℕ, [], ◌∷◌, Option, Some, None, Bool, true, false, not, IsTrue, inl, inr, sym, ◌∙◌, ◌↔◌, rules, subst, List, length, slice_set, get_or-set_same, get_or-set_other}
 use Rattle.std.proofs.lemmas.Bool.{cases_eq, false≢true}
 use Rattle.std.proofs.lemmas.List.{length-set}
 use Rattle.wavefront.specs.declared.entrances.Entrance.{Entrance}
+use Rattle.rr_graph.specs.declared.parts.Kind.TheVariants.{Ipin}
+use Rattle.rr_graph.specs.Nodes.{kind_of_node}
+use Rattle.rr_graph.specs.InputPins.{IsPinOf}
+use Rattle.rr_graph.proofs.InputPins.{pin_leads_on}
 use Rattle.wavefront.specs.WaveState.{Wave}
 use Rattle.wavefront.specs.Space.{Space, IsSpace, LeadsOnlyTo, HasEdge, IsInside, IsWanted}
 use Rattle.wavefront.specs.Entrances.{IsClosed, Knows, LeadsNowhere, Tells}
 use Rattle.wavefront.specs.Wave.{WentOn}
+use Rattle.wavefront.proofs.Spaces.{pin_leads}
 
 -- no way leads on from a pin whose sink is not the net's
 pub pin_dead : (space : Space) (v sink : ℕ) → IsSpace space → LeadsOnlyTo space v sink → (IsWanted space sink → ⊥) → LeadsNowhere space v
 pin_dead space v sink ok leads shut b [] target walk = false≢true (sym (ok.ends v sink leads.edge) ∙ ok.are_sinks v (rw walk target))
 pin_dead space v sink ok leads shut b (u ∷ []) target walk = shut (subst (IsWanted space) (sym walk.2 ∙ leads.only u walk.0) target)
 pin_dead space v sink ok leads shut b (u ∷ x ∷ way) target walk = leads.last x (subst (λ y. HasEdge space y x) (leads.only u walk.0) walk.2.0)
+
+-- nor from one at a place of none of the net's sinks
+pub idle_dead : (space : Space) (pin : ℕ) → IsSpace space → kind_of_node space.device pin ≡ Some Ipin → ((sink : ℕ) → IsWanted space sink → IsPinOf space.device sink pin → ⊥) → LeadsNowhere space pin
+idle_dead space pin ok kind shut =
+    let lead = pin_leads_on space.device ok.fabric pin kind in
+    pin_dead space pin lead.0 ok (pin_leads space pin lead.0 lead.1 kind) (λ wanted. shut lead.0 wanted (record { kind = kind; leads = lead.1 }))
 
 -- what a test that failed tests is not so
 pub shut_by : (b : Bool) (P : Type 0) → (IsTrue b ↔ P) → IsTrue (not b) → P → ⊥

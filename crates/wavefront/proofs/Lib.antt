@@ -18,6 +18,7 @@ pub mod Bounded
 pub mod Covering
 pub mod Spaces
 pub mod DeadEnds
+pub mod TargetPins
 pub mod LeastEntry
 -- ways and trees
 pub mod WayNodes

@@ -29,3 +29,10 @@ wanted sinks xs v r answer up same found e = rw (e, ← same) (by_answer r (sear
     by_answer : (r : Result ℕ ℕ) → MatchResult r (λ i. (i < length xs) × (slice_index xs i ≡ v)) (λ i. (i ≤ length xs) × ((k : ℕ) → k < i → slice_index xs k < v) × ((k : ℕ) → i ≤ k → k < length xs → v < slice_index xs k)) → IsTrue (is_ok r) ↔ Contains xs v
     by_answer (Ok i) h = (λ _. (i, h.0, get_or_default xs i v 0 h.0 ∙ h.1), λ _. search rules)
     by_answer (Err i) h = (λ t. absurd (search (rules, t)), λ (k, lt, at). absurd (apart xs v i h k lt (get_or_default xs k 0 v lt ∙ at)))
+
+-- what is above the last of numbers that ascend is none of them
+pub beyond : (xs : List ℕ) (v : ℕ) → IsStrictlyIncreasing xs → slice_index xs (length xs - 1) < v → Contains xs v → ⊥
+beyond xs v up above (i, lt, at) =
+    let last : length xs - 1 < length xs = omega (arith, lt) in
+    let rise = rises xs up i (length xs - 1 - i) (length xs - 1) (omega (arith, lt)) last in
+    omega (arith, rise, above, get_or_default xs i v 0 lt, at)

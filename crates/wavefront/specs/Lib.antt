@@ -12,5 +12,6 @@ pub mod WaveState
 pub mod Wave
 pub mod Steps
 pub mod Growth
+pub mod Targets
 pub mod Fields
 pub mod Scratches

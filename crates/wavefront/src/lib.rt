@@ -13,6 +13,7 @@ mod route;
 mod scratch;
 mod space;
 mod stamped;
+mod targets;
 mod wave;
 
 pub use found::{Found, SearchFault};

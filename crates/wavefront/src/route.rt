@@ -46,7 +46,7 @@ pub fn route_net(
     if view.len() != problem.device().node_count() as usize {
         return Err(SearchFault::ViewSize);
     }
-    let space = SearchSpace::new(problem, net, view, present, bb);
+    let space = SearchSpace::new(alloc, problem, net, view, present, bb)?;
     if let Some(found) = grow_tree(alloc, &space, &mut scratch.narrow)? {
         return Ok(found);
     }

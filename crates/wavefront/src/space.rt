@@ -1,8 +1,9 @@
 //! What a search of one net may enter, and at what cost.
 
-ghost use Rattle.std.specs.Prelude.{◌≡◌, ◌<◌, ◌≤◌, ◌^◌, ◌↔◌, All, IsTrue, IfSome, IfNone, OnOk, ℕ, Contains, length, [], ◌∷◌};
+ghost use Rattle.std.specs.Prelude.{◌≡◌, ◌<◌, ◌≤◌, ◌^◌, ◌↔◌, All, IsTrue, IfOk, IfSome, IfNone, OnOk, ℕ, Contains, length, [], ◌∷◌};
 ghost use Rattle.rr_graph.specs.Nodes.{node_count_of};
 ghost use Rattle.rr_graph.specs.declared.parts.Kind.{Kind};
+ghost use Rattle.std.specs.List.Sorted.{IsStrictlyIncreasing};
 ghost use Rattle.std.specs.Option.{option_map_or};
 ghost use Rattle.wavefront.specs.Boxes.{box_of_node, is_in_box};
 ghost use Rattle.wavefront.specs.Bounds.{AreShort, IsWireAt};
@@ -12,11 +13,12 @@ ghost use Rattle.wavefront.specs.Growth.{space_of};
 ghost use Rattle.wavefront.specs.Entrances.{LeadsNowhere};
 
 use crate::boxes::BoundingBox;
+use crate::targets::TargetPins;
 use arch_file::{Segment, SegmentLength};
 use node_cost::{GREATEST_PRESENT, View, cost};
 use rr_graph::{Kind, Mode, Node, Problem};
 use smallvec::SmallVec;
-use std::alloc::AllocError;
+use std::alloc::{AllocError, Global};
 use std::marker::Model;
 
 /// The nodes of a device as the search of one net sees them. Contracts see the record of what decides on them.
@@ -28,6 +30,7 @@ pub(crate) struct SearchSpace<'a> {
     present: u32,
     bb: u32,
     terminals: BoundingBox,
+    targets: TargetPins,
 }
 
 impl<'a> Model for SearchSpace<'a> {
@@ -75,33 +78,55 @@ fn are_short(segments: &[Segment]) -> bool
     true
 }
 
+/// Whether a number is above all of these, which ascend.
+#[tactic(auto, using(crate::proofs::Wanted::beyond))]
+fn is_above(numbers: &[u32], number: u32) -> bool
+    requires { IsStrictlyIncreasing numbers.now }
+    ensures { IsTrue result → Contains numbers.now number → ⊥ }
+{
+    match numbers.last() {
+        Some(last) => *last < number,
+        None => true,
+    }
+}
+
+/// Whether a number is one of these, which ascend.
+fn is_one_of(numbers: &[u32], number: u32) -> bool
+    requires { IsStrictlyIncreasing numbers.now }
+    ensures { IsTrue result ↔ Contains numbers.now number }
+{
+    numbers.binary_search(&number).is_ok()
+}
+
 impl<'a> SearchSpace<'a> {
     /// What the search of a net sees.
     pub(crate) fn new(
+        alloc: Global,
         problem: &'a Problem,
         net: u32,
         view: &'a View,
         present: u32,
         bb: u32,
-    ) -> SearchSpace<'a>
+    ) -> Result<SearchSpace<'a>, AllocError>
         requires net { net < length problem.now.nets }
         requires view { length view.now ≡ node_count_of problem.now.device }
         requires present { present ≤ GREATEST_PRESENT }
-        ensures space { result ≡ space_of problem.now net view.now present bb }
-        ensures facts { IsSpace result }
+        ensures space { IfOk result (λ s. s ≡ space_of problem.now net view.now present bb) }
+        ensures facts { IfOk result IsSpace }
     {
         let _nodes = problem.device().node_count();
         let _limits = problem.device().nx();
         let _nets = problem.nets();
         let _bounds = view.len();
-        SearchSpace {
+        Ok(SearchSpace {
             problem,
             net,
             view,
             present,
             bb,
             terminals: BoundingBox::of_net(problem, net),
-        }
+            targets: TargetPins::of_net(alloc, problem, net)?,
+        })
     }
 
     /// How many nodes there are.
@@ -125,12 +150,16 @@ impl<'a> SearchSpace<'a> {
         self.problem.sinks(self.net)
     }
 
-    /// Whether the node is one of the net's sinks.
+    /// Whether the node is one of the net's sinks. Wires, which are asked for most, stand behind all sinks.
     pub(crate) fn wants(&self, node: u32) -> bool
         requires { IsSpace self.now }
         ensures { IsTrue result ↔ IsWanted self.now node }
     {
-        self.sinks().binary_search(&node).is_ok()
+        let sinks = self.sinks();
+        if is_above(sinks, node) {
+            return false;
+        }
+        is_one_of(sinks, node)
     }
 
     /// Whether the node is inside the net's box.
@@ -183,6 +212,14 @@ impl<'a> SearchSpace<'a> {
             Some(sink) => !self.wants(sink),
             None => false,
         }
+    }
+
+    /// Whether it is an input pin at a place of none of the net's sinks: it leads to none of them.
+    pub(crate) fn is_idle_pin(&self, node: u32) -> bool
+        requires { IsSpace self.now }
+        ensures { IsTrue result → LeadsNowhere self.now node }
+    {
+        self.targets.rule_out(node)
     }
 
     /// The wire of a number; None for what is no wire.

@@ -381,6 +381,9 @@ impl<K: Key> Wave<K> {
         ensures at { OnOk result (IsInside space.now to → WentOn space.now self.new key to) }
         ensures rows { length self.new.labels ≡ node_count space.now }
     {
+        if space.is_idle_pin(to) {
+            return Ok(());
+        }
         if self.has_less(to, key) {
             return Ok(());
         }

@@ -8,6 +8,9 @@ use Rattle.wavefront.proofs.wave.Wave.offer.Goals as goal
 pub has_less-requires : goal.has_less-requires
 has_less-requires g c = omega (arith, c.requires.wave.rows, c.requires.space.range c.args.from c.args.to c.requires.edge)
 
+pub returns-then-is_idle_pin-clause-at : goal.returns-then-is_idle_pin-clause-at
+returns-then-is_idle_pin-clause-at g c = λ inside. closed_went c.args.space.now c.args.self.now c.args.key c.args.to (inr (c.is_idle_pin.ensures c.if-is_idle_pin.true)) inside
+
 -- a node that costs less needs no other way
 pub returns-then-has_less-clause-at : goal.returns-then-has_less-clause-at
 returns-then-has_less-clause-at g c = λ _. inr (let less = c.has_less.ensures.0 c.if-has_less.true in omega (arith, less))
