@@ -13,8 +13,8 @@ use Rattle.route_file.proofs.Making.{design_made}
 use Rattle.runs.specs.declared.fault.InputFile.TheVariants as file
 use Rattle.runs.specs.declared.fault.AppFault.{AppFault}
 use Rattle.runs.specs.Runs.{DesignFiles, Input, bytes_in, ◌>>=◌}
-use Rattle.runs.specs.Inputs.{PlacedDesign, arch_in, design_in, design_with, netlist_from, netlist_in, placement_in, routing_in}
-use Rattle.runs.specs.Stages.{NetlistText, design_of, text_in}
+use Rattle.runs.specs.Inputs.{PlacedDesign, PlacedNetlist, arch_in, design_in, design_on, netlist_from, netlist_in, placed_in, placed_with, placement_in, routing_in}
+use Rattle.runs.specs.Stages.{NetlistText, design_of, placed_of, text_in}
 use Rattle.runs.specs.CheckRun.{judged_in, judged_on}
 
 -- ---- the first stage
@@ -33,44 +33,62 @@ module _ (arch net : Input) where
   unfolding text_in
   text_read a bytes h k = rw (h, k) refl
 
--- ---- both stages
+-- ---- the first two stages
 
-two_stages : (a : Result Architecture AppFault) (b : Result (List ℕ) AppFault) (rest : Architecture → Netlist → Result PlacedDesign AppFault)
+two_stages : (a : Result Architecture AppFault) (b : Result (List ℕ) AppFault) (rest : Architecture → Netlist → Result PlacedNetlist AppFault)
     → (a >>= λ x. (b >>= netlist_from x) >>= rest x)
     ≡ ((a >>= λ x. b >>= λ bytes. Ok (record { arch = x; bytes = bytes })) >>= λ (t : NetlistText). netlist_from t.arch t.bytes >>= rest t.arch)
 two_stages (Err e) b rest = refl
 two_stages (Ok x) (Err e) rest = refl
 two_stages (Ok x) (Ok bytes) rest = refl
 
-module _ (width : ℕ) (mode : Mode) (files : DesignFiles) where
-  by_stages : design_in width mode files ≡ (text_in files.arch files.net >>= λ t. design_of width mode t files.place)
-  unfolding design_in netlist_in text_in design_of
+module _ (files : DesignFiles) where
+  by_stages : placed_in files ≡ (text_in files.arch files.net >>= λ t. placed_of t files.place)
+  unfolding placed_in netlist_in text_in placed_of
   by_stages =
       two_stages (arch_in files.arch) (bytes_in file.Net files.net)
-      (λ a n. placement_in a n files.place >>= λ p. Ok (design_with width mode a n p))
+      (λ a n. placement_in a n files.place >>= λ p. Ok (placed_with a n p))
 
-  pub text_fails : (e : AppFault) → text_in files.arch files.net ≡ Err e → design_in width mode files ≡ Err e
-  text_fails e h = by_stages ∙ ap (λ given. given >>= λ t. design_of width mode t files.place) h
+  pub placing_fails : (e : AppFault) → text_in files.arch files.net ≡ Err e → placed_in files ≡ Err e
+  placing_fails e h = by_stages ∙ ap (λ given. given >>= λ t. placed_of t files.place) h
 
-  pub text_goes : (t : NetlistText) → text_in files.arch files.net ≡ Ok t → design_in width mode files ≡ design_of width mode t files.place
-  text_goes t h = by_stages ∙ ap (λ given. given >>= λ t. design_of width mode t files.place) h
+  pub placing_goes : (t : NetlistText) → text_in files.arch files.net ≡ Ok t → placed_in files ≡ placed_of t files.place
+  placing_goes t h = by_stages ∙ ap (λ given. given >>= λ t. placed_of t files.place) h
 
--- ---- the second stage
-
-module _ (width : ℕ) (mode : Mode) (t : NetlistText) (place : Input) where
-  pub netlist_fails : (e : AppFault) → netlist_from t.arch t.bytes ≡ Err e → design_of width mode t place ≡ Err e
-  unfolding design_of
+module _ (t : NetlistText) (place : Input) where
+  pub netlist_fails : (e : AppFault) → netlist_from t.arch t.bytes ≡ Err e → placed_of t place ≡ Err e
+  unfolding placed_of
   netlist_fails e h = rw h refl
 
   pub placement_fails : (n : Netlist) (e : AppFault) → netlist_from t.arch t.bytes ≡ Ok n → placement_in t.arch n place ≡ Err e
-      → design_of width mode t place ≡ Err e
-  unfolding design_of
+      → placed_of t place ≡ Err e
+  unfolding placed_of
   placement_fails n e h k = rw (h, k) refl
 
-  pub design_goes : (n : Netlist) (p : Placement) → netlist_from t.arch t.bytes ≡ Ok n → placement_in t.arch n place ≡ Ok p
-      → design_of width mode t place ≡ Ok (design_with width mode t.arch n p)
+  pub placed_read : (n : Netlist) (p : Placement) → netlist_from t.arch t.bytes ≡ Ok n → placement_in t.arch n place ≡ Ok p
+      → placed_of t place ≡ Ok (placed_with t.arch n p)
+  unfolding placed_of
+  placed_read n p h k = rw (h, k) refl
+
+-- ---- on a device
+
+module _ (width : ℕ) (mode : Mode) (files : DesignFiles) where
+  pub text_fails : (e : AppFault) → text_in files.arch files.net ≡ Err e → design_in width mode files ≡ Err e
+  unfolding design_in
+  text_fails e h = rw (placing_fails files e h) refl
+
+  pub text_goes : (t : NetlistText) → text_in files.arch files.net ≡ Ok t → design_in width mode files ≡ design_of width mode t files.place
+  unfolding design_in design_of
+  text_goes t h = rw (placing_goes files t h) refl
+
+module _ (width : ℕ) (mode : Mode) (t : NetlistText) (place : Input) where
+  pub placed_fails : (e : AppFault) → placed_of t place ≡ Err e → design_of width mode t place ≡ Err e
   unfolding design_of
-  design_goes n p h k = rw (h, k) refl
+  placed_fails e h = rw h refl
+
+  pub design_goes : (p : PlacedNetlist) → placed_of t place ≡ Ok p → design_of width mode t place ≡ Ok (design_on width mode p)
+  unfolding design_of
+  design_goes p h = rw h refl
 
 -- ---- the problem of a design
 

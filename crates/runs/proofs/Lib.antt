@@ -3,3 +3,4 @@ pub mod Lines
 pub mod Stages
 pub mod Designs
 pub mod Writing
+pub mod Widths

@@ -8,10 +8,10 @@ use Rattle.net_file.specs.Reading.{netlist_of}
 use Rattle.place_file.specs.Placement.{Placement}
 use Rattle.place_file.specs.Reading.{placement_of}
 use Rattle.rr_graph.specs.declared.parts.Mode.{Mode}
-use Rattle.rr_graph.specs.Designs.{problem_with}
 use Rattle.rr_graph.specs.Problems.{RoutingProblem}
 use Rattle.route_tree.specs.Paths.{Pair}
 use Rattle.route_file.specs.Reading.{routing_of}
+use Rattle.width_search.specs.Reports.{problem_at}
 use Rattle.runs.specs.declared.fault.InputFile.{InputFile}
 use Rattle.runs.specs.declared.fault.InputFile.TheVariants as file
 use Rattle.runs.specs.declared.fault.AppFault.{AppFault}
@@ -48,19 +48,36 @@ routing_in netlist problem input = bytes_in file.Route input >>= routing_from ne
 
 -- ---- what the files of a design say
 
+-- a netlist that is placed for an architecture, before a device of some width is chosen
+pub record PlacedNetlist : Type 0 where
+  pub arch : Architecture
+  pub netlist : Netlist
+  pub placement : Placement
+
+abbrev pub placed_with : Architecture → Netlist → Placement → PlacedNetlist
+placed_with a netlist p = record { arch = a; netlist = netlist; placement = p }
+
+-- its problem on the device of its array, of this mode and width
+abbrev pub placed_problem : Mode → PlacedNetlist → (width : ℕ) → RoutingProblem
+placed_problem mode p = problem_at mode p.arch p.netlist p.placement
+
+-- what the architecture, the netlist and its placement say
+unfoldable pub placed_in : DesignFiles → Result PlacedNetlist AppFault
+placed_in files =
+    arch_in files.arch >>= λ a. netlist_in a files.net >>= λ n. placement_in a n files.place >>= λ p. Ok (placed_with a n p)
+
 -- a placed design, and the problem of routing it on the device of its array
 pub record PlacedDesign : Type 0 where
   pub netlist : Netlist
   pub placement : Placement
   pub problem : RoutingProblem
 
-abbrev pub design_with : (width : ℕ) → Mode → Architecture → Netlist → Placement → PlacedDesign
-design_with width mode a netlist p = record { netlist = netlist; placement = p; problem = problem_with width mode a netlist p }
+abbrev pub design_on : (width : ℕ) → Mode → PlacedNetlist → PlacedDesign
+design_on width mode p = record { netlist = p.netlist; placement = p.placement; problem = placed_problem mode p width }
 
--- what the architecture, the netlist and its placement say, for a device of this width and mode
+-- what these files say, for a device of this width and mode
 unfoldable pub design_in : (width : ℕ) → Mode → DesignFiles → Result PlacedDesign AppFault
-design_in width mode files =
-    arch_in files.arch >>= λ a. netlist_in a files.net >>= λ n. placement_in a n files.place >>= λ p. Ok (design_with width mode a n p)
+design_in width mode files = placed_in files >>= λ p. Ok (design_on width mode p)
 
 -- ---- which file a run ended at
 

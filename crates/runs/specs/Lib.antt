@@ -13,3 +13,4 @@ pub mod Stages
 pub mod Verdict
 pub mod CheckRun
 pub mod RouteRun
+pub mod WidthRun

@@ -6,9 +6,10 @@ ghost use Rattle.runs.specs.Inputs.{ends_before};
 ghost use Rattle.runs.specs.CheckRun.{PrintsVerdict, RunsCheck, judged_in, judged_on};
 ghost use Rattle.runs.specs.Verdict.{verdict_text};
 
-use crate::design::{Design, NetlistText};
+use crate::design::Design;
 use crate::fault::{AppFault, InputFile};
 use crate::inputs::read_routing;
+use crate::netlist_text::NetlistText;
 use crate::verdict::put_verdict;
 use net_file::Netlist;
 use route_check::{RouteFault, check_routing};

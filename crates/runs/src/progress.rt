@@ -1,9 +1,12 @@
-//! A line that tells people how far a negotiation is.
+//! A line that tells people how far a negotiation is, and a line for each width that was tried.
 
+use iteration::Outcome;
 use net_workers::Gate;
+use std::fmt;
 use std::io::Eprint;
 use std::sync::atomic::{AtomicBool, AtomicU32, AtomicU64, Ordering};
 use std::time::{Clock, Duration};
+use width_search::TrialGate;
 
 /// How many milliseconds pass at least before the line is written anew.
 const PAUSE: u64 = 100;
@@ -11,13 +14,66 @@ const PAUSE: u64 = 100;
 /// What clears the line of a terminal, from its beginning on.
 const CLEAR: &str = "\r\x1b[K";
 
-/// A gate that keeps a line on standard error up to date, for people who look at a terminal: the iteration, how many nets had their turn
-/// in it of all, how many nodes were overused after the last close, and the time since it was made. It ends by `end`.
+/// A time, printed in seconds.
+#[derive(Clone, Copy, Debug)]
+struct Seconds {
+    milliseconds: u64,
+}
+
+impl fmt::Display for Seconds {
+    fn fmt<W: fmt::Write>(&self, f: &mut fmt::Formatter<W>) -> fmt::Result {
+        let (seconds, tenths) = (self.milliseconds / 1000, self.milliseconds % 1000 / 100);
+        write!(f, "{seconds}.{tenths} s")
+    }
+}
+
+/// How far a negotiation is.
+#[derive(Clone, Copy, Debug)]
+struct Standing {
+    /// The width that is tried; 0 where there is no search of widths.
+    width: u32,
+    iteration: u32,
+    /// How many nets had their turn in the iteration.
+    turns: u32,
+    /// How many nets there are; 0 before the first close.
+    nets: u32,
+    /// How many nodes were overused after the last close.
+    overused: u32,
+}
+
+impl fmt::Display for Standing {
+    fn fmt<W: fmt::Write>(&self, f: &mut fmt::Formatter<W>) -> fmt::Result {
+        let Standing {
+            width,
+            iteration,
+            turns,
+            nets,
+            overused,
+        } = *self;
+        if width > 0 {
+            write!(f, "width {width}, ")?;
+        }
+        if nets == 0 {
+            write!(f, "iteration {iteration}: {turns} nets")
+        } else {
+            write!(
+                f,
+                "iteration {iteration}: {turns} of {nets} nets, {overused} nodes overused before"
+            )
+        }
+    }
+}
+
+/// A gate that keeps a line on standard error up to date, for people who look at a terminal: the width, where widths are tried, the
+/// iteration, how many nets had their turn in it of all, how many nodes were overused after the last close, and the time since it was
+/// made. The line ends by `end`; behind each trial of a width one stays that tells what it came to.
 #[derive(Drop)]
 pub struct Progress<'a, R> {
     rt: &'a R,
     is_wanted: bool,
     begin: Duration,
+    /// The width that is tried; 0 where there is no search of widths.
+    width: AtomicU32,
     iteration: AtomicU32,
     turns: AtomicU32,
     /// How many nets there are, which the first close tells; 0 before it.
@@ -35,6 +91,7 @@ impl<'a, R: Eprint + Clock> Progress<'a, R> {
             rt,
             is_wanted,
             begin: rt.monotonic().unwrap_or(Duration::ZERO),
+            width: AtomicU32::new(0),
             iteration: AtomicU32::new(1),
             turns: AtomicU32::new(0),
             nets: AtomicU32::new(0),
@@ -56,18 +113,17 @@ impl<'a, R: Eprint + Clock> Progress<'a, R> {
         self.due
             .store(elapsed.saturating_add(PAUSE), Ordering::SeqCst);
         self.is_shown.store(true, Ordering::SeqCst);
-        let iteration = self.iteration.load(Ordering::SeqCst);
-        let turns = self.turns.load(Ordering::SeqCst);
-        let nets = self.nets.load(Ordering::SeqCst);
-        let overused = self.overused.load(Ordering::SeqCst);
-        let (seconds, tenths) = (elapsed / 1000, elapsed % 1000 / 100);
-        let _ = if nets == 0 {
-            eprint!(self.rt; "{CLEAR}iteration {iteration}: {turns} nets, {seconds}.{tenths} s")
-        } else {
-            eprint!(self.rt;
-                "{CLEAR}iteration {iteration}: {turns} of {nets} nets, {overused} nodes overused before, {seconds}.{tenths} s"
-            )
+        let standing = Standing {
+            width: self.width.load(Ordering::SeqCst),
+            iteration: self.iteration.load(Ordering::SeqCst),
+            turns: self.turns.load(Ordering::SeqCst),
+            nets: self.nets.load(Ordering::SeqCst),
+            overused: self.overused.load(Ordering::SeqCst),
         };
+        let time = Seconds {
+            milliseconds: elapsed,
+        };
+        let _ = eprint!(self.rt; "{CLEAR}{standing}, {time}");
     }
 
     /// Takes the line away, where it was written.
@@ -101,5 +157,37 @@ impl<R: Eprint + Clock> Gate for Progress<'_, R> {
         self.iteration
             .store(iteration.saturating_add(1), Ordering::SeqCst);
         self.overused.store(overused, Ordering::SeqCst);
+    }
+}
+
+impl<R: Eprint + Clock> TrialGate for Progress<'_, R> {
+    fn tries(&self, width: u32) {
+        self.width.store(width, Ordering::SeqCst);
+        self.iteration.store(1, Ordering::SeqCst);
+        self.turns.store(0, Ordering::SeqCst);
+        self.nets.store(0, Ordering::SeqCst);
+        self.overused.store(0, Ordering::SeqCst);
+    }
+
+    fn tried(&self, width: u32, outcome: &Outcome) {
+        if !self.is_wanted {
+            return;
+        }
+        self.end();
+        let time = Seconds {
+            milliseconds: self.elapsed(),
+        };
+        let _ = match outcome {
+            Outcome::Success(_, iterations) => {
+                eprintln!(self.rt; "width {width}: routed, iterations {iterations}, {time}")
+            }
+            Outcome::NotRouted {
+                unrouted,
+                overused,
+                iterations,
+            } => eprintln!(self.rt;
+                "width {width}: not routed: unrouted {unrouted}, overused {overused}, iterations {iterations}, {time}"
+            ),
+        };
     }
 }

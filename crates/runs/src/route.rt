@@ -2,44 +2,26 @@
 
 ghost use Rattle.std.specs.Prelude.{◌≡◌, ◌≤◌, true, false, IfErr, IfOk};
 ghost use Rattle.route_check.specs.Routed.{IsRouted};
-ghost use Rattle.route_file.specs.Text.{text_of};
 ghost use Rattle.iteration.specs.Outcomes as negotiation;
 ghost use Rattle.runs.specs.Faults.{ends_free, is_free};
 ghost use Rattle.runs.specs.Runs.{MeetsDesign, PrintsText, TakesNothing, reading, writing};
 ghost use Rattle.runs.specs.Inputs.{design_in, ends_before};
 ghost use Rattle.runs.specs.RouteRun.{RoutesDesign, RoutesProblem, RunsRoute, WritesOutcome, WritesSuccess, outcome_text};
 
-use crate::design::{Design, NetlistText};
+use crate::design::Design;
 use crate::fault::{AppFault, InputFile};
+use crate::netlist_text::NetlistText;
 use crate::outcome::put_outcome;
+use crate::routing::write_routing;
 use iteration::{Outcome, negotiate};
 use net_workers::Gate;
 use node_cost::Settings;
-use route_file::WriteFault;
 use route_tree::Routing;
 use rr_graph::Mode;
 use std::alloc::AllocGlobal;
 use std::sync::Wait;
 use std::thread::Threads;
 use vpr_text::{ByteSink, ByteSource, OutputBuffer};
-
-/// Writes the text of a routing of a design.
-#[tactic(auto, using(route_check::proofs::Fitting::routed_fits))]
-fn write_routing<R: ByteSink>(
-    design: &Design<'_>,
-    routing: &Routing,
-    route: &mut R,
-) -> Result<(), AppFault>
-    requires { IsRouted design.now.problem routing.now }
-    ensures { PrintsText (writing (R.taken route.old) (R.taken route.new) (R.failed route.new))
-        (text_of design.now.netlist design.now.placement design.now.problem routing.now) tt result }
-{
-    let (netlist, placement) = (design.netlist(), design.placement());
-    match route_file::write(netlist, placement, design.problem(), routing, route) {
-        Ok(()) => Ok(()),
-        Err(WriteFault::Failed) => Err(AppFault::Unwritten),
-    }
-}
 
 /// Prints the line of an outcome, and answers the outcome.
 fn print_outcome<W: ByteSink>(outcome: Outcome, out: &mut W) -> Result<Outcome, AppFault>
@@ -67,7 +49,8 @@ fn write_success<R: ByteSink, W: ByteSink>(
         (writing (W.taken out.old) (W.taken out.new) (W.failed out.new))
         design.now routing iterations result }
 {
-    match write_routing(design, &routing, route) {
+    let (netlist, placement) = (design.netlist(), design.placement());
+    match write_routing(netlist, placement, design.problem(), &routing, route) {
         Ok(()) => {}
         Err(fault) => return Err(fault),
     }

@@ -1,7 +1,7 @@
 use Rattle.runs.specs.Runs.{reading}
 use Rattle.runs.proofs.Designs.{arch_fails, bytes_fail, text_read}
 use Rattle.runs.proofs.Stages.{meets_any, meets_so}
-use Rattle.runs.proofs.design.NetlistText.read.Goals as goal
+use Rattle.runs.proofs.netlist_text.NetlistText.read.Goals as goal
 
 pub returns-in-Err-clause-given : goal.returns-in-Err-clause-given
 returns-in-Err-clause-given g c =

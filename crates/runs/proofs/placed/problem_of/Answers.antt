@@ -1,7 +1,7 @@
 use Rattle.std.proofs.Common.{refl, sym, ◌∙◌}
 use Rattle.rr_graph.proofs.DevicesMade.{suits_read}
 use Rattle.runs.proofs.Designs.{design_fits, device_made}
-use Rattle.runs.proofs.design.problem_of.Goals as goal
+use Rattle.runs.proofs.placed.problem_of.Goals as goal
 
 pub prove-unreachable-requires : goal.prove-unreachable-requires
 prove-unreachable-requires c =

@@ -1,0 +1,80 @@
+-- What a run of `width` answers, writes and prints (ours).
+use Rattle.std.specs.Prelude.{◌≡◌, ℕ, Bool, if◌then◌else◌, List, ◌++◌, codes, decimal, Option, None, Some, Result, Err, MatchBool}
+use Rattle.std.specs.List.{flat_map}
+use Rattle.rr_graph.specs.declared.parts.Mode.{Mode}
+use Rattle.node_cost.specs.Options.{RouterOptions}
+use Rattle.route_check.specs.Routed.{IsRouted}
+use Rattle.route_file.specs.Text.{text_of}
+use Rattle.width_search.specs.declared.report.LeastWidth.{LeastWidth}
+use Rattle.width_search.specs.declared.trial.Trial.{Trial}
+use Rattle.width_search.specs.Reports.{IsWidthReport, Negotiates, Report}
+use Rattle.runs.specs.declared.fault.AppFault.{AppFault}
+use Rattle.runs.specs.declared.fault.AppFault.TheVariants.{Unwritten}
+use Rattle.runs.specs.Inputs.{PlacedNetlist, placed_problem}
+use Rattle.runs.specs.Runs.{Ends, PrintsText, TakesAll, TakesFront, TakesNothing, Writing}
+
+-- ---- the lines of a search
+
+abbrev pub trial_end : Bool → List ℕ
+trial_end routed = if routed then codes ": routed\n" else codes ": not routed\n"
+
+-- as `width 12: routed` or `width 6: not routed`
+unfoldable pub trial_line : Trial → List ℕ
+trial_line t = codes "width " ++ (decimal t.width ++ trial_end t.routed)
+
+-- as `least routed width: 9`
+unfoldable pub found_line : (width : ℕ) → List ℕ
+found_line width = codes "least routed width: " ++ (decimal width ++ codes "\n")
+
+abbrev pub least_line : Option LeastWidth → List ℕ
+least_line (Some least) = found_line least.width
+least_line None = codes "no routed width\n"
+
+-- a line for each trial, and one for the least width that was routed
+abbrev pub report_text : Report → List ℕ
+report_text r = flat_map trial_line r.trials ++ least_line r.least
+
+-- the exit status of a search: 0 where a width was routed, 3 where none was
+abbrev pub status_of_least : Option LeastWidth → ℕ
+status_of_least (Some least) = 0
+status_of_least None = 3
+
+abbrev pub status_of_report : Report → ℕ
+status_of_report r = status_of_least r.least
+
+-- ---- what is written
+
+-- The lines are printed to `out`, and then the text is written to `route`; Unwritten is answered where either failed, and where that was
+-- `out`, `route` took nothing.
+abbrev pub WritesFound : {R : Type 0} → (route out : Writing) → (lines text : List ℕ) → R → Result R AppFault → Type 0
+WritesFound route out lines text value result =
+    MatchBool out.failed
+    ((result ≡ Err Unwritten) × TakesFront out lines × TakesNothing route)
+    (TakesAll out lines × PrintsText route text value result)
+
+-- What comes of the least width: its routing's text is written behind the lines; where there is none, `route` took nothing.
+abbrev pub WritesLeast : {R : Type 0} → (route out : Writing) → Mode → PlacedNetlist → (lines : List ℕ) → Option LeastWidth → R → Result R AppFault → Type 0
+WritesLeast route out mode p lines (Some least) value result =
+    WritesFound route out lines (text_of p.netlist p.placement (placed_problem mode p least.width) least.routing) value result
+WritesLeast route out mode p lines None value result = PrintsText out lines value result × TakesNothing route
+
+-- What comes of a report: its lines are printed to `out`, and then the routing of the least width is written to `route`.
+abbrev pub WritesReport : {R : Type 0} → (route out : Writing) → Mode → PlacedNetlist → Report → R → Result R AppFault → Type 0
+WritesReport route out mode p r value result = WritesLeast route out mode p (report_text r) r.least value result
+
+-- the routing of the least width routes the problem on a device of that width
+abbrev pub RoutesLeast : Mode → PlacedNetlist → Option LeastWidth → Type 0
+RoutesLeast mode p (Some least) = IsRouted (placed_problem mode p least.width) least.routing
+RoutesLeast mode p None = Unit {0}
+
+-- Widths are tried for a placed netlist, from a start on: the report is that of the search, and it is written.
+abbrev pub SearchesWidths : RouterOptions → (workers start : ℕ) → Mode → (route out : Writing) → PlacedNetlist → Result Report AppFault → Type 0
+SearchesWidths o workers start mode route out p result =
+    (r : Report)
+    × IsWidthReport (Negotiates (placed_problem mode p) o workers) start r
+    × WritesReport route out mode p r r result
+
+-- A run of `width`, free faults aside: with a fault of its files neither sink takes anything; where they say a placed netlist, widths are
+-- tried for it, and the report is written.
+abbrev pub RunsWidth : RouterOptions → (workers start : ℕ) → Mode → (route out : Writing) → Result PlacedNetlist AppFault → Result Report AppFault → Type 0
+RunsWidth o workers start mode route out = Ends (TakesNothing route × TakesNothing out) (SearchesWidths o workers start mode route out)

@@ -1,0 +1,82 @@
+//! The lines of a search of widths.
+
+ghost use Rattle.std.specs.Prelude.{◌≡◌, option_copied};
+ghost use Rattle.std.specs.List.{flat_map};
+ghost use Rattle.vpr_text.specs.Output.{Sends, stream};
+ghost use Rattle.runs.specs.WidthRun.{found_line, least_line, report_text, status_of_report, trial_end, trial_line};
+
+use route_file::text::put_number;
+use vpr_text::{ByteSink, OutputBuffer};
+use width_search::{LeastWidth, Trial, WidthReport};
+
+/// What a trial came to, behind its width.
+fn trial_end(routed: bool) -> &'static [u8]
+    ensures { result.now ≡ trial_end routed }
+{
+    if routed {
+        b": routed\n"
+    } else {
+        b": not routed\n"
+    }
+}
+
+/// Prints the line of a trial.
+fn put_trial<W: ByteSink>(out: &mut OutputBuffer, sink: &mut W, trial: Trial)
+    ensures { Sends (stream (W.taken sink.old) (W.failed sink.old) out.old)
+        (stream (W.taken sink.new) (W.failed sink.new) out.new) (trial_line trial) }
+{
+    out.push(sink, b"width ");
+    put_number(out, sink, trial.width);
+    out.push(sink, trial_end(trial.routed));
+}
+
+/// Prints the lines of the trials.
+fn put_trials<W: ByteSink>(out: &mut OutputBuffer, sink: &mut W, trials: &[Trial])
+    ensures { Sends (stream (W.taken sink.old) (W.failed sink.old) out.old)
+        (stream (W.taken sink.new) (W.failed sink.new) out.new) (flat_map trial_line trials.now) }
+{
+    for trial in trials {
+        put_trial(out, sink, *trial);
+    }
+}
+
+/// Prints the line of the least width that was routed.
+fn put_found<W: ByteSink>(out: &mut OutputBuffer, sink: &mut W, width: u32)
+    ensures { Sends (stream (W.taken sink.old) (W.failed sink.old) out.old)
+        (stream (W.taken sink.new) (W.failed sink.new) out.new) (found_line width) }
+{
+    out.push(sink, b"least routed width: ");
+    put_number(out, sink, width);
+    out.push(sink, b"\n");
+}
+
+/// Prints the last line, which names the least width that was routed.
+fn put_least<W: ByteSink>(out: &mut OutputBuffer, sink: &mut W, least: Option<&LeastWidth>)
+    ensures { Sends (stream (W.taken sink.old) (W.failed sink.old) out.old)
+        (stream (W.taken sink.new) (W.failed sink.new) out.new)
+        (least_line (option_copied least.entry)) }
+{
+    match least {
+        Some(least) => put_found(out, sink, least.width),
+        None => out.push(sink, b"no routed width\n"),
+    }
+}
+
+/// Prints the lines of a search.
+pub(crate) fn put_report<W: ByteSink>(out: &mut OutputBuffer, sink: &mut W, report: &WidthReport)
+    ensures { Sends (stream (W.taken sink.old) (W.failed sink.old) out.old)
+        (stream (W.taken sink.new) (W.failed sink.new) out.new) (report_text report.now) }
+{
+    put_trials(out, sink, report.trials());
+    put_least(out, sink, report.least());
+}
+
+/// The exit status of a search: 0 where a width was routed, 3 where none was.
+pub fn report_status(report: &WidthReport) -> u8
+    ensures { result ≡ status_of_report report.now }
+{
+    match report.least() {
+        Some(_) => 0,
+        None => 3,
+    }
+}

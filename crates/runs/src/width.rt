@@ -1,0 +1,239 @@
+//! The `width` command over any sources and sinks.
+
+ghost use Rattle.std.specs.Prelude.{◌≡◌, ◌≤◌, true, false, IfErr, IfOk};
+ghost use Rattle.route_check.specs.Routed.{IsRouted};
+ghost use Rattle.route_file.specs.Design.{IsDesign};
+ghost use Rattle.route_file.specs.Text.{text_of};
+ghost use Rattle.width_search.specs.Reports.{IsWidthReport, Negotiates};
+ghost use Rattle.runs.specs.Faults.{ends_free, is_free};
+ghost use Rattle.runs.specs.Inputs.{ends_before, placed_in, placed_problem};
+ghost use Rattle.runs.specs.Runs.{MeetsDesign, PrintsText, TakesNothing, reading, writing};
+ghost use Rattle.runs.specs.WidthRun.{RoutesLeast, RunsWidth, SearchesWidths, WritesFound, WritesReport, report_text};
+
+use crate::fault::{AppFault, InputFile};
+use crate::netlist_text::NetlistText;
+use crate::placed::PlacedNetlist;
+use crate::routing::write_routing;
+use crate::trials::put_report;
+use node_cost::Settings;
+use route_tree::Routing;
+use rr_graph::{Mode, Problem};
+use std::alloc::{AllocGlobal, Global};
+use std::sync::Wait;
+use std::thread::Threads;
+use vpr_text::{ByteSink, ByteSource, OutputBuffer};
+use width_search::{TrialGate, WidthReport, least_width};
+
+/// Prints the lines of a search.
+fn print_report<W: ByteSink>(report: &WidthReport, out: &mut W) -> Result<(), AppFault>
+    ensures { PrintsText (writing (W.taken out.old) (W.taken out.new) (W.failed out.new))
+        (report_text report.now) tt result }
+{
+    let mut buffer = OutputBuffer::new();
+    put_report(&mut buffer, out, report);
+    match buffer.finish(out) {
+        Ok(()) => Ok(()),
+        Err(_) => Err(AppFault::Unwritten),
+    }
+}
+
+/// Prints the lines of a search, and then writes the routing of the least width that was routed.
+fn write_found<R: ByteSink, W: ByteSink>(
+    placed: &PlacedNetlist<'_>,
+    problem: &Problem,
+    routing: &Routing,
+    report: &WidthReport,
+    route: &mut R,
+    out: &mut W,
+) -> Result<(), AppFault>
+    requires design { IsDesign placed.now.netlist placed.now.placement problem.now }
+    requires routed { IsRouted problem.now routing.now }
+    ensures { WritesFound (writing (R.taken route.old) (R.taken route.new) (R.failed route.new))
+        (writing (W.taken out.old) (W.taken out.new) (W.failed out.new)) (report_text report.now)
+        (text_of placed.now.netlist placed.now.placement problem.now routing.now) tt result }
+{
+    match print_report(report, out) {
+        Ok(()) => {}
+        Err(fault) => return Err(fault),
+    }
+    match write_routing(
+        placed.netlist(),
+        placed.placement(),
+        problem,
+        routing,
+        route,
+    ) {
+        Ok(()) => Ok(()),
+        Err(fault) => Err(fault),
+    }
+}
+
+/// Prints the lines of a search, and then writes the routing of the least width, where one was routed. The problem of that width is
+/// made before anything is printed, so that a run that is out of memory has written nothing.
+fn write_report<R: ByteSink, W: ByteSink>(
+    alloc: Global,
+    placed: &PlacedNetlist<'_>,
+    report: &WidthReport,
+    mode: Mode,
+    route: &mut R,
+    out: &mut W,
+) -> Result<(), AppFault>
+    requires { RoutesLeast mode placed.now report.now.least }
+    ensures writes { ends_free result ≡ false
+        → WritesReport (writing (R.taken route.old) (R.taken route.new) (R.failed route.new))
+        (writing (W.taken out.old) (W.taken out.new) (W.failed out.new))
+        mode placed.now report.now tt result }
+    ensures route { ends_free result ≡ true
+        → TakesNothing (writing (R.taken route.old) (R.taken route.new) (R.failed route.new)) }
+    ensures out { ends_free result ≡ true
+        → TakesNothing (writing (W.taken out.old) (W.taken out.new) (W.failed out.new)) }
+    ensures late { ends_before InputFile.Route result ≡ false }
+{
+    match report.least() {
+        Some(least) => {
+            let problem = placed.problem(alloc, least.width, mode)?;
+            match write_found(placed, &problem, &least.routing, report, route, out) {
+                Ok(()) => Ok(()),
+                Err(fault) => Err(fault),
+            }
+        }
+        None => match print_report(report, out) {
+            Ok(()) => Ok(()),
+            Err(fault) => Err(fault),
+        },
+    }
+}
+
+/// Searches for the least width of a placed netlist.
+fn search_widths<T: Threads + Wait + Sync + AllocGlobal, G: TrialGate + Sync>(
+    rt: &T,
+    placed: &PlacedNetlist<'_>,
+    start: u32,
+    mode: Mode,
+    settings: &Settings,
+    workers: u32,
+    gate: &G,
+) -> Result<WidthReport, AppFault>
+    requires start { (1 ≤ start) × (start ≤ 256) }
+    requires workers { (1 ≤ workers) × (workers ≤ 16) }
+    ensures report { IfOk result (IsWidthReport
+        (Negotiates (placed_problem mode placed.now) settings.now workers) start) }
+    ensures free { IfErr result (λ e. is_free e ≡ true) }
+{
+    let report = least_width(
+        rt,
+        rt.alloc(),
+        placed.arch(),
+        placed.netlist(),
+        placed.placement(),
+        settings,
+        start,
+        mode,
+        workers,
+        gate,
+    )?;
+    Ok(report)
+}
+
+/// Searches for the least width of a placed netlist, prints the lines of the search, and writes the routing of that width.
+fn width_placed<
+    T: Threads + Wait + Sync + AllocGlobal,
+    R: ByteSink,
+    W: ByteSink,
+    G: TrialGate + Sync,
+>(
+    rt: &T,
+    placed: &PlacedNetlist<'_>,
+    route: &mut R,
+    out: &mut W,
+    start: u32,
+    mode: Mode,
+    settings: &Settings,
+    workers: u32,
+    gate: &G,
+) -> Result<WidthReport, AppFault>
+    requires start { (1 ≤ start) × (start ≤ 256) }
+    requires workers { (1 ≤ workers) × (workers ≤ 16) }
+    ensures runs { ends_free result ≡ false → SearchesWidths settings.now workers start mode
+        (writing (R.taken route.old) (R.taken route.new) (R.failed route.new))
+        (writing (W.taken out.old) (W.taken out.new) (W.failed out.new)) placed.now result }
+    ensures route { ends_free result ≡ true
+        → TakesNothing (writing (R.taken route.old) (R.taken route.new) (R.failed route.new)) }
+    ensures out { ends_free result ≡ true
+        → TakesNothing (writing (W.taken out.old) (W.taken out.new) (W.failed out.new)) }
+    ensures late { ends_before InputFile.Route result ≡ false }
+{
+    let report = match search_widths(rt, placed, start, mode, settings, workers, gate) {
+        Ok(report) => report,
+        Err(fault) => return Err(fault),
+    };
+    match write_report(rt.alloc(), placed, &report, mode, route, out) {
+        Ok(()) => Ok(report),
+        Err(fault) => Err(fault),
+    }
+}
+
+/// Reads an architecture, a netlist and its placement, in this order and each only where those before it are without fault;
+/// searches for the least channel width from `start` on, on devices of the placement's size; prints a line for each trial, and one for
+/// the least width that was routed; and then writes the routing of that width to `route`, where there is one. The call waits for the
+/// workers.
+///
+/// # Errors
+/// NoThread, Memory and Astray as `least_width` answers them, and Memory wherever it ran out: then neither sink took anything.
+/// These aside, exactly the first fault of the files by the order of reading, and neither sink took anything; else Unwritten
+/// exactly where writing failed: of `out`, which then took a front of the lines, and `route` took nothing; or of `route`,
+/// which took a front of the routing's text.
+pub fn width_run<
+    T: Threads + Wait + Sync + AllocGlobal,
+    N: ByteSource,
+    A: ByteSource,
+    P: ByteSource,
+    R: ByteSink,
+    W: ByteSink,
+    G: TrialGate + Sync,
+>(
+    rt: &T,
+    net: &mut N,
+    arch: &mut A,
+    place: &mut P,
+    route: &mut R,
+    out: &mut W,
+    start: u32,
+    mode: Mode,
+    settings: &Settings,
+    workers: u32,
+    gate: &G,
+) -> Result<WidthReport, AppFault>
+    requires start { (1 ≤ start) × (start ≤ 256) }
+    requires workers { (1 ≤ workers) × (workers ≤ 16) }
+    // What the files say decides; where they say a placed netlist, the widths are those of a search for it, their lines are
+    // printed, and the text of a routing of it at the least width is written.
+    ensures runs { ends_free result ≡ false
+        → MeetsDesign (reading (A.remaining arch.old) (A.failed arch.new))
+        (reading (N.remaining net.old) (N.failed net.new))
+        (reading (P.remaining place.old) (P.failed place.new))
+        (λ files. RunsWidth settings.now workers start mode
+        (writing (R.taken route.old) (R.taken route.new) (R.failed route.new))
+        (writing (W.taken out.old) (W.taken out.new) (W.failed out.new))
+        (placed_in files) result) }
+    // Nothing is written where memory runs out, a thread can't be started or a worker goes astray.
+    ensures route { ends_free result ≡ true
+        → TakesNothing (writing (R.taken route.old) (R.taken route.new) (R.failed route.new)) }
+    ensures out { ends_free result ≡ true
+        → TakesNothing (writing (W.taken out.old) (W.taken out.new) (W.failed out.new)) }
+    // A file is not read where the run ended at one before it.
+    ensures net { ends_before InputFile.Net result ≡ true → net.new ≡ net.old }
+    ensures place { ends_before InputFile.Place result ≡ true → place.new ≡ place.old }
+{
+    let text = match NetlistText::read(rt.alloc(), arch, net) {
+        Ok(text) => text,
+        Err(fault) => return Err(fault),
+    };
+    let placed = match PlacedNetlist::read(rt.alloc(), &text, place) {
+        Ok(placed) => placed,
+        Err(fault) => return Err(fault),
+    };
+    width_placed(
+        rt, &placed, route, out, start, mode, settings, workers, gate,
+    )
+}
