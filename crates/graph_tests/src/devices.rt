@@ -328,7 +328,8 @@ fn input_pins_stand_beside_sinks(rt: HostRuntime) -> Result<(), Fail> {
     assert!(rt; device.input_pins() == NodeRange { first: 27, end: 37 });
     assert!(rt; device.pins_beside(9) == NodeRange { first: 27, end: 29 });
     assert!(rt; device.pins_beside(10) == NodeRange { first: 27, end: 29 });
-    assert!(rt; device.pins_beside(13) == device.pins_beside(14));
+    assert!(rt; device.pins_beside(13) == NodeRange { first: 31, end: 33 });
+    assert!(rt; device.pins_beside(14) == NodeRange { first: 33, end: 35 });
     assert!(rt; device.pins_beside(41) == NodeRange { first: 0, end: 0 });
     Ok(())
 }
