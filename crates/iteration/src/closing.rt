@@ -1,10 +1,11 @@
 //! An iteration, from its first draw to its close.
 
-ghost use Rattle.std.specs.Prelude.{◌≡◌, ◌+◌, ◌<◌, ◌≤◌, length, None, IfOk, OnOk};
+ghost use Rattle.std.specs.Prelude.{◌≡◌, ◌+◌, ◌<◌, ◌≤◌, length, None, IfOk, IfErr, OnOk};
 ghost use Rattle.congestion_book.specs.Turns.{IsFirstWaiting};
 ghost use Rattle.congestion_book.specs.Contents.{net_count};
 ghost use Rattle.congestion_book.specs.Steps.{after_close};
 ghost use Rattle.net_workers.specs.Agreement.{IsFresh};
+ghost use Rattle.net_workers.specs.declared.fault.WorkFault.TheVariants.{Memory};
 ghost use Rattle.iteration.specs.Progress.{IsIteration};
 
 use congestion_book::{Book, CloseFault};
@@ -18,7 +19,8 @@ use std::thread::Threads;
 fn close(alloc: Global, book: &mut Book) -> Result<(), WorkFault>
     requires done { IsFirstWaiting book.old.turns (net_count book.old) None }
     requires few { length book.old.rows < 500 }
-    ensures { OnOk result (book.new ≡ after_close book.old) }
+    ensures closed { OnOk result (book.new ≡ after_close book.old) }
+    ensures memory { IfErr result (λ fault. fault ≡ Memory) }
 {
     match book.close(alloc) {
         Ok(()) => Ok(()),

@@ -1,6 +1,7 @@
 //! A negotiation, iteration by iteration.
 
-ghost use Rattle.std.specs.Prelude.{◌≡◌, ◌<◌, ◌≤◌, false, length, IfOk};
+ghost use Rattle.std.specs.Prelude.{◌≡◌, ◌<◌, ◌≤◌, false, length, IfOk, IfErr};
+ghost use Rattle.net_workers.specs.declared.fault.WorkFault.TheVariants.{Memory};
 ghost use Rattle.iteration.specs.Progress.{Follows, IsReached, beginning, goes_on, unrouted_of, overused_of};
 ghost use Rattle.iteration.specs.Outcomes.{Tells, Ends, IsOutcome};
 
@@ -113,7 +114,8 @@ impl Negotiation {
         problem: &Problem,
     ) -> Result<Outcome, WorkFault>
         requires { problem.now ≡ self.now.book.problem }
-        ensures { IfOk result (Tells self.now.book) }
+        ensures told { IfOk result (Tells self.now.book) }
+        ensures memory { IfErr result (λ fault. fault ≡ Memory) }
     {
         let unrouted = self.book.unrouted();
         let overused = self.book.overused();

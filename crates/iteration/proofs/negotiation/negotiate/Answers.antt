@@ -12,7 +12,7 @@ pub returns : goal.returns
 returns g c =
     let run = c.in_ok-negotiation.ensures in
     let ends : Ends c.args.problem c.args.settings.now c.args.workers c.in_ok-outcome.outcome =
-    record { last = c.in_ok-negotiation.negotiation; reached = run.reached; ended = run.ended; told = c.in_ok-outcome.ensures } in
+    record { last = c.in_ok-negotiation.negotiation; reached = run.reached; ended = run.ended; told = c.in_ok-outcome.ensures.told } in
     record {
       outcome = outcome_of c.args.problem c.args.settings.now c.args.workers c.in_ok-outcome.outcome run.limit ends;
       run = ends;
