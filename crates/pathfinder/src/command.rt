@@ -23,6 +23,14 @@ const EXAMPLE: &str = "Example, in examples/uart:
   pathfinder route uart.net k4n1.arch uart.place new.route --width 6
   pathfinder check uart.net k4n1.arch uart.place new.route --width 6";
 
+/// What the help of `width` ends with, to be tried in `examples/uart`.
+const WIDTH_NOTE: &str =
+    "From the first width on it doubles until one is routed, and then halves the gap between
+the greatest that was not and the least that was. The width found is not the least possible.
+
+Example, in examples/uart:
+  pathfinder width uart.net k4n1.arch uart.place new.route";
+
 fn number<'a>(alloc: Global, name: &'a str, most: u32, help: &'a str) -> Arg<'a> {
     Arg::new(alloc, name)
         .required(true)
@@ -135,6 +143,30 @@ fn route_command<'a>(alloc: Global) -> Result<Command<'a>, AllocError> {
     with_settings(alloc, command)
 }
 
+fn width_command<'a>(alloc: Global) -> Result<Command<'a>, AllocError> {
+    let command = Command::new(alloc, "width")
+        .about("Search for the least channel width of a placed netlist")
+        .after_help(WIDTH_NOTE)
+        .arg(input(alloc, "NET", "The netlist"))?
+        .arg(input(alloc, "ARCH", "The architecture file"))?
+        .arg(input(alloc, "PLACE", "The placement"))?
+        .arg(input(
+            alloc,
+            "ROUTE",
+            "The routing file that is written, of the least width; without one it is left alone",
+        ))?
+        .arg(setting(
+            alloc,
+            "start",
+            1,
+            MOST_TRACKS,
+            "12",
+            "The width that is tried first",
+        ))?
+        .arg(global_flag(alloc))?;
+    with_settings(alloc, command)
+}
+
 fn check_command<'a>(alloc: Global) -> Result<Command<'a>, AllocError> {
     let command = Command::new(alloc, "check")
         .about("Judge a routing of a placed netlist")
@@ -168,6 +200,7 @@ pub fn command<'a>(alloc: Global) -> Result<Command<'a>, AllocError> {
         .subcommand_required(true)
         .arg_required_else_help(true)
         .subcommand(route_command(alloc)?)?
+        .subcommand(width_command(alloc)?)?
         .subcommand(check_command(alloc)?)?
         .subcommand(graph_command(alloc)?)
 }
@@ -180,6 +213,19 @@ pub struct RouteWords<'a> {
     pub place: &'a str,
     pub route: &'a str,
     pub width: u32,
+    pub global: bool,
+    pub workers: u32,
+    pub settings: Settings,
+}
+
+/// What the `width` command was given.
+#[derive(Clone, Copy)]
+pub struct WidthWords<'a> {
+    pub net: &'a str,
+    pub arch: &'a str,
+    pub place: &'a str,
+    pub route: &'a str,
+    pub start: u32,
     pub global: bool,
     pub workers: u32,
     pub settings: Settings,
@@ -240,6 +286,23 @@ pub fn route_words<'a>(matches: &ArgMatches<'a>) -> Option<RouteWords<'a>>
         place: matches.get_str("PLACE")?,
         route: matches.get_str("ROUTE")?,
         width: number_within(matches, "width", MOST_TRACKS)?,
+        global: matches.get_flag("global"),
+        workers: number_within(matches, "workers", MOST_WORKERS)?,
+        settings: settings(matches)?,
+    })
+}
+
+/// The words of the `width` command; None where one is out of its range.
+pub fn width_words<'a>(matches: &ArgMatches<'a>) -> Option<WidthWords<'a>>
+    ensures start { IfSome result (λ w. (1 ≤ w.start) × (w.start ≤ 256)) }
+    ensures workers { IfSome result (λ w. (1 ≤ w.workers) × (w.workers ≤ 16)) }
+{
+    Some(WidthWords {
+        net: matches.get_str("NET")?,
+        arch: matches.get_str("ARCH")?,
+        place: matches.get_str("PLACE")?,
+        route: matches.get_str("ROUTE")?,
+        start: number_within(matches, "start", MOST_TRACKS)?,
         global: matches.get_flag("global"),
         workers: number_within(matches, "workers", MOST_WORKERS)?,
         settings: settings(matches)?,

@@ -8,14 +8,14 @@ ghost use Rattle.std.specs.Prelude.{◌≤◌};
 
 use clap::error::ErrorKind;
 use clap::{ArgMatches, Error as ClapError};
-use command::{CheckWords, GraphWords, RouteWords};
+use command::{CheckWords, GraphWords, RouteWords, WidthWords};
 use files::{BehindProgress, NewFile};
 use iteration::Outcome;
 use route_check::RouteFault;
 use rr_graph::Mode;
 use runs::{
-    AppFault, InputFile, Progress, check_run, graph_run, outcome_status, print_fault, route_run,
-    status, verdict_status,
+    AppFault, InputFile, Progress, check_run, graph_run, outcome_status, print_fault,
+    report_status, route_run, status, verdict_status, width_run,
 };
 use std::io::IsTerminal;
 use std::process::ExitCode;
@@ -24,6 +24,7 @@ use std::sync::Wait;
 use std::thread::Threads;
 use std::{env, fs, io};
 use vpr_text::Adapted;
+use width_search::WidthReport;
 
 /// The status of words that the command line may not have.
 const BAD_WORDS: u8 = 2;
@@ -56,6 +57,7 @@ fn run(rt: &(impl Runtime + Threads + Wait + Sync + AllocGlobal), is_watched: bo
     };
     match matches.subcommand() {
         Some(("route", given)) => run_route(rt, given, is_watched),
+        Some(("width", given)) => run_width(rt, given, is_watched),
         Some(("check", given)) => run_check(rt, given),
         Some(("graph", given)) => run_graph(rt, given),
         _ => BAD_WORDS,
@@ -76,6 +78,24 @@ fn run_route(
     progress.end();
     match answer {
         Ok(outcome) => outcome_status(&outcome),
+        Err(fault) => refused(rt, fault),
+    }
+}
+
+/// Runs `width`, and answers its status.
+fn run_width(
+    rt: &(impl Runtime + Threads + Wait + Sync + AllocGlobal),
+    given: &ArgMatches<'_>,
+    is_watched: bool,
+) -> u8 {
+    let Some(given) = command::width_words(given) else {
+        return BAD_WORDS;
+    };
+    let progress = Progress::new(rt, is_watched);
+    let answer = width(rt, given, &progress);
+    progress.end();
+    match answer {
+        Ok(report) => report_status(&report),
         Err(fault) => refused(rt, fault),
     }
 }
@@ -163,6 +183,36 @@ fn route<R: Runtime + Threads + Wait + Sync + AllocGlobal>(
         &mut route,
         &mut out,
         width,
+        mode,
+        &settings,
+        given.workers,
+        progress,
+    )
+}
+
+/// The `width` command, which opens its files as `route` does.
+fn width<R: Runtime + Threads + Wait + Sync + AllocGlobal>(
+    rt: &R,
+    given: WidthWords<'_>,
+    progress: &Progress<'_, R>,
+) -> Result<WidthReport, AppFault>
+    requires start { (1 ≤ given.start) × (given.start ≤ 256) }
+    requires workers { (1 ≤ given.workers) × (given.workers ≤ 16) }
+{
+    let mut arch = open(rt, given.arch, InputFile::Arch)?;
+    let mut net = open(rt, given.net, InputFile::Net)?;
+    let mut place = open(rt, given.place, InputFile::Place)?;
+    let mut route = Adapted::new(NewFile::new(rt, given.route));
+    let mut out = Adapted::new(BehindProgress::new(io::writer(rt), progress));
+    let (start, mode, settings) = (given.start, mode_of(given.global), given.settings);
+    width_run(
+        rt,
+        &mut net,
+        &mut arch,
+        &mut place,
+        &mut route,
+        &mut out,
+        start,
         mode,
         &settings,
         given.workers,
