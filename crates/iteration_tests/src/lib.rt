@@ -6,8 +6,8 @@ mod fixtures;
 #[cfg(test)]
 mod gates;
 #[cfg(test)]
-mod memory;
-#[cfg(test)]
 mod negotiations;
+#[cfg(test)]
+mod refusals;
 #[cfg(test)]
 mod workers;

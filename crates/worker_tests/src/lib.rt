@@ -10,9 +10,9 @@ mod fixtures;
 #[cfg(test)]
 mod gates;
 #[cfg(test)]
-mod memory;
-#[cfg(test)]
 mod recount;
+#[cfg(test)]
+mod refusals;
 #[cfg(test)]
 mod rows;
 #[cfg(test)]

@@ -1,4 +1,4 @@
-//! Negotiations whose memory is refused: they answer so, and then succeed.
+//! Negotiations to which memory or a thread is refused: they answer so, and then succeed.
 
 use crate::fixtures::{APART, nets, success};
 use iteration::{Outcome, negotiate};
@@ -30,25 +30,27 @@ fn negotiate_once<R: Abort + AllocGlobal + Threads + Wait + Sync>(
     Ok(negotiate(rt, rt.alloc(), problem, &settings, workers, &OpenGate))
 }
 
-/// Negotiates, again where memory or a thread was refused.
+/// Negotiates, again where this was refused, or what is answered before it.
 fn negotiate_again<R: Abort + AllocGlobal + Threads + Wait + Sync>(
     rt: &R,
     workers: u32,
+    refused: WorkFault,
 ) -> Result<Outcome, Fail> {
     match negotiate_once(rt, workers)? {
         Ok(outcome) => Ok(outcome),
         Err(fault) => {
-            assert!(rt; fault < WorkFault::Astray);
+            assert!(rt; fault <= refused, "{fault:?}");
             Ok(negotiate_once(rt, workers)??)
         }
     }
 }
 
-fn negotiate_without_memory<R: Abort + AllocGlobal + Threads + Wait + Sync>(
+fn expect_routed_in_the_end<R: Abort + AllocGlobal + Threads + Wait + Sync>(
     rt: &R,
     workers: u32,
+    refused: WorkFault,
 ) -> Result<(), Fail> {
-    let outcome = negotiate_again(rt, workers)?;
+    let outcome = negotiate_again(rt, workers, refused)?;
     if let Some((routing, iterations)) = success(rt, outcome) {
         assert!(rt; routing.lists.len() == 2 && iterations == 1);
     }
@@ -57,10 +59,20 @@ fn negotiate_without_memory<R: Abort + AllocGlobal + Threads + Wait + Sync>(
 
 #[test]
 fn one_worker_without_memory(rt: HostRuntime) -> Result<(), Fail> {
-    negotiate_without_memory(&rt, 1)
+    expect_routed_in_the_end(&rt, 1, WorkFault::Memory)
 }
 
 #[test]
 fn two_workers_without_memory(rt: HostRuntime) -> Result<(), Fail> {
-    negotiate_without_memory(&rt, 2)
+    expect_routed_in_the_end(&rt, 2, WorkFault::Memory)
+}
+
+#[test]
+fn one_worker_without_threads(rt: HostRuntime) -> Result<(), Fail> {
+    expect_routed_in_the_end(&rt, 1, WorkFault::NoThread)
+}
+
+#[test]
+fn four_workers_without_threads(rt: HostRuntime) -> Result<(), Fail> {
+    expect_routed_in_the_end(&rt, 4, WorkFault::NoThread)
 }

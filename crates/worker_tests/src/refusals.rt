@@ -1,4 +1,4 @@
-//! Iterations whose memory is refused: they answer so, and one on a new book then succeeds.
+//! Iterations to which memory or a thread is refused: they answer so, and one on a new book then succeeds.
 
 use crate::fixtures::{THREE, answered, book, iterate_under};
 use crate::recount::expect_agreement;
@@ -8,10 +8,11 @@ use std::sync::Wait;
 use std::test::Fail;
 use std::thread::Threads;
 
-/// Iterates, again on a new book where memory or a thread was refused.
+/// Iterates, again on a new book where this was refused, or what is answered before it.
 fn iterate_again<R: Abort + AllocGlobal + Threads + Wait + Sync>(
     rt: &R,
     workers: u32,
+    refused: WorkFault,
 ) -> Result<(), Fail> {
     match answered(rt, book(rt, 2, THREE)?, 1, workers, &OpenGate) {
         Ok((book, reports)) => {
@@ -19,7 +20,7 @@ fn iterate_again<R: Abort + AllocGlobal + Threads + Wait + Sync>(
             Ok(())
         }
         Err(fault) => {
-            assert!(rt; fault < WorkFault::Astray, "{fault:?}");
+            assert!(rt; fault <= refused, "{fault:?}");
             iterate_under(rt, workers, &OpenGate)
         }
     }
@@ -27,10 +28,20 @@ fn iterate_again<R: Abort + AllocGlobal + Threads + Wait + Sync>(
 
 #[test]
 fn one_worker_without_memory(rt: HostRuntime) -> Result<(), Fail> {
-    iterate_again(&rt, 1)
+    iterate_again(&rt, 1, WorkFault::Memory)
 }
 
 #[test]
 fn three_workers_without_memory(rt: HostRuntime) -> Result<(), Fail> {
-    iterate_again(&rt, 3)
+    iterate_again(&rt, 3, WorkFault::Memory)
+}
+
+#[test]
+fn one_worker_without_threads(rt: HostRuntime) -> Result<(), Fail> {
+    iterate_again(&rt, 1, WorkFault::NoThread)
+}
+
+#[test]
+fn sixteen_workers_without_threads(rt: HostRuntime) -> Result<(), Fail> {
+    iterate_again(&rt, 16, WorkFault::NoThread)
 }
