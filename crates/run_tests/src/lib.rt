@@ -4,6 +4,8 @@
 #[cfg(test)]
 mod checks;
 #[cfg(test)]
+mod designs;
+#[cfg(test)]
 mod fakes;
 #[cfg(test)]
 mod faults;
@@ -15,3 +17,5 @@ mod progress;
 mod routes;
 #[cfg(test)]
 mod texts;
+#[cfg(test)]
+mod widths;

@@ -1,9 +1,8 @@
 ghost use Rattle.std.specs.Prelude.{◌≤◌};
 
+use crate::designs::{ALONE, APART, BELOW, CHAIN, PAIR, PAIR_ROUTED, SPARSE, Texts};
 use crate::fakes::{CountingSink, ONE_BLOCK, ShortSink, ShortSource};
-use crate::texts::{
-    PADS, PADS_PLACED, PADS_ROUTED, THREE, THREE_PLACED, THREE_ROUTED, TWO, TWO_PLACED, TWO_ROUTED,
-};
+use crate::texts::{PADS_ROUTED, THREE_ROUTED, TWO, TWO_ROUTED};
 use arch_file::ArchFault;
 use iteration::Outcome;
 use net_file::NetFault;
@@ -17,41 +16,6 @@ use std::sync::Wait;
 use std::test::Fail;
 use std::thread::Threads;
 use vpr_text::{Adapted, ByteSink};
-
-/// The texts of a placed design.
-#[derive(Clone, Copy)]
-struct Texts<'a> {
-    net: &'a [u8],
-    arch: &'a [u8],
-    place: &'a [u8],
-}
-
-const SPARSE: Texts<'static> = Texts {
-    net: b"",
-    arch: ONE_BLOCK,
-    place: b"Netlist file: t.net  Architecture file: a.arch\nArray size: 1 x 1 logic blocks\n",
-};
-
-/// A pad and the logic block that it drives.
-const ALONE: Texts<'static> = Texts {
-    net: TWO,
-    arch: ONE_BLOCK,
-    place: TWO_PLACED,
-};
-
-/// A pad, the logic block that it drives, and the pad that this drives.
-const CHAIN: Texts<'static> = Texts {
-    net: THREE,
-    arch: ONE_BLOCK,
-    place: THREE_PLACED,
-};
-
-/// Two pads at one place that drive one logic block.
-const PAIR: Texts<'static> = Texts {
-    net: PADS,
-    arch: ONE_BLOCK,
-    place: PADS_PLACED,
-};
 
 /// How a design is routed.
 #[derive(Clone, Copy)]
@@ -170,10 +134,6 @@ fn writes_nothing_where_a_wire_stays_overused(rt: HostRuntime) -> Result<(), Fai
     )
 }
 
-/// Two tracks have room for both nets.
-const PAIR_ROUTED: &[u8] =
-    b"Array size: 1 x 1 logic blocks.\n\nRouting:\n\nNet 0 (a)\n\nSOURCE (0,1)  Pad: 0\n  OPIN (0,1)  Pad: 0\n CHANY (0,1)  Track: 0\n CHANX (1,0)  Track: 0\n  IPIN (1,1)  Pin: 0\n  SINK (1,1)  Class: 0\n\nNet 1 (b)\n\nSOURCE (0,1)  Pad: 1\n  OPIN (0,1)  Pad: 1\n CHANY (0,1)  Track: 1\n CHANX (1,1)  Track: 1\n  IPIN (1,1)  Pin: 1\n  SINK (1,1)  Class: 0\n";
-
 #[test]
 fn routes_two_nets_on_two_tracks(rt: HostRuntime) -> Result<(), Fail> {
     comes_to(&rt, PAIR, at(2), 0, b"routed, iterations 1\n", PAIR_ROUTED)
@@ -187,13 +147,6 @@ fn routes_two_nets_over_one_global_node(rt: HostRuntime) -> Result<(), Fail> {
     };
     comes_to(&rt, PAIR, how, 0, b"routed, iterations 1\n", PADS_ROUTED)
 }
-
-/// Both pads below the block.
-const BELOW: Texts<'static> = Texts {
-    net: PADS,
-    arch: ONE_BLOCK,
-    place: b"Netlist file: t.net  Architecture file: a.arch\nArray size: 1 x 1 logic blocks\na 1 0 0\nb 1 0 1\nc 1 1 0\n",
-};
 
 /// Net 0 goes round the block, since its nearer input pin grew dear.
 const BELOW_ROUTED: &[u8] =
@@ -215,13 +168,6 @@ fn leaves_an_input_pin_that_grew_dear(rt: HostRuntime) -> Result<(), Fail> {
     };
     comes_to(&rt, BELOW, how, 0, b"routed, iterations 5\n", BELOW_ROUTED)
 }
-
-/// Pins tap one track of two, and the output pad taps the other.
-const APART: Texts<'static> = Texts {
-    net: THREE,
-    arch: b"io_rat 2\nchan_width_io 1\nchan_width_x uniform 1\nchan_width_y uniform 1\ninpin class: 0 bottom\ninpin class: 0 top\noutpin class: 1 right\nsubblocks_per_clb 1\nsubblock_lut_size 2\nswitch_block_type subset\nFc_type absolute\nFc_output 1\nFc_input 1\nFc_pad 1\nsegment frequency: 1 length: 1 wire_switch: 0 opin_switch: 0 Frac_cb: 1. Frac_sb: 1. Rmetal: 0 Cmetal: 81e-15\nswitch 0 buffered: yes R: 0 Cin: 0 Cout: 0 Tdel: 0\n",
-    place: b"Netlist file: t.net  Architecture file: a.arch\nArray size: 1 x 1 logic blocks\na 0 1 0\nc 1 1 0\nout:y 2 1 1\n",
-};
 
 #[test]
 fn ends_where_a_net_finds_no_path(rt: HostRuntime) -> Result<(), Fail> {
