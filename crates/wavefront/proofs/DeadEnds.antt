@@ -33,7 +33,7 @@ shut_by false P same fails h = let wrong = same.1 h in absurd (search (rules, wr
 -- at a closed node the wave has nothing to do
 pub closed_went : (space : Space) (w : Wave) (key v : ℕ) → IsClosed space v → IsInside space v → WentOn space w key v
 closed_went space w key v (inl outside) inside = absurd (outside inside)
-closed_went space w key v (inr nowhere) inside = inl (λ b way target walk. absurd (nowhere b way target.0 walk))
+closed_went space w key v (inr nowhere) inside = inl (λ b way target walk. nowhere b way target.0 walk)
 
 -- what is known of nodes, and of one more
 pub known_more : (space : Space) (known : List (Option Entrance)) (node : ℕ) (entrance : Entrance) → Knows space known → node < length known → Tells space node entrance → Knows space (slice_set known node (Some entrance))

@@ -1,5 +1,5 @@
 -- What the taking of the least entry says of every way.
-use Rattle.std.proofs.Common.{◌≡◌, ℕ, ◌+◌, ◌<◌, ◌≤◌, List, [], ◌∷◌, length, Contains, slice_index_or, ◌⊎◌, inl, inr, refl, sym, ap, ◌∙◌, arith, sum_by, min}
+use Rattle.std.proofs.Common.{◌≡◌, ℕ, ◌+◌, ◌<◌, ◌≤◌, List, [], ◌∷◌, length, Contains, slice_index_or, ◌⊎◌, inl, inr, sym, ap, ◌∙◌, arith, sum_by, min}
 use Rattle.std.proofs.lemmas.List.Sorted.{Contains-permutation, IsPermutation-sym, length_permutation}
 use Rattle.std.proofs.lemmas.List.{get_or_past}
 use Rattle.std.proofs.lemmas.Bool.{cases_lt}
@@ -12,7 +12,7 @@ use Rattle.wavefront.specs.Ways.{IsWay, way_cost}
 use Rattle.wavefront.specs.Wave.{IsWave, IsComplete, IsCompleteBut, IsDone, IsEntered, IsSettled, IsOpen, WentOn, key_of, label_at, work_of, parent_of}
 use Rattle.wavefront.specs.Steps.{IsPopped, IsLeastKey, IsNearest, IsTaken, SameOrigins}
 use Rattle.wavefront.proofs.Lists.{contains_first, contains_later, contains_cases}
-use Rattle.wavefront.proofs.Lower.{same_origin, still_open, still_serves}
+use Rattle.wavefront.proofs.Lower.{same_origin, still_dead, still_open, still_serves}
 use Rattle.wavefront.proofs.WayNodes.{way_cost_more}
 
 pub reached_in : (w : Wave) (v : ℕ) → key_of w v < FAR → v < length w.labels
@@ -57,7 +57,7 @@ module _ (s t : Wave) (x : Entry) (p : IsPopped s t x) where
       }
 
   popped_went : (space : Space) (key more b : ℕ) → key ≤ more → WentOn space s key b → WentOn space t more b
-  popped_went space key more b up (inl vain) = inl (λ c way target walk. let k = ap (λ l. l.key) (same_labels c) in let above = vain c way (still_open space s t c (λ v. (popped_origins v).1) target) walk in omega (arith, k, above, up))
+  popped_went space key more b up (inl dead) = inl (still_dead space s t b (λ c. (popped_origins c).1) dead)
   popped_went space key more b up (inr went) = inr (let k = ap (λ l. l.key) (same_labels b) in let limit = p.limit in omega (arith, k, limit, went, up))
 
   popped_settled : (space : Space) (v : ℕ) → IsSettled space s v → IsSettled space t v
@@ -124,13 +124,6 @@ bound_at space w within complete v k b way above target walk = elim (cases_lt (k
   ]
 ]
 
--- an open sink's label is no less than some entry's key
-open_bound : (space : Space) (w : Wave) → w.limit ≤ FAR → IsComplete space w → (b k : ℕ) → IsOpen space w b → key_of w b ≤ k → HasEntryBelow w k
-open_bound space w within complete b k target above = elim (bound_at space w within complete b k b [] above target refl) [
-  | inl bound ↦ below_up w _ _ (omega arith) bound
-  | inr settled ↦ absurd (settled.taken target)
-]
-
 -- a way to an open sink costs no less than some entry's key
 way_bound : (space : Space) (w : Wave) → w.limit ≤ FAR → IsComplete space w → (way : List ℕ) (v b k : ℕ) → IsWay space v way b → IsOpen space w b → key_of w v ≤ k → HasEntryBelow w (k + way_cost space way)
 way_bound space w within complete [] v b k e target above = elim (bound_at space w within complete v k b [] above target e) [
@@ -140,10 +133,7 @@ way_bound space w within complete [] v b k e target above = elim (bound_at space
 way_bound space w within complete (u ∷ us) v b k (edge, inside, rest) target above = elim (bound_at space w within complete v k b (u ∷ us) above target (edge, inside, rest)) [
   | inl bound ↦ bound
   | inr settled ↦ elim (settled.relaxed u edge inside) [
-    | inl vain ↦
-        let sum = way_cost_more space u us in
-        let beyond = vain b us target rest in
-        open_bound space w within complete b _ target (omega (arith, beyond, above, sum))
+    | inl dead ↦ absurd (dead b us target rest)
     | inr step ↦
         let sum = way_cost_more space u us in
         elim (cases_lt (k + entry_cost space u) (key_of w u)) [

@@ -11,7 +11,7 @@ use Rattle.wavefront.specs.declared.queue.Entry.{Entry}
 use Rattle.wavefront.specs.WaveState.{Wave}
 use Rattle.wavefront.specs.Label.{unreached}
 use Rattle.wavefront.specs.Space.{Space, HasEdge, IsInside, entry_cost, node_count}
-use Rattle.wavefront.specs.Wave.{IsWave, IsComplete, IsCompleteBut, IsOrigin, IsOpen, IsEntered, IsSettled, IsDone, IsWaiting, ReachesAll, WentOn, StillComplete, Serves, key_of, parent_of, label_at, work_of}
+use Rattle.wavefront.specs.Wave.{IsWave, IsComplete, IsCompleteBut, IsOrigin, IsOpen, IsEntered, IsSettled, IsDone, IsWaiting, IsDead, WentOn, StillComplete, Serves, key_of, parent_of, label_at, work_of}
 use Rattle.wavefront.specs.Steps.{IsLowered, Lowers, Spreads, SameOrigins, MoreOrigins, WentAlong}
 use Rattle.wavefront.proofs.Lists.{contains_first, contains_later, contains_cases}
 
@@ -124,12 +124,16 @@ module _ (space : Space) where
         ];
       }
 
+  -- what leads nowhere leads nowhere while origins stay
+  pub still_dead : (s t : Wave) (b : ℕ) → ((v : ℕ) → IsOrigin s v → IsOrigin t v) → IsDead space s b → IsDead space t b
+  still_dead s t b starts dead c way target walk = dead c way (target.0, λ o. target.1 (starts c o)) walk
+
   pub went_lower : (s t : Wave) (key b : ℕ) → Lowers space s t → WentOn space s key b → WentOn space t key b
-  went_lower s t key b low (inl vain) = inl (λ c way target walk. let d = low.down c in let more = vain c way (still_open s t c low.starts target) walk in omega (arith, d, more))
+  went_lower s t key b low (inl dead) = inl (still_dead s t b low.starts dead)
   went_lower s t key b low (inr went) = inr (let d = low.down b in let limit = low.limit in omega (arith, d, limit, went))
 
   went_up : (s : Wave) (key more b : ℕ) → key ≤ more → WentOn space s key b → WentOn space s more b
-  went_up s key more b up (inl vain) = inl (λ c way target walk. let above = vain c way target walk in omega (arith, above, up))
+  went_up s key more b up (inl dead) = inl dead
   went_up s key more b up (inr went) = inr (omega (arith, up, went))
 
   -- a node at the key that it had is as done as it was
@@ -199,10 +203,6 @@ module _ (space : Space) where
     limit = let x = a.limit in let y = b.limit in omega (arith, x, y);
     starts = λ v o. b.starts v (a.starts v o);
   }
-
-  -- labels of open sinks go down with all others
-  pub reaches_lower : (s t : Wave) (most : ℕ) → Lowers space s t → ReachesAll space s most → ReachesAll space t most
-  reaches_lower s t most low all b target = let d = low.down b in let above = all b (still_open s t b low.starts target) in omega (arith, d, above)
 
   pub lowers_refl : (s : Wave) → Lowers space s s
   lowers_refl s = record { down = λ v. omega arith; wait = λ v. inl refl; kept = λ e h. h; limit = omega arith; starts = λ v o. o }

@@ -53,17 +53,13 @@ pub record IsWaiting (s : Space) (w : Wave) (v : ℕ) : Type 0 where
   pub label : entry.label ≡ key_of w v
   pub low : IsBound s w v (entry.key - key_of w v)
 
--- no way on from v, which is reached at this cost, costs less than the label of the open sink to which it leads
-abbrev pub IsVain : Space → Wave → (reached v : ℕ) → Type 0
-IsVain s w reached v = (b : ℕ) (way : List ℕ) → IsOpen s w b → IsWay s v way b → key_of w b ≤ reached + way_cost s way
+-- no way leads on from v to an open sink
+abbrev pub IsDead : Space → Wave → ℕ → Type 0
+IsDead s w v = (b : ℕ) (way : List ℕ) → IsOpen s w b → IsWay s v way b → ⊥
 
--- the key went on along the edge to b, but where that is in vain, and unless it is left out
+-- the key went on along the edge to b, but into a dead end, and unless it is left out
 abbrev pub WentOn : Space → Wave → (key b : ℕ) → Type 0
-WentOn s w key b = IsVain s w (key + entry_cost s b) b ⊎ (min (key_of w b) w.limit ≤ key + entry_cost s b)
-
--- no label of an open sink is above this
-abbrev pub ReachesAll : Space → Wave → (most : ℕ) → Type 0
-ReachesAll s w most = (b : ℕ) → IsOpen s w b → key_of w b ≤ most
+WentOn s w key b = IsDead s w b ⊎ (min (key_of w b) w.limit ≤ key + entry_cost s b)
 
 -- v's key went along each edge from v
 abbrev pub IsRelaxed : Space → Wave → ℕ → Type 0

@@ -13,9 +13,6 @@ use smallvec::SmallVec;
 use std::alloc::{AllocError, Global};
 use std::marker::Model;
 
-/// How many sinks a net has at most for whose labels the wave looks at each step.
-const MOST_SINKS: usize = 8;
-
 /// The labels, and the nodes whose labels have yet to go along their edges. Contracts see the
 /// record of what counts.
 #[derive(Drop)]
@@ -241,7 +238,7 @@ impl<K: Key> Wave<K> {
 impl<K: Key> Wave<K> {
     ghost use Rattle.std.specs.Prelude.{length, IfOk, OnOk, IfSome, IfNone, IsTrue, ◌↔◌, ◌⊎◌, [], Contains, reverse};
     ghost use Rattle.wavefront.specs.Space.{IsSpace, HasEdge, IsInside, entry_cost, node_count};
-    ghost use Rattle.wavefront.specs.Wave.{IsWave, IsComplete, StillComplete, IsOrigin, IsOpen, ReachesAll, WentOn, key_of, parent_of};
+    ghost use Rattle.wavefront.specs.Wave.{IsWave, IsComplete, StillComplete, IsOrigin, IsOpen, WentOn, key_of, parent_of};
     ghost use Rattle.wavefront.specs.Boxes.{box_of_node};
     ghost use Rattle.wavefront.specs.Bounds.{CoversMore, IsCovered};
     ghost use Rattle.wavefront.specs.Entrances.{IsClosed, IsEntrance, Knows, Tells};
@@ -332,35 +329,6 @@ impl<K: Key> Wave<K> {
         count
     }
 
-    /// An open sink's key, or 0.
-    fn open_key(&self, sink: u32) -> u128
-        requires { sink < length self.now.labels }
-        ensures { (IsOrigin self.now sink → ⊥) → key_of self.now sink ≤ result }
-    {
-        if self.starts_at(sink) {
-            0
-        } else {
-            self.label(sink).key
-        }
-    }
-
-    /// No open sink's label is above this: a way that costs more serves none. Of many sinks nothing is known.
-    fn most(&self, space: &SearchSpace<'_>) -> u128
-        requires space { IsSpace space.now }
-        requires wave { IsWave space.now self.now }
-        ensures { ReachesAll space.now self.now result }
-    {
-        let sinks = space.sinks();
-        if sinks.len() > MOST_SINKS {
-            return FAR;
-        }
-        let mut most = 0;
-        for sink in sinks {
-            most = self.open_key(*sink).max(most);
-        }
-        most
-    }
-
     /// Puts a box around a sink, if the wave has yet to take it.
     fn surround(&mut self, space: &SearchSpace<'_>, sink: u32) -> Result<(), AllocError>
         requires sink { sink < length self.old.labels }
@@ -402,14 +370,12 @@ impl<K: Key> Wave<K> {
         from: u32,
         key: u128,
         to: u32,
-        most: u128,
     ) -> Result<(), AllocError>
         requires space { IsSpace space.now }
         requires wave { IsWave space.now self.old }
         requires from { key_of self.old from ≤ key }
         requires near { key < FAR }
         requires edge { HasEdge space.now from to }
-        requires most { ReachesAll space.now self.old most }
         ensures wave { OnOk result (IsWave space.now self.new) }
         ensures spreads { OnOk result (Spreads space.now self.old self.new) }
         ensures at { OnOk result (IsInside space.now to → WentOn space.now self.new key to) }
@@ -422,7 +388,7 @@ impl<K: Key> Wave<K> {
             return Ok(());
         }
         match self.cost(space, to) {
-            Some(cost) => self.enter(space, from, key, to, cost, most),
+            Some(cost) => self.enter(space, from, key, to, cost),
             None => Ok(()),
         }
     }
@@ -435,14 +401,12 @@ impl<K: Key> Wave<K> {
         key: u128,
         to: u32,
         cost: u128,
-        most: u128,
     ) -> Result<(), AllocError>
         requires space { IsSpace space.now }
         requires wave { IsWave space.now self.old }
         requires from { key_of self.old from ≤ key }
         requires near { key < FAR }
         requires edge { HasEdge space.now from to }
-        requires most { ReachesAll space.now self.old most }
         requires entrance { IsEntrance space.now to cost }
         ensures wave { OnOk result (IsWave space.now self.new) }
         ensures spreads { OnOk result (Spreads space.now self.old self.new) }
@@ -453,9 +417,6 @@ impl<K: Key> Wave<K> {
             key: key.saturating_add(cost),
             parent: from,
         };
-        if most < label.key {
-            return Ok(());
-        }
         if label.key < self.label(to).key {
             return self.lower(space, to, label);
         }
@@ -470,20 +431,18 @@ impl<K: Key> Wave<K> {
         next: &mut SmallVec<u32, 8>,
         node: u32,
         key: u128,
-        most: u128,
     ) -> Result<(), AllocError>
         requires space { IsSpace space.now }
         requires wave { IsWave space.now self.old }
         requires from { key_of self.old node ≤ key }
         requires near { key < FAR }
-        requires most { ReachesAll space.now self.old most }
         ensures wave { OnOk result (IsWave space.now self.new) }
         ensures spreads { OnOk result (Spreads space.now self.old self.new) }
         ensures went { OnOk result (WentAlong space.now self.new node key) }
         ensures rows { length self.new.labels ≡ node_count space.now }
     {
         space.successors(node, next)?;
-        self.offer_all(space, node, key, next, most)
+        self.offer_all(space, node, key, next)
     }
 
     /// Offers each node of a list the way over `node`.
@@ -493,13 +452,11 @@ impl<K: Key> Wave<K> {
         node: u32,
         key: u128,
         next: &[u32],
-        most: u128,
     ) -> Result<(), AllocError>
         requires space { IsSpace space.now }
         requires wave { IsWave space.now self.old }
         requires from { key_of self.old node ≤ key }
         requires near { key < FAR }
-        requires most { ReachesAll space.now self.old most }
         requires edges { (to : ℕ) → Contains next.now to → HasEdge space.now node to }
         ensures wave { OnOk result (IsWave space.now self.new) }
         ensures spreads { OnOk result (Spreads space.now self.old self.new) }
@@ -508,7 +465,7 @@ impl<K: Key> Wave<K> {
         ensures rows { length self.new.labels ≡ node_count space.now }
     {
         for to in next {
-            self.offer(space, node, key, *to, most)?;
+            self.offer(space, node, key, *to)?;
         }
         Ok(())
     }
@@ -551,8 +508,7 @@ impl<K: Key> Wave<K> {
             if self.is_open(space, entry.node) {
                 return Ok(Some(entry.node));
             }
-            let most = self.most(space);
-            self.expand(space, next, entry.node, label.key, most)?;
+            self.expand(space, next, entry.node, label.key)?;
         }
         Ok(None)
     }

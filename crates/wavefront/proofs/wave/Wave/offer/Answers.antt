@@ -1,6 +1,6 @@
 use Rattle.std.proofs.Common.{arith, inr}
 use Rattle.std.proofs.lemmas.Result.{on_ok_weaker}
-use Rattle.wavefront.proofs.Lower.{reaches_lower, spreads_trans}
+use Rattle.wavefront.proofs.Lower.{spreads_trans}
 use Rattle.wavefront.proofs.DeadEnds.{closed_went}
 use Rattle.wavefront.proofs.Unchanged.{noted_key, noted_spreads}
 use Rattle.wavefront.proofs.wave.Wave.offer.Goals as goal
@@ -23,9 +23,6 @@ returns-in-None-clause-at g c = λ inside. closed_went c.args.space.now c.cost.n
 
 pub enter-requires-clause-from : goal.enter-requires-clause-from
 enter-requires-clause-from g c = let same = noted_key c.args.space.now c.args.self.now c.cost.new.self c.cost.ensures.noted c.args.from in omega (arith, same, c.requires.from)
-
-pub enter-requires-clause-most : goal.enter-requires-clause-most
-enter-requires-clause-most g c = reaches_lower c.args.space.now c.args.self.now c.cost.new.self c.args.most ((noted_spreads c.args.space.now c.args.self.now c.cost.new.self c.cost.ensures.noted).lowers) c.requires.most
 
 pub returns-in-Some-clause-spreads : goal.returns-in-Some-clause-spreads
 returns-in-Some-clause-spreads g c = on_ok_weaker c.enter.result (spreads_trans c.args.space.now c.args.self.now c.cost.new.self c.enter.new.self (noted_spreads c.args.space.now c.args.self.now c.cost.new.self c.cost.ensures.noted)) c.enter.ensures.spreads

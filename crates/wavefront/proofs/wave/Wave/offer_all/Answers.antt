@@ -1,6 +1,6 @@
 use Rattle.std.proofs.Common.{arith}
 use Rattle.std.proofs.lemmas.List.Elements.{Contains-get_or}
-use Rattle.wavefront.proofs.Lower.{reaches_lower, spreads_refl, spreads_trans}
+use Rattle.wavefront.proofs.Lower.{spreads_refl, spreads_trans}
 use Rattle.wavefront.proofs.Went.{went_more, went_all}
 use Rattle.wavefront.proofs.wave.Wave.offer_all.Goals as goal
 
@@ -12,9 +12,6 @@ offer-requires-clause-from g c = let d = c.loop-to.invariant.spreads.lowers.down
 
 pub offer-requires-clause-edge : goal.offer-requires-clause-edge
 offer-requires-clause-edge g c = c.requires.edges _ (Contains-get_or c.args.next.now c.loop-to.to-index 0 c.loop-to-test.true)
-
-pub offer-requires-clause-most : goal.offer-requires-clause-most
-offer-requires-clause-most g c = reaches_lower c.args.space.now c.args.self.now c.loop-to.self c.args.most c.loop-to.invariant.spreads.lowers c.requires.most
 
 pub loop-to-preserved : goal.loop-to-preserved
 loop-to-preserved g c = record {
