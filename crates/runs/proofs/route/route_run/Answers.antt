@@ -54,3 +54,6 @@ returns-clause-runs g c =
 
 pub returns-clause-place : goal.returns-clause-place
 returns-clause-place g c = ends_not file.Place c.route_design.result c.route_design.ensures.late
+
+pub returns-clause-net : goal.returns-clause-net
+returns-clause-net g c = ends_not file.Net c.route_design.result c.route_design.ensures.late
