@@ -1,19 +1,59 @@
 -- What bounds say of ways to open sinks.
-use Rattle.std.proofs.Common.{ℕ, ◌≤◌, inl, inr, arith}
-use Rattle.wavefront.specs.WaveState.{Wave}
-use Rattle.wavefront.specs.Space.{Space, IsSpace}
-use Rattle.wavefront.specs.Wave.{IsBound, Serves}
-use Rattle.wavefront.specs.Bounds.{IsLeast}
-use Rattle.wavefront.proofs.WaysLeft.{way_left}
+use Rattle.std.proofs.Common.{◌≡◌, refl, ℕ, ◌+◌, ◌*◌, ◌<◌, ◌≤◌, Bool, true, false, Some, None, Option, inl, inr, sym, ◌∙◌, ap, arith}
+use Rattle.std.specs.Prelude.{nat_le}
+use Rattle.std.proofs.lemmas.Bool.{false≢true}
+use Rattle.std.proofs.lemmas.Bool.Decides.{nat_tests}
+use Rattle.std.specs.Option.{option_map, option_map_or}
+use Rattle.std.proofs.lemmas.Option.{same_Some}
+use Rattle.rr_graph.specs.declared.parts.Node.{Node}
+use Rattle.rr_graph.specs.Nodes.{is_wire, is_wire_at, kind_of_node, node_at, span_of}
+use Rattle.rr_graph.specs.Edges.{is_edge}
+use Rattle.wavefront.specs.declared.boxes.BoundingBox.{BoundingBox}
+use Rattle.wavefront.specs.declared.space.Wire.{Wire}
+use Rattle.wavefront.specs.WaveState.{Wave as Labelled}
+use Rattle.wavefront.specs.Space.{Space, IsSpace, HasEdge, node_count}
+use Rattle.wavefront.specs.Wave.{IsBound, IsDead, Serves}
+use Rattle.wavefront.specs.Bounds.{IsFar, IsFewest, IsWireAt, left_over, wires_by}
+use Rattle.wavefront.proofs.WaysLeft.{edge_nodes, pin_left, way_left, wire_leads}
 
-pub bound_low : (s : Space) (w : Wave) (v k : ℕ) → IsSpace s → Serves s w → IsLeast s.device w.boxes v k → IsBound s w v k
-bound_low s w v k ok (inl none) least b way target walk = let zero = least.none none in omega (arith, zero)
-bound_low s w v k ok (inr (short, around)) least b way target walk =
-    let place = around b target in
-    elim (least.low place.0 place.1) [
-      | inl zero ↦ omega (arith, zero)
-      | inr (node, at, low) ↦ let left = way_left s ok short place.0 b place.2 (ok.are_sinks b target.0) way v node at.there at.wire walk in omega (arith, low, left)
-    ]
+module _ (s : Space) (w : Labelled) (ok : IsSpace s) (serves : Serves s w) where
+  -- a wire's own fields tell of it
+  told : (v : ℕ) (wire : Wire) (box : BoundingBox) (at : IsWireAt s.device v wire) → wires_by w.boxes.short wire.kind box wire.span ≡ wires_by w.boxes.short at.node.kind box (span_of s.device at.node)
+  told v wire box at = rw (at.kind, at.span) refl
 
-pub bound_down : (s : Space) (w : Wave) (v k less : ℕ) → less ≤ k → IsBound s w v k → IsBound s w v less
+  pub bound_low : (v wires : ℕ) → IsFewest s.device w.boxes v wires → IsBound s w v (left_over wires)
+  bound_low v wires fewest b way target walk = elim serves.around [
+    | inl none ↦ absurd (fewest.some none)
+    | inr around ↦
+        let place = around b target in
+        let there = fewest.there in
+        let low = fewest.few place.0 place.1 in
+        let same = told v fewest.wire place.0 there in
+        let left = way_left s ok w.boxes.short serves.short place.0 b place.2 (ok.are_sinks b target.0) way v there.node there.there there.is walk in
+        omega (arith, low, same, left)
+  ]
+
+  -- from a wire that is far from all sinks each edge leads to a wire, or to no sink
+  pub far_dead : (v u first : ℕ) → IsFar s.device w.boxes v → ((i : ℕ) → i < node_count s → is_wire_at s.device i ≡ nat_le first i) → HasEdge s v u → u < first → IsDead s w u
+  far_dead v u first far wires edge less b way target walk = elim serves.around [
+    | inl none ↦ absurd (far.fewest.some none)
+    | inr around ↦
+        let place = around b target in
+        let there = far.fewest.there in
+        let low = far.fewest.few place.0 place.1 in
+        let same = told v far.fewest.wire place.0 there in
+        let some = far.some in
+        let e = edge_nodes s.device v u edge in
+        let from = same_Some there.node e.from (sym there.there ∙ e.from_at) in
+        elim (wire_leads s.device there.node e.to there.is (rw from e.edge)) [
+          | inl next ↦
+              let test : nat_le first u ≡ false = grind (arith, nat_tests) in
+              absurd (false≢true (sym test ∙ sym (wires u (ok.range v u edge)) ∙ ap (λ o. option_map_or is_wire (option_map (λ n. n.kind) o) false) e.to_at ∙ next))
+          | inr enters ↦
+              let none = pin_left s ok w.boxes.short serves.short place.0 b place.2 (ok.are_sinks b target.0) way u there.node e.to e.to_at enters walk in
+              omega (arith, low, same, some, none)
+        ]
+  ]
+
+pub bound_down : (s : Space) (w : Labelled) (v k less : ℕ) → less ≤ k → IsBound s w v k → IsBound s w v less
 bound_down s w v k less down bound b way target walk = let low = bound b way target walk in omega (arith, down, low)

@@ -1,8 +1,7 @@
 -- lists
 pub mod Lists
--- labels
+-- rows
 pub mod StampedRows
-pub mod KeptLabels
 -- steps of the wave
 pub mod Lower
 pub mod Preferred

@@ -5,8 +5,8 @@ use Rattle.std.proofs.lemmas.List.Sorted.{Contains-permutation, IsPermutation-sy
 use Rattle.std.proofs.lemmas.List.Sums.{sum_by-set}
 use Rattle.std.proofs.lemmas.List.{length-set}
 use Rattle.std.proofs.lemmas.Bool.{cases_eq}
-use Rattle.wavefront.specs.declared.labels.Label.{Label}
-use Rattle.wavefront.specs.declared.labels.TheConstants.{FAR}
+use Rattle.wavefront.specs.declared.rows.Label.{Label}
+use Rattle.wavefront.specs.declared.rows.TheConstants.{FAR}
 use Rattle.wavefront.specs.declared.queue.Entry.{Entry}
 use Rattle.wavefront.specs.WaveState.{Wave}
 use Rattle.wavefront.specs.Label.{unreached}
@@ -28,8 +28,13 @@ module _ (space : Space) where
   still_open s t b starts target = (target.0, λ o. target.1 (starts b o))
 
   pub still_serves : (s t : Wave) → t.boxes ≡ s.boxes → ((v : ℕ) → IsOrigin s v → IsOrigin t v) → Serves space s → Serves space t
-  still_serves s t same starts (inl none) = inl (same ∙ none)
-  still_serves s t same starts (inr (short, around)) = inr (short, λ b target. rw same (around b (still_open s t b starts target)))
+  still_serves s t same starts serves = record {
+    short = λ said. serves.short (rw same at said);
+    around = elim serves.around [
+      | inl none ↦ inl (ap (λ b. b.items) same ∙ none)
+      | inr around ↦ inr (λ b target. rw same (around b (still_open s t b starts target)))
+    ];
+  }
 
   pub label_here : (s t : Wave) (node : ℕ) (label : Label) → IsLowered space s t node label → node < length s.labels → label_at t node ≡ label
   label_here s t node label r lt = ap (λ xs. slice_index_or xs node unreached) r.labels ∙ get_or-set_same s.labels node label unreached lt

@@ -3,8 +3,8 @@ use Rattle.std.proofs.Common.{◌≡◌, ℕ, ◌+◌, ◌<◌, ◌≤◌, lengt
 use Rattle.std.proofs.lemmas.List.Sums.{sum_by-set}
 use Rattle.std.proofs.lemmas.List.{length-set}
 use Rattle.std.proofs.lemmas.Bool.{cases_eq}
-use Rattle.wavefront.specs.declared.labels.Label.{Label}
-use Rattle.wavefront.specs.declared.labels.TheConstants.{FAR}
+use Rattle.wavefront.specs.declared.rows.Label.{Label}
+use Rattle.wavefront.specs.declared.rows.TheConstants.{FAR}
 use Rattle.wavefront.specs.WaveState.{Wave}
 use Rattle.wavefront.specs.Label.{unreached}
 use Rattle.wavefront.specs.Space.{Space, HasEdge, IsInside, entry_cost}

@@ -1,5 +1,5 @@
--- What a way from a wire to a sink costs at least, where each wire is one place long.
-use Rattle.std.proofs.Common.{◌≡◌, ℕ, ◌+◌, ◌*◌, ◌≤◌, true, ◌-◌, ◌⊎◌, inl, inr, List, [], ◌∷◌, Option, Some, None, refl, sym, ap, ◌∙◌, subst, arith}
+-- What a way from a wire to a sink costs at least, and where one leads to no pin on.
+use Rattle.std.proofs.Common.{◌≡◌, ℕ, ◌+◌, ◌*◌, ◌≤◌, Bool, true, ◌-◌, ◌⊎◌, inl, inr, List, [], ◌∷◌, Option, Some, None, refl, sym, ap, ◌∙◌, subst, arith}
 use Rattle.std.specs.Option.{option_map, option_map_or}
 use Rattle.std.proofs.Math.Nat.{mul-le-mul}
 use Rattle.std.proofs.lemmas.Bool.{false≢true}
@@ -8,7 +8,7 @@ use Rattle.rr_graph.specs.declared.parts.Kind.{Kind}
 use Rattle.rr_graph.specs.declared.parts.Kind.TheVariants.{Source, Sink, Opin, Ipin, Chanx, Chany}
 use Rattle.rr_graph.specs.declared.parts.Node.{Node}
 use Rattle.rr_graph.specs.Fabric.{Fabric}
-use Rattle.rr_graph.specs.Nodes.{node_at, is_wire, kind_of_node}
+use Rattle.rr_graph.specs.Nodes.{node_at, is_wire, kind_of_node, span_of}
 use Rattle.rr_graph.specs.Numbering.{is_terminal}
 use Rattle.rr_graph.specs.Pins.{belongs, taps}
 use Rattle.rr_graph.specs.Edges.{edge_by, edge_between, edge_between_nodes, is_edge}
@@ -20,20 +20,20 @@ use Rattle.route_tree.specs.Usage.{room_of}
 use Rattle.wavefront.specs.declared.boxes.BoundingBox.{BoundingBox}
 use Rattle.wavefront.specs.Space.{Space, IsSpace, base_cost, entry_cost}
 use Rattle.wavefront.specs.Ways.{IsWay, way_cost}
-use Rattle.wavefront.specs.Bounds.{AreShort, Surrounds, left_by, wires_by}
+use Rattle.wavefront.specs.Bounds.{AreShort, Surrounds, left_over, wires_by}
 use Rattle.wavefront.proofs.WayNodes.{way_cost_more}
 use Rattle.wavefront.proofs.WireSteps.{wire_step}
 use Rattle.wavefront.proofs.PinSteps.{pin_step, sink_step}
 
 -- the nodes at the ends of an edge
-record IsEdgeOf (f : Fabric) (i j : ℕ) : Type 0 where
-  from : Node
-  to : Node
-  from_at : node_at f i ≡ Some from
-  to_at : node_at f j ≡ Some to
-  edge : is_edge f from to ≡ true
+pub record IsEdgeOf (f : Fabric) (i j : ℕ) : Type 0 where
+  pub from : Node
+  pub to : Node
+  pub from_at : node_at f i ≡ Some from
+  pub to_at : node_at f j ≡ Some to
+  pub edge : is_edge f from to ≡ true
 
-edge_nodes : (f : Fabric) (i j : ℕ) → edge_between f i j ≡ true → IsEdgeOf f i j
+pub edge_nodes : (f : Fabric) (i j : ℕ) → edge_between f i j ≡ true → IsEdgeOf f i j
 unfolding edge_between
 edge_nodes f i j e = by_nodes (node_at f i) (node_at f j) refl refl e
   where
@@ -69,9 +69,9 @@ wire_no_sink Opin e h = false≢true e
 wire_no_sink Ipin e h = false≢true e
 
 -- from a wire an edge leads to a wire, or to an input pin that taps it
-record Enters (f : Fabric) (wire pin : Node) : Type 0 where
-  kind : pin.kind ≡ Ipin
-  tap : taps f pin wire ≡ true
+pub record Enters (f : Fabric) (wire pin : Node) : Type 0 where
+  pub kind : pin.kind ≡ Ipin
+  pub tap : taps f pin wire ≡ true
 
 from_wire : (j k : Kind) (f : Fabric) (m n : Node) → is_wire j ≡ true → edge_by j k f m n ≡ true → (is_wire k ≡ true) ⊎ ((k ≡ Ipin) × (taps f n m ≡ true))
 from_wire Chanx Chanx f m n g e = inl refl
@@ -84,7 +84,7 @@ from_wire Chanx _ f m n g e = absurd (false≢true e)
 from_wire Chany _ f m n g e = absurd (false≢true e)
 from_wire _ k f m n g e = absurd (false≢true g)
 
-wire_leads : (f : Fabric) (m n : Node) → is_wire m.kind ≡ true → is_edge f m n ≡ true → (is_wire n.kind ≡ true) ⊎ Enters f m n
+pub wire_leads : (f : Fabric) (m n : Node) → is_wire m.kind ≡ true → is_edge f m n ≡ true → (is_wire n.kind ≡ true) ⊎ Enters f m n
 unfolding is_edge
 wire_leads f m n g e = elim (from_wire m.kind n.kind f m n g e) [ inl w ↦ inl w | inr p ↦ inr (record { kind = p.0; tap = p.1 }) ]
 
@@ -100,11 +100,11 @@ sink_at : (f : Fabric) (b : ℕ) (node : Node) → node_at f b ≡ Some node →
 unfolding is_sink
 sink_at f b node at e = rw at at e
 
-module _ (s : Space) (ok : IsSpace s) (short : AreShort s.device) (box : BoundingBox) (b : ℕ) (inside : Surrounds s.device box b) (sink : is_sink s.device b ≡ true) where
+module _ (s : Space) (ok : IsSpace s) (short : Bool) (are_short : short ≡ true → AreShort s.device) (box : BoundingBox) (b : ℕ) (inside : Surrounds s.device box b) (sink : is_sink s.device b ≡ true) where
   -- behind an input pin its sink comes, and nothing else
-  pin_left : (way : List ℕ) (v u : ℕ) (wire pin : Node) → node_at s.device u ≡ Some pin → Enters s.device wire pin → IsWay s u way b → wires_by wire.kind box wire.x wire.y ≡ 0
-  pin_left [] v u wire pin at enters walk = absurd (let h = sink_at s.device b pin (rw walk at at) sink in false≢true (rw enters.kind at h))
-  pin_left (w ∷ []) v u wire pin at enters walk =
+  pub pin_left : (way : List ℕ) (u : ℕ) (wire pin : Node) → node_at s.device u ≡ Some pin → Enters s.device wire pin → IsWay s u way b → wires_by short wire.kind box (span_of s.device wire) ≡ 0
+  pin_left [] u wire pin at enters walk = absurd (let h = sink_at s.device b pin (rw walk at at) sink in false≢true (rw enters.kind at h))
+  pin_left (w ∷ []) u wire pin at enters walk =
       let e = edge_nodes s.device u w walk.0 in
       let same = same_Some pin e.from (sym at ∙ e.from_at) in
       let place = sink_step s.device e.from e.to (pin_belongs s.device e.from e.to (ap (λ n. n.kind) (sym same) ∙ enters.kind) e.edge) in
@@ -113,9 +113,9 @@ module _ (s : Space) (ok : IsSpace s) (short : AreShort s.device) (box : Boundin
       let ex = ap (λ n. n.x) same in
       let ey = ap (λ n. n.y) same in
       pin_step s.device short box wire pin.x pin.y (omega (arith, ex, place.0, around.0)) (omega (arith, ex, place.0, around.1)) (omega (arith, ey, place.1, around.2)) (omega (arith, ey, place.1, around.3)) pin refl refl terminal.around enters.tap
-  pin_left (w ∷ x ∷ way) v u wire pin at enters walk = absurd (false≢true (sym (ok.ends w x walk.2.0) ∙ pin_enters_sink s.device u w (ap (option_map (λ n. n.kind)) at ∙ ap Some enters.kind) walk.0))
+  pin_left (w ∷ x ∷ way) u wire pin at enters walk = absurd (false≢true (sym (ok.ends w x walk.2.0) ∙ pin_enters_sink s.device u w (ap (option_map (λ n. n.kind)) at ∙ ap Some enters.kind) walk.0))
 
-  pub way_left : (way : List ℕ) (v : ℕ) (node : Node) → node_at s.device v ≡ Some node → is_wire node.kind ≡ true → IsWay s v way b → left_by node.kind box node.x node.y ≤ way_cost s way
+  pub way_left : (way : List ℕ) (v : ℕ) (node : Node) → node_at s.device v ≡ Some node → is_wire node.kind ≡ true → IsWay s v way b → left_over (wires_by short node.kind box (span_of s.device node)) ≤ way_cost s way
   way_left [] v node at wire walk = absurd (wire_no_sink node.kind wire (sink_at s.device b node (rw walk at at) sink))
   way_left (u ∷ way) v node at wire walk =
       let e = edge_nodes s.device v u walk.0 in
@@ -125,12 +125,12 @@ module _ (s : Space) (ok : IsSpace s) (short : AreShort s.device) (box : Boundin
       let paid = base_paid s u e.to e.to_at in
       elim (wire_leads s.device node e.to wire edge) [
         | inl next ↦
-            let step = wire_step s.device short box node.kind e.to.kind node.x node.y node.number e.to.x e.to.y e.to.number wire next edge in
+            let step = wire_step short s.device are_short box node.kind e.to.kind node.x node.y node.number e.to.x e.to.y e.to.number wire next edge in
             let rest = way_left way u e.to e.to_at next walk.2 in
             let base = wire_costs e.to.kind next in
             omega (arith, step, rest, base, sum, paid)
         | inr enters ↦
-            let none = pin_left way v u node e.to e.to_at enters walk.2 in
+            let none = pin_left way u node e.to e.to_at enters walk.2 in
             let base = ap base_cost enters.kind in
             omega (arith, none, base, sum, paid)
       ]

@@ -1,5 +1,5 @@
 -- What a search knows of how a net enters nodes.
-use Rattle.std.specs.Prelude.{◌≡◌, ℕ, ◌⊎◌, List, Option, Some, None, length, slice_index_or}
+use Rattle.std.specs.Prelude.{◌≡◌, ℕ, ◌<◌, ◌⊎◌, List, Option, Some, None, length, slice_index_or}
 use Rattle.wavefront.specs.declared.entrances.Entrance.{Entrance}
 use Rattle.wavefront.specs.declared.entrances.Entrance.TheVariants.{Closed, At, Dear}
 use Rattle.wavefront.specs.Space.{Space, IsInside, IsWanted, entry_cost, node_count}
@@ -17,6 +17,12 @@ IsClosed s v = (IsInside s v → ⊥) ⊎ LeadsNowhere s v
 pub record IsEntrance (s : Space) (v cost : ℕ) : Type 0 where
   pub price : cost ≡ entry_cost s v
   pub inside : IsInside s v
+
+-- at this cost, or dear where it is too great to be kept
+abbrev pub IsAtCost : (cost : ℕ) → Entrance → Type 0
+IsAtCost cost Closed = ⊥
+IsAtCost cost (At kept) = (kept ≡ cost) × (cost < 4294967293)
+IsAtCost cost Dear = Unit {0}
 
 -- what is kept of v is so
 abbrev pub Tells : Space → ℕ → Entrance → Type 0

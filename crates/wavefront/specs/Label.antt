@@ -1,6 +1,6 @@
 -- The label of a node that the wave has not reached.
-use Rattle.wavefront.specs.declared.labels.Label.{Label}
-use Rattle.wavefront.specs.declared.labels.TheConstants.{FAR}
+use Rattle.wavefront.specs.declared.rows.Label.{Label}
+use Rattle.wavefront.specs.declared.rows.TheConstants.{FAR}
 
 abbrev pub unreached : Label
 unreached = record { key = FAR; parent = 0 }

@@ -4,8 +4,7 @@ pub mod Ways
 pub mod Entrances
 pub mod Bounds
 pub mod Label
-pub mod Stamps
-pub mod Labels
+pub mod Rows
 pub mod Entries
 pub mod Queues
 pub mod WaveState

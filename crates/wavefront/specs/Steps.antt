@@ -1,8 +1,8 @@
 -- What each step of the wave does.
 use Rattle.std.specs.Prelude.{◌≡◌, ℕ, ◌+◌, ◌-◌, ◌<◌, ◌≤◌, ◌⊎◌, ◌↔◌, List, ◌∷◌, length, slice_set, Contains, min}
 use Rattle.std.specs.List.Sorted.{IsPermutation}
-use Rattle.wavefront.specs.declared.labels.Label.{Label}
-use Rattle.wavefront.specs.declared.labels.TheConstants.{FAR}
+use Rattle.wavefront.specs.declared.rows.Label.{Label}
+use Rattle.wavefront.specs.declared.rows.TheConstants.{FAR}
 use Rattle.wavefront.specs.declared.queue.Entry.{Entry}
 use Rattle.wavefront.specs.WaveState.{Wave}
 use Rattle.wavefront.specs.Queues as queues

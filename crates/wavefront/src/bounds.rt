@@ -1,45 +1,70 @@
 //! Lower bounds of what is left of a way.
 
-ghost use Rattle.std.specs.Prelude.{◌≡◌, ◌+◌, ◌<◌, ◌≤◌, [], Contains, OnOk, length};
-ghost use Rattle.rr_graph.specs.declared.parts.Node.{Node};
+ghost use Rattle.std.specs.Prelude.{◌≡◌, ◌+◌, ◌*◌, ◌<◌, ◌≤◌, [], Contains, IfSome, IsTrue, OnOk, false, length};
 ghost use Rattle.wavefront.specs.declared.boxes.BoundingBox.{BoundingBox};
-ghost use Rattle.wavefront.specs.Bounds.{CoversMore, IsCovered, IsLeast, gap, left_by};
+ghost use Rattle.wavefront.specs.WaveState.{boxes_of};
+ghost use Rattle.wavefront.specs.Bounds.{CoversMore, IsCovered, IsFewest, gap, left_over, wires_by, wires_for};
 
 use crate::boxes::BoundingBox;
-use crate::space::SearchSpace;
-use rr_graph::{Kind, Node};
+use crate::space::{SearchSpace, Wire};
+use rr_graph::Kind;
 use std::alloc::{AllocError, Global};
 
-/// By how much a number lies outside those from `low` to `high`.
-fn gap(low: u32, high: u32, number: u32) -> u64
-    ensures exact { result ≡ gap low high number }
+/// By how much the numbers from `first` to `last` lie outside those from `low` to `high`.
+fn gap(low: u32, high: u32, first: u32, last: u32) -> u64
+    ensures exact { result ≡ gap low high first last }
     ensures few { result ≤ 4294967295 + 4294967295 }
 {
-    u64::from(low.saturating_sub(number)) + u64::from(number.saturating_sub(high))
+    u64::from(low.saturating_sub(last)) + u64::from(first.saturating_sub(high))
 }
 
-/// What a way from a wire of one place to a sink in the box costs at least.
-fn left(place: BoundingBox, wire: Node) -> u64
-    ensures { result ≡ left_by wire.kind place wire.x wire.y }
+/// How many wires lead on from one that lies so far off along its channel, and so far across.
+fn wires_for(short: bool, along: u64, across: u64) -> u64
+    requires along { along ≤ 4294967295 + 4294967295 }
+    requires across { across ≤ 4294967295 + 4294967295 }
+    ensures exact { result ≡ wires_for short along across }
+    ensures few { result ≤ 4294967296 * 4 }
+{
+    if short {
+        along + across
+    } else {
+        (along + across).min(1) + across.min(along.saturating_sub(1)).min(1)
+    }
+}
+
+/// How many wires lead from a wire to one beside the box's blocks, at least.
+fn wires_by(short: bool, place: BoundingBox, wire: Wire) -> u64
+    ensures exact { result ≡ wires_by short wire.kind place wire.span }
+    ensures few { result ≤ 4294967296 * 4 }
 {
     let bottom = place.bottom.saturating_sub(1);
     let before = place.left.saturating_sub(1);
-    let wires = match wire.kind {
-        Kind::Chanx => gap(place.left, place.right, wire.x) + gap(bottom, place.top, wire.y),
-        Kind::Chany => gap(before, place.right, wire.x) + gap(place.bottom, place.top, wire.y),
+    let span = wire.span;
+    match wire.kind {
+        Kind::Chanx => wires_for(
+            short,
+            gap(place.left, place.right, span.x1, span.x2),
+            gap(bottom, place.top, span.y1, span.y2),
+        ),
+        Kind::Chany => wires_for(
+            short,
+            gap(place.bottom, place.top, span.y1, span.y2),
+            gap(before, place.right, span.x1, span.x2),
+        ),
         Kind::Source | Kind::Sink | Kind::Opin | Kind::Ipin => 0,
-    };
-    320 * wires + 304
+    }
 }
 
 /// How many boxes there are at most: each bound is looked for in all of them.
 const MOST_BOXES: usize = 8;
 
-/// Boxes around the sinks that the wave has yet to take, where wires are one place long: no way is
-/// shorter than one to the nearest of them. Without boxes the bounds are 0.
+/// Boxes around the sinks that the wave has yet to take: no way is shorter than one to the nearest of them. Without boxes
+/// the bounds are 0.
 #[derive(Drop)]
 pub(crate) struct Bounds {
     boxes: Vec<BoundingBox>,
+    /// Whether all wires are known to be one place long.
+    short: bool,
     /// For how many sinks a box is, and how many the last one has.
     share: usize,
     filled: usize,
@@ -48,20 +73,22 @@ pub(crate) struct Bounds {
 impl Bounds {
     /// Bounds of 0.
     pub(crate) fn new(alloc: Global) -> Bounds
-        ensures { result.boxes.items ≡ [] }
+        ensures { boxes_of result ≡ record { items = []; short = false } }
     {
         Bounds {
             boxes: Vec::new(alloc),
+            short: false,
             share: 1,
             filled: 0,
         }
     }
 
-    /// Takes all boxes away. So many sinks are to share the next ones.
-    pub(crate) fn clear(&mut self, sinks: usize)
-        ensures { self.new.boxes.items ≡ [] }
+    /// Takes all boxes away. So many sinks are to share the next ones, on a device whose wires are short or may not be.
+    pub(crate) fn clear(&mut self, sinks: usize, short: bool)
+        ensures { boxes_of self.new ≡ record { items = []; short = short } }
     {
         self.boxes.clear();
+        self.short = short;
         self.share = sinks / MOST_BOXES + 1;
         self.filled = 0;
     }
@@ -70,6 +97,7 @@ impl Bounds {
     pub(crate) fn surround(&mut self, place: BoundingBox) -> Result<(), AllocError>
         ensures place { OnOk result (IsCovered self.new.boxes.items place) }
         ensures kept { OnOk result (CoversMore self.old.boxes.items self.new.boxes.items) }
+        ensures short { self.new.short ≡ self.old.short }
     {
         if self.filled < self.share && !self.boxes.is_empty() {
             self.filled = self.filled.saturating_add(1);
@@ -85,6 +113,7 @@ impl Bounds {
     fn push(&mut self, place: BoundingBox) -> Result<(), AllocError>
         ensures place { OnOk result (IsCovered self.new.boxes.items place) }
         ensures kept { OnOk result (CoversMore self.old.boxes.items self.new.boxes.items) }
+        ensures short { self.new.short ≡ self.old.short }
     {
         self.boxes.push(place)?;
         Ok(())
@@ -95,33 +124,34 @@ impl Bounds {
         requires { 0 < length self.old.boxes.items }
         ensures place { IsCovered self.new.boxes.items place }
         ensures kept { CoversMore self.old.boxes.items self.new.boxes.items }
+        ensures short { self.new.short ≡ self.old.short }
     {
         let last = self.boxes.len() - 1;
         self.boxes[last] = self.boxes[last].around(place);
     }
 
-    /// The least that a box tells of a wire.
-    fn nearest(&self, wire: Node) -> u64
-        ensures low { (place : BoundingBox) → Contains self.now.boxes.items place →
-            result ≤ left_by wire.kind place wire.x wire.y }
+    /// The fewest wires of which a box tells.
+    fn fewest_by(&self, wire: Wire) -> u64
+        ensures few { (place : BoundingBox) → Contains self.now.boxes.items place →
+            result ≤ wires_by self.now.short wire.kind place wire.span }
     {
-        let mut least = u64::MAX;
+        let mut fewest = u64::MAX;
         for place in &self.boxes {
-            least = least.min(left(*place, wire));
+            fewest = fewest.min(wires_by(self.short, *place, wire));
         }
-        least
+        fewest
     }
 
-    /// No way from the node to a sink in the boxes costs less.
-    pub(crate) fn at(&self, space: &SearchSpace<'_>, node: u32) -> u128
-        ensures { IsLeast space.now.device self.now.boxes.items node result }
+    /// How many wires lead on from a wire, at least; None for other nodes, and without boxes.
+    pub(crate) fn fewest(&self, space: &SearchSpace<'_>, node: u32) -> Option<u64>
+        ensures { IfSome result (IsFewest space.now.device (boxes_of self.now) node) }
     {
         if self.boxes.is_empty() {
-            return 0;
+            return None;
         }
         match space.wire(node) {
-            Some(wire) => u128::from(self.nearest(wire)),
-            None => 0,
+            Some(wire) => Some(self.fewest_by(wire)),
+            None => None,
         }
     }
 }

@@ -2,7 +2,8 @@
 
 ghost use Rattle.std.specs.Prelude.{◌≡◌, ◌<◌, IfSome, IfNone};
 ghost use Rattle.wavefront.specs.Space.{IsSpace, node_count};
-ghost use Rattle.wavefront.specs.Entrances.{IsClosed, IsEntrance, Tells};
+ghost use Rattle.wavefront.specs.Entrances.{IsAtCost, IsClosed, IsEntrance, Tells};
+ghost use Rattle.wavefront.specs.Rows.{IsKept};
 
 use crate::space::SearchSpace;
 
@@ -13,7 +14,7 @@ pub(crate) enum Entrance {
     Closed,
     /// At a cost.
     At(u32),
-    /// At a cost of 2^32 or more, which is worked out each time.
+    /// At a cost that isn't below the numbers that tell of something else: it is worked out each time.
     Dear,
 }
 
@@ -22,14 +23,23 @@ impl Entrance {
     pub(crate) fn of(space: &SearchSpace<'_>, node: u32) -> Entrance
         requires space { IsSpace space.now }
         requires node_in { node < node_count space.now }
-        ensures { Tells space.now node result }
+        ensures told { Tells space.now node result }
+        ensures kept { IsKept result }
     {
         if space.is_dead_end(node) || !space.is_inside(node) {
             return Entrance::Closed;
         }
-        match u32::try_from(space.cost(node)) {
-            Ok(cost) => Entrance::At(cost),
-            Err(_) => Entrance::Dear,
+        Entrance::at(space.cost(node))
+    }
+
+    /// At a cost: to be worked out each time where it is not below the numbers that tell of something else.
+    fn at(cost: u128) -> Entrance
+        ensures { IsAtCost cost result }
+    {
+        if cost < 4_294_967_293 {
+            Entrance::At(cost as u32)
+        } else {
+            Entrance::Dear
         }
     }
 

@@ -7,12 +7,11 @@ mod boxes;
 mod entrances;
 mod found;
 mod keys;
-mod labels;
 mod queue;
 mod route;
+mod rows;
 mod scratch;
 mod space;
-mod stamped;
 mod targets;
 mod wave;
 

@@ -13,7 +13,7 @@ ghost use Rattle.wavefront.specs.declared.found.SearchFault.TheVariants.{ViewSiz
 
 use crate::found::{Found, SearchFault};
 use crate::keys::Key;
-use crate::labels::FAR;
+use crate::rows::FAR;
 use crate::scratch::{Scratch, WaveScratch};
 use crate::space::SearchSpace;
 use crate::wave::Wave;

@@ -1,7 +1,7 @@
 //! What a search of one net may enter, and at what cost.
 
-ghost use Rattle.std.specs.Prelude.{◌≡◌, ◌<◌, ◌≤◌, ◌^◌, ◌↔◌, All, IsTrue, IfOk, IfSome, IfNone, OnOk, ℕ, Contains, length, [], ◌∷◌};
-ghost use Rattle.rr_graph.specs.Nodes.{node_count_of};
+ghost use Rattle.std.specs.Prelude.{◌≡◌, ◌<◌, ◌≤◌, ◌^◌, ◌↔◌, All, IsTrue, IfOk, IfSome, IfNone, OnOk, ℕ, Contains, length, nat_le, true, Some, [], ◌∷◌};
+ghost use Rattle.rr_graph.specs.Nodes.{is_wire, is_wire_at, kind_of_node, node_count_of};
 ghost use Rattle.rr_graph.specs.declared.parts.Kind.{Kind};
 ghost use Rattle.std.specs.List.Sorted.{IsStrictlyIncreasing};
 ghost use Rattle.std.specs.Option.{option_map_or};
@@ -16,7 +16,7 @@ use crate::boxes::BoundingBox;
 use crate::targets::TargetPins;
 use arch_file::{Segment, SegmentLength};
 use node_cost::{GREATEST_PRESENT, View, cost};
-use rr_graph::{Kind, Mode, Node, Problem};
+use rr_graph::{Kind, Mode, Problem, Span};
 use smallvec::SmallVec;
 use std::alloc::{AllocError, Global};
 use std::marker::Model;
@@ -43,6 +43,13 @@ impl<'a> Model for SearchSpace<'a> {
     ghost view = { space_inside };
 
     ghost invariant = { IsSearchSpace };
+}
+
+/// A wire's kind, and the places that it passes.
+#[derive(Clone, Copy, Debug, PartialEq, Eq)]
+pub(crate) struct Wire {
+    pub(crate) kind: Kind,
+    pub(crate) span: Span,
 }
 
 /// What a node of a kind costs where nobody else wants it.
@@ -223,16 +230,34 @@ impl<'a> SearchSpace<'a> {
     }
 
     /// The wire of a number; None for what is no wire.
-    pub(crate) fn wire(&self, node: u32) -> Option<Node>
+    pub(crate) fn wire(&self, node: u32) -> Option<Wire>
         ensures { IfSome result (IsWireAt self.now.device node) }
     {
-        match self.problem.device().node(node) {
-            Some(wire) => match wire.kind {
-                Kind::Chanx | Kind::Chany => Some(wire),
-                Kind::Source | Kind::Sink | Kind::Opin | Kind::Ipin => None,
-            },
+        match self.problem.device().kind(node) {
+            Some(Kind::Chanx) => self.wire_of(Kind::Chanx, node),
+            Some(Kind::Chany) => self.wire_of(Kind::Chany, node),
+            _ => None,
+        }
+    }
+
+    /// The wire of a number, whose kind is known.
+    fn wire_of(&self, kind: Kind, node: u32) -> Option<Wire>
+        requires kind { kind_of_node self.now.device node ≡ Some kind }
+        requires wire { is_wire kind ≡ true }
+        ensures { IfSome result (IsWireAt self.now.device node) }
+    {
+        match self.problem.device().span(node) {
+            Some(span) => Some(Wire { kind, span }),
             None => None,
         }
+    }
+
+    /// The number of the first wire: only wires stand from there on.
+    pub(crate) fn first_wire(&self) -> u32
+        ensures { (v : ℕ) → v < node_count self.now →
+            is_wire_at self.now.device v ≡ nat_le result v }
+    {
+        self.problem.device().first_wire()
     }
 
     /// The place of a node, as a box.

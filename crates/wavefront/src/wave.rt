@@ -5,21 +5,18 @@ ghost use Rattle.std.specs.Prelude.{◌≡◌, ℕ, ◌+◌, ◌-◌, ◌<◌, �
 use crate::bounds::Bounds;
 use crate::entrances::Entrance;
 use crate::keys::Key;
-use crate::labels::{FAR, Label, Labels};
 use crate::queue::{Entry, Queue};
+use crate::rows::{FAR, Label, Rows};
 use crate::space::SearchSpace;
-use crate::stamped::Stamped;
 use smallvec::SmallVec;
 use std::alloc::{AllocError, Global};
 use std::marker::Model;
 
-/// The labels, and the nodes whose labels have yet to go along their edges. Contracts see the
+/// A row for each node, and the nodes whose labels have yet to go along their edges. Contracts see the
 /// record of what counts.
 #[derive(Drop)]
 pub(crate) struct Wave<K: Key> {
-    labels: Labels<K>,
-    /// How the net enters nodes, of those that it came to.
-    entrances: Stamped<Entrance>,
+    rows: Rows<K>,
     queue: Queue<K>,
     /// What costs this or more may have been left out.
     limit: u128,
@@ -40,10 +37,11 @@ impl<K: Key> Model for Wave<K> {
 }
 
 impl<K: Key> Wave<K> {
-    ghost use Rattle.std.specs.Prelude.{length, replicate, [], ◌==◌, ◌⊎◌, OnOk, IfOk, IsTrue, eqb, not};
+    ghost use Rattle.std.specs.Prelude.{length, replicate, [], ◌==◌, ◌⊎◌, OnOk, IfOk, IsTrue, eqb, false, not};
+    ghost use Rattle.wavefront.specs.Bounds.{IsFar};
     ghost use Rattle.wavefront.specs.Label.{unreached};
-    ghost use Rattle.wavefront.specs.Space.{IsSpace, node_count};
-    ghost use Rattle.wavefront.specs.Wave.{IsWave, IsComplete, IsOrigin, StillComplete, IsBound, key_of, label_at};
+    ghost use Rattle.wavefront.specs.Space.{IsSpace, HasEdge, node_count};
+    ghost use Rattle.wavefront.specs.Wave.{IsWave, IsComplete, IsDead, IsOrigin, StillComplete, IsBound, key_of, label_at};
     ghost use Rattle.wavefront.specs.Steps.{IsPopped, IsLowered, IsPreferred, LeavesOut, MoreOrigins, NoOrigins};
 
     /// A wave over so many nodes.
@@ -51,8 +49,7 @@ impl<K: Key> Wave<K> {
         ensures { IfOk result (λ w. length w.labels ≡ nodes) }
     {
         Ok(Wave {
-            labels: Labels::new(alloc, nodes)?,
-            entrances: Stamped::new(alloc, nodes, Entrance::Closed)?,
+            rows: Rows::new(alloc, nodes)?,
             queue: Queue::new(alloc),
             limit: FAR,
             bounds: Bounds::new(alloc),
@@ -63,7 +60,7 @@ impl<K: Key> Wave<K> {
     pub(crate) fn len(&self) -> usize
         ensures { result ≡ length self.now.labels }
     {
-        self.labels.len()
+        self.rows.len()
     }
 
     /// Takes all labels off.
@@ -73,8 +70,9 @@ impl<K: Key> Wave<K> {
         ensures complete { IsComplete space.now self.new }
         ensures origins { NoOrigins self.new }
     {
-        self.entrances.clear();
-        self.take_off();
+        let _nodes = self.rows.len();
+        self.rows.clear();
+        self.stop();
     }
 
     /// Takes all labels off, and keeps what is known of how nodes are entered.
@@ -84,21 +82,21 @@ impl<K: Key> Wave<K> {
         ensures complete { IsComplete space.now self.new }
         ensures origins { NoOrigins self.new }
     {
-        self.take_off();
+        self.rows.clear_labels();
+        self.stop();
     }
 
-    /// Takes all labels off, all entries out and all boxes away.
-    fn take_off(&mut self)
-        ensures labels { self.new.labels ≡ replicate (length self.old.labels) unreached }
+    /// Takes all entries out and all boxes away; nothing is left out any more.
+    fn stop(&mut self)
+        ensures labels { self.new.labels ≡ self.old.labels }
         ensures entrances { self.new.entrances ≡ self.old.entrances }
         ensures queue { self.new.queue ≡ [] }
         ensures limit { self.new.limit ≡ FAR }
-        ensures boxes { self.new.boxes ≡ [] }
+        ensures boxes { self.new.boxes ≡ record { items = []; short = false } }
     {
-        self.labels.clear();
         self.queue.clear();
         self.limit = FAR;
-        self.bounds.clear(0);
+        self.bounds.clear(0, false);
     }
 
     /// A node's label.
@@ -106,7 +104,7 @@ impl<K: Key> Wave<K> {
         requires { node < length self.now.labels }
         ensures { result ≡ label_at self.now node }
     {
-        self.labels.get(node)
+        self.rows.label(node)
     }
 
     /// No way from the node to a sink that the wave has yet to take costs less.
@@ -115,7 +113,34 @@ impl<K: Key> Wave<K> {
         requires wave { IsWave space.now self.now }
         ensures { IsBound space.now self.now node result }
     {
-        self.bounds.at(space, node)
+        match self.bounds.fewest(space, node) {
+            Some(wires) => 320 * u128::from(wires) + 304,
+            None => 0,
+        }
+    }
+
+    /// Whether another wire at least leads on from a wire to each sink that the wave has yet to take.
+    fn is_far(&self, space: &SearchSpace<'_>, node: u32) -> bool
+        ensures { IsTrue result → IsFar space.now.device self.now.boxes node }
+    {
+        match self.bounds.fewest(space, node) {
+            Some(wires) => wires > 0,
+            None => false,
+        }
+    }
+
+    /// The nodes before this number to which a node leads are pins that lead to no sink that the wave has yet to take.
+    fn first_useful(&self, space: &SearchSpace<'_>, node: u32) -> u32
+        requires space { IsSpace space.now }
+        requires wave { IsWave space.now self.now }
+        ensures { (to : ℕ) → HasEdge space.now node to → to < result →
+            IsDead space.now self.now to }
+    {
+        if self.is_far(space, node) {
+            space.first_wire()
+        } else {
+            0
+        }
     }
 
     /// Whether nothing waits.
@@ -170,7 +195,7 @@ impl<K: Key> Wave<K> {
         ensures rows { length self.new.labels ≡ length self.old.labels }
     {
         let nearest = self.nearest_by(space, node, key);
-        self.labels.set(node, key, parent);
+        self.rows.set_label(node, key, parent);
         self.queue.push(nearest, key, node)
     }
 
@@ -209,7 +234,7 @@ impl<K: Key> Wave<K> {
         ensures { (self.new ≡ self.old) ⊎ IsPreferred self.old self.new node label }
     {
         if let Some(key) = K::fit(label.key) {
-            self.labels.set(node, key, label.parent);
+            self.rows.set_label(node, key, label.parent);
         }
     }
 
@@ -238,7 +263,7 @@ impl<K: Key> Wave<K> {
 impl<K: Key> Wave<K> {
     ghost use Rattle.std.specs.Prelude.{length, IfOk, OnOk, IfSome, IfNone, IsTrue, ◌↔◌, ◌⊎◌, [], Contains, reverse};
     ghost use Rattle.wavefront.specs.Space.{IsSpace, HasEdge, IsInside, entry_cost, node_count};
-    ghost use Rattle.wavefront.specs.Wave.{IsWave, IsComplete, StillComplete, IsOrigin, IsOpen, WentOn, key_of, parent_of};
+    ghost use Rattle.wavefront.specs.Wave.{IsWave, IsComplete, IsDead, StillComplete, IsOrigin, IsOpen, WentOn, key_of, parent_of};
     ghost use Rattle.wavefront.specs.Boxes.{box_of_node};
     ghost use Rattle.wavefront.specs.Bounds.{CoversMore, IsCovered};
     ghost use Rattle.wavefront.specs.Entrances.{IsClosed, IsEntrance, Knows, Tells};
@@ -271,11 +296,11 @@ impl<K: Key> Wave<K> {
         ensures known { Knows space.now self.new.entrances }
         ensures noted { IsNoted self.old self.new }
     {
-        if let Some(known) = self.entrances.get(node) {
+        if let Some(known) = self.rows.entrance(node) {
             return known;
         }
         let entrance = Entrance::of(space, node);
-        self.entrances.set(node, entrance);
+        self.rows.set_entrance(node, entrance);
         entrance
     }
 
@@ -334,8 +359,9 @@ impl<K: Key> Wave<K> {
         requires sink { sink < length self.old.labels }
         ensures aimed { OnOk result (IsAimed self.old self.new) }
         ensures place { OnOk result (IsOpen space.now self.old sink →
-            IsCovered self.new.boxes (box_of_node space.now.device sink)) }
-        ensures kept { OnOk result (CoversMore self.old.boxes self.new.boxes) }
+            IsCovered self.new.boxes.items (box_of_node space.now.device sink)) }
+        ensures kept { OnOk result (CoversMore self.old.boxes.items self.new.boxes.items) }
+        ensures short { self.new.boxes.short ≡ self.old.boxes.short }
         ensures rows { length self.new.labels ≡ length self.old.labels }
     {
         if !self.starts_at(sink) {
@@ -353,10 +379,7 @@ impl<K: Key> Wave<K> {
         ensures rows { length self.new.labels ≡ node_count space.now }
     {
         let sinks = self.open_sinks(space);
-        self.bounds.clear(sinks);
-        if !space.has_short_wires() {
-            return Ok(());
-        }
+        self.bounds.clear(sinks, space.has_short_wires());
         for sink in space.sinks() {
             self.surround(space, *sink)?;
         }
@@ -441,22 +464,26 @@ impl<K: Key> Wave<K> {
         ensures went { OnOk result (WentAlong space.now self.new node key) }
         ensures rows { length self.new.labels ≡ node_count space.now }
     {
+        let first = self.first_useful(space, node);
         space.successors(node, next)?;
-        self.offer_all(space, node, key, next)
+        self.offer_all(space, node, key, next, first)
     }
 
-    /// Offers each node of a list the way over `node`.
+    /// Offers each node of a list the way over `node`, from the first number on that is of use.
     fn offer_all(
         &mut self,
         space: &SearchSpace<'_>,
         node: u32,
         key: u128,
         next: &[u32],
+        first: u32,
     ) -> Result<(), AllocError>
         requires space { IsSpace space.now }
         requires wave { IsWave space.now self.old }
         requires from { key_of self.old node ≤ key }
         requires near { key < FAR }
+        requires first { (to : ℕ) → Contains next.now to → to < first →
+            IsDead space.now self.old to }
         requires edges { (to : ℕ) → Contains next.now to → HasEdge space.now node to }
         ensures wave { OnOk result (IsWave space.now self.new) }
         ensures spreads { OnOk result (Spreads space.now self.old self.new) }
@@ -465,6 +492,9 @@ impl<K: Key> Wave<K> {
         ensures rows { length self.new.labels ≡ node_count space.now }
     {
         for to in next {
+            if *to < first {
+                continue;
+            }
             self.offer(space, node, key, *to)?;
         }
         Ok(())

@@ -1,15 +1,7 @@
-use Rattle.std.proofs.Common.{ap, arith, inl, slice_index, length}
+use Rattle.std.proofs.Common.{ap, arith, sym, ◌∙◌, slice_index, length}
 use Rattle.wavefront.proofs.Aimed.{aimed_spreads, aimed_wave, covered_more, covered_serves, aimed_trans}
 use Rattle.wavefront.proofs.Whole.{is_sink_at}
 use Rattle.wavefront.proofs.wave.Wave.aim.Goals as goal
-
-pub returns-then-not-has_short_wires-clause-wave : goal.returns-then-not-has_short_wires-clause-wave
-returns-then-not-has_short_wires-clause-wave g c = aimed_wave c.args.space.now c.args.self.now _ (record {
-  labels = ap (λ w. w.labels) c.self.view_is;
-  entrances = ap (λ w. w.entrances) c.self.view_is;
-  queue = ap (λ w. w.queue) c.self.view_is;
-  limit = ap (λ w. w.limit) c.self.view_is;
-}) (inl c.clear.ensures) c.requires.wave
 
 pub loop-sink-preserved : goal.loop-sink-preserved
 loop-sink-preserved g c =
@@ -17,7 +9,7 @@ loop-sink-preserved g c =
     let at = ap (λ xs. slice_index xs c.loop-sink.sink-index) sinks in
     record {
       aimed = aimed_trans c.args.self.now c.loop-sink.self c.surround.new.self c.loop-sink.invariant.aimed c.in_ok-surround.ensures.aimed;
-      short = c.loop-sink.invariant.short;
+      short = λ said. c.loop-sink.invariant.short (sym c.in_ok-surround.ensures.short ∙ said);
       covered = covered_more c.args.space.now c.loop-sink.self c.surround.new.self c.loop-sink.sink-index c.loop-sink.invariant.covered c.in_ok-surround.ensures.aimed c.in_ok-surround.ensures.kept (rw at at c.in_ok-surround.ensures.place);
     }
 

@@ -1,7 +1,7 @@
 use Rattle.std.proofs.Common.{◌≡◌, ◌+◌, ◌<◌, arith, ap, refl, subst, inl, inr, length}
 use Rattle.std.proofs.lemmas.Result.{on_ok_weaker}
-use Rattle.wavefront.specs.declared.labels.Label.{Label}
-use Rattle.wavefront.specs.declared.labels.TheConstants.{FAR}
+use Rattle.wavefront.specs.declared.rows.Label.{Label}
+use Rattle.wavefront.specs.declared.rows.TheConstants.{FAR}
 use Rattle.wavefront.specs.Space.{HasEdge, entry_cost}
 use Rattle.wavefront.specs.Wave.{key_of}
 use Rattle.wavefront.specs.Steps.{IsPreferred}

@@ -8,3 +8,6 @@ returns-clause-went g c = on_ok_weaker c.offer_all.result (λ went b edge inside
 
 pub offer_all-requires-clause-edges : goal.offer_all-requires-clause-edges
 offer_all-requires-clause-edges g c = λ to has. (c.in_ok-successors.ensures to).0 (subst (λ xs. Contains xs to) c.deref.ensures has)
+
+pub offer_all-requires-clause-first : goal.offer_all-requires-clause-first
+offer_all-requires-clause-first g c = λ to has less. c.first_useful-first.ensures to ((c.in_ok-successors.ensures to).0 (subst (λ xs. Contains xs to) c.deref.ensures has)) less

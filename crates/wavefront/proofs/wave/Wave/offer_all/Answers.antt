@@ -1,6 +1,6 @@
-use Rattle.std.proofs.Common.{arith}
+use Rattle.std.proofs.Common.{arith, inl}
 use Rattle.std.proofs.lemmas.List.Elements.{Contains-get_or}
-use Rattle.wavefront.proofs.Lower.{spreads_refl, spreads_trans}
+use Rattle.wavefront.proofs.Lower.{lowers_refl, spreads_refl, still_dead, spreads_trans}
 use Rattle.wavefront.proofs.Went.{went_more, went_all}
 use Rattle.wavefront.proofs.wave.Wave.offer_all.Goals as goal
 
@@ -18,6 +18,15 @@ loop-to-preserved g c = record {
   wave = c.in_ok-offer.ensures.wave;
   spreads = spreads_trans c.args.space.now c.args.self.now c.loop-to.self c.offer.new.self c.loop-to.invariant.spreads c.in_ok-offer.ensures.spreads;
   went = went_more c.args.space.now c.args.next.now c.loop-to.self c.offer.new.self c.args.key c.loop-to.to-index c.loop-to.invariant.went c.in_ok-offer.ensures.spreads.lowers c.in_ok-offer.ensures.at;
+}
+
+-- a node that is passed over leads to no sink that is open
+pub loop-to-preserved-then-to-first : goal.loop-to-preserved-then-to-first
+loop-to-preserved-then-to-first g c = record {
+  wave = c.loop-to.invariant.wave;
+  spreads = c.loop-to.invariant.spreads;
+  went = went_more c.args.space.now c.args.next.now c.loop-to.self c.loop-to.self c.args.key c.loop-to.to-index c.loop-to.invariant.went (lowers_refl c.args.space.now c.loop-to.self)
+      (λ _. inl (still_dead c.args.space.now c.args.self.now c.loop-to.self _ c.loop-to.invariant.spreads.lowers.starts (c.requires.first _ (Contains-get_or c.args.next.now c.loop-to.to-index 0 c.loop-to-test.true) c.if-to-first.true)));
 }
 
 pub returns-clause-went : goal.returns-clause-went

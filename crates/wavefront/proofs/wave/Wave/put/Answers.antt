@@ -5,8 +5,8 @@ use Rattle.wavefront.proofs.wave.Wave.put.Goals as goal
 
 pub returns-clause-lowered : goal.returns-clause-lowered
 returns-clause-lowered g c = on_ok_weaker c.push.result (λ moved. record {
-  labels = c.set.ensures ∙ ap (λ w. slice_set w.labels c.args.node (record { key = g.K.Key.value c.args.key; parent = c.args.parent })) c.self.view_is;
-  entrances = ap (λ w. w.entrances) c.self.view_is;
+  labels = c.set_label.ensures.labels ∙ ap (λ w. slice_set w.labels c.args.node (record { key = g.K.Key.value c.args.key; parent = c.args.parent })) c.self.view_is;
+  entrances = c.set_label.ensures.entrances ∙ ap (λ w. w.entrances) c.self.view_is;
   key = g.K.Key.value c.nearest_by-nearest.result;
   above = c.nearest_by-nearest.ensures.above;
   low = c.nearest_by-nearest.ensures.low;

@@ -1,6 +1,6 @@
 use Rattle.std.proofs.Common.{◌<◌, arith, ap, inl, ◌∙◌, length}
 use Rattle.std.proofs.lemmas.Result.{on_ok_weaker}
-use Rattle.wavefront.specs.declared.labels.Label.{Label}
+use Rattle.wavefront.specs.declared.rows.Label.{Label}
 use Rattle.wavefront.specs.Wave.{IsOrigin}
 use Rattle.wavefront.specs.Steps.{IsLowered}
 use Rattle.wavefront.proofs.Lower.{label_here, lowered_complete, lowered_wave, started_origins}
