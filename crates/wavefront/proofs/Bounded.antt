@@ -23,11 +23,12 @@ module _ (s : Space) (w : Labelled) (ok : IsSpace s) (serves : Serves s w) where
 
   pub bound_low : (v wires : ℕ) → IsFewest s.device w.boxes v wires → IsBound s w v (left_over wires)
   bound_low v wires fewest b way target walk = elim serves.around [
-    | inl none ↦ absurd (fewest.some none)
+    | inl none ↦ absurd (let f = fewest.fewest in f.some none)
     | inr around ↦
         let place = around b target in
         let there = fewest.there in
-        let low = fewest.few place.0 place.1 in
+        let from = fewest.fewest in
+        let low = from.few place.0 place.1 in
         let same = told v fewest.wire place.0 there in
         let left = way_left s ok w.boxes.short serves.short place.0 b place.2 (ok.are_sinks b target.0) way v there.node there.there there.is walk in
         omega (arith, low, same, left)
@@ -36,11 +37,12 @@ module _ (s : Space) (w : Labelled) (ok : IsSpace s) (serves : Serves s w) where
   -- from a wire that is far from all sinks each edge leads to a wire, or to no sink
   pub far_dead : (v u first : ℕ) → IsFar s.device w.boxes v → ((i : ℕ) → i < node_count s → is_wire_at s.device i ≡ nat_le first i) → HasEdge s v u → u < first → IsDead s w u
   far_dead v u first far wires edge less b way target walk = elim serves.around [
-    | inl none ↦ absurd (far.fewest.some none)
+    | inl none ↦ absurd (let f = far.fewest.fewest in f.some none)
     | inr around ↦
         let place = around b target in
         let there = far.fewest.there in
-        let low = far.fewest.few place.0 place.1 in
+        let least = far.fewest.fewest in
+        let low = least.few place.0 place.1 in
         let same = told v far.fewest.wire place.0 there in
         let some = far.some in
         let e = edge_nodes s.device v u edge in

@@ -65,12 +65,16 @@ IsCovered boxes inner = (outer : BoundingBox) × Contains boxes outer × IsWithi
 abbrev pub CoversMore : (old new : List BoundingBox) → Type 0
 CoversMore old new = (inner : BoundingBox) → IsCovered old inner → IsCovered new inner
 
--- no box tells of fewer wires that lead on from node v, which is one
+-- there are boxes, and none tells of fewer wires that lead on from a wire
+pub record IsFewestFrom (b : Boxes) (wire : Wire) (wires : ℕ) : Type 0 where
+  pub some : b.items ≡ [] → ⊥
+  pub few : (box : BoundingBox) → Contains b.items box → wires ≤ wires_by b.short wire.kind box wire.span
+
+-- none tells of fewer that lead on from node v, which is a wire
 pub record IsFewest (f : Fabric) (b : Boxes) (v wires : ℕ) : Type 0 where
   pub wire : Wire
   pub there : IsWireAt f v wire
-  pub some : b.items ≡ [] → ⊥
-  pub few : (box : BoundingBox) → Contains b.items box → wires ≤ wires_by b.short wire.kind box wire.span
+  pub fewest : IsFewestFrom b wire wires
 
 -- from node v, a wire, another wire at least leads on to each of the boxes
 pub record IsFar (f : Fabric) (b : Boxes) (v : ℕ) : Type 0 where

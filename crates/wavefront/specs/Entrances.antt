@@ -1,8 +1,10 @@
 -- What a search knows of how a net enters nodes.
-use Rattle.std.specs.Prelude.{◌≡◌, ℕ, ◌<◌, ◌⊎◌, List, Option, Some, None, length, slice_index_or}
+use Rattle.std.specs.Prelude.{◌≡◌, ℕ, ◌<◌, ◌⊎◌, List, Option, Some, None, IfSome, length, slice_index_or}
 use Rattle.wavefront.specs.declared.entrances.Entrance.{Entrance}
+use Rattle.wavefront.specs.declared.entrances.Step.{Step}
 use Rattle.wavefront.specs.declared.entrances.Entrance.TheVariants.{Closed, At, Dear}
 use Rattle.wavefront.specs.Space.{Space, IsInside, IsWanted, entry_cost, node_count}
+use Rattle.wavefront.specs.Bounds.{IsWireAt}
 use Rattle.wavefront.specs.Ways.{IsWay}
 
 -- no way leads on from v to a sink of the net
@@ -17,6 +19,11 @@ IsClosed s v = (IsInside s v → ⊥) ⊎ LeadsNowhere s v
 pub record IsEntrance (s : Space) (v cost : ℕ) : Type 0 where
   pub price : cost ≡ entry_cost s v
   pub inside : IsInside s v
+
+-- v may be entered so
+pub record IsStep (s : Space) (v : ℕ) (step : Step) : Type 0 where
+  pub entrance : IsEntrance s v step.cost
+  pub wire : IfSome step.wire (IsWireAt s.device v)
 
 -- at this cost, or dear where it is too great to be kept
 abbrev pub IsAtCost : (cost : ℕ) → Entrance → Type 0

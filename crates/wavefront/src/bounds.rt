@@ -3,10 +3,10 @@
 ghost use Rattle.std.specs.Prelude.{◌≡◌, ◌+◌, ◌*◌, ◌<◌, ◌≤◌, [], Contains, IfSome, IsTrue, OnOk, false, length};
 ghost use Rattle.wavefront.specs.declared.boxes.BoundingBox.{BoundingBox};
 ghost use Rattle.wavefront.specs.WaveState.{boxes_of};
-ghost use Rattle.wavefront.specs.Bounds.{CoversMore, IsCovered, IsFewest, gap, left_over, wires_by, wires_for};
+ghost use Rattle.wavefront.specs.Bounds.{CoversMore, IsCovered, IsFewestFrom, gap, left_over, wires_by, wires_for};
 
 use crate::boxes::BoundingBox;
-use crate::space::{SearchSpace, Wire};
+use crate::space::Wire;
 use rr_graph::Kind;
 use std::alloc::{AllocError, Global};
 
@@ -142,16 +142,13 @@ impl Bounds {
         fewest
     }
 
-    /// How many wires lead on from a wire, at least; None for other nodes, and without boxes.
-    pub(crate) fn fewest(&self, space: &SearchSpace<'_>, node: u32) -> Option<u64>
-        ensures { IfSome result (IsFewest space.now.device (boxes_of self.now) node) }
+    /// How many wires lead on from a wire, at least; None without boxes.
+    pub(crate) fn fewest_from(&self, wire: Wire) -> Option<u64>
+        ensures { IfSome result (IsFewestFrom (boxes_of self.now) wire) }
     {
         if self.boxes.is_empty() {
             return None;
         }
-        match space.wire(node) {
-            Some(wire) => Some(self.fewest_by(wire)),
-            None => None,
-        }
+        Some(self.fewest_by(wire))
     }
 }

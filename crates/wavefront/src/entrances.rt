@@ -3,9 +3,17 @@
 ghost use Rattle.std.specs.Prelude.{◌≡◌, ◌<◌, IfSome, IfNone};
 ghost use Rattle.wavefront.specs.Space.{IsSpace, node_count};
 ghost use Rattle.wavefront.specs.Entrances.{IsAtCost, IsClosed, IsEntrance, Tells};
+ghost use Rattle.wavefront.specs.Bounds.{IsWireAt};
 ghost use Rattle.wavefront.specs.Rows.{IsKept};
 
-use crate::space::SearchSpace;
+use crate::space::{SearchSpace, Wire};
+
+/// What a net pays to enter a node, and the wire that the node is, where that was looked up.
+#[derive(Clone, Copy, Debug, PartialEq, Eq)]
+pub(crate) struct Step {
+    pub(crate) cost: u128,
+    pub(crate) wire: Option<Wire>,
+}
 
 /// How a net enters a node, as it is kept.
 #[derive(Clone, Copy, Debug, PartialEq, Eq)]
@@ -19,8 +27,36 @@ pub(crate) enum Entrance {
 }
 
 impl Entrance {
-    /// How the net enters a node.
-    pub(crate) fn of(space: &SearchSpace<'_>, node: u32) -> Entrance
+    /// How the net enters a node, and the wire that it is.
+    pub(crate) fn of(space: &SearchSpace<'_>, node: u32) -> (Entrance, Option<Wire>)
+        requires space { IsSpace space.now }
+        requires node_in { node < node_count space.now }
+        ensures told { Tells space.now node result.0 }
+        ensures kept { IsKept result.0 }
+        ensures wire { IfSome result.1 (IsWireAt space.now.device node) }
+    {
+        match space.wire(node) {
+            Some(wire) => (Entrance::of_wire(space, node, wire), Some(wire)),
+            None => (Entrance::of_other(space, node), None),
+        }
+    }
+
+    /// How the net enters a wire.
+    fn of_wire(space: &SearchSpace<'_>, node: u32, wire: Wire) -> Entrance
+        requires node_in { node < node_count space.now }
+        requires wire { IsWireAt space.now.device node wire }
+        ensures told { Tells space.now node result }
+        ensures kept { IsKept result }
+    {
+        if space.is_wire_inside(node, wire) {
+            Entrance::at(space.cost(node))
+        } else {
+            Entrance::Closed
+        }
+    }
+
+    /// How the net enters a node that is no wire.
+    fn of_other(space: &SearchSpace<'_>, node: u32) -> Entrance
         requires space { IsSpace space.now }
         requires node_in { node < node_count space.now }
         ensures told { Tells space.now node result }

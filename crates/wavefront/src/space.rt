@@ -180,6 +180,15 @@ impl<'a> SearchSpace<'a> {
         }
     }
 
+    /// Whether a wire is inside the net's box.
+    #[tactic(auto, unfolding(crate::specs::Boxes::is_in_box))]
+    pub(crate) fn is_wire_inside(&self, node: u32, wire: Wire) -> bool
+        requires { IsWireAt self.now.device node wire }
+        ensures { result ≡ is_in_box self.now.device self.now.bb self.now.net node }
+    {
+        self.terminals.touches(self.bb, wire.span)
+    }
+
     /// What it costs to enter a node.
     #[tactic(auto, using(crate::proofs::Spaces::room_is, crate::proofs::Spaces::some_room), unfolding(crate::specs::Space::entry_cost))]
     pub(crate) fn cost(&self, node: u32) -> u128

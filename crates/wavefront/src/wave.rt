@@ -3,11 +3,11 @@
 ghost use Rattle.std.specs.Prelude.{◌≡◌, ℕ, ◌+◌, ◌-◌, ◌<◌, ◌≤◌};
 
 use crate::bounds::Bounds;
-use crate::entrances::Entrance;
+use crate::entrances::{Entrance, Step};
 use crate::keys::Key;
 use crate::queue::{Entry, Queue};
 use crate::rows::{FAR, Label, Rows};
-use crate::space::SearchSpace;
+use crate::space::{SearchSpace, Wire};
 use smallvec::SmallVec;
 use std::alloc::{AllocError, Global};
 use std::marker::Model;
@@ -37,8 +37,8 @@ impl<K: Key> Model for Wave<K> {
 }
 
 impl<K: Key> Wave<K> {
-    ghost use Rattle.std.specs.Prelude.{length, replicate, [], ◌==◌, ◌⊎◌, OnOk, IfOk, IsTrue, eqb, false, not};
-    ghost use Rattle.wavefront.specs.Bounds.{IsFar};
+    ghost use Rattle.std.specs.Prelude.{length, replicate, [], ◌==◌, ◌⊎◌, OnOk, IfOk, IfSome, IsTrue, eqb, false, not};
+    ghost use Rattle.wavefront.specs.Bounds.{IsFar, IsFewest, IsWireAt};
     ghost use Rattle.wavefront.specs.Label.{unreached};
     ghost use Rattle.wavefront.specs.Space.{IsSpace, HasEdge, node_count};
     ghost use Rattle.wavefront.specs.Wave.{IsWave, IsComplete, IsDead, IsOrigin, StillComplete, IsBound, key_of, label_at};
@@ -107,13 +107,29 @@ impl<K: Key> Wave<K> {
         self.rows.label(node)
     }
 
+    /// How many wires lead on from a wire, at least; None for other nodes, and where nothing is known. The node may have been
+    /// looked up.
+    fn fewest(&self, space: &SearchSpace<'_>, node: u32, known: Option<Wire>) -> Option<u64>
+        requires { IfSome known (IsWireAt space.now.device node) }
+        ensures { IfSome result (IsFewest space.now.device self.now.boxes node) }
+    {
+        if let Some(wire) = known {
+            return self.bounds.fewest_from(wire);
+        }
+        match space.wire(node) {
+            Some(wire) => self.bounds.fewest_from(wire),
+            None => None,
+        }
+    }
+
     /// No way from the node to a sink that the wave has yet to take costs less.
-    fn bound(&self, space: &SearchSpace<'_>, node: u32) -> u128
+    fn bound(&self, space: &SearchSpace<'_>, node: u32, wire: Option<Wire>) -> u128
         requires space { IsSpace space.now }
         requires wave { IsWave space.now self.now }
+        requires wire { IfSome wire (IsWireAt space.now.device node) }
         ensures { IsBound space.now self.now node result }
     {
-        match self.bounds.fewest(space, node) {
+        match self.fewest(space, node, wire) {
             Some(wires) => 320 * u128::from(wires) + 304,
             None => 0,
         }
@@ -123,7 +139,7 @@ impl<K: Key> Wave<K> {
     fn is_far(&self, space: &SearchSpace<'_>, node: u32) -> bool
         ensures { IsTrue result → IsFar space.now.device self.now.boxes node }
     {
-        match self.bounds.fewest(space, node) {
+        match self.fewest(space, node, None) {
             Some(wires) => wires > 0,
             None => false,
         }
@@ -166,13 +182,14 @@ impl<K: Key> Wave<K> {
     }
 
     /// A node's label and what a way from it costs at least, or the label alone where that doesn't fit.
-    fn nearest_by(&self, space: &SearchSpace<'_>, node: u32, key: K) -> K
+    fn nearest_by(&self, space: &SearchSpace<'_>, node: u32, key: K, wire: Option<Wire>) -> K
         requires space { IsSpace space.now }
         requires wave { IsWave space.now self.now }
+        requires wire { IfSome wire (IsWireAt space.now.device node) }
         ensures above { K.value key ≤ K.value result }
         ensures low { IsBound space.now self.now node (K.value result - K.value key) }
     {
-        let bound = self.bound(space, node);
+        let bound = self.bound(space, node, wire);
         match K::fit(key.wide().saturating_add(bound)) {
             Some(nearest) => nearest,
             None => key,
@@ -186,15 +203,17 @@ impl<K: Key> Wave<K> {
         node: u32,
         key: K,
         parent: u32,
+        wire: Option<Wire>,
     ) -> Result<(), AllocError>
         requires space { IsSpace space.now }
         requires wave { IsWave space.now self.old }
         requires node_in { node < length self.old.labels }
+        requires wire { IfSome wire (IsWireAt space.now.device node) }
         ensures lowered { OnOk result (IsLowered space.now self.old self.new node
             (record { key = K.value key; parent = parent })) }
         ensures rows { length self.new.labels ≡ length self.old.labels }
     {
-        let nearest = self.nearest_by(space, node, key);
+        let nearest = self.nearest_by(space, node, key, wire);
         self.rows.set_label(node, key, parent);
         self.queue.push(nearest, key, node)
     }
@@ -208,16 +227,23 @@ impl<K: Key> Wave<K> {
     }
 
     /// Lowers a node's label, or leaves it out where it doesn't fit.
-    fn lower(&mut self, space: &SearchSpace<'_>, node: u32, label: Label) -> Result<(), AllocError>
+    fn lower(
+        &mut self,
+        space: &SearchSpace<'_>,
+        node: u32,
+        label: Label,
+        wire: Option<Wire>,
+    ) -> Result<(), AllocError>
         requires space { IsSpace space.now }
         requires wave { IsWave space.now self.old }
         requires node_in { node < length self.old.labels }
+        requires wire { IfSome wire (IsWireAt space.now.device node) }
         ensures lowered { OnOk result (IsLowered space.now self.old self.new node label ⊎
             LeavesOut self.old self.new label.key) }
         ensures rows { length self.new.labels ≡ length self.old.labels }
     {
         match K::fit(label.key) {
-            Some(key) => self.put(space, node, key, label.parent),
+            Some(key) => self.put(space, node, key, label.parent, wire),
             None => {
                 self.leave_out(label.key);
                 Ok(())
@@ -248,7 +274,7 @@ impl<K: Key> Wave<K> {
         ensures origins { OnOk result (MoreOrigins self.old self.new node) }
         ensures rows { length self.new.labels ≡ node_count space.now }
     {
-        self.put(space, node, K::zero(), node)
+        self.put(space, node, K::zero(), node, None)
     }
 
     /// Takes the entry that is nearest out of the queue.
@@ -265,8 +291,8 @@ impl<K: Key> Wave<K> {
     ghost use Rattle.wavefront.specs.Space.{IsSpace, HasEdge, IsInside, entry_cost, node_count};
     ghost use Rattle.wavefront.specs.Wave.{IsWave, IsComplete, IsDead, StillComplete, IsOrigin, IsOpen, WentOn, key_of, parent_of};
     ghost use Rattle.wavefront.specs.Boxes.{box_of_node};
-    ghost use Rattle.wavefront.specs.Bounds.{CoversMore, IsCovered};
-    ghost use Rattle.wavefront.specs.Entrances.{IsClosed, IsEntrance, Knows, Tells};
+    ghost use Rattle.wavefront.specs.Bounds.{CoversMore, IsCovered, IsWireAt};
+    ghost use Rattle.wavefront.specs.Entrances.{IsClosed, IsStep, Knows, Tells};
     ghost use Rattle.wavefront.specs.Steps.{IsAimed, IsPopped, IsNearest, IsNoted, IsLowered, IsPreferred, Spreads, SameOrigins, MoreOrigins, WentAlong, NoOrigins, IsTaken, IsLeastKey, IsTraced};
 
     /// Whether the wave starts here.
@@ -287,34 +313,39 @@ impl<K: Key> Wave<K> {
         space.wants(node) && !self.starts_at(node)
     }
 
-    /// How the net enters a node: worked out where the wave comes to it first.
-    fn entrance(&mut self, space: &SearchSpace<'_>, node: u32) -> Entrance
+    /// How the net enters a node, worked out where the wave comes to it first, with the wire that it is.
+    fn entrance(&mut self, space: &SearchSpace<'_>, node: u32) -> (Entrance, Option<Wire>)
         requires space { IsSpace space.now }
         requires wave { IsWave space.now self.old }
         requires node_in { node < node_count space.now }
-        ensures told { Tells space.now node result }
+        ensures told { Tells space.now node result.0 }
+        ensures wire { IfSome result.1 (IsWireAt space.now.device node) }
         ensures known { Knows space.now self.new.entrances }
         ensures noted { IsNoted self.old self.new }
     {
         if let Some(known) = self.rows.entrance(node) {
-            return known;
+            return (known, None);
         }
-        let entrance = Entrance::of(space, node);
+        let (entrance, wire) = Entrance::of(space, node);
         self.rows.set_entrance(node, entrance);
-        entrance
+        (entrance, wire)
     }
 
     /// What the net pays to enter a node, if it has a use for it.
-    fn cost(&mut self, space: &SearchSpace<'_>, node: u32) -> Option<u128>
+    fn step(&mut self, space: &SearchSpace<'_>, node: u32) -> Option<Step>
         requires space { IsSpace space.now }
         requires wave { IsWave space.now self.old }
         requires node_in { node < node_count space.now }
         ensures wave { IsWave space.now self.new }
         ensures noted { IsNoted self.old self.new }
         ensures closed { IfNone result (IsClosed space.now node) }
-        ensures cost { IfSome result (IsEntrance space.now node) }
+        ensures step { IfSome result (IsStep space.now node) }
     {
-        self.entrance(space, node).cost(space, node)
+        let (entrance, wire) = self.entrance(space, node);
+        match entrance.cost(space, node) {
+            Some(cost) => Some(Step { cost, wire }),
+            None => None,
+        }
     }
 
     /// Whether the node has a lesser key.
@@ -410,38 +441,38 @@ impl<K: Key> Wave<K> {
         if self.has_less(to, key) {
             return Ok(());
         }
-        match self.cost(space, to) {
-            Some(cost) => self.enter(space, from, key, to, cost),
+        match self.step(space, to) {
+            Some(step) => self.enter(space, from, key, to, step),
             None => Ok(()),
         }
     }
 
-    /// Enters a node by the way over `from`, at the cost given, where none is better.
+    /// Enters a node by the way over `from`, where none is better.
     fn enter(
         &mut self,
         space: &SearchSpace<'_>,
         from: u32,
         key: u128,
         to: u32,
-        cost: u128,
+        step: Step,
     ) -> Result<(), AllocError>
         requires space { IsSpace space.now }
         requires wave { IsWave space.now self.old }
         requires from { key_of self.old from ≤ key }
         requires near { key < FAR }
         requires edge { HasEdge space.now from to }
-        requires entrance { IsEntrance space.now to cost }
+        requires step { IsStep space.now to step }
         ensures wave { OnOk result (IsWave space.now self.new) }
         ensures spreads { OnOk result (Spreads space.now self.old self.new) }
         ensures at { OnOk result (WentOn space.now self.new key to) }
         ensures rows { length self.new.labels ≡ node_count space.now }
     {
         let label = Label {
-            key: key.saturating_add(cost),
+            key: key.saturating_add(step.cost),
             parent: from,
         };
         if label.key < self.label(to).key {
-            return self.lower(space, to, label);
+            return self.lower(space, to, label, step.wire);
         }
         self.prefer(to, label);
         Ok(())

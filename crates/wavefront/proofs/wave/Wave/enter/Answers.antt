@@ -26,14 +26,14 @@ exact : (g : Over) → (c : After-lower g) → c.saturating_add.result ≡ c.arg
 exact g c =
     let near = c.requires.wave.near c.args.to in
     let less = cheaper g c in
-    omega (arith, near, less, c.requires.entrance.price, c.saturating_add.ensures)
+    omega (arith, near, less, c.requires.step.entrance.price, c.saturating_add.ensures)
 
 pub returns-then-label-clause-wave : goal.returns-then-label-clause-wave
 returns-then-label-clause-wave g c = on_ok_weaker c.lower.result (λ h. elim h [
   | inl r ↦
       let near = c.requires.wave.near c.args.to in
       let less = cheaper g c in
-      let entered = offered_entered c.args.space.now c.args.self.now c.lower.new.self c.args.from c.args.to c.args.key (label g c) r (inside g c) refl less c.requires.from c.requires.near c.requires.edge (c.requires.entrance.inside) (exact g c) in
+      let entered = offered_entered c.args.space.now c.args.self.now c.lower.new.self c.args.from c.args.to c.args.key (label g c) r (inside g c) refl less c.requires.from c.requires.near c.requires.edge (c.requires.step.entrance.inside) (exact g c) in
       lowered_wave c.args.space.now c.args.self.now c.lower.new.self c.args.to (label g c) r c.requires.wave (c.requires.space.range c.args.from c.args.to c.requires.edge) (omega (arith, less)) (omega (arith, near, less)) (λ o. absurd (omega (arith, o.0, less))) (inr entered)
   | inr left ↦ left_wave c.args.space.now c.args.self.now c.lower.new.self c.saturating_add.result left c.requires.wave
 ]) c.lower.ensures.lowered
@@ -57,7 +57,7 @@ there : (g : Over) → (c : After-prefer g) → c.args.to < length c.args.self.n
 there g c = omega (arith, c.requires.wave.rows, c.requires.space.range c.args.from c.args.to c.requires.edge)
 
 exact_other : (g : Over) → (c : After-prefer g) → c.saturating_add.result < FAR → c.saturating_add.result ≡ c.args.key + entry_cost c.args.space.now c.args.to
-exact_other g c near = omega (arith, near, c.requires.entrance.price, c.saturating_add.ensures)
+exact_other g c near = omega (arith, near, c.requires.step.entrance.price, c.saturating_add.ensures)
 
 -- a node that leads to itself is no way to itself
 apart : (g : Over) → (c : After-prefer g) → IsPreferred c.args.self.now c.prefer.new.self c.args.to (other g c) → c.args.from ≡ c.args.to → ⊥
@@ -70,7 +70,7 @@ apart g c r e =
 pub returns-clause-wave : goal.returns-clause-wave
 returns-clause-wave g c = elim c.prefer.ensures [
   | inl e ↦ rw e c.requires.wave
-  | inr r ↦ preferred_wave c.args.space.now c.args.self.now c.prefer.new.self c.args.to c.args.key (other g c) r c.requires.wave (there g c) c.requires.from c.requires.near c.requires.edge (c.requires.entrance.inside) (exact_other g c r.reached) (apart g c r)
+  | inr r ↦ preferred_wave c.args.space.now c.args.self.now c.prefer.new.self c.args.to c.args.key (other g c) r c.requires.wave (there g c) c.requires.from c.requires.near c.requires.edge (c.requires.step.entrance.inside) (exact_other g c r.reached) (apart g c r)
 ]
 
 pub returns-clause-spreads : goal.returns-clause-spreads

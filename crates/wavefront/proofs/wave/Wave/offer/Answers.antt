@@ -16,16 +16,16 @@ pub returns-then-has_less-clause-at : goal.returns-then-has_less-clause-at
 returns-then-has_less-clause-at g c = λ _. inr (let less = c.has_less.ensures.0 c.if-has_less.true in omega (arith, less))
 
 pub returns-in-None-clause-spreads : goal.returns-in-None-clause-spreads
-returns-in-None-clause-spreads g c = noted_spreads c.args.space.now c.args.self.now c.cost.new.self c.cost.ensures.noted
+returns-in-None-clause-spreads g c = noted_spreads c.args.space.now c.args.self.now c.step.new.self c.step.ensures.noted
 
 pub returns-in-None-clause-at : goal.returns-in-None-clause-at
-returns-in-None-clause-at g c = λ inside. closed_went c.args.space.now c.cost.new.self c.args.key c.args.to (rw c.in-None.is at c.cost.ensures.closed) inside
+returns-in-None-clause-at g c = λ inside. closed_went c.args.space.now c.step.new.self c.args.key c.args.to (rw c.in-None.is at c.step.ensures.closed) inside
 
 pub enter-requires-clause-from : goal.enter-requires-clause-from
-enter-requires-clause-from g c = let same = noted_key c.args.space.now c.args.self.now c.cost.new.self c.cost.ensures.noted c.args.from in omega (arith, same, c.requires.from)
+enter-requires-clause-from g c = let same = noted_key c.args.space.now c.args.self.now c.step.new.self c.step.ensures.noted c.args.from in omega (arith, same, c.requires.from)
 
 pub returns-in-Some-clause-spreads : goal.returns-in-Some-clause-spreads
-returns-in-Some-clause-spreads g c = on_ok_weaker c.enter.result (spreads_trans c.args.space.now c.args.self.now c.cost.new.self c.enter.new.self (noted_spreads c.args.space.now c.args.self.now c.cost.new.self c.cost.ensures.noted)) c.enter.ensures.spreads
+returns-in-Some-clause-spreads g c = on_ok_weaker c.enter.result (spreads_trans c.args.space.now c.args.self.now c.step.new.self c.enter.new.self (noted_spreads c.args.space.now c.args.self.now c.step.new.self c.step.ensures.noted)) c.enter.ensures.spreads
 
 pub returns-in-Some-clause-at : goal.returns-in-Some-clause-at
 returns-in-Some-clause-at g c = on_ok_weaker c.enter.result (λ went _. went) c.enter.ensures.at
