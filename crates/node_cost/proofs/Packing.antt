@@ -100,7 +100,7 @@ none_counted m n =
 
 pub none_packed : (words wide : List ℕ) (nodes : ℕ) → words ≡ replicate (4 * (nodes / 128 + 1)) 0 → wide ≡ replicate nodes 0 → IsPacked words wide
 none_packed words wide n few none = record {
-  each = rw (few, none, length-replicate, length-replicate) refl;
+  each = rw (few, none, length-replicate {A = ℕ} (4 * (n / 128 + 1)) 0, length-replicate {A = ℕ} n 0) refl;
   bounded = rw (few, none, none_counted) (All-replicate (λ k. k ≤ 65535) n 0 (omega arith));
 }
 
