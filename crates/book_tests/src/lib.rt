@@ -8,6 +8,8 @@ mod candidates;
 #[cfg(test)]
 mod comparisons;
 #[cfg(test)]
+mod counts;
+#[cfg(test)]
 mod fixtures;
 #[cfg(test)]
 mod memory;

@@ -57,12 +57,12 @@ fn shows_what_is_set(rt: HostRuntime) -> Result<(), Fail> {
     Ok(())
 }
 
-fn set_count(rt: &impl Abort, counts: &mut Counts, id: u32, count: u32) {
+pub(crate) fn set_count(rt: &impl Abort, counts: &mut Counts, id: u32, count: u32) {
     assert!(rt; (id as usize) < counts.len() && count <= 65_535);
     counts.set(id, count);
 }
 
-fn expect_count(rt: &impl Abort, counts: &Counts, id: u32, want: u32) {
+pub(crate) fn expect_count(rt: &impl Abort, counts: &Counts, id: u32, want: u32) {
     assert!(rt; (id as usize) < counts.len());
     assert!(rt; counts.get(id) == want, "node {id}");
 }
@@ -76,7 +76,7 @@ fn three_counts(rt: &(impl Abort + AllocGlobal)) -> Result<Counts, Fail> {
     Ok(counts)
 }
 
-fn take_one(rt: &impl Abort, counts: &mut Counts, id: u32) {
+pub(crate) fn take_one(rt: &impl Abort, counts: &mut Counts, id: u32) {
     assert!(rt; (id as usize) < counts.len());
     assert!(rt; 1 <= counts.get(id));
     counts.take_one(id);

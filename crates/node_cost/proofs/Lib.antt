@@ -1,3 +1,5 @@
 pub mod Views
 pub mod Bounds
 pub mod Examples
+pub mod Shifts
+pub mod Packing

@@ -2,59 +2,68 @@
 
 ghost use Rattle.std.specs.Prelude.{◌≡◌, ℕ, ◌≤◌, ◌<◌, ◌+◌, ◌-◌, length, get_or, set, replicate, IfOk};
 
+use crate::packed::{copy_counts, count, put_count};
 use std::alloc::{AllocError, Global};
 use std::marker::Model;
 
 /// How many nets use each node. Contracts see the list of these numbers.
 #[derive(Debug, Drop)]
 pub struct Counts {
-    counts: Vec<u16>,
+    /// Two bits a node, which are 3 where its number stands in the table.
+    words: Vec<u64>,
+    /// A table of all nodes, in use where a number doesn't fit in two bits.
+    wide: Vec<u16>,
 }
 
 impl Model for Counts {
-    ghost use Rattle.std.specs.Prelude.{List, ℕ, ◌≤◌, All};
+    ghost use Rattle.std.specs.Prelude.{List, ℕ};
+    ghost use Rattle.node_cost.specs.Packed.{counts_of, IsPacked};
 
     ghost Value = { List ℕ };
 
-    ghost view = { λ c. c.counts.items };
+    ghost view = { λ c. counts_of c.words.items c.wide.items };
 
-    ghost invariant = { λ c. All (λ n. n ≤ 65535) c.counts.items };
+    ghost invariant = { λ c. IsPacked c.words.items c.wide.items };
 }
 
 impl Counts {
     /// Zero for each of the nodes.
+    #[tactic(auto, using(crate::proofs::Packing::none_counted, crate::proofs::Packing::none_packed))]
     pub fn new(alloc: Global, nodes: usize) -> Result<Counts, AllocError>
         ensures { IfOk result (λ c. c ≡ replicate nodes 0) }
     {
-        Ok(Counts {
-            counts: vec![in alloc; 0; nodes]?,
-        })
+        let words = vec![in alloc; 0; 4 * (nodes / 128 + 1)]?;
+        let wide = vec![in alloc; 0; nodes]?;
+        Ok(Counts { words, wide })
     }
 
     /// How many nodes there are.
+    #[tactic(auto, using(crate::proofs::Packing::length_counts))]
     pub fn len(&self) -> usize
         ensures count { result ≡ length self.now }
         ensures bounded { (id : ℕ) → get_or self.now id 0 ≤ 65535 }
     {
-        self.counts.len()
+        self.wide.len()
     }
 
     /// How many nets use a node.
+    #[tactic(auto, using(crate::proofs::Packing::length_counts, crate::proofs::Packing::count_is))]
     pub fn get(&self, id: u32) -> u32
         requires { id < length self.now }
         ensures exact { result ≡ get_or self.now id 0 }
         ensures bounded { result ≤ 65535 }
     {
-        u32::from(self.counts[id as usize])
+        count(&self.words, &self.wide, id)
     }
 
     /// So many nets use a node.
+    #[tactic(auto, using(crate::proofs::Packing::length_counts))]
     pub fn set(&mut self, id: u32, count: u32)
         requires there { id < length self.old }
         requires bounded { count ≤ 65535 }
         ensures { self.new ≡ set self.old id count }
     {
-        self.counts[id as usize] = count as u16;
+        put_count(&mut self.words, &mut self.wide, id, count);
     }
 
     /// One more net uses a node.
@@ -63,7 +72,7 @@ impl Counts {
         requires bounded { get_or self.old id 0 < 65535 }
         ensures { self.new ≡ set self.old id (get_or self.old id 0 + 1) }
     {
-        self.counts[id as usize] += 1;
+        self.set(id, self.get(id) + 1);
     }
 
     /// One net less uses a node.
@@ -72,14 +81,15 @@ impl Counts {
         requires used { 1 ≤ get_or self.old id 0 }
         ensures { self.new ≡ set self.old id (get_or self.old id 0 - 1) }
     {
-        self.counts[id as usize] -= 1;
+        self.set(id, self.get(id) - 1);
     }
 
     /// Becomes what the other one is, of as many nodes.
+    #[tactic(auto, using(crate::proofs::Packing::length_counts))]
     pub fn copy_from(&mut self, other: &Counts)
         requires { length self.old ≡ length other.now }
         ensures { self.new ≡ other.now }
     {
-        self.counts.copy_from_slice(&other.counts);
+        copy_counts(&mut self.words, &mut self.wide, &other.words, &other.wide);
     }
 }

@@ -5,9 +5,11 @@
 mod counts;
 mod entry_cost;
 mod histories;
+mod packed;
 mod settings;
 mod shared;
 mod view;
+mod words;
 
 pub use counts::Counts;
 pub use entry_cost::{GREATEST_HISTORY, GREATEST_OTHERS, GREATEST_PRESENT, cost};
