@@ -30,7 +30,7 @@ fn close(alloc: Global, book: &mut Book) -> Result<(), WorkFault>
     }
 }
 
-/// Makes the next iteration of a book by so many workers, closes it, and tells the gate.
+/// Makes the next iteration of a book by so many workers and closes it. The gate is told before and after.
 pub(crate) fn make_iteration<R: Threads + Wait + Sync, G: Gate + Sync>(
     rt: &R,
     alloc: Global,
@@ -45,6 +45,7 @@ pub(crate) fn make_iteration<R: Threads + Wait + Sync, G: Gate + Sync>(
     ensures { IfOk result (IsIteration settings.now crew book) }
 {
     let iteration = book.rows().len() as u32 + 1;
+    gate.opened(iteration, book.problem().nets());
     let (mut book, _reports) = iterate(rt, alloc, book, settings, iteration, crew, gate)?;
     close(alloc, &mut book)?;
     let _sound = book.problem();

@@ -177,7 +177,7 @@ fn run<R: Threads + Wait + Sync, G: Gate + Sync>(
 /// Negotiates a routing of the problem. Iteration by iteration each net is routed anew by so many workers (the first iteration by all of
 /// them, the others by as many as `next_crew` says), on one congestion book, and the iteration is closed: nodes that stay overused cost
 /// more from then on. It ends where each net has a tree and no node is overused; else behind the iteration in which a net found no path,
-/// and behind the last one that the settings allow. After each close the gate is told.
+/// and behind the last one that the settings allow. The gate is told before each iteration and after its close.
 ///
 /// `NoThread`, `Memory` and `Astray` as `iterate` answers them; `Memory` also where a copy, a close or the last check found none. The call
 /// waits for the workers.

@@ -3,7 +3,7 @@
 use crate::fixtures::{
     ALONE, APART, BELOW, MEETING, Part, expect_paths, negotiated, nets, problem, settings, success,
 };
-use crate::gates::Closes;
+use crate::gates::Calls;
 use iteration::Outcome;
 use net_workers::OpenGate;
 use rr_graph::{Device, Problem};
@@ -80,16 +80,22 @@ fn present_factor_moves_a_net(rt: HostRuntime) -> Result<(), Fail> {
     expect_success(&rt, 2, BELOW, 0, 5, paths)
 }
 
-/// Two nets need one wire, and stay overused up to the limit. The gate is told of each close.
+/// The gate was told so of iterations before their first draws and after their closes.
+fn expect_told(rt: &impl Abort, gate: &Calls, opened: (u32, u32), closed: (u32, u32, u32, u32)) {
+    assert!(rt; gate.opened() == opened, "{:?}", gate.opened());
+    assert!(rt; gate.closed() == closed, "{:?}", gate.closed());
+}
+
+/// Two nets need one wire, and stay overused up to the limit. The gate is told of each iteration and each close.
 fn expect_overused<R: Abort + AllocGlobal + Threads + Wait + Sync>(
     rt: &R,
     limit: u32,
 ) -> Result<(), Fail> {
     let settings = settings(rt, 20, limit)?;
-    let gate = Closes::none();
+    let gate = Calls::none();
     let outcome = negotiated(rt, problem(rt, 1, MEETING)?, &settings, 1, &gate)?;
     expect_left(rt, &outcome, (0, 1, limit));
-    assert!(rt; gate.told() == (limit, limit, 0, 1), "{:?}", gate.told());
+    expect_told(rt, &gate, (limit, 2), (limit, limit, 0, 1));
     Ok(())
 }
 
@@ -116,9 +122,9 @@ fn cut_off(rt: &impl AllocGlobal) -> Result<Problem, Fail> {
 #[test]
 fn one_net_is_stuck(rt: HostRuntime) -> Result<(), Fail> {
     let settings = settings(&rt, 20, 30)?;
-    let gate = Closes::none();
+    let gate = Calls::none();
     let outcome = negotiated(&rt, cut_off(&rt)?, &settings, 1, &gate)?;
     expect_left(&rt, &outcome, (1, 0, 1));
-    assert!(rt; gate.told() == (1, 1, 1, 0), "{:?}", gate.told());
+    expect_told(&rt, &gate, (1, 2), (1, 1, 1, 0));
     Ok(())
 }

@@ -2,6 +2,9 @@
 
 /// What is called between the steps of an iteration, with no lock held.
 pub trait Gate {
+    /// Before the first draw of an iteration, in which each of so many nets has its turn.
+    fn opened(&self, _iteration: u32, _nets: u32) {}
+
     /// After the draw of a net, before it is searched for.
     fn between(&self, worker: u32, net: u32);
 

@@ -35,9 +35,9 @@ struct Standing {
     iteration: u32,
     /// How many nets had their turn in the iteration.
     turns: u32,
-    /// How many nets there are; 0 before the first close.
+    /// How many nets there are.
     nets: u32,
-    /// How many nodes were overused after the last close.
+    /// How many nodes were overused after the last close; none was closed before the first iteration.
     overused: u32,
 }
 
@@ -53,14 +53,11 @@ impl fmt::Display for Standing {
         if width > 0 {
             write!(f, "width {width}, ")?;
         }
-        if nets == 0 {
-            write!(f, "iteration {iteration}: {turns} nets")
-        } else {
-            write!(
-                f,
-                "iteration {iteration}: {turns} of {nets} nets, {overused} nodes overused before"
-            )
+        write!(f, "iteration {iteration}: {turns} of {nets} nets")?;
+        if iteration > 1 {
+            write!(f, ", {overused} nodes overused before")?;
         }
+        Ok(())
     }
 }
 
@@ -76,7 +73,6 @@ pub struct Progress<'a, R> {
     width: AtomicU32,
     iteration: AtomicU32,
     turns: AtomicU32,
-    /// How many nets there are, which the first close tells; 0 before it.
     nets: AtomicU32,
     overused: AtomicU32,
     /// When the line is to be written anew, in milliseconds.
@@ -135,6 +131,12 @@ impl<'a, R: Eprint + Clock> Progress<'a, R> {
 }
 
 impl<R: Eprint + Clock> Gate for Progress<'_, R> {
+    fn opened(&self, iteration: u32, nets: u32) {
+        self.iteration.store(iteration, Ordering::SeqCst);
+        self.turns.store(0, Ordering::SeqCst);
+        self.nets.store(nets, Ordering::SeqCst);
+    }
+
     fn between(&self, _worker: u32, _net: u32) {}
 
     fn searched(&self, _worker: u32, _net: u32) {
@@ -148,14 +150,7 @@ impl<R: Eprint + Clock> Gate for Progress<'_, R> {
         }
     }
 
-    fn closed(&self, iteration: u32, _unrouted: u32, overused: u32) {
-        if !self.is_wanted {
-            return;
-        }
-        self.nets
-            .store(self.turns.swap(0, Ordering::SeqCst), Ordering::SeqCst);
-        self.iteration
-            .store(iteration.saturating_add(1), Ordering::SeqCst);
+    fn closed(&self, _iteration: u32, _unrouted: u32, overused: u32) {
         self.overused.store(overused, Ordering::SeqCst);
     }
 }
@@ -163,10 +158,6 @@ impl<R: Eprint + Clock> Gate for Progress<'_, R> {
 impl<R: Eprint + Clock> TrialGate for Progress<'_, R> {
     fn tries(&self, width: u32) {
         self.width.store(width, Ordering::SeqCst);
-        self.iteration.store(1, Ordering::SeqCst);
-        self.turns.store(0, Ordering::SeqCst);
-        self.nets.store(0, Ordering::SeqCst);
-        self.overused.store(0, Ordering::SeqCst);
     }
 
     fn tried(&self, width: u32, outcome: &Outcome) {
