@@ -1,26 +1,26 @@
-//! Counts of 3 and more, which two bits don't hold, beside lesser ones.
+//! Counts of 15 and more, which four bits don't hold, beside lesser ones.
 
 use crate::views::{expect_count, set_count, take_one};
 use node_cost::Counts;
 use std::process::Abort;
 use std::test::Fail;
 
-/// So many nodes: two groups of 128, and some in a third.
-const NODES: usize = 300;
+/// So many nodes: two blocks of 1,024, and some in a third.
+const NODES: usize = 2500;
 
-/// The first and the last nodes of words of 32 and groups of 128, each with a count.
+/// The first and the last nodes of words of 16 and blocks of 1,024, each with a count.
 const ENDS: &[(u32, u32)] = &[
-    (0, 3),
-    (31, 65_535),
-    (32, 2),
-    (33, 4),
-    (127, 70),
-    (128, 1),
-    (159, 255),
-    (255, 3),
-    (256, 256),
-    (298, 2),
-    (299, 300),
+    (0, 15),
+    (15, 65_535),
+    (16, 14),
+    (17, 16),
+    (1_023, 70),
+    (1_024, 1),
+    (1_039, 255),
+    (2_047, 15),
+    (2_048, 256),
+    (2_498, 14),
+    (2_499, 300),
 ];
 
 /// One net more uses a node.
@@ -98,7 +98,7 @@ fn count_in(ends: &[(u32, u32)], id: u32) -> u32 {
 
 /// Each node has the count that is listed, or none.
 fn expect_each(rt: &impl Abort, counts: &Counts, ends: &[(u32, u32)]) {
-    for id in 0..300 {
+    for id in 0..2500 {
         expect_count(rt, counts, id, count_in(ends, id));
     }
 }
@@ -107,15 +107,15 @@ fn expect_each(rt: &impl Abort, counts: &Counts, ends: &[(u32, u32)]) {
 fn copy_ends(rt: &impl Abort, counts: &mut Counts, other: &mut Counts) {
     set_each(rt, counts, ENDS);
     expect_each(rt, counts, ENDS);
-    set_count(rt, other, 31, 7);
-    set_count(rt, other, 32, 8);
-    set_count(rt, other, 200, 9);
+    set_count(rt, other, 15, 7);
+    set_count(rt, other, 16, 80);
+    set_count(rt, other, 1_200, 90);
     copy(rt, other, counts);
     expect_each(rt, other, ENDS);
 }
 
 #[test]
-fn copies_ends_of_words_and_groups(rt: HostRuntime) -> Result<(), Fail> {
+fn copies_ends_of_words_and_blocks(rt: HostRuntime) -> Result<(), Fail> {
     let mut counts = Counts::new(rt.alloc(), NODES)?;
     let mut other = Counts::new(rt.alloc(), NODES)?;
     copy_ends(&rt, &mut counts, &mut other);

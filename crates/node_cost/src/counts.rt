@@ -9,10 +9,12 @@ use std::marker::Model;
 /// How many nets use each node. Contracts see the list of these numbers.
 #[derive(Debug, Drop)]
 pub struct Counts {
-    /// Two bits a node, which are 3 where its number stands in the table.
+    /// Four bits a node, which are 15 where its number stands in the table.
     words: Vec<u64>,
-    /// A table of all nodes, in use where a number doesn't fit in two bits.
+    /// A table of all nodes, in use where a number doesn't fit in four bits.
     wide: Vec<u16>,
+    /// The blocks of 1,024 nodes of which one stood in the table.
+    marks: Vec<bool>,
 }
 
 impl Model for Counts {
@@ -23,7 +25,7 @@ impl Model for Counts {
 
     ghost view = { λ c. counts_of c.words.items c.wide.items };
 
-    ghost invariant = { λ c. IsPacked c.words.items c.wide.items };
+    ghost invariant = { λ c. IsPacked c.words.items c.wide.items c.marks.items };
 }
 
 impl Counts {
@@ -32,9 +34,10 @@ impl Counts {
     pub fn new(alloc: Global, nodes: usize) -> Result<Counts, AllocError>
         ensures { IfOk result (λ c. c ≡ replicate nodes 0) }
     {
-        let words = vec![in alloc; 0; 4 * (nodes / 128 + 1)]?;
+        let words = vec![in alloc; 0; nodes / 16 + 1]?;
         let wide = vec![in alloc; 0; nodes]?;
-        Ok(Counts { words, wide })
+        let marks = vec![in alloc; false; nodes / 1024 + 1]?;
+        Ok(Counts { words, wide, marks })
     }
 
     /// How many nodes there are.
@@ -63,7 +66,7 @@ impl Counts {
         requires bounded { count ≤ 65535 }
         ensures { self.new ≡ set self.old id count }
     {
-        put_count(&mut self.words, &mut self.wide, id, count);
+        put_count(&mut self.words, &mut self.wide, &mut self.marks, id, count);
     }
 
     /// One more net uses a node.
@@ -90,6 +93,13 @@ impl Counts {
         requires { length self.old ≡ length other.now }
         ensures { self.new ≡ other.now }
     {
-        copy_counts(&mut self.words, &mut self.wide, &other.words, &other.wide);
+        copy_counts(
+            &mut self.words,
+            &mut self.wide,
+            &other.words,
+            &other.wide,
+            &other.marks,
+        );
+        self.marks.copy_from_slice(&other.marks);
     }
 }
