@@ -83,6 +83,13 @@ impl Bounds {
         }
     }
 
+    /// Whether all wires are known to be one place long.
+    pub(crate) fn are_short(&self) -> bool
+        ensures { result ≡ self.now.short }
+    {
+        self.short
+    }
+
     /// Takes all boxes away. So many sinks are to share the next ones, on a device whose wires are short or may not be.
     pub(crate) fn clear(&mut self, sinks: usize, short: bool)
         ensures { boxes_of self.new ≡ record { items = []; short = short } }

@@ -135,10 +135,14 @@ impl<K: Key> Wave<K> {
         }
     }
 
-    /// Whether another wire at least leads on from a wire to each sink that the wave has yet to take.
+    /// Whether another wire at least leads on from a wire to each sink that the wave has yet to take. Where all wires are one place
+    /// long that is not looked for, since few pins stand beside each.
     fn is_far(&self, space: &SearchSpace<'_>, node: u32) -> bool
         ensures { IsTrue result → IsFar space.now.device self.now.boxes node }
     {
+        if self.bounds.are_short() {
+            return false;
+        }
         match self.fewest(space, node, None) {
             Some(wires) => wires > 0,
             None => false,
