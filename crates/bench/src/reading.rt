@@ -23,10 +23,7 @@ pub(crate) fn bytes_of(
 }
 
 /// Reads an architecture, and tells how long that took.
-pub(crate) fn read_arch(
-    rt: &(impl Clock + Eprint + AllocGlobal),
-    bytes: &[u8],
-) -> Result<Arch, BenchFault> {
+fn read_arch(rt: &(impl Clock + Eprint + AllocGlobal), bytes: &[u8]) -> Result<Arch, BenchFault> {
     let start = Instant::now(rt)?;
     let arch = arch_file::parse(rt.alloc(), bytes)?;
     let time = start.elapsed(rt)?;
@@ -35,7 +32,7 @@ pub(crate) fn read_arch(
 }
 
 /// Reads a netlist, and tells how long that took.
-pub(crate) fn read_netlist<'a>(
+fn read_netlist<'a>(
     rt: &(impl Clock + Eprint + AllocGlobal),
     bytes: &'a [u8],
     arch: &Arch,
@@ -48,7 +45,7 @@ pub(crate) fn read_netlist<'a>(
 }
 
 /// Reads a placement, and tells how long that took.
-pub(crate) fn read_placement(
+fn read_placement(
     rt: &(impl Clock + Eprint + AllocGlobal),
     bytes: &[u8],
     arch: &Arch,
