@@ -8,6 +8,8 @@ mod edges;
 mod fault;
 mod figure;
 mod look_ups;
+mod negotiation;
+mod parts;
 mod reading;
 mod resident;
 mod routes;
@@ -15,6 +17,7 @@ mod search;
 mod size;
 mod spread;
 mod trees;
+mod whole;
 
 use archs::{LONG_ARCH, SMALL_ARCH};
 use device::measure_device;
@@ -25,6 +28,7 @@ use std::process::ExitCode;
 use std::rt::Runtime;
 use std::thread::Threads;
 use std::{env, io};
+use whole::{PlacedDesign, measure_run};
 
 /// The status where a measurement ended early.
 const ENDED_EARLY: u8 = 1;
@@ -51,6 +55,7 @@ fn run(rt: &(impl Runtime + Threads + Sync + AllocGlobal)) -> u8 {
             "route" => run_routing(rt, given, Measured::Routing),
             "book" => run_routing(rt, given, Measured::Book),
             "search" => run_routing(rt, given, Measured::Search),
+            "run" => run_whole(rt, given),
             _ => usage(rt),
         },
     }
@@ -65,7 +70,7 @@ fn words(rt: &(impl Runtime + AllocGlobal)) -> io::Result<Vec<String>> {
 fn usage(rt: &impl Runtime) -> u8 {
     let _ = eprintln!(rt;
         "usage: bench [device|long [NX NY W]], bench read ARCH NET [PLACE], \
-         or bench route|book|search ARCH NET PLACE ROUTE W"
+         bench route|book|search ARCH NET PLACE ROUTE W, or bench run ARCH NET PLACE W"
     );
     BAD_WORDS
 }
@@ -131,6 +136,28 @@ fn run_routing(
 ) -> u8 {
     match routed_design(given) {
         Some((design, width)) => status(rt, measure_routed(rt, design, width, measured)),
+        None => usage(rt),
+    }
+}
+
+/// The placed design and the width that words name, None for words that name none.
+fn placed_design(given: &[String]) -> Option<(PlacedDesign<'_>, u32)> {
+    let [arch, netlist, placement, width] = given else {
+        return None;
+    };
+    let width = tracks(width.as_str())?;
+    let design = PlacedDesign {
+        arch: arch.as_str(),
+        netlist: netlist.as_str(),
+        placement: placement.as_str(),
+    };
+    Some((design, width))
+}
+
+/// Measures a run that routes the files that are given.
+fn run_whole(rt: &(impl Runtime + Threads + Sync + AllocGlobal), given: &[String]) -> u8 {
+    match placed_design(given) {
+        Some((design, width)) => status(rt, measure_run(rt, design, width)),
         None => usage(rt),
     }
 }

@@ -23,7 +23,10 @@ pub(crate) fn bytes_of(
 }
 
 /// Reads an architecture, and tells how long that took.
-fn read_arch(rt: &(impl Clock + Eprint + AllocGlobal), bytes: &[u8]) -> Result<Arch, BenchFault> {
+pub(crate) fn read_arch(
+    rt: &(impl Clock + Eprint + AllocGlobal),
+    bytes: &[u8],
+) -> Result<Arch, BenchFault> {
     let start = Instant::now(rt)?;
     let arch = arch_file::parse(rt.alloc(), bytes)?;
     let time = start.elapsed(rt)?;
@@ -32,7 +35,7 @@ fn read_arch(rt: &(impl Clock + Eprint + AllocGlobal), bytes: &[u8]) -> Result<A
 }
 
 /// Reads a netlist, and tells how long that took.
-fn read_netlist<'a>(
+pub(crate) fn read_netlist<'a>(
     rt: &(impl Clock + Eprint + AllocGlobal),
     bytes: &'a [u8],
     arch: &Arch,
@@ -45,7 +48,7 @@ fn read_netlist<'a>(
 }
 
 /// Reads a placement, and tells how long that took.
-fn read_placement(
+pub(crate) fn read_placement(
     rt: &(impl Clock + Eprint + AllocGlobal),
     bytes: &[u8],
     arch: &Arch,

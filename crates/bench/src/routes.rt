@@ -23,8 +23,8 @@ use vpr_text::{Broken, ByteSink};
 
 /// Counts bytes, and keeps none.
 #[derive(Drop)]
-struct CountingSink {
-    count: u64,
+pub(crate) struct CountingSink {
+    pub(crate) count: u64,
 }
 
 impl ByteSink for CountingSink {
