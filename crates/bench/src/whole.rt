@@ -106,7 +106,6 @@ fn measure_routing(
 }
 
 /// Makes the problem of a placed design, and measures the rest of the run.
-#[tactic(auto, using(route_file::proofs::Making::design_made))]
 fn measure_problem(
     rt: &(impl Clock + Eprint + Threads + Sync + AllocGlobal),
     device: Device,
