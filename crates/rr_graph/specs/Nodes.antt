@@ -1,5 +1,5 @@
 -- The nodes of a device in their order (Betz, Rose and Marquardt 1999, "routing-resource graph"; the order is this project's).
-use Rattle.std.specs.Prelude.{ℕ, ◌+◌, ◌==◌, Bool, true, false, ◌&&◌, nat_le, if◌then◌else◌, List, [], ◌∷◌, length, map, slice_get, Option}
+use Rattle.std.specs.Prelude.{ℕ, ◌+◌, ◌==◌, Bool, true, false, ◌&&◌, nat_le, if◌then◌else◌, List, [], ◌∷◌, length, map, slice_get, Option, Some, None}
 use Rattle.std.specs.List.{flat_map, filter, position}
 use Rattle.std.specs.Option.{option_map, option_map_or}
 use Rattle.arch_file.specs.Architecture.{class_size}
@@ -135,3 +135,8 @@ span_by _ f n = record { x1 = n.x; y1 = n.y; x2 = n.x; y2 = n.y }
 -- the first and the last place of a node
 abbrev pub span_of : Fabric → Node → Span
 span_of f n = span_by n.kind f n
+
+-- a wire's kind, and its first and last place; none where the node is no wire
+unfoldable pub wire_in : Fabric → Option Node → Option (Kind × Span)
+wire_in f None = None
+wire_in f (Some n) = if is_wire n.kind then Some (n.kind, span_of f n) else None

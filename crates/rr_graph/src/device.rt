@@ -4,7 +4,7 @@ ghost use Rattle.std.specs.Prelude.{◌≡◌, ℕ, ◌+◌, ◌^◌, ◌<◌, �
 ghost use Rattle.std.specs.List.Sorted.{IsStrictlyIncreasing};
 ghost use Rattle.std.specs.Option.{option_map};
 ghost use Rattle.rr_graph.specs.Fabric.{Fabric, IsFabric};
-ghost use Rattle.rr_graph.specs.Nodes.{node_count_of, node_at, kind_of_node, is_wire_at, number_of, label_of, capacity_of, span_of};
+ghost use Rattle.rr_graph.specs.Nodes.{node_count_of, node_at, kind_of_node, is_wire_at, number_of, label_of, capacity_of, span_of, wire_in};
 ghost use Rattle.rr_graph.specs.Edges.{edge_between, successors_of, edge_count_of};
 
 use crate::block::Block;
@@ -214,6 +214,23 @@ impl Device {
         match self.node(id) {
             None => None,
             Some(node) => Some(self.layout.span_of(node, self.last_of(id, node))),
+        }
+    }
+
+    /// The kind of a wire and the places that it passes, from one look-up; None for what is no wire.
+    #[tactic(auto, unfolding(crate::specs::Nodes::wire_in))]
+    pub fn wire(&self, id: u32) -> Option<(Kind, Span)>
+        ensures { result ≡ wire_in self.now (node_at self.now id) }
+    {
+        if id < self.first_wire() {
+            return None;
+        }
+        match self.node_of(id) {
+            None => None,
+            Some(node) => Some((
+                node.kind,
+                self.layout.span_of(node, self.last_of(id, node)),
+            )),
         }
     }
 
