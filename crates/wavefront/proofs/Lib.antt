@@ -10,6 +10,7 @@ pub mod Waits
 pub mod Went
 pub mod Wanted
 pub mod WireSteps
+mod WiresFound
 pub mod PinSteps
 pub mod WaysLeft
 pub mod ShortWires

@@ -1,5 +1,5 @@
 -- What a way from a wire to a sink costs at least, and where one leads to no pin on.
-use Rattle.std.proofs.Common.{◌≡◌, ℕ, ◌+◌, ◌*◌, ◌≤◌, Bool, true, ◌-◌, ◌⊎◌, inl, inr, List, [], ◌∷◌, Option, Some, None, refl, sym, ap, ◌∙◌, subst, arith}
+use Rattle.std.proofs.Common.{◌≡◌, ℕ, ◌+◌, ◌*◌, ◌≤◌, Bool, true, false, ◌-◌, ◌⊎◌, inl, inr, List, [], ◌∷◌, Option, Some, None, refl, sym, ap, ◌∙◌, subst, arith}
 use Rattle.std.specs.Option.{option_map, option_map_or}
 use Rattle.std.proofs.Math.Nat.{mul-le-mul}
 use Rattle.std.proofs.lemmas.Bool.{false≢true}
@@ -8,7 +8,7 @@ use Rattle.rr_graph.specs.declared.parts.Kind.{Kind}
 use Rattle.rr_graph.specs.declared.parts.Kind.TheVariants.{Source, Sink, Opin, Ipin, Chanx, Chany}
 use Rattle.rr_graph.specs.declared.parts.Node.{Node}
 use Rattle.rr_graph.specs.Fabric.{Fabric}
-use Rattle.rr_graph.specs.Nodes.{node_at, is_wire, kind_of_node, span_of}
+use Rattle.rr_graph.specs.Nodes.{node_at, is_wire, is_wire_at, kind_of_node, span_of}
 use Rattle.rr_graph.specs.Numbering.{is_terminal}
 use Rattle.rr_graph.specs.Pins.{belongs, taps}
 use Rattle.rr_graph.specs.Edges.{edge_by, edge_between, edge_between_nodes, is_edge}
@@ -67,6 +67,19 @@ wire_no_sink Source e h = false≢true e
 wire_no_sink Sink e h = false≢true e
 wire_no_sink Opin e h = false≢true e
 wire_no_sink Ipin e h = false≢true e
+
+pub wire_paid : (s : Space) (v : ℕ) → is_wire_at s.device v ≡ true → 320 ≤ entry_cost s v
+wire_paid s v e = by_node (node_at s.device v) refl
+  where
+    tells : (o : Option Node) → node_at s.device v ≡ o → option_map_or is_wire (option_map (λ n. n.kind) o) false ≡ true
+    tells o at = ap (λ x. option_map_or is_wire (option_map (λ n. n.kind) x) false) (sym at) ∙ e
+
+    by_node : (o : Option Node) → node_at s.device v ≡ o → 320 ≤ entry_cost s v
+    by_node None at = absurd (false≢true (tells None at))
+    by_node (Some n) at =
+        let paid = base_paid s v n at in
+        let base = wire_costs n.kind (tells (Some n) at) in
+        omega (arith, paid, base)
 
 -- from a wire an edge leads to a wire, or to an input pin that taps it
 pub record Enters (f : Fabric) (wire pin : Node) : Type 0 where

@@ -58,6 +58,9 @@ fn wires_by(short: bool, place: BoundingBox, wire: Wire) -> u64
 /// How many boxes there are at most: each bound is looked for in all of them.
 const MOST_BOXES: usize = 8;
 
+/// Of so many sinks one may be taken without boxes being made anew, so that a net of many sinks isn't gone through with each.
+const SINKS_A_SPARE: usize = 32;
+
 /// Boxes around the sinks that the wave has yet to take: no way is shorter than one to the nearest of them. Without boxes
 /// the bounds are 0.
 #[derive(Drop)]
@@ -68,6 +71,8 @@ pub(crate) struct Bounds {
     /// For how many sinks a box is, and how many the last one has.
     share: usize,
     filled: usize,
+    /// How many sinks may be taken before boxes are made anew.
+    spare: usize,
 }
 
 impl Bounds {
@@ -80,6 +85,7 @@ impl Bounds {
             short: false,
             share: 1,
             filled: 0,
+            spare: 0,
         }
     }
 
@@ -98,6 +104,18 @@ impl Bounds {
         self.short = short;
         self.share = sinks / MOST_BOXES + 1;
         self.filled = 0;
+        self.spare = sinks / SINKS_A_SPARE;
+    }
+
+    /// Whether boxes are to be made anew, now that another sink was taken.
+    pub(crate) fn wears_off(&mut self) -> bool
+        ensures { boxes_of self.new ≡ boxes_of self.old }
+    {
+        if self.spare == 0 {
+            return true;
+        }
+        self.spare -= 1;
+        false
     }
 
     /// Puts a sink's place into a box: of its own, or the last one while that has room.

@@ -49,7 +49,7 @@ impl Entrance {
         ensures kept { IsKept result }
     {
         if space.is_wire_inside(node, wire) {
-            Entrance::at(space.cost(node))
+            Entrance::at(space.wire_cost(node, wire))
         } else {
             Entrance::Closed
         }

@@ -134,7 +134,7 @@ fn add_way<K: Key>(
     leave_source(space, &mut scratch.wave, tree);
     tree.attach(row_of(tree.as_slice(), start), &scratch.way)?;
     start_all(space, &mut scratch.wave, &scratch.way)?;
-    scratch.wave.aim(space)?;
+    scratch.wave.aim_again(space)?;
     Ok(true)
 }
 

@@ -1,7 +1,9 @@
 //! What a search of one net may enter, and at what cost.
 
 ghost use Rattle.std.specs.Prelude.{◌≡◌, ◌<◌, ◌≤◌, ◌^◌, ◌↔◌, All, IsTrue, IfOk, IfSome, IfNone, OnOk, ℕ, Contains, length, nat_le, true, Some, [], ◌∷◌};
-ghost use Rattle.rr_graph.specs.Nodes.{is_wire, is_wire_at, kind_of_node, node_count_of};
+ghost use Rattle.rr_graph.specs.Nodes.{is_wire, is_wire_at, kind_of_node, node_count_of, wire_capacity};
+ghost use Rattle.node_cost.specs.Costs.{cost_of};
+ghost use Rattle.node_cost.specs.Views.{history_in, others_in};
 ghost use Rattle.rr_graph.specs.declared.parts.Kind.{Kind};
 ghost use Rattle.std.specs.List.Sorted.{IsStrictlyIncreasing};
 ghost use Rattle.std.specs.Option.{option_map_or};
@@ -189,6 +191,23 @@ impl<'a> SearchSpace<'a> {
         self.terminals.touches(self.bb, wire.span)
     }
 
+    /// What it costs to enter a node of this base cost, which so many nets may use.
+    fn cost_by(&self, base: u32, room: u32, node: u32) -> u128
+        requires base { base ≤ 20 }
+        requires room { 1 ≤ room }
+        requires node_in { node < node_count self.now }
+        ensures { result ≡ cost_of base (history_in self.now.view node) room
+            (others_in self.now.view node) self.now.present }
+    {
+        cost(
+            base,
+            self.view.history(node),
+            room,
+            self.view.others(node),
+            self.present,
+        )
+    }
+
     /// What it costs to enter a node.
     #[tactic(auto, using(crate::proofs::Spaces::room_is, crate::proofs::Spaces::some_room), unfolding(crate::specs::Space::entry_cost))]
     pub(crate) fn cost(&self, node: u32) -> u128
@@ -199,13 +218,42 @@ impl<'a> SearchSpace<'a> {
         let _limits = device.nx();
         let base = base_cost(device.kind(node));
         let capacity = device.capacity(node).unwrap_or(0);
-        cost(
-            base,
-            self.view.history(node),
-            capacity,
-            self.view.others(node),
-            self.present,
-        )
+        self.cost_by(base, capacity, node)
+    }
+
+    /// How many nets may use a wire.
+    fn wire_room(&self) -> u32
+        ensures room { result ≡ wire_capacity self.now.device.mode self.now.device.width }
+        ensures some { 1 ≤ result }
+    {
+        let device = self.problem.device();
+        let width = device.width();
+        match device.mode() {
+            Mode::Detailed => 1,
+            Mode::Global => width,
+        }
+    }
+
+    /// What it costs to enter a wire.
+    #[tactic(auto, unfolding(crate::specs::Space::entry_cost))]
+    pub(crate) fn wire_cost(&self, node: u32, wire: Wire) -> u128
+        requires node_in { node < node_count self.now }
+        requires wire { IsWireAt self.now.device node wire }
+        ensures { result ≡ entry_cost self.now node }
+    {
+        self.cost_by(20, self.wire_room(), node)
+    }
+
+    /// No node of this number costs less to enter.
+    #[tactic(auto, using(crate::proofs::WaysLeft::wire_paid))]
+    pub(crate) fn least_cost(&self, node: u32) -> u128
+        requires { node < node_count self.now }
+        ensures { result ≤ entry_cost self.now node }
+    {
+        if node < self.first_wire() {
+            return 0;
+        }
+        320
     }
 
     /// The nodes to which an edge leads from a node.
@@ -242,21 +290,8 @@ impl<'a> SearchSpace<'a> {
     pub(crate) fn wire(&self, node: u32) -> Option<Wire>
         ensures { IfSome result (IsWireAt self.now.device node) }
     {
-        match self.problem.device().kind(node) {
-            Some(Kind::Chanx) => self.wire_of(Kind::Chanx, node),
-            Some(Kind::Chany) => self.wire_of(Kind::Chany, node),
-            _ => None,
-        }
-    }
-
-    /// The wire of a number, whose kind is known.
-    fn wire_of(&self, kind: Kind, node: u32) -> Option<Wire>
-        requires kind { kind_of_node self.now.device node ≡ Some kind }
-        requires wire { is_wire kind ≡ true }
-        ensures { IfSome result (IsWireAt self.now.device node) }
-    {
-        match self.problem.device().span(node) {
-            Some(span) => Some(Wire { kind, span }),
+        match self.problem.device().wire(node) {
+            Some((kind, span)) => Some(Wire { kind, span }),
             None => None,
         }
     }

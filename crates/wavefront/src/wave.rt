@@ -421,6 +421,20 @@ impl<K: Key> Wave<K> {
         Ok(())
     }
 
+    /// Bounds ways anew behind a sink that was taken, where enough were taken since they were bounded.
+    pub(crate) fn aim_again(&mut self, space: &SearchSpace<'_>) -> Result<(), AllocError>
+        requires space { IsSpace space.now }
+        requires wave { IsWave space.now self.old }
+        ensures wave { OnOk result (IsWave space.now self.new) }
+        ensures spreads { OnOk result (Spreads space.now self.old self.new) }
+        ensures rows { length self.new.labels ≡ node_count space.now }
+    {
+        if self.bounds.wears_off() {
+            return self.aim(space);
+        }
+        Ok(())
+    }
+
     /// Offers a node the way over `from`, whose key is given.
     fn offer(
         &mut self,
@@ -442,7 +456,8 @@ impl<K: Key> Wave<K> {
         if space.is_idle_pin(to) {
             return Ok(());
         }
-        if self.has_less(to, key) {
+        let least = key.saturating_add(space.least_cost(to));
+        if self.has_less(to, least) {
             return Ok(());
         }
         match self.step(space, to) {

@@ -19,7 +19,7 @@ first_start g c = (c.requires.growth.origins c.in_ok-start.start).0 ((c.in_ok-si
 pub row_of-requires : goal.row_of-requires
 row_of-requires g c = rw c.as_slice.ensures.rows (start_row c.args.space.now c.args.tree.now c.in_ok-start.start c.as_slice.ensures.tree c.requires.growth.root (first_start g c).covered)
 
-added : (g : Over) → (c : goal.In_ok-aim g) → IsAdded c.args.space.now (pairs_of c.args.tree.now) c.trace.new.way.items c.args.scratch.now.wave c.take_sink.new.self c.leave_source.new.wave c.start_all.new.wave c.in_ok-start.start c.in-Some.sink
+added : (g : Over) → (c : goal.In_ok-aim_again g) → IsAdded c.args.space.now (pairs_of c.args.tree.now) c.trace.new.way.items c.args.scratch.now.wave c.take_sink.new.self c.leave_source.new.wave c.start_all.new.wave c.in_ok-start.start c.in-Some.sink
 added g c = record {
   ok = c.requires.space;
   grown = c.requires.growth.grown;
@@ -35,15 +35,15 @@ pub start_all-requires-clause-nodes : goal.start_all-requires-clause-nodes
 start_all-requires-clause-nodes g c = rw c.deref-2.ensures.value (way_in c.args.space.now c.in_ok-start.start c.in-Some.sink c.trace.new.way.items c.requires.space c.in_ok-start.ensures.walk)
 
 pub returns-clause-growth : goal.returns-clause-growth
-returns-clause-growth g c _ = aimed_growth c.args.space.now c.attach.new.self c.start_all.new.wave c.aim.new.self (added_growth _ _ _ _ _ _ _ _ _ (added g c) c.attach.new.self
+returns-clause-growth g c _ = aimed_growth c.args.space.now c.attach.new.self c.start_all.new.wave c.aim_again.new.self (added_growth _ _ _ _ _ _ _ _ _ (added g c) c.attach.new.self
     (ap (λ rows. node_in rows 0) c.in_ok-attach.ensures.rows ∙ same_root c.args.tree.now _ c.as_slice.ensures.tree ∙ c.requires.growth.root)
-    (c.in_ok-attach.ensures.pairs ∙ ap (λ a. pairs_of c.args.tree.now ++ pairs_along a c.deref.result.now) (ap (λ rows. node_in rows c.row_of.result) (sym c.as_slice.ensures.rows) ∙ c.row_of.ensures.node) ∙ ap (λ way. pairs_of c.args.tree.now ++ pairs_along c.in_ok-start.start way) c.deref.ensures.value)) c.in_ok-aim.ensures.wave c.in_ok-aim.ensures.spreads
+    (c.in_ok-attach.ensures.pairs ∙ ap (λ a. pairs_of c.args.tree.now ++ pairs_along a c.deref.result.now) (ap (λ rows. node_in rows c.row_of.result) (sym c.as_slice.ensures.rows) ∙ c.row_of.ensures.node) ∙ ap (λ way. pairs_of c.args.tree.now ++ pairs_along c.in_ok-start.start way) c.deref.ensures.value)) c.in_ok-aim_again.ensures.wave c.in_ok-aim_again.ensures.spreads
 
 pub returns-clause-kept : goal.returns-clause-kept
-returns-clause-kept g c _ v wanted o = c.in_ok-aim.ensures.spreads.lowers.starts v (added_kept _ _ _ _ _ _ _ _ _ (added g c) v wanted o)
+returns-clause-kept g c _ v wanted o = c.in_ok-aim_again.ensures.spreads.lowers.starts v (added_kept _ _ _ _ _ _ _ _ _ (added g c) v wanted o)
 
 pub returns-clause-less : goal.returns-clause-less
 returns-clause-less g c _ =
     let ends = added_taken _ _ _ _ _ _ _ _ _ (added g c) in
-    let starts = c.in_ok-aim.ensures.spreads.lowers.starts in
-    fewer_open c.args.space.now c.args.scratch.now.wave c.aim.new.self c.in-Some.sink (added g c).taken.«open».0 ends.0 (starts c.in-Some.sink ends.1) (λ v wanted o. starts v (added_kept _ _ _ _ _ _ _ _ _ (added g c) v wanted o))
+    let starts = c.in_ok-aim_again.ensures.spreads.lowers.starts in
+    fewer_open c.args.space.now c.args.scratch.now.wave c.aim_again.new.self c.in-Some.sink (added g c).taken.«open».0 ends.0 (starts c.in-Some.sink ends.1) (λ v wanted o. starts v (added_kept _ _ _ _ _ _ _ _ _ (added g c) v wanted o))

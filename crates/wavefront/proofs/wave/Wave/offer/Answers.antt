@@ -13,7 +13,7 @@ returns-then-is_idle_pin-clause-at g c = λ inside. closed_went c.args.space.now
 
 -- a node that costs less needs no other way
 pub returns-then-has_less-clause-at : goal.returns-then-has_less-clause-at
-returns-then-has_less-clause-at g c = λ _. inr (let less = c.has_less.ensures.0 c.if-has_less.true in omega (arith, less))
+returns-then-has_less-clause-at g c = λ _. inr (let less = c.has_less.ensures.0 c.if-has_less.true in omega (arith, less, c.least_cost.ensures, c.saturating_add-least.ensures))
 
 pub returns-in-None-clause-spreads : goal.returns-in-None-clause-spreads
 returns-in-None-clause-spreads g c = noted_spreads c.args.space.now c.args.self.now c.step.new.self c.step.ensures.noted
