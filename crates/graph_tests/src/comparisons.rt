@@ -49,9 +49,15 @@ fn compare_node(rt: &impl Abort, device: &Device, plan: Plan<'_>, item: Item, id
         rt,
         device,
         (id >= device.first_wire()) == is_wire,
-        "wire",
+        "first wire",
         id,
     );
+    let wire = if is_wire {
+        Some((node.kind, item.span))
+    } else {
+        None
+    };
+    check(rt, device, device.wire(id) == wire, "wire", id);
 }
 
 fn compare_nodes(rt: &impl Abort, device: &Device, plan: Plan<'_>, items: &[Item]) {
@@ -70,6 +76,7 @@ fn compare_absent(rt: &impl Abort, device: &Device, id: u32) {
     check(rt, device, device.label(id).is_none(), "no label", id);
     check(rt, device, device.capacity(id).is_none(), "no capacity", id);
     check(rt, device, device.span(id).is_none(), "no span", id);
+    check(rt, device, device.wire(id).is_none(), "no wire", id);
     check(rt, device, device.sink_of(id).is_none(), "no sink of", id);
     check(rt, device, !device.edge(id, 0), "no edge from", id);
     check(rt, device, !device.edge(0, id), "no edge to", id);

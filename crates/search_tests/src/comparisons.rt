@@ -2,7 +2,7 @@
 
 use crate::plain::{Growth, grow_plainly};
 use crate::searches::{expect_growth, order_of, search};
-use crate::some_problems::some_problem;
+use crate::some_problems::{full_problem, some_problem};
 use crate::some_views::{see_anew, some_bb, some_present};
 use arch_file::Arch;
 use node_cost::View;
@@ -166,4 +166,31 @@ fn agrees_on_many_sides(rt: HostRuntime) -> Result<(), Fail> {
 #[test]
 fn agrees_on_longlines(rt: HostRuntime) -> Result<(), Fail> {
     compare(&rt, 5, LONGLINES, &[50, 0, 200, 150, 20, 100])
+}
+
+/// Two searches of a net to all sinks.
+fn compare_full(
+    rt: &(impl Abort + AllocGlobal),
+    dice: &mut Dice,
+    text: &str,
+    counts: &mut [u32],
+) -> Result<(), Fail> {
+    let arch = arch(rt, text)?;
+    for _ in 0..2 {
+        let problem = full_problem(rt, dice, &arch)?;
+        compare_problem(rt, dice, &problem, counts)?;
+    }
+    Ok(())
+}
+
+/// Nets of 40 sinks or more, several of which are taken before ways are bounded anew.
+#[test]
+fn agrees_on_many_sinks(rt: HostRuntime) -> Result<(), Fail> {
+    let mut counts = vec![in rt.alloc(); 0; KINDS]?;
+    let mut dice = Dice::new(6);
+    compare_full(&rt, &mut dice, ONE_BLOCK, &mut counts)?;
+    compare_full(&rt, &mut dice, LONG_WIRES, &mut counts)?;
+    compare_full(&rt, &mut dice, MANY_SIDES, &mut counts)?;
+    expect_met(&rt, &counts, &[0, 0, 1, 1, 0, 3]);
+    Ok(())
 }

@@ -136,6 +136,23 @@ pub(crate) fn some_problem(
     some_nets_on(rt, dice, device)
 }
 
+/// A net to each sink of a device of 5 x 5 blocks and two tracks.
+pub(crate) fn full_problem(
+    rt: &impl AllocGlobal,
+    dice: &mut Dice,
+    arch: &Arch,
+) -> Result<Problem, Fail> {
+    let device = Device::new(rt.alloc(), arch, 5, 5, 2)?;
+    let sources = nodes_of(rt.alloc(), &device, Kind::Source)?;
+    let mut nets = Vec::new(rt.alloc());
+    nets.push(Terminals {
+        number: 0,
+        source: some_node(dice, &sources),
+        sinks: nodes_of(rt.alloc(), &device, Kind::Sink)?,
+    })?;
+    Ok(Problem::from_parts(device, nets)?)
+}
+
 /// Ten nets on a device of one block or two.
 pub(crate) fn tiny_problem(
     rt: &impl AllocGlobal,

@@ -168,6 +168,7 @@ impl Bounds {
     }
 
     /// How many wires lead on from a wire, at least; None without boxes.
+    #[inline(always)]
     pub(crate) fn fewest_from(&self, wire: Wire) -> Option<u64>
         ensures { IfSome result (IsFewestFrom (boxes_of self.now) wire) }
     {

@@ -28,6 +28,7 @@ pub(crate) enum Entrance {
 
 impl Entrance {
     /// How the net enters a node, and the wire that it is.
+    #[inline(always)]
     pub(crate) fn of(space: &SearchSpace<'_>, node: u32) -> (Entrance, Option<Wire>)
         requires space { IsSpace space.now }
         requires node_in { node < node_count space.now }
@@ -42,6 +43,7 @@ impl Entrance {
     }
 
     /// How the net enters a wire.
+    #[inline(always)]
     fn of_wire(space: &SearchSpace<'_>, node: u32, wire: Wire) -> Entrance
         requires node_in { node < node_count space.now }
         requires wire { IsWireAt space.now.device node wire }
@@ -69,6 +71,7 @@ impl Entrance {
     }
 
     /// At a cost: to be worked out each time where it is not below the numbers that tell of something else.
+    #[inline(always)]
     fn at(cost: u128) -> Entrance
         ensures { IsAtCost cost result }
     {
@@ -80,6 +83,7 @@ impl Entrance {
     }
 
     /// What the net pays to enter the node, if it has a use for it.
+    #[inline(always)]
     pub(crate) fn cost(self, space: &SearchSpace<'_>, node: u32) -> Option<u128>
         requires told { Tells space.now node self }
         requires node_in { node < node_count space.now }

@@ -235,6 +235,7 @@ impl<'a> SearchSpace<'a> {
     }
 
     /// What it costs to enter a wire.
+    #[inline(always)]
     #[tactic(auto, unfolding(crate::specs::Space::entry_cost))]
     pub(crate) fn wire_cost(&self, node: u32, wire: Wire) -> u128
         requires node_in { node < node_count self.now }
@@ -287,6 +288,7 @@ impl<'a> SearchSpace<'a> {
     }
 
     /// The wire of a number; None for what is no wire.
+    #[inline(always)]
     pub(crate) fn wire(&self, node: u32) -> Option<Wire>
         ensures { IfSome result (IsWireAt self.now.device node) }
     {

@@ -1,4 +1,5 @@
 //! A wave of labels that spreads from a tree, the least key first, until it takes a sink, and goes on when the tree has grown.
+//! What is done for each edge is inlined: through a call a wire or a step would pass through memory.
 
 ghost use Rattle.std.specs.Prelude.{◌≡◌, ℕ, ◌+◌, ◌-◌, ◌<◌, ◌≤◌};
 
@@ -109,6 +110,7 @@ impl<K: Key> Wave<K> {
 
     /// How many wires lead on from a wire, at least; None for other nodes, and where nothing is known. The node may have been
     /// looked up.
+    #[inline(always)]
     fn fewest(&self, space: &SearchSpace<'_>, node: u32, known: Option<Wire>) -> Option<u64>
         requires { IfSome known (IsWireAt space.now.device node) }
         ensures { IfSome result (IsFewest space.now.device self.now.boxes node) }
@@ -123,6 +125,7 @@ impl<K: Key> Wave<K> {
     }
 
     /// No way from the node to a sink that the wave has yet to take costs less.
+    #[inline(always)]
     fn bound(&self, space: &SearchSpace<'_>, node: u32, wire: Option<Wire>) -> u128
         requires space { IsSpace space.now }
         requires wave { IsWave space.now self.now }
@@ -186,6 +189,7 @@ impl<K: Key> Wave<K> {
     }
 
     /// A node's label and what a way from it costs at least, or the label alone where that doesn't fit.
+    #[inline(always)]
     fn nearest_by(&self, space: &SearchSpace<'_>, node: u32, key: K, wire: Option<Wire>) -> K
         requires space { IsSpace space.now }
         requires wave { IsWave space.now self.now }
@@ -201,6 +205,7 @@ impl<K: Key> Wave<K> {
     }
 
     /// Puts a label that fits, and lets the node wait.
+    #[inline(always)]
     fn put(
         &mut self,
         space: &SearchSpace<'_>,
@@ -231,6 +236,7 @@ impl<K: Key> Wave<K> {
     }
 
     /// Lowers a node's label, or leaves it out where it doesn't fit.
+    #[inline(always)]
     fn lower(
         &mut self,
         space: &SearchSpace<'_>,
@@ -318,6 +324,7 @@ impl<K: Key> Wave<K> {
     }
 
     /// How the net enters a node, worked out where the wave comes to it first, with the wire that it is.
+    #[inline(always)]
     fn entrance(&mut self, space: &SearchSpace<'_>, node: u32) -> (Entrance, Option<Wire>)
         requires space { IsSpace space.now }
         requires wave { IsWave space.now self.old }
@@ -336,6 +343,7 @@ impl<K: Key> Wave<K> {
     }
 
     /// What the net pays to enter a node, if it has a use for it.
+    #[inline(always)]
     fn step(&mut self, space: &SearchSpace<'_>, node: u32) -> Option<Step>
         requires space { IsSpace space.now }
         requires wave { IsWave space.now self.old }
@@ -436,6 +444,7 @@ impl<K: Key> Wave<K> {
     }
 
     /// Offers a node the way over `from`, whose key is given.
+    #[inline(always)]
     fn offer(
         &mut self,
         space: &SearchSpace<'_>,
@@ -467,6 +476,7 @@ impl<K: Key> Wave<K> {
     }
 
     /// Enters a node by the way over `from`, where none is better.
+    #[inline(always)]
     fn enter(
         &mut self,
         space: &SearchSpace<'_>,
