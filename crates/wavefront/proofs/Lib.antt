@@ -7,6 +7,7 @@ pub mod Lower
 pub mod Preferred
 pub mod Unchanged
 pub mod Waits
+pub mod Queued
 pub mod Went
 pub mod Wanted
 pub mod WireSteps
