@@ -74,6 +74,7 @@ pub(crate) fn push_if(list: &mut SmallVec<u32, 8>, test: bool, number: u32)
 }
 
 impl Pair {
+    #[inline(always)]
     fn push(self, list: &mut SmallVec<u32, 8>)
         requires { HasRoomFor list.old (length (numbers_of self)) }
         ensures { Pushes list.old (numbers_of self) list.new }
@@ -86,6 +87,7 @@ impl Pair {
         }
     }
 
+    #[inline(always)]
     fn count(self) -> u32
         ensures count { result ≡ length (numbers_of self) }
         ensures few { result ≤ 2 }
@@ -95,6 +97,7 @@ impl Pair {
 }
 
 impl Run {
+    #[inline(always)]
     #[tactic(auto, using(crate::proofs::Pushes::room_mapped))]
     fn push(self, list: &mut SmallVec<u32, 8>, count: u32)
         requires room { HasRoomFor list.old (length (run_list count self)) }
@@ -110,6 +113,7 @@ impl Run {
     }
 
     /// The numbers of two runs, by turns.
+    #[inline(always)]
     fn push_with(self, other: Run, list: &mut SmallVec<u32, 8>, count: u32)
         requires room { HasRoomFor list.old (length (flat_map (λ k. number_in k self ∷ number_in k other ∷ []) (numbers_below count))) }
         requires small { IsSmallRun self }
@@ -129,6 +133,7 @@ impl Run {
 }
 
 impl Meeting {
+    #[inline(always)]
     fn push_by_run(self, list: &mut SmallVec<u32, 8>, count: u32)
         requires room { HasRoomFor list.old (length (by_run self count)) }
         requires small { IsSmallMeeting self }
@@ -141,6 +146,7 @@ impl Meeting {
         }
     }
 
+    #[inline(always)]
     fn push_by_place(self, list: &mut SmallVec<u32, 8>, count: u32)
         requires room { HasRoomFor list.old (length (by_place self count)) }
         requires small { IsSmallMeeting self }
@@ -153,6 +159,7 @@ impl Meeting {
         }
     }
 
+    #[inline(always)]
     fn count(self) -> u32
         ensures count { result ≡ length (runs_of self) }
         ensures few { result ≤ 2 }
@@ -163,6 +170,7 @@ impl Meeting {
 
 impl Taps<'_> {
     /// The pins at a place whose first pin has number `start`.
+    #[inline(always)]
     #[tactic(auto, using(crate::proofs::Pushes::pushed_taken))]
     fn push_from(self, list: &mut SmallVec<u32, 8>, start: u32)
         requires room { HasRoomFor list.old (length self.places.now) }
@@ -175,6 +183,7 @@ impl Taps<'_> {
     }
 
     /// How many pins at each place.
+    #[inline(always)]
     fn count(self) -> u32
         requires { IsSmallTaps self }
         ensures { result ≡ length self.entry.places.now }
@@ -183,6 +192,7 @@ impl Taps<'_> {
     }
 
     /// The pins at `count` places.
+    #[inline(always)]
     fn push(self, list: &mut SmallVec<u32, 8>, count: u32)
         requires room { HasRoomFor list.old (length (flat_map (pins_at self) (numbers_below count))) }
         requires small { IsSmallTaps self }
@@ -197,6 +207,7 @@ impl Taps<'_> {
     }
 
     /// The pins on both sides at `count` places.
+    #[inline(always)]
     fn push_with(self, other: Taps, list: &mut SmallVec<u32, 8>, count: u32)
         requires room { HasRoomFor list.old (length (flat_map (λ k. pins_at self k ++ pins_at other k) (numbers_below count))) }
         requires small { IsSmallTaps self }
@@ -216,6 +227,7 @@ impl Taps<'_> {
 }
 
 impl RowFanout<'_> {
+    #[inline(always)]
     #[tactic(auto, using(crate::proofs::Pushes::pushed_then, crate::proofs::Pushes::room_first, crate::proofs::Pushes::room_then), unfolding(crate::specs::Fanouts::row_list))]
     pub(crate) fn push(self, list: &mut SmallVec<u32, 8>)
         requires room { HasRoomFor list.old (length (row_list self)) }
@@ -227,6 +239,7 @@ impl RowFanout<'_> {
         self.crossing.push_by_place(list, self.places + 1);
     }
 
+    #[inline(always)]
     #[tactic(auto, using(crate::proofs::Fanouts::row_length))]
     pub(crate) fn count(self) -> u32
         requires { IsSmallRow self }
@@ -239,6 +252,7 @@ impl RowFanout<'_> {
 }
 
 impl ColumnFanout<'_> {
+    #[inline(always)]
     #[tactic(auto, using(crate::proofs::Pushes::pushed_then, crate::proofs::Pushes::room_first, crate::proofs::Pushes::room_then), unfolding(crate::specs::Fanouts::column_list))]
     pub(crate) fn push(self, list: &mut SmallVec<u32, 8>)
         requires room { HasRoomFor list.old (length (column_list self)) }
@@ -251,6 +265,7 @@ impl ColumnFanout<'_> {
         self.beside.push(list);
     }
 
+    #[inline(always)]
     #[tactic(auto, using(crate::proofs::Fanouts::column_length))]
     pub(crate) fn count(self) -> u32
         requires { IsSmallColumn self }

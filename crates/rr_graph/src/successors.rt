@@ -22,6 +22,7 @@ use std::alloc::AllocError;
 
 impl Device {
     /// The wires of a track through place `x` above row `y` and the rows over it.
+    #[inline(always)]
     #[tactic(auto, using(crate::proofs::WireFanouts::above_number, crate::proofs::WireFanouts::first_upto))]
     pub(crate) fn run_above(&self, track: u32, x: u32, y: u32) -> Run
         requires place { (1 ≤ x) × (x ≤ self.now.nx) }
@@ -41,6 +42,7 @@ impl Device {
     }
 
     /// The wires of a track through place `y` right of column `x` and the columns behind it.
+    #[inline(always)]
     #[tactic(auto, using(crate::proofs::WireFanouts::right_number))]
     pub(crate) fn run_right(&self, track: u32, x: u32, y: u32) -> Run
         requires place { (1 ≤ y) × (y ≤ self.now.ny) }
@@ -59,6 +61,7 @@ impl Device {
     }
 
     /// The wires above row `y` and the rows over it that touch the corners right of column `x`.
+    #[inline(always)]
     #[tactic(auto, unfolding(crate::specs::Channels::meeting_of))]
     fn meeting_above(&self, track: u32, x: u32, y: u32) -> Meeting
         requires column { x ≤ self.now.nx }
@@ -86,6 +89,7 @@ impl Device {
     }
 
     /// The wires right of column `x` and the columns behind it that touch the corners above row `y`.
+    #[inline(always)]
     #[tactic(auto, unfolding(crate::specs::Channels::meeting_of))]
     fn meeting_right(&self, track: u32, x: u32, y: u32) -> Meeting
         requires column { x ≤ self.now.nx }
@@ -114,6 +118,7 @@ impl Device {
 
     /// The wire that ends just before the wire of a track that passes the places from `x` to `last` above row `y`, and the
     /// one that begins just behind.
+    #[inline(always)]
     #[tactic(auto, using(crate::proofs::WireFanouts::behind_first), unfolding(crate::specs::Channels::beside_of))]
     fn beside_above(&self, track: u32, x: u32, last: u32, y: u32) -> Pair
         requires place { (1 ≤ x) × (x ≤ self.now.nx) }
@@ -140,6 +145,7 @@ impl Device {
 
     /// The wire that ends just before the wire of a track that passes the places from `y` to `last` right of column `x`, and
     /// the one that begins just behind.
+    #[inline(always)]
     #[tactic(auto, using(crate::proofs::WireFanouts::behind_first), unfolding(crate::specs::Channels::beside_of))]
     fn beside_right(&self, track: u32, x: u32, y: u32, last: u32) -> Pair
         requires place { (1 ≤ y) × (y ≤ self.now.ny) }
@@ -165,6 +171,7 @@ impl Device {
     }
 
     /// The places, among a block's input pins or the pads of a place, of those that tap a track on a side.
+    #[inline(always)]
     fn tapping(&self, side: Side, track: u32) -> &[u8]
         requires { track < tracks_in self.now.mode self.now.width }
         ensures places { result.now ≡ tapping_on side self.now track }
@@ -174,6 +181,7 @@ impl Device {
     }
 
     /// Those of a row's input pins that stand at `places`, from (x, y) on.
+    #[inline(always)]
     fn taps_in_row<'a>(&self, places: &'a [u8], x: u32, y: u32) -> Taps<'a>
         requires few { length places.now ≤ 64 }
         requires column { x ≤ self.now.nx + 1 }
@@ -192,6 +200,7 @@ impl Device {
     }
 
     /// Those of a column's input pins that stand at `places`, from (x, y) on.
+    #[inline(always)]
     fn taps_in_column<'a>(&self, places: &'a [u8], x: u32, y: u32) -> Taps<'a>
         requires few { length places.now ≤ 64 }
         requires column { x ≤ self.now.nx + 1 }
@@ -214,6 +223,7 @@ impl Device {
     }
 
     /// The pins that tap a track above row `y` from below, from place `x` on.
+    #[inline(always)]
     #[tactic(auto, using(crate::proofs::WireFanouts::row_pins, crate::proofs::WireFanouts::row_pads))]
     fn taps_under(&self, track: u32, x: u32, y: u32) -> Taps<'_>
         requires place { (1 ≤ x) × (x ≤ self.now.nx) × (y ≤ self.now.ny) }
@@ -228,6 +238,7 @@ impl Device {
     }
 
     /// The pins that tap a track above row `y` from above, from place `x` on.
+    #[inline(always)]
     #[tactic(auto, using(crate::proofs::WireFanouts::row_pins, crate::proofs::WireFanouts::row_pads))]
     fn taps_over(&self, track: u32, x: u32, y: u32) -> Taps<'_>
         requires place { (1 ≤ x) × (x ≤ self.now.nx) × (y ≤ self.now.ny) }
@@ -242,6 +253,7 @@ impl Device {
     }
 
     /// The pins that tap a track right of column `x` from the left, from place `y` on.
+    #[inline(always)]
     #[tactic(auto, using(crate::proofs::WireFanouts::column_pins, crate::proofs::WireFanouts::column_pads))]
     fn taps_before(&self, track: u32, x: u32, y: u32) -> Taps<'_>
         requires place { (1 ≤ y) × (y ≤ self.now.ny) × (x ≤ self.now.nx) }
@@ -256,6 +268,7 @@ impl Device {
     }
 
     /// The pins that tap a track right of column `x` from the right, from place `y` on.
+    #[inline(always)]
     #[tactic(auto, using(crate::proofs::WireFanouts::column_pins, crate::proofs::WireFanouts::column_pads))]
     fn taps_behind(&self, track: u32, x: u32, y: u32) -> Taps<'_>
         requires place { (1 ≤ y) × (y ≤ self.now.ny) × (x ≤ self.now.nx) }
@@ -270,6 +283,7 @@ impl Device {
     }
 
     /// Where the wire of a track that begins at place `x` above a row ends.
+    #[inline(always)]
     #[tactic(auto, using(crate::proofs::WireFanouts::wire_end, crate::proofs::WireFanouts::end_within))]
     fn end_above(&self, track: u32, x: u32) -> u32
         requires wire { (1 ≤ x) × (x ≤ self.now.nx) × (begins self.now self.now.nx track x ≡ true) }
@@ -283,6 +297,7 @@ impl Device {
     }
 
     /// Where the wire of a track that begins at place `y` right of a column ends.
+    #[inline(always)]
     #[tactic(auto, using(crate::proofs::WireFanouts::wire_end, crate::proofs::WireFanouts::end_within))]
     fn end_right(&self, track: u32, y: u32) -> u32
         requires wire { (1 ≤ y) × (y ≤ self.now.ny) × (begins self.now self.now.ny track y ≡ true) }
@@ -296,6 +311,7 @@ impl Device {
     }
 
     /// What the wire of a track leads to that begins at place `x` above row `y`.
+    #[inline(always)]
     pub(crate) fn row_fanout(&self, track: u32, x: u32, y: u32) -> RowFanout<'_>
         requires wire { (1 ≤ x) × (x ≤ self.now.nx) × (begins self.now self.now.nx track x ≡ true) }
         requires row { y ≤ self.now.ny }
@@ -314,6 +330,7 @@ impl Device {
     }
 
     /// What the wire of a track leads to that begins at place `y` right of column `x`.
+    #[inline(always)]
     pub(crate) fn column_fanout(&self, track: u32, x: u32, y: u32) -> ColumnFanout<'_>
         requires wire { (1 ≤ y) × (y ≤ self.now.ny) × (begins self.now self.now.ny track y ≡ true) }
         requires column { x ≤ self.now.nx }
@@ -365,6 +382,7 @@ impl Device {
     }
 
     /// Pushes what the wire of a track leads to that begins at place `x` above row `y`, if memory is found for all of it.
+    #[inline(always)]
     #[tactic(auto)]
     fn fill_from_row(
         &self,
@@ -388,6 +406,7 @@ impl Device {
     }
 
     /// Pushes what the wire of a track leads to that begins at place `y` right of column `x`, if memory is found for all of it.
+    #[inline(always)]
     #[tactic(auto)]
     fn fill_from_column(
         &self,
@@ -411,6 +430,7 @@ impl Device {
     }
 
     /// Pushes the successors of a node, if memory is found for all of them.
+    #[inline(always)]
     #[tactic(auto)]
     pub(crate) fn fill(&self, list: &mut SmallVec<u32, 8>, node: Node) -> Result<(), AllocError>
         requires { IsAtPlace self.now node }
