@@ -228,15 +228,30 @@ impl Taps<'_> {
 
 impl RowFanout<'_> {
     #[inline(always)]
-    #[tactic(auto, using(crate::proofs::Pushes::pushed_then, crate::proofs::Pushes::room_first, crate::proofs::Pushes::room_then), unfolding(crate::specs::Fanouts::row_list))]
     pub(crate) fn push(self, list: &mut SmallVec<u32, 8>)
         requires room { HasRoomFor list.old (length (row_list self)) }
         requires small { IsSmallRow self }
         ensures { Pushes list.old (row_list self.entry) list.new }
     {
-        self.under.push_with(self.over, list, self.places);
+        if self.places == 1 {
+            self.push_along(list, 1);
+        } else {
+            self.push_along(list, self.places);
+        }
+    }
+
+    /// Pushes it for so many places: inlined for one place, the loops are gone.
+    #[inline(always)]
+    #[tactic(auto, using(crate::proofs::Pushes::pushed_then, crate::proofs::Pushes::room_first, crate::proofs::Pushes::room_then), unfolding(crate::specs::Fanouts::row_list))]
+    fn push_along(self, list: &mut SmallVec<u32, 8>, places: u32)
+        requires room { HasRoomFor list.old (length (row_list self)) }
+        requires small { IsSmallRow self }
+        requires places { places ≡ self.places }
+        ensures { Pushes list.old (row_list self.entry) list.new }
+    {
+        self.under.push_with(self.over, list, places);
         self.beside.push(list);
-        self.crossing.push_by_place(list, self.places + 1);
+        self.crossing.push_by_place(list, places + 1);
     }
 
     #[inline(always)]
@@ -253,15 +268,30 @@ impl RowFanout<'_> {
 
 impl ColumnFanout<'_> {
     #[inline(always)]
-    #[tactic(auto, using(crate::proofs::Pushes::pushed_then, crate::proofs::Pushes::room_first, crate::proofs::Pushes::room_then), unfolding(crate::specs::Fanouts::column_list))]
     pub(crate) fn push(self, list: &mut SmallVec<u32, 8>)
         requires room { HasRoomFor list.old (length (column_list self)) }
         requires small { IsSmallColumn self }
         ensures { Pushes list.old (column_list self.entry) list.new }
     {
-        self.before.push(list, self.places);
-        self.behind.push(list, self.places);
-        self.crossing.push_by_run(list, self.places + 1);
+        if self.places == 1 {
+            self.push_along(list, 1);
+        } else {
+            self.push_along(list, self.places);
+        }
+    }
+
+    /// Pushes it for so many places: inlined for one place, the loops are gone.
+    #[inline(always)]
+    #[tactic(auto, using(crate::proofs::Pushes::pushed_then, crate::proofs::Pushes::room_first, crate::proofs::Pushes::room_then), unfolding(crate::specs::Fanouts::column_list))]
+    fn push_along(self, list: &mut SmallVec<u32, 8>, places: u32)
+        requires room { HasRoomFor list.old (length (column_list self)) }
+        requires small { IsSmallColumn self }
+        requires places { places ≡ self.places }
+        ensures { Pushes list.old (column_list self.entry) list.new }
+    {
+        self.before.push(list, places);
+        self.behind.push(list, places);
+        self.crossing.push_by_run(list, places + 1);
         self.beside.push(list);
     }
 

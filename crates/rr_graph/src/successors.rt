@@ -1,6 +1,6 @@
 //! The successors of a node, from its place by arithmetic.
 
-ghost use Rattle.std.specs.Prelude.{◌≡◌, OnOk, OnErr, IsOk, ℕ, ◌+◌, ◌*◌, ◌<◌, ◌≤◌, ◌++◌, true, length, map};
+ghost use Rattle.std.specs.Prelude.{◌≡◌, OnOk, OnErr, IsOk, ℕ, ◌+◌, ◌*◌, ◌<◌, ◌≤◌, ◌⊎◌, ◌++◌, true, length, map};
 ghost use Rattle.std.specs.List.{range_with_len, flat_map};
 ghost use Rattle.smallvec.specs.SmallVec.{HasRoomFor};
 ghost use Rattle.rr_graph.specs.Fabric.{IsFabric};
@@ -180,45 +180,108 @@ impl Device {
         self.layout.tapping_on(&self.sides, side, track)
     }
 
-    /// Those of a row's input pins that stand at `places`, from (x, y) on.
+    /// How many input pins stand in a column of blocks.
     #[inline(always)]
-    fn taps_in_row<'a>(&self, places: &'a [u8], x: u32, y: u32) -> Taps<'a>
+    fn column_pins(&self) -> u32
+        ensures count { result ≡ pins_of_column self.now }
+        ensures few { result ≤ 32768 }
+        ensures limits { IsFabric self.now }
+    {
+        2 * self.layout.arch.io_rat() + self.ny() * self.number_count(Kind::Ipin)
+    }
+
+    /// The number of the first input pin of column `x`.
+    #[inline(always)]
+    #[tactic(auto, using(crate::proofs::WireFanouts::first_of_column))]
+    fn column_start(&self, x: u32) -> u32
+        requires { (1 ≤ x) × (x ≤ self.now.nx + 1) }
+        ensures start { result ≡ place_start self.now Kind.Ipin x 0 }
+        ensures few { result < 16000000 }
+    {
+        let before = self.ny() * self.layout.arch.io_rat() + (x - 1) * self.column_pins();
+        self.kind_start(Kind::Ipin) + before
+    }
+
+    /// The number of the first input pin of row `y` in a column of blocks.
+    #[inline(always)]
+    #[tactic(auto, using(crate::proofs::WireFanouts::first_of_block))]
+    fn block_start(&self, x: u32, y: u32) -> u32
+        requires column { (1 ≤ x) × (x ≤ self.now.nx) }
+        requires row { (1 ≤ y) × (y ≤ self.now.ny + 1) }
+        ensures start { result ≡ place_start self.now Kind.Ipin x y }
+        ensures few { result < 16777216 }
+    {
+        let _limits = self.nx();
+        let before = self.layout.arch.io_rat() + (y - 1) * self.number_count(Kind::Ipin);
+        self.column_start(x) + before
+    }
+
+    /// The number of the first input pad of row `y` in a column beside the blocks.
+    #[inline(always)]
+    #[tactic(auto, using(crate::proofs::WireFanouts::first_of_pads))]
+    fn pad_start(&self, x: u32, y: u32) -> u32
+        requires column { x ≡ self.now.nx + 1 }
+        requires row { (1 ≤ y) × (y ≤ self.now.ny) }
+        ensures start { result ≡ place_start self.now Kind.Ipin x y }
+        ensures few { result < 16777216 }
+    {
+        let _limits = self.nx();
+        self.column_start(x) + (y - 1) * self.layout.arch.io_rat()
+    }
+
+    /// Those of a row's input pins that stand at `places`, from the one of number `start` on.
+    #[inline(always)]
+    fn taps_in_row<'a>(&self, places: &'a [u8], start: u32) -> Taps<'a>
         requires few { length places.now ≤ 64 }
-        requires column { x ≤ self.now.nx + 1 }
-        requires row { y ≤ self.now.ny + 1 }
+        requires small { start < 16777216 }
         ensures places { result.places.now ≡ places.now }
-        ensures start { result.start ≡ place_start self.now Kind.Ipin x y }
+        ensures start { result.start ≡ start }
         ensures step { result.step ≡ pins_of_column self.now }
         ensures small { IsSmallTaps result }
     {
-        let pads = self.layout.arch.io_rat();
         Taps {
             places,
-            start: self.terminal_start(Kind::Ipin, x, y),
-            step: 2 * pads + self.ny() * self.number_count(Kind::Ipin),
+            start,
+            step: self.column_pins(),
         }
     }
 
-    /// Those of a column's input pins that stand at `places`, from (x, y) on.
+    /// Those of the input pins of a column of blocks that stand at `places`, from the one of number `start` on.
     #[inline(always)]
-    fn taps_in_column<'a>(&self, places: &'a [u8], x: u32, y: u32) -> Taps<'a>
+    #[tactic(auto, using(crate::proofs::WireFanouts::pins_by_blocks))]
+    fn taps_in_column<'a>(&self, places: &'a [u8], x: u32, start: u32) -> Taps<'a>
         requires few { length places.now ≤ 64 }
-        requires column { x ≤ self.now.nx + 1 }
-        requires row { y ≤ self.now.ny + 1 }
+        requires small { start < 16777216 }
+        requires column { (1 ≤ x) × (x ≤ self.now.nx) }
         ensures places { result.places.now ≡ places.now }
-        ensures start { result.start ≡ place_start self.now Kind.Ipin x y }
+        ensures start { result.start ≡ start }
         ensures step { result.step ≡ pins_of_row self.now x }
         ensures small { IsSmallTaps result }
     {
-        let step = if 1 <= x && x <= self.nx() {
-            self.number_count(Kind::Ipin)
-        } else {
-            self.layout.arch.io_rat()
-        };
         Taps {
             places,
-            start: self.terminal_start(Kind::Ipin, x, y),
-            step,
+            start,
+            step: self.number_count(Kind::Ipin),
+        }
+    }
+
+    /// Those of the input pads of a column beside the blocks that stand at `places`, from the one of number `start` on.
+    #[inline(always)]
+    #[tactic(auto, using(crate::proofs::WireFanouts::pins_by_pads))]
+    fn taps_beside<'a>(&self, places: &'a [u8], x: u32, start: u32) -> Taps<'a>
+        requires few { length places.now ≤ 64 }
+        requires small { start < 16777216 }
+        requires column { (x ≡ 0) ⊎ (x ≡ self.now.nx + 1) }
+        ensures places { result.places.now ≡ places.now }
+        ensures start { result.start ≡ start }
+        ensures step { result.step ≡ pins_of_row self.now x }
+        ensures small { IsSmallTaps result }
+    {
+        let _limits = self.nx();
+        Taps {
+            places,
+            start,
+            step: self.layout.arch.io_rat(),
         }
     }
 
@@ -231,10 +294,11 @@ impl Device {
         ensures pins { (k : ℕ) → x + k ≤ self.now.nx → pins_at result k ≡ pins_beside self.now (λ s. s.top) (x + k) y track }
         ensures small { IsSmallTaps result }
     {
+        let first = self.column_start(x);
         if y == 0 {
-            return self.taps_in_row(self.tapping(Side::Pad, track), x, y);
+            return self.taps_in_row(self.tapping(Side::Pad, track), first);
         }
-        self.taps_in_row(self.tapping(Side::Top, track), x, y)
+        self.taps_in_row(self.tapping(Side::Top, track), self.block_start(x, y))
     }
 
     /// The pins that tap a track above row `y` from above, from place `x` on.
@@ -246,10 +310,12 @@ impl Device {
         ensures pins { (k : ℕ) → x + k ≤ self.now.nx → pins_at result k ≡ pins_beside self.now (λ s. s.bottom) (x + k) (y + 1) track }
         ensures small { IsSmallTaps result }
     {
-        if y == self.ny() {
-            return self.taps_in_row(self.tapping(Side::Pad, track), x, y + 1);
+        let ny = self.ny();
+        let start = self.block_start(x, y + 1);
+        if y == ny {
+            return self.taps_in_row(self.tapping(Side::Pad, track), start);
         }
-        self.taps_in_row(self.tapping(Side::Bottom, track), x, y + 1)
+        self.taps_in_row(self.tapping(Side::Bottom, track), start)
     }
 
     /// The pins that tap a track right of column `x` from the left, from place `y` on.
@@ -262,9 +328,10 @@ impl Device {
         ensures small { IsSmallTaps result }
     {
         if x == 0 {
-            return self.taps_in_column(self.tapping(Side::Pad, track), x, y);
+            let start = self.terminal_start(Kind::Ipin, x, y);
+            return self.taps_beside(self.tapping(Side::Pad, track), x, start);
         }
-        self.taps_in_column(self.tapping(Side::Right, track), x, y)
+        self.taps_in_column(self.tapping(Side::Right, track), x, self.block_start(x, y))
     }
 
     /// The pins that tap a track right of column `x` from the right, from place `y` on.
@@ -277,9 +344,11 @@ impl Device {
         ensures small { IsSmallTaps result }
     {
         if x == self.nx() {
-            return self.taps_in_column(self.tapping(Side::Pad, track), x + 1, y);
+            let start = self.pad_start(x + 1, y);
+            return self.taps_beside(self.tapping(Side::Pad, track), x + 1, start);
         }
-        self.taps_in_column(self.tapping(Side::Left, track), x + 1, y)
+        let start = self.block_start(x + 1, y);
+        self.taps_in_column(self.tapping(Side::Left, track), x + 1, start)
     }
 
     /// Where the wire of a track that begins at place `x` above a row ends.
