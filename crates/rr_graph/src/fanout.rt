@@ -1,6 +1,6 @@
 //! What a wire leads to, in numbers that are counted and listed by arithmetic.
 
-ghost use Rattle.std.specs.Prelude.{◌≡◌, ◌+◌, ◌*◌, ◌<◌, ◌≤◌, ◌++◌, ◌∷◌, [], length, map};
+ghost use Rattle.std.specs.Prelude.{◌≡◌, OnOk, OnErr, IsOk, ◌+◌, ◌*◌, ◌<◌, ◌≤◌, ◌++◌, ◌∷◌, [], length, map};
 ghost use Rattle.std.specs.List.{flat_map};
 ghost use Rattle.smallvec.specs.SmallVec.{HasRoomFor};
 ghost use Rattle.rr_graph.specs.Fabric.{numbers_below};
@@ -9,6 +9,7 @@ ghost use Rattle.rr_graph.specs.Pushes.{Pushes};
 ghost use Rattle.rr_graph.specs.Fanouts.{numbers_of, runs_of, number_in, run_list, by_run, by_place, pins_at, row_list, column_list, IsSmallRun, IsSmallMeeting, IsSmallTaps, IsSmallRow, IsSmallColumn};
 
 use smallvec::SmallVec;
+use std::alloc::AllocError;
 
 /// Up to two numbers.
 #[derive(Clone, Copy, Debug)]
@@ -233,14 +234,10 @@ impl RowFanout<'_> {
         requires small { IsSmallRow self }
         ensures { Pushes list.old (row_list self.entry) list.new }
     {
-        if self.places == 1 {
-            self.push_along(list, 1);
-        } else {
-            self.push_along(list, self.places);
-        }
+        self.push_along(list, self.places);
     }
 
-    /// Pushes it for so many places: inlined for one place, the loops are gone.
+    /// Pushes it; for a number of places that is known when this is inlined, without loops.
     #[inline(always)]
     #[tactic(auto, using(crate::proofs::Pushes::pushed_then, crate::proofs::Pushes::room_first, crate::proofs::Pushes::room_then), unfolding(crate::specs::Fanouts::row_list))]
     fn push_along(self, list: &mut SmallVec<u32, 8>, places: u32)
@@ -255,14 +252,55 @@ impl RowFanout<'_> {
     }
 
     #[inline(always)]
-    #[tactic(auto, using(crate::proofs::Fanouts::row_length))]
     pub(crate) fn count(self) -> u32
         requires { IsSmallRow self }
         ensures count { result ≡ length (row_list self.entry) }
         ensures few { result ≤ 20000 }
     {
+        self.count_along(self.places)
+    }
+
+    #[inline(always)]
+    #[tactic(auto, using(crate::proofs::Fanouts::row_length))]
+    fn count_along(self, places: u32) -> u32
+        requires small { IsSmallRow self }
+        requires places { places ≡ self.places }
+        ensures count { result ≡ length (row_list self.entry) }
+        ensures few { result ≤ 20000 }
+    {
         let pins = self.under.count() + self.over.count();
-        self.places * pins + self.beside.count() + (self.places + 1) * self.crossing.count()
+        places * pins + self.beside.count() + (places + 1) * self.crossing.count()
+    }
+
+    /// Pushes it, if memory is found for all of it.
+    #[inline(always)]
+    pub(crate) fn fill(self, list: &mut SmallVec<u32, 8>) -> Result<(), AllocError>
+        requires { IsSmallRow self }
+        ensures filled { OnOk result (list.new.items ≡ list.old.items ++ row_list self.entry) }
+        ensures refused { OnErr result (list.new ≡ list.old) }
+        ensures room { HasRoomFor list.old (length (row_list self.entry)) → IsOk result }
+        ensures kept { list.old.capacity ≤ list.new.capacity }
+    {
+        if self.places == 1 {
+            self.fill_along(list, 1)?;
+        } else {
+            self.fill_along(list, self.places)?;
+        }
+        Ok(())
+    }
+
+    #[inline(always)]
+    fn fill_along(self, list: &mut SmallVec<u32, 8>, places: u32) -> Result<(), AllocError>
+        requires small { IsSmallRow self }
+        requires places { places ≡ self.places }
+        ensures filled { OnOk result (list.new.items ≡ list.old.items ++ row_list self.entry) }
+        ensures refused { OnErr result (list.new ≡ list.old) }
+        ensures room { HasRoomFor list.old (length (row_list self.entry)) → IsOk result }
+        ensures kept { list.old.capacity ≤ list.new.capacity }
+    {
+        list.reserve(self.count_along(places) as usize)?;
+        self.push_along(list, places);
+        Ok(())
     }
 }
 
@@ -273,14 +311,10 @@ impl ColumnFanout<'_> {
         requires small { IsSmallColumn self }
         ensures { Pushes list.old (column_list self.entry) list.new }
     {
-        if self.places == 1 {
-            self.push_along(list, 1);
-        } else {
-            self.push_along(list, self.places);
-        }
+        self.push_along(list, self.places);
     }
 
-    /// Pushes it for so many places: inlined for one place, the loops are gone.
+    /// Pushes it; for a number of places that is known when this is inlined, without loops.
     #[inline(always)]
     #[tactic(auto, using(crate::proofs::Pushes::pushed_then, crate::proofs::Pushes::room_first, crate::proofs::Pushes::room_then), unfolding(crate::specs::Fanouts::column_list))]
     fn push_along(self, list: &mut SmallVec<u32, 8>, places: u32)
@@ -296,13 +330,54 @@ impl ColumnFanout<'_> {
     }
 
     #[inline(always)]
-    #[tactic(auto, using(crate::proofs::Fanouts::column_length))]
     pub(crate) fn count(self) -> u32
         requires { IsSmallColumn self }
         ensures count { result ≡ length (column_list self.entry) }
         ensures few { result ≤ 20000 }
     {
+        self.count_along(self.places)
+    }
+
+    #[inline(always)]
+    #[tactic(auto, using(crate::proofs::Fanouts::column_length))]
+    fn count_along(self, places: u32) -> u32
+        requires small { IsSmallColumn self }
+        requires places { places ≡ self.places }
+        ensures count { result ≡ length (column_list self.entry) }
+        ensures few { result ≤ 20000 }
+    {
         let pins = self.before.count() + self.behind.count();
-        self.places * pins + self.beside.count() + (self.places + 1) * self.crossing.count()
+        places * pins + self.beside.count() + (places + 1) * self.crossing.count()
+    }
+
+    /// Pushes it, if memory is found for all of it.
+    #[inline(always)]
+    pub(crate) fn fill(self, list: &mut SmallVec<u32, 8>) -> Result<(), AllocError>
+        requires { IsSmallColumn self }
+        ensures filled { OnOk result (list.new.items ≡ list.old.items ++ column_list self.entry) }
+        ensures refused { OnErr result (list.new ≡ list.old) }
+        ensures room { HasRoomFor list.old (length (column_list self.entry)) → IsOk result }
+        ensures kept { list.old.capacity ≤ list.new.capacity }
+    {
+        if self.places == 1 {
+            self.fill_along(list, 1)?;
+        } else {
+            self.fill_along(list, self.places)?;
+        }
+        Ok(())
+    }
+
+    #[inline(always)]
+    fn fill_along(self, list: &mut SmallVec<u32, 8>, places: u32) -> Result<(), AllocError>
+        requires small { IsSmallColumn self }
+        requires places { places ≡ self.places }
+        ensures filled { OnOk result (list.new.items ≡ list.old.items ++ column_list self.entry) }
+        ensures refused { OnErr result (list.new ≡ list.old) }
+        ensures room { HasRoomFor list.old (length (column_list self.entry)) → IsOk result }
+        ensures kept { list.old.capacity ≤ list.new.capacity }
+    {
+        list.reserve(self.count_along(places) as usize)?;
+        self.push_along(list, places);
+        Ok(())
     }
 }

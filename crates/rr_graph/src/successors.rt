@@ -468,9 +468,7 @@ impl Device {
         ensures room { HasRoomFor list.old (length (row_wire_list self.now x y track)) → IsOk result }
         ensures kept { list.old.capacity ≤ list.new.capacity }
     {
-        let fanout = self.row_fanout(track, x, y);
-        list.reserve(fanout.count() as usize)?;
-        fanout.push(list);
+        self.row_fanout(track, x, y).fill(list)?;
         Ok(())
     }
 
@@ -492,9 +490,7 @@ impl Device {
         ensures room { HasRoomFor list.old (length (column_wire_list self.now x y track)) → IsOk result }
         ensures kept { list.old.capacity ≤ list.new.capacity }
     {
-        let fanout = self.column_fanout(track, x, y);
-        list.reserve(fanout.count() as usize)?;
-        fanout.push(list);
+        self.column_fanout(track, x, y).fill(list)?;
         Ok(())
     }
 
