@@ -1,8 +1,9 @@
 -- How much a wire leads to.
-use Rattle.std.proofs.Common.{◌≡◌, ℕ, ◌+◌, ◌*◌, List, [], ◌∷◌, ◌++◌, length, map, None, ap, ◌∙◌, arith, length-append}
+use Rattle.std.proofs.Common.{◌≡◌, ℕ, ◌+◌, ◌*◌, List, [], ◌∷◌, ◌++◌, length, map, None, sym, subst, ap, ◌∙◌, arith, length-append}
 use Rattle.std.specs.List.{flat_map}
 use Rattle.std.proofs.lemmas.List.{length-map}
 use Rattle.std.proofs.lemmas.List.Concat.{flat_map_single}
+use Rattle.smallvec.specs.SmallVec.{SmallVec, HasRoomFor}
 use Rattle.rr_graph.specs.declared.fanout.Run.{Run}
 use Rattle.rr_graph.specs.declared.fanout.Meeting.{Meeting}
 use Rattle.rr_graph.specs.declared.fanout.Taps.{Taps}
@@ -60,3 +61,9 @@ column_length c =
       length_even (pins_at c.behind) (length c.behind.places.now) c.places c.places (λ k _. pins_length c.behind k) (omega arith),
       by_run_length c.crossing (c.places + 1),
     )
+
+-- room for what a row's wire leads to, where its places are counted otherwise
+pub row_room : (r : RowFanout) (n : ℕ) → n ≡ r.places → (a : SmallVec ℕ) → HasRoomFor a (length (row_list r))
+    → HasRoomFor a (length (flat_map (λ k. pins_at r.under k ++ pins_at r.over k) (numbers_below n) ++ (numbers_of r.beside ++ by_place r.crossing (n + 1))))
+unfolding row_list
+row_room r n e a room = subst (λ m. HasRoomFor a (length (flat_map (λ k. pins_at r.under k ++ pins_at r.over k) (numbers_below m) ++ (numbers_of r.beside ++ by_place r.crossing (m + 1))))) (sym e) room

@@ -19,6 +19,7 @@ pub mod Graph
 pub mod EdgeEnds
 pub mod Lengths
 pub mod ChannelTables
+pub mod TrackCounts
 pub mod TrackOrder
 pub mod TracksTapped
 pub mod PlaceStarts

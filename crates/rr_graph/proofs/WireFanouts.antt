@@ -1,5 +1,5 @@
 -- The wires and pins that a wire leads to, as numbers at even distances.
-use Rattle.std.proofs.Common.{◌≡◌, ℕ, ◌+◌, ◌-◌, ◌*◌, ◌<◌, ◌≤◌, ◌⊎◌, Bool, true, false, List, length, map, refl, sym, ap, ◌∙◌, arith}
+use Rattle.std.proofs.Common.{◌≡◌, ℕ, ◌+◌, ◌-◌, ◌*◌, ◌<◌, ◌≤◌, ◌⊎◌, Bool, true, false, List, length, map, zero, refl, sym, ap, ◌∙◌, arith}
 use Rattle.std.specs.Prelude.{◌==◌, if◌then◌else◌}
 use Rattle.std.specs.List.{list_any}
 use Rattle.std.proofs.lemmas.Bool.Decides.{nat_tests}
@@ -106,6 +106,36 @@ module _ (f : Fabric) where
         ap (λ a. a * pins_of_row f x) further,
         times_more (y - 1) k (pins_of_row f x),
       )
+
+  -- ---- where they stand, behind the columns before them
+  no_rows : (x : ℕ) → rows_length f pins_of_block x 0 ≡ 0
+  unfolding rows_length
+  no_rows x = chosen (is_between 1 f.nx x)
+    where
+      chosen : (b : Bool) → (if b then zero else (0 - 1) * f.architecture.io_rat) ≡ 0
+      chosen true = refl
+      chosen false = omega arith
+
+  pub first_of_column : (x : ℕ) → 1 ≤ x → x ≤ f.nx + 1 → place_start f Ipin x 0 ≡ kind_start f Ipin + (f.ny * f.architecture.io_rat + (x - 1) * pins_of_column f)
+  first_of_column x l m = omega (arith, terminal_start f Ipin refl x 0 m (omega arith), columns_from x l, no_rows x)
+
+  pub pins_by_blocks : (x : ℕ) → 1 ≤ x → x ≤ f.nx → pins_of_row f x ≡ pins_of_block
+  pins_by_blocks x l m = let inside : is_between 1 f.nx x ≡ true = grind (arith, nat_tests) in rw inside refl
+
+  pub pins_by_pads : (x : ℕ) → (x ≡ 0) ⊎ (x ≡ f.nx + 1) → pins_of_row f x ≡ f.architecture.io_rat
+  pins_by_pads x end = let outside : is_between 1 f.nx x ≡ false = grind (arith, nat_tests) in rw outside refl
+
+  pub first_of_block : (x y : ℕ) → 1 ≤ x → x ≤ f.nx → 1 ≤ y → y ≤ f.ny + 1 → place_start f Ipin x y ≡ place_start f Ipin x 0 + (f.architecture.io_rat + (y - 1) * pins_of_block)
+  first_of_block x y l m n o =
+      let inside : is_between 1 f.nx x ≡ true = grind (arith, nat_tests) in
+      let rows : rows_length f pins_of_block x y ≡ f.architecture.io_rat + (y - 1) * pins_of_block = rw inside at (rows_from x y n) in
+      omega (arith, terminal_start f Ipin refl x y (omega arith) o, terminal_start f Ipin refl x 0 (omega arith) (omega arith), no_rows x, rows)
+
+  pub first_of_pads : (x y : ℕ) → x ≡ f.nx + 1 → 1 ≤ y → y ≤ f.ny → place_start f Ipin x y ≡ place_start f Ipin x 0 + (y - 1) * f.architecture.io_rat
+  first_of_pads x y end n o =
+      let outside : is_between 1 f.nx x ≡ false = grind (arith, nat_tests) in
+      let rows : rows_length f pins_of_block x y ≡ 0 + (y - 1) * f.architecture.io_rat = rw outside at (rows_from x y n) in
+      omega (arith, terminal_start f Ipin refl x y (omega arith) (omega arith), terminal_start f Ipin refl x 0 (omega arith) (omega arith), no_rows x, rows)
 
   -- ---- which of them tap a wire
   few_picked : {X : Type 0} (p : X → Bool) (xs : List X) → length (picks p 0 xs) ≤ length xs

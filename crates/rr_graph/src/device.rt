@@ -227,10 +227,7 @@ impl Device {
         }
         match self.node_of(id) {
             None => None,
-            Some(node) => Some((
-                node.kind,
-                self.layout.span_of(node, self.last_of(id, node)),
-            )),
+            Some(node) => Some((node.kind, self.layout.span_of(node, self.last_of(id, node)))),
         }
     }
 
@@ -312,7 +309,7 @@ impl Device {
     {
         let _limits = self.nx();
         list.clear();
-        match self.node(id) {
+        match self.node_of(id) {
             None => Ok(()),
             Some(node) => {
                 self.fill(list, node)?;

@@ -1,6 +1,6 @@
 //! What a wire leads to, in numbers that are counted and listed by arithmetic.
 
-ghost use Rattle.std.specs.Prelude.{◌≡◌, ◌+◌, ◌*◌, ◌<◌, ◌≤◌, ◌++◌, ◌∷◌, [], length, map};
+ghost use Rattle.std.specs.Prelude.{◌≡◌, OnOk, OnErr, IsOk, ◌+◌, ◌*◌, ◌<◌, ◌≤◌, ◌++◌, ◌∷◌, [], length, map};
 ghost use Rattle.std.specs.List.{flat_map};
 ghost use Rattle.smallvec.specs.SmallVec.{HasRoomFor};
 ghost use Rattle.rr_graph.specs.Fabric.{numbers_below};
@@ -9,6 +9,7 @@ ghost use Rattle.rr_graph.specs.Pushes.{Pushes};
 ghost use Rattle.rr_graph.specs.Fanouts.{numbers_of, runs_of, number_in, run_list, by_run, by_place, pins_at, row_list, column_list, IsSmallRun, IsSmallMeeting, IsSmallTaps, IsSmallRow, IsSmallColumn};
 
 use smallvec::SmallVec;
+use std::alloc::AllocError;
 
 /// Up to two numbers.
 #[derive(Clone, Copy, Debug)]
@@ -74,6 +75,7 @@ pub(crate) fn push_if(list: &mut SmallVec<u32, 8>, test: bool, number: u32)
 }
 
 impl Pair {
+    #[inline(always)]
     fn push(self, list: &mut SmallVec<u32, 8>)
         requires { HasRoomFor list.old (length (numbers_of self)) }
         ensures { Pushes list.old (numbers_of self) list.new }
@@ -86,6 +88,7 @@ impl Pair {
         }
     }
 
+    #[inline(always)]
     fn count(self) -> u32
         ensures count { result ≡ length (numbers_of self) }
         ensures few { result ≤ 2 }
@@ -95,6 +98,7 @@ impl Pair {
 }
 
 impl Run {
+    #[inline(always)]
     #[tactic(auto, using(crate::proofs::Pushes::room_mapped))]
     fn push(self, list: &mut SmallVec<u32, 8>, count: u32)
         requires room { HasRoomFor list.old (length (run_list count self)) }
@@ -110,6 +114,7 @@ impl Run {
     }
 
     /// The numbers of two runs, by turns.
+    #[inline(always)]
     fn push_with(self, other: Run, list: &mut SmallVec<u32, 8>, count: u32)
         requires room { HasRoomFor list.old (length (flat_map (λ k. number_in k self ∷ number_in k other ∷ []) (numbers_below count))) }
         requires small { IsSmallRun self }
@@ -129,6 +134,7 @@ impl Run {
 }
 
 impl Meeting {
+    #[inline(always)]
     fn push_by_run(self, list: &mut SmallVec<u32, 8>, count: u32)
         requires room { HasRoomFor list.old (length (by_run self count)) }
         requires small { IsSmallMeeting self }
@@ -141,6 +147,7 @@ impl Meeting {
         }
     }
 
+    #[inline(always)]
     fn push_by_place(self, list: &mut SmallVec<u32, 8>, count: u32)
         requires room { HasRoomFor list.old (length (by_place self count)) }
         requires small { IsSmallMeeting self }
@@ -153,6 +160,7 @@ impl Meeting {
         }
     }
 
+    #[inline(always)]
     fn count(self) -> u32
         ensures count { result ≡ length (runs_of self) }
         ensures few { result ≤ 2 }
@@ -163,6 +171,7 @@ impl Meeting {
 
 impl Taps<'_> {
     /// The pins at a place whose first pin has number `start`.
+    #[inline(always)]
     #[tactic(auto, using(crate::proofs::Pushes::pushed_taken))]
     fn push_from(self, list: &mut SmallVec<u32, 8>, start: u32)
         requires room { HasRoomFor list.old (length self.places.now) }
@@ -175,6 +184,7 @@ impl Taps<'_> {
     }
 
     /// How many pins at each place.
+    #[inline(always)]
     fn count(self) -> u32
         requires { IsSmallTaps self }
         ensures { result ≡ length self.entry.places.now }
@@ -183,6 +193,7 @@ impl Taps<'_> {
     }
 
     /// The pins at `count` places.
+    #[inline(always)]
     fn push(self, list: &mut SmallVec<u32, 8>, count: u32)
         requires room { HasRoomFor list.old (length (flat_map (pins_at self) (numbers_below count))) }
         requires small { IsSmallTaps self }
@@ -197,6 +208,7 @@ impl Taps<'_> {
     }
 
     /// The pins on both sides at `count` places.
+    #[inline(always)]
     fn push_with(self, other: Taps, list: &mut SmallVec<u32, 8>, count: u32)
         requires room { HasRoomFor list.old (length (flat_map (λ k. pins_at self k ++ pins_at other k) (numbers_below count))) }
         requires small { IsSmallTaps self }
@@ -216,48 +228,156 @@ impl Taps<'_> {
 }
 
 impl RowFanout<'_> {
-    #[tactic(auto, using(crate::proofs::Pushes::pushed_then, crate::proofs::Pushes::room_first, crate::proofs::Pushes::room_then), unfolding(crate::specs::Fanouts::row_list))]
+    #[inline(always)]
     pub(crate) fn push(self, list: &mut SmallVec<u32, 8>)
         requires room { HasRoomFor list.old (length (row_list self)) }
         requires small { IsSmallRow self }
         ensures { Pushes list.old (row_list self.entry) list.new }
     {
-        self.under.push_with(self.over, list, self.places);
-        self.beside.push(list);
-        self.crossing.push_by_place(list, self.places + 1);
+        self.push_along(list, self.places);
     }
 
-    #[tactic(auto, using(crate::proofs::Fanouts::row_length))]
+    /// Pushes it; for a number of places that is known when this is inlined, without loops.
+    #[inline(always)]
+    #[tactic(auto, using(crate::proofs::Pushes::pushed_then, crate::proofs::Pushes::room_first, crate::proofs::Pushes::room_then), unfolding(crate::specs::Fanouts::row_list))]
+    fn push_along(self, list: &mut SmallVec<u32, 8>, places: u32)
+        requires room { HasRoomFor list.old (length (row_list self)) }
+        requires small { IsSmallRow self }
+        requires places { places ≡ self.places }
+        ensures { Pushes list.old (row_list self.entry) list.new }
+    {
+        self.under.push_with(self.over, list, places);
+        self.beside.push(list);
+        self.crossing.push_by_place(list, places + 1);
+    }
+
+    #[inline(always)]
     pub(crate) fn count(self) -> u32
         requires { IsSmallRow self }
         ensures count { result ≡ length (row_list self.entry) }
         ensures few { result ≤ 20000 }
     {
+        self.count_along(self.places)
+    }
+
+    #[inline(always)]
+    #[tactic(auto, using(crate::proofs::Fanouts::row_length))]
+    fn count_along(self, places: u32) -> u32
+        requires small { IsSmallRow self }
+        requires places { places ≡ self.places }
+        ensures count { result ≡ length (row_list self.entry) }
+        ensures few { result ≤ 20000 }
+    {
         let pins = self.under.count() + self.over.count();
-        self.places * pins + self.beside.count() + (self.places + 1) * self.crossing.count()
+        places * pins + self.beside.count() + (places + 1) * self.crossing.count()
+    }
+
+    /// Pushes it, if memory is found for all of it.
+    #[inline(always)]
+    pub(crate) fn fill(self, list: &mut SmallVec<u32, 8>) -> Result<(), AllocError>
+        requires { IsSmallRow self }
+        ensures filled { OnOk result (list.new.items ≡ list.old.items ++ row_list self.entry) }
+        ensures refused { OnErr result (list.new ≡ list.old) }
+        ensures room { HasRoomFor list.old (length (row_list self.entry)) → IsOk result }
+        ensures kept { list.old.capacity ≤ list.new.capacity }
+    {
+        if self.places == 1 {
+            self.fill_along(list, 1)?;
+        } else {
+            self.fill_along(list, self.places)?;
+        }
+        Ok(())
+    }
+
+    #[inline(always)]
+    fn fill_along(self, list: &mut SmallVec<u32, 8>, places: u32) -> Result<(), AllocError>
+        requires small { IsSmallRow self }
+        requires places { places ≡ self.places }
+        ensures filled { OnOk result (list.new.items ≡ list.old.items ++ row_list self.entry) }
+        ensures refused { OnErr result (list.new ≡ list.old) }
+        ensures room { HasRoomFor list.old (length (row_list self.entry)) → IsOk result }
+        ensures kept { list.old.capacity ≤ list.new.capacity }
+    {
+        list.reserve(self.count_along(places) as usize)?;
+        self.push_along(list, places);
+        Ok(())
     }
 }
 
 impl ColumnFanout<'_> {
-    #[tactic(auto, using(crate::proofs::Pushes::pushed_then, crate::proofs::Pushes::room_first, crate::proofs::Pushes::room_then), unfolding(crate::specs::Fanouts::column_list))]
+    #[inline(always)]
     pub(crate) fn push(self, list: &mut SmallVec<u32, 8>)
         requires room { HasRoomFor list.old (length (column_list self)) }
         requires small { IsSmallColumn self }
         ensures { Pushes list.old (column_list self.entry) list.new }
     {
-        self.before.push(list, self.places);
-        self.behind.push(list, self.places);
-        self.crossing.push_by_run(list, self.places + 1);
+        self.push_along(list, self.places);
+    }
+
+    /// Pushes it; for a number of places that is known when this is inlined, without loops.
+    #[inline(always)]
+    #[tactic(auto, using(crate::proofs::Pushes::pushed_then, crate::proofs::Pushes::room_first, crate::proofs::Pushes::room_then), unfolding(crate::specs::Fanouts::column_list))]
+    fn push_along(self, list: &mut SmallVec<u32, 8>, places: u32)
+        requires room { HasRoomFor list.old (length (column_list self)) }
+        requires small { IsSmallColumn self }
+        requires places { places ≡ self.places }
+        ensures { Pushes list.old (column_list self.entry) list.new }
+    {
+        self.before.push(list, places);
+        self.behind.push(list, places);
+        self.crossing.push_by_run(list, places + 1);
         self.beside.push(list);
     }
 
-    #[tactic(auto, using(crate::proofs::Fanouts::column_length))]
+    #[inline(always)]
     pub(crate) fn count(self) -> u32
         requires { IsSmallColumn self }
         ensures count { result ≡ length (column_list self.entry) }
         ensures few { result ≤ 20000 }
     {
+        self.count_along(self.places)
+    }
+
+    #[inline(always)]
+    #[tactic(auto, using(crate::proofs::Fanouts::column_length))]
+    fn count_along(self, places: u32) -> u32
+        requires small { IsSmallColumn self }
+        requires places { places ≡ self.places }
+        ensures count { result ≡ length (column_list self.entry) }
+        ensures few { result ≤ 20000 }
+    {
         let pins = self.before.count() + self.behind.count();
-        self.places * pins + self.beside.count() + (self.places + 1) * self.crossing.count()
+        places * pins + self.beside.count() + (places + 1) * self.crossing.count()
+    }
+
+    /// Pushes it, if memory is found for all of it.
+    #[inline(always)]
+    pub(crate) fn fill(self, list: &mut SmallVec<u32, 8>) -> Result<(), AllocError>
+        requires { IsSmallColumn self }
+        ensures filled { OnOk result (list.new.items ≡ list.old.items ++ column_list self.entry) }
+        ensures refused { OnErr result (list.new ≡ list.old) }
+        ensures room { HasRoomFor list.old (length (column_list self.entry)) → IsOk result }
+        ensures kept { list.old.capacity ≤ list.new.capacity }
+    {
+        if self.places == 1 {
+            self.fill_along(list, 1)?;
+        } else {
+            self.fill_along(list, self.places)?;
+        }
+        Ok(())
+    }
+
+    #[inline(always)]
+    fn fill_along(self, list: &mut SmallVec<u32, 8>, places: u32) -> Result<(), AllocError>
+        requires small { IsSmallColumn self }
+        requires places { places ≡ self.places }
+        ensures filled { OnOk result (list.new.items ≡ list.old.items ++ column_list self.entry) }
+        ensures refused { OnErr result (list.new ≡ list.old) }
+        ensures room { HasRoomFor list.old (length (column_list self.entry)) → IsOk result }
+        ensures kept { list.old.capacity ≤ list.new.capacity }
+    {
+        list.reserve(self.count_along(places) as usize)?;
+        self.push_along(list, places);
+        Ok(())
     }
 }

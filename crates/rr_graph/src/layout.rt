@@ -2,6 +2,7 @@
 
 ghost use Rattle.std.specs.Prelude.{◌≡◌, ℕ, ◌+◌, ◌≤◌, ◌<◌, IfOk};
 ghost use Rattle.rr_graph.specs.Fabric.{IsFabric, is_block, is_pad};
+ghost use Rattle.rr_graph.specs.Wires.{tracks_in};
 
 use crate::parts::Mode;
 use arch_file::{Arch, Segment};
@@ -16,6 +17,8 @@ pub struct Layout {
     pub(crate) ny: u32,
     pub(crate) width: u32,
     pub(crate) mode: Mode,
+    /// How many wires run through a place of a channel.
+    pub(crate) tracks: u32,
 }
 
 impl Model for Layout {
@@ -27,7 +30,20 @@ impl Model for Layout {
 
     ghost view = { fabric_of };
 
-    ghost invariant = { λ l. IsFabric (fabric_of l) };
+    ghost use Rattle.std.specs.Prelude.{◌≡◌};
+    ghost use Rattle.rr_graph.specs.Wires.{tracks_in};
+
+    ghost invariant = { λ l. IsFabric (fabric_of l) × (l.tracks ≡ tracks_in l.mode l.width) };
+}
+
+/// How many wires run through a place of a channel of this width.
+fn tracks_in(mode: Mode, width: u32) -> u32
+    ensures { result ≡ tracks_in mode width }
+{
+    match mode {
+        Mode::Detailed => width,
+        Mode::Global => 1,
+    }
 }
 
 impl Layout {
@@ -53,6 +69,7 @@ impl Layout {
             ny,
             width,
             mode,
+            tracks: tracks_in(mode, width),
         })
     }
 

@@ -1,6 +1,6 @@
 //! The successors of a node, from its place by arithmetic.
 
-ghost use Rattle.std.specs.Prelude.{◌≡◌, OnOk, OnErr, IsOk, ℕ, ◌+◌, ◌*◌, ◌<◌, ◌≤◌, ◌++◌, true, length, map};
+ghost use Rattle.std.specs.Prelude.{◌≡◌, OnOk, OnErr, IsOk, ℕ, ◌+◌, ◌*◌, ◌<◌, ◌≤◌, ◌⊎◌, ◌++◌, true, length, map};
 ghost use Rattle.std.specs.List.{range_with_len, flat_map};
 ghost use Rattle.smallvec.specs.SmallVec.{HasRoomFor};
 ghost use Rattle.rr_graph.specs.Fabric.{IsFabric};
@@ -22,6 +22,7 @@ use std::alloc::AllocError;
 
 impl Device {
     /// The wires of a track through place `x` above row `y` and the rows over it.
+    #[inline(always)]
     #[tactic(auto, using(crate::proofs::WireFanouts::above_number, crate::proofs::WireFanouts::first_upto))]
     pub(crate) fn run_above(&self, track: u32, x: u32, y: u32) -> Run
         requires place { (1 ≤ x) × (x ≤ self.now.nx) }
@@ -41,6 +42,7 @@ impl Device {
     }
 
     /// The wires of a track through place `y` right of column `x` and the columns behind it.
+    #[inline(always)]
     #[tactic(auto, using(crate::proofs::WireFanouts::right_number))]
     pub(crate) fn run_right(&self, track: u32, x: u32, y: u32) -> Run
         requires place { (1 ≤ y) × (y ≤ self.now.ny) }
@@ -59,6 +61,7 @@ impl Device {
     }
 
     /// The wires above row `y` and the rows over it that touch the corners right of column `x`.
+    #[inline(always)]
     #[tactic(auto, unfolding(crate::specs::Channels::meeting_of))]
     fn meeting_above(&self, track: u32, x: u32, y: u32) -> Meeting
         requires column { x ≤ self.now.nx }
@@ -86,6 +89,7 @@ impl Device {
     }
 
     /// The wires right of column `x` and the columns behind it that touch the corners above row `y`.
+    #[inline(always)]
     #[tactic(auto, unfolding(crate::specs::Channels::meeting_of))]
     fn meeting_right(&self, track: u32, x: u32, y: u32) -> Meeting
         requires column { x ≤ self.now.nx }
@@ -114,6 +118,7 @@ impl Device {
 
     /// The wire that ends just before the wire of a track that passes the places from `x` to `last` above row `y`, and the
     /// one that begins just behind.
+    #[inline(always)]
     #[tactic(auto, using(crate::proofs::WireFanouts::behind_first), unfolding(crate::specs::Channels::beside_of))]
     fn beside_above(&self, track: u32, x: u32, last: u32, y: u32) -> Pair
         requires place { (1 ≤ x) × (x ≤ self.now.nx) }
@@ -140,6 +145,7 @@ impl Device {
 
     /// The wire that ends just before the wire of a track that passes the places from `y` to `last` right of column `x`, and
     /// the one that begins just behind.
+    #[inline(always)]
     #[tactic(auto, using(crate::proofs::WireFanouts::behind_first), unfolding(crate::specs::Channels::beside_of))]
     fn beside_right(&self, track: u32, x: u32, y: u32, last: u32) -> Pair
         requires place { (1 ≤ y) × (y ≤ self.now.ny) }
@@ -165,6 +171,7 @@ impl Device {
     }
 
     /// The places, among a block's input pins or the pads of a place, of those that tap a track on a side.
+    #[inline(always)]
     fn tapping(&self, side: Side, track: u32) -> &[u8]
         requires { track < tracks_in self.now.mode self.now.width }
         ensures places { result.now ≡ tapping_on side self.now track }
@@ -173,47 +180,113 @@ impl Device {
         self.layout.tapping_on(&self.sides, side, track)
     }
 
-    /// Those of a row's input pins that stand at `places`, from (x, y) on.
-    fn taps_in_row<'a>(&self, places: &'a [u8], x: u32, y: u32) -> Taps<'a>
+    /// How many input pins stand in a column of blocks.
+    #[inline(always)]
+    fn column_pins(&self) -> u32
+        ensures count { result ≡ pins_of_column self.now }
+        ensures few { result ≤ 32768 }
+        ensures limits { IsFabric self.now }
+    {
+        2 * self.layout.arch.io_rat() + self.ny() * self.number_count(Kind::Ipin)
+    }
+
+    /// The number of the first input pin of column `x`.
+    #[inline(always)]
+    #[tactic(auto, using(crate::proofs::WireFanouts::first_of_column))]
+    fn column_start(&self, x: u32) -> u32
+        requires { (1 ≤ x) × (x ≤ self.now.nx + 1) }
+        ensures start { result ≡ place_start self.now Kind.Ipin x 0 }
+        ensures few { result < 16000000 }
+    {
+        let before = self.ny() * self.layout.arch.io_rat() + (x - 1) * self.column_pins();
+        self.kind_start(Kind::Ipin) + before
+    }
+
+    /// The number of the first input pin of row `y` in a column of blocks.
+    #[inline(always)]
+    #[tactic(auto, using(crate::proofs::WireFanouts::first_of_block))]
+    fn block_start(&self, x: u32, y: u32) -> u32
+        requires column { (1 ≤ x) × (x ≤ self.now.nx) }
+        requires row { (1 ≤ y) × (y ≤ self.now.ny + 1) }
+        ensures start { result ≡ place_start self.now Kind.Ipin x y }
+        ensures few { result < 16777216 }
+    {
+        let _limits = self.nx();
+        let before = self.layout.arch.io_rat() + (y - 1) * self.number_count(Kind::Ipin);
+        self.column_start(x) + before
+    }
+
+    /// The number of the first input pad of row `y` in a column beside the blocks.
+    #[inline(always)]
+    #[tactic(auto, using(crate::proofs::WireFanouts::first_of_pads))]
+    fn pad_start(&self, x: u32, y: u32) -> u32
+        requires column { x ≡ self.now.nx + 1 }
+        requires row { (1 ≤ y) × (y ≤ self.now.ny) }
+        ensures start { result ≡ place_start self.now Kind.Ipin x y }
+        ensures few { result < 16777216 }
+    {
+        let _limits = self.nx();
+        self.column_start(x) + (y - 1) * self.layout.arch.io_rat()
+    }
+
+    /// Those of a row's input pins that stand at `places`, from the one of number `start` on.
+    #[inline(always)]
+    fn taps_in_row<'a>(&self, places: &'a [u8], start: u32) -> Taps<'a>
         requires few { length places.now ≤ 64 }
-        requires column { x ≤ self.now.nx + 1 }
-        requires row { y ≤ self.now.ny + 1 }
+        requires small { start < 16777216 }
         ensures places { result.places.now ≡ places.now }
-        ensures start { result.start ≡ place_start self.now Kind.Ipin x y }
+        ensures start { result.start ≡ start }
         ensures step { result.step ≡ pins_of_column self.now }
         ensures small { IsSmallTaps result }
     {
-        let pads = self.layout.arch.io_rat();
         Taps {
             places,
-            start: self.terminal_start(Kind::Ipin, x, y),
-            step: 2 * pads + self.ny() * self.number_count(Kind::Ipin),
+            start,
+            step: self.column_pins(),
         }
     }
 
-    /// Those of a column's input pins that stand at `places`, from (x, y) on.
-    fn taps_in_column<'a>(&self, places: &'a [u8], x: u32, y: u32) -> Taps<'a>
+    /// Those of the input pins of a column of blocks that stand at `places`, from the one of number `start` on.
+    #[inline(always)]
+    #[tactic(auto, using(crate::proofs::WireFanouts::pins_by_blocks))]
+    fn taps_in_column<'a>(&self, places: &'a [u8], x: u32, start: u32) -> Taps<'a>
         requires few { length places.now ≤ 64 }
-        requires column { x ≤ self.now.nx + 1 }
-        requires row { y ≤ self.now.ny + 1 }
+        requires small { start < 16777216 }
+        requires column { (1 ≤ x) × (x ≤ self.now.nx) }
         ensures places { result.places.now ≡ places.now }
-        ensures start { result.start ≡ place_start self.now Kind.Ipin x y }
+        ensures start { result.start ≡ start }
         ensures step { result.step ≡ pins_of_row self.now x }
         ensures small { IsSmallTaps result }
     {
-        let step = if 1 <= x && x <= self.nx() {
-            self.number_count(Kind::Ipin)
-        } else {
-            self.layout.arch.io_rat()
-        };
         Taps {
             places,
-            start: self.terminal_start(Kind::Ipin, x, y),
-            step,
+            start,
+            step: self.number_count(Kind::Ipin),
+        }
+    }
+
+    /// Those of the input pads of a column beside the blocks that stand at `places`, from the one of number `start` on.
+    #[inline(always)]
+    #[tactic(auto, using(crate::proofs::WireFanouts::pins_by_pads))]
+    fn taps_beside<'a>(&self, places: &'a [u8], x: u32, start: u32) -> Taps<'a>
+        requires few { length places.now ≤ 64 }
+        requires small { start < 16777216 }
+        requires column { (x ≡ 0) ⊎ (x ≡ self.now.nx + 1) }
+        ensures places { result.places.now ≡ places.now }
+        ensures start { result.start ≡ start }
+        ensures step { result.step ≡ pins_of_row self.now x }
+        ensures small { IsSmallTaps result }
+    {
+        let _limits = self.nx();
+        Taps {
+            places,
+            start,
+            step: self.layout.arch.io_rat(),
         }
     }
 
     /// The pins that tap a track above row `y` from below, from place `x` on.
+    #[inline(always)]
     #[tactic(auto, using(crate::proofs::WireFanouts::row_pins, crate::proofs::WireFanouts::row_pads))]
     fn taps_under(&self, track: u32, x: u32, y: u32) -> Taps<'_>
         requires place { (1 ≤ x) × (x ≤ self.now.nx) × (y ≤ self.now.ny) }
@@ -221,13 +294,15 @@ impl Device {
         ensures pins { (k : ℕ) → x + k ≤ self.now.nx → pins_at result k ≡ pins_beside self.now (λ s. s.top) (x + k) y track }
         ensures small { IsSmallTaps result }
     {
+        let first = self.column_start(x);
         if y == 0 {
-            return self.taps_in_row(self.tapping(Side::Pad, track), x, y);
+            return self.taps_in_row(self.tapping(Side::Pad, track), first);
         }
-        self.taps_in_row(self.tapping(Side::Top, track), x, y)
+        self.taps_in_row(self.tapping(Side::Top, track), self.block_start(x, y))
     }
 
     /// The pins that tap a track above row `y` from above, from place `x` on.
+    #[inline(always)]
     #[tactic(auto, using(crate::proofs::WireFanouts::row_pins, crate::proofs::WireFanouts::row_pads))]
     fn taps_over(&self, track: u32, x: u32, y: u32) -> Taps<'_>
         requires place { (1 ≤ x) × (x ≤ self.now.nx) × (y ≤ self.now.ny) }
@@ -235,13 +310,16 @@ impl Device {
         ensures pins { (k : ℕ) → x + k ≤ self.now.nx → pins_at result k ≡ pins_beside self.now (λ s. s.bottom) (x + k) (y + 1) track }
         ensures small { IsSmallTaps result }
     {
-        if y == self.ny() {
-            return self.taps_in_row(self.tapping(Side::Pad, track), x, y + 1);
+        let ny = self.ny();
+        let start = self.block_start(x, y + 1);
+        if y == ny {
+            return self.taps_in_row(self.tapping(Side::Pad, track), start);
         }
-        self.taps_in_row(self.tapping(Side::Bottom, track), x, y + 1)
+        self.taps_in_row(self.tapping(Side::Bottom, track), start)
     }
 
     /// The pins that tap a track right of column `x` from the left, from place `y` on.
+    #[inline(always)]
     #[tactic(auto, using(crate::proofs::WireFanouts::column_pins, crate::proofs::WireFanouts::column_pads))]
     fn taps_before(&self, track: u32, x: u32, y: u32) -> Taps<'_>
         requires place { (1 ≤ y) × (y ≤ self.now.ny) × (x ≤ self.now.nx) }
@@ -250,12 +328,14 @@ impl Device {
         ensures small { IsSmallTaps result }
     {
         if x == 0 {
-            return self.taps_in_column(self.tapping(Side::Pad, track), x, y);
+            let start = self.terminal_start(Kind::Ipin, x, y);
+            return self.taps_beside(self.tapping(Side::Pad, track), x, start);
         }
-        self.taps_in_column(self.tapping(Side::Right, track), x, y)
+        self.taps_in_column(self.tapping(Side::Right, track), x, self.block_start(x, y))
     }
 
     /// The pins that tap a track right of column `x` from the right, from place `y` on.
+    #[inline(always)]
     #[tactic(auto, using(crate::proofs::WireFanouts::column_pins, crate::proofs::WireFanouts::column_pads))]
     fn taps_behind(&self, track: u32, x: u32, y: u32) -> Taps<'_>
         requires place { (1 ≤ y) × (y ≤ self.now.ny) × (x ≤ self.now.nx) }
@@ -264,12 +344,15 @@ impl Device {
         ensures small { IsSmallTaps result }
     {
         if x == self.nx() {
-            return self.taps_in_column(self.tapping(Side::Pad, track), x + 1, y);
+            let start = self.pad_start(x + 1, y);
+            return self.taps_beside(self.tapping(Side::Pad, track), x + 1, start);
         }
-        self.taps_in_column(self.tapping(Side::Left, track), x + 1, y)
+        let start = self.block_start(x + 1, y);
+        self.taps_in_column(self.tapping(Side::Left, track), x + 1, start)
     }
 
     /// Where the wire of a track that begins at place `x` above a row ends.
+    #[inline(always)]
     #[tactic(auto, using(crate::proofs::WireFanouts::wire_end, crate::proofs::WireFanouts::end_within))]
     fn end_above(&self, track: u32, x: u32) -> u32
         requires wire { (1 ≤ x) × (x ≤ self.now.nx) × (begins self.now self.now.nx track x ≡ true) }
@@ -283,6 +366,7 @@ impl Device {
     }
 
     /// Where the wire of a track that begins at place `y` right of a column ends.
+    #[inline(always)]
     #[tactic(auto, using(crate::proofs::WireFanouts::wire_end, crate::proofs::WireFanouts::end_within))]
     fn end_right(&self, track: u32, y: u32) -> u32
         requires wire { (1 ≤ y) × (y ≤ self.now.ny) × (begins self.now self.now.ny track y ≡ true) }
@@ -296,6 +380,7 @@ impl Device {
     }
 
     /// What the wire of a track leads to that begins at place `x` above row `y`.
+    #[inline(always)]
     pub(crate) fn row_fanout(&self, track: u32, x: u32, y: u32) -> RowFanout<'_>
         requires wire { (1 ≤ x) × (x ≤ self.now.nx) × (begins self.now self.now.nx track x ≡ true) }
         requires row { y ≤ self.now.ny }
@@ -314,6 +399,7 @@ impl Device {
     }
 
     /// What the wire of a track leads to that begins at place `y` right of column `x`.
+    #[inline(always)]
     pub(crate) fn column_fanout(&self, track: u32, x: u32, y: u32) -> ColumnFanout<'_>
         requires wire { (1 ≤ y) × (y ≤ self.now.ny) × (begins self.now self.now.ny track y ≡ true) }
         requires column { x ≤ self.now.nx }
@@ -365,6 +451,7 @@ impl Device {
     }
 
     /// Pushes what the wire of a track leads to that begins at place `x` above row `y`, if memory is found for all of it.
+    #[inline(always)]
     #[tactic(auto)]
     fn fill_from_row(
         &self,
@@ -381,13 +468,12 @@ impl Device {
         ensures room { HasRoomFor list.old (length (row_wire_list self.now x y track)) → IsOk result }
         ensures kept { list.old.capacity ≤ list.new.capacity }
     {
-        let fanout = self.row_fanout(track, x, y);
-        list.reserve(fanout.count() as usize)?;
-        fanout.push(list);
+        self.row_fanout(track, x, y).fill(list)?;
         Ok(())
     }
 
     /// Pushes what the wire of a track leads to that begins at place `y` right of column `x`, if memory is found for all of it.
+    #[inline(always)]
     #[tactic(auto)]
     fn fill_from_column(
         &self,
@@ -404,13 +490,12 @@ impl Device {
         ensures room { HasRoomFor list.old (length (column_wire_list self.now x y track)) → IsOk result }
         ensures kept { list.old.capacity ≤ list.new.capacity }
     {
-        let fanout = self.column_fanout(track, x, y);
-        list.reserve(fanout.count() as usize)?;
-        fanout.push(list);
+        self.column_fanout(track, x, y).fill(list)?;
         Ok(())
     }
 
     /// Pushes the successors of a node, if memory is found for all of them.
+    #[inline(always)]
     #[tactic(auto)]
     pub(crate) fn fill(&self, list: &mut SmallVec<u32, 8>, node: Node) -> Result<(), AllocError>
         requires { IsAtPlace self.now node }

@@ -65,16 +65,14 @@ impl Layout {
         type_of(self.segments(), self.width(), track)
     }
 
-    /// Tracks in each channel.
+    /// How many wires run through a place of a channel.
+    #[tactic(auto, using(crate::proofs::TrackCounts::tracks_within))]
     pub(crate) fn tracks(&self) -> u32
         ensures tracks { result ≡ tracks_in self.now.mode self.now.width }
         ensures few { result ≤ 256 }
         ensures within { result ≤ self.now.width }
     {
-        match self.mode {
-            Mode::Detailed => self.width,
-            Mode::Global => 1,
-        }
+        self.tracks
     }
 
     /// How many places the wires of a track pass in a channel of `places` places.
