@@ -1,7 +1,7 @@
 -- A product with the factor of a divisor tells how often the divisor goes into a number.
-use Rattle.std.proofs.Common.{◌≡◌, ℕ, ◌+◌, ◌-◌, ◌*◌, ◌/◌, ◌%◌, ◌<◌, ◌≤◌, inl, inr, refl, sym, ap, ◌∙◌, arith}
+use Rattle.std.proofs.Common.{◌≡◌, ℕ, ◌+◌, ◌*◌, ◌/◌, ◌<◌, ◌≤◌, inl, inr, arith}
 use Rattle.std.proofs.lemmas.Bool.{cases_lt}
-use Rattle.std.proofs.Math.Nat.{div-add-mod, mod-lt, mul-le-mul, mul-le-mul_left, lt_of_mul-lt-mul_left, div-lt_iff_lt-mul, div-le_self}
+use Rattle.std.proofs.Math.Nat.{div-add-mod, mod-lt, mul-le-mul, mul-le-mul_left, lt_of_mul-lt-mul_left, div-lt_iff_lt-mul}
 
 pub factor_made : (n : ℕ) → 1 ≤ n → (9223372036854775808 < (9223372036854775808 / n + 1) * n) × ((9223372036854775808 / n + 1) * n ≤ 9223372036854775808 + n)
 factor_made n some =

@@ -1,5 +1,5 @@
 -- Where the input pins of a sink stand.
-use Rattle.std.proofs.Common.{◌≡◌, ℕ, ◌+◌, ◌<◌, ◌≤◌, true, false, inl, inr, [], ◌∷◌, length, get_or, Option, Some, None, refl, sym, ap, ◌∙◌, arith}
+use Rattle.std.proofs.Common.{◌≡◌, ℕ, ◌+◌, ◌<◌, ◌≤◌, inl, inr, [], ◌∷◌, get_or, Option, Some, None, refl, sym, ap, ◌∙◌, arith}
 use Rattle.std.specs.Prelude.{if◌then◌else◌, slice_get}
 use Rattle.std.specs.Option.{option_map}
 use Rattle.std.proofs.lemmas.Bool.{cases_Bool}
@@ -9,7 +9,7 @@ use Rattle.rr_graph.specs.declared.parts.Kind.{Kind}
 use Rattle.rr_graph.specs.declared.parts.Kind.TheVariants.{Sink, Ipin, Chanx}
 use Rattle.rr_graph.specs.declared.parts.Node.{Node}
 use Rattle.rr_graph.specs.Fabric.{Fabric, IsFabric, numbers_below, is_block, is_pad}
-use Rattle.rr_graph.specs.Nodes.{numbers_at, node_of, nodes_of_kind, node_at, kind_of_node, number_of}
+use Rattle.rr_graph.specs.Nodes.{numbers_at, node_of, node_at, kind_of_node, number_of}
 use Rattle.rr_graph.specs.Edges.{successors_of}
 use Rattle.rr_graph.specs.Numbering.{block_numbers}
 use Rattle.rr_graph.specs.Starts.{kind_start, place_start}

@@ -1,5 +1,5 @@
 -- Division by a multiplication (Granlund and Montgomery 1994).
-use Rattle.std.specs.Prelude.{ℕ, ◌+◌, ◌*◌, ◌<◌, ◌≤◌}
+use Rattle.std.specs.Prelude.{◌+◌, ◌*◌, ◌<◌, ◌≤◌}
 use Rattle.rr_graph.specs.declared.divisor.Divisor.TheInside as divisor
 
 -- the factor is the least number that is above 2^63 divided by the divisor

@@ -1,4 +1,4 @@
-use Rattle.std.proofs.Common.{sym, ◌∙◌, arith}
+use Rattle.std.proofs.Common.{sym, arith}
 use Rattle.rr_graph.proofs.Pieces.{place_of_node}
 use Rattle.rr_graph.proofs.InputPins.{sink_stands, stands_beside}
 use Rattle.rr_graph.proofs.device.Device.pins_beside.Goals as goal
