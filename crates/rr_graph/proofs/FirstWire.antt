@@ -1,13 +1,17 @@
 -- The wires are the nodes from one number on.
-use Rattle.std.proofs.Common.{◌≡◌, ℕ, ◌+◌, ◌<◌, ◌≤◌, true, false, inl, inr, length, sym, ap, ◌∙◌, arith}
-use Rattle.std.specs.Prelude.{nat_le}
-use Rattle.std.specs.Option.{option_map_or}
+use Rattle.std.proofs.Common.{◌≡◌, ℕ, ◌+◌, ◌<◌, ◌≤◌, true, false, inl, inr, length, Some, None, sym, ap, ◌∙◌, arith}
+use Rattle.std.specs.Prelude.{nat_le, if◌then◌else◌}
+use Rattle.std.specs.Option.{option_map, option_map_or}
 use Rattle.std.proofs.lemmas.Bool.{cases_lt}
 use Rattle.std.proofs.lemmas.Bool.Decides.{nat_tests}
+use Rattle.std.proofs.lemmas.Option.{slice_get_within}
 use Rattle.rr_graph.specs.declared.parts.Kind.{Kind}
 use Rattle.rr_graph.specs.declared.parts.Kind.TheVariants.{Source, Sink, Opin, Ipin, Chanx, Chany}
+use Rattle.rr_graph.specs.declared.parts.Node.{Node}
+use Rattle.rr_graph.specs.declared.parts.Span.{Span}
 use Rattle.rr_graph.specs.Fabric.{Fabric}
-use Rattle.rr_graph.specs.Nodes.{nodes_of_kind, node_count_of, is_wire, is_wire_at}
+use Rattle.rr_graph.specs.Wires.{reach_of}
+use Rattle.rr_graph.specs.Nodes.{nodes_of, nodes_of_kind, node_count_of, node_at, is_wire, is_wire_at, span_of, wire_in}
 use Rattle.rr_graph.specs.Starts.{kind_start}
 use Rattle.rr_graph.proofs.Pieces.{kind_within, node_count_by_kinds}
 
@@ -44,3 +48,18 @@ module _ (f : Fabric) (i : ℕ) where
     | inl before ↦ (let test : nat_le (kind_start f Chanx) i ≡ false = grind (arith, nat_tests) in no_wire before ∙ sym test)
     | inr from ↦ (let test : nat_le (kind_start f Chanx) i ≡ true = grind (arith, nat_tests) in a_wire from l ∙ sym test)
   ]
+
+-- the node of a number from the first wire's on is a wire
+pub wire_from : (f : Fabric) (start i : ℕ) (a : Node) → ((j : ℕ) → j < node_count_of f → is_wire_at f j ≡ nat_le start j) → start ≤ i → node_at f i ≡ Some a → is_wire a.kind ≡ true
+wire_from f start i a wires from h =
+    let here : i < node_count_of f = slice_get_within (nodes_of f) i a h in
+    let test : nat_le start i ≡ true = grind (arith, nat_tests) in
+    sym (ap (λ o. option_map_or is_wire (option_map (λ n. n.kind) o) false) h) ∙ wires i here ∙ test
+
+-- what is told of a wire
+pub wire_told : (f : Fabric) (i : ℕ) (a : Node) (span : Span) (reach : ℕ) → node_at f i ≡ Some a → is_wire a.kind ≡ true → span ≡ span_of f a → reach ≡ reach_of f a.number
+    → Some (a.kind, span, reach) ≡ wire_in f (node_at f i)
+unfolding wire_in
+wire_told f i a span reach h wire spans reaches =
+    ap (λ s. Some (a.kind, s, reach)) spans ∙ ap (λ r. Some (a.kind, span_of f a, r)) reaches
+    ∙ sym (ap (wire_in f) h ∙ ap (λ b. if b then Some (a.kind, span_of f a, reach_of f a.number) else None) wire)

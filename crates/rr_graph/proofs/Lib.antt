@@ -48,3 +48,4 @@ pub mod DevicesMade
 pub mod DesignExamples
 pub mod Divisors
 pub mod InputPins
+pub mod WiresWithin

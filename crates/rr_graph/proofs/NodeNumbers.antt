@@ -15,7 +15,7 @@ use Rattle.rr_graph.specs.declared.parts.Kind.TheVariants.{Source, Sink, Opin, I
 use Rattle.rr_graph.specs.declared.parts.Node.{Node}
 use Rattle.rr_graph.specs.Fabric.{Fabric, IsFabric, numbers_below, is_between, is_block, is_pad}
 use Rattle.rr_graph.specs.Wires.{tracks_in, begins, last_of, last_by}
-use Rattle.rr_graph.specs.Nodes.{numbers_at, node_of, node_at, number_of}
+use Rattle.rr_graph.specs.Nodes.{numbers_at, node_of, node_at, is_wire, number_of}
 use Rattle.rr_graph.specs.Starts.{kind_start, place_start}
 use Rattle.rr_graph.specs.Numbering.{is_terminal, block_numbers}
 use Rattle.rr_graph.specs.Tables.{starting_at, wires_before, wire_number, wire_at}
@@ -115,6 +115,16 @@ place_right f i a h e = let here = (column_wire_at f i a h e).0 in (here.from, h
 
 pub track_right : (f : Fabric) (i : ℕ) (a : Node) → node_at f i ≡ Some a → a.kind ≡ Chany → a.number < tracks_in f.mode f.width
 track_right f i a h e = (column_wire_at f i a h e).2
+
+pub track_of_wire : (f : Fabric) (i : ℕ) (a : Node) → node_at f i ≡ Some a → is_wire a.kind ≡ true → a.number < tracks_in f.mode f.width
+track_of_wire f i a h w = by_kind a.kind refl w where
+  by_kind : (k : Kind) → a.kind ≡ k → is_wire k ≡ true → a.number < tracks_in f.mode f.width
+  by_kind Source e w = absurd (false≢true w)
+  by_kind Sink e w = absurd (false≢true w)
+  by_kind Opin e w = absurd (false≢true w)
+  by_kind Ipin e w = absurd (false≢true w)
+  by_kind Chanx e w = track_above f i a h e
+  by_kind Chany e w = track_right f i a h e
 
 -- ---- as tests
 abbrev pub is_wire_above : Fabric → (x y t : ℕ) → Bool

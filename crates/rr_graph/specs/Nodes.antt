@@ -13,7 +13,7 @@ use Rattle.rr_graph.specs.declared.parts.Label.{Label}
 use Rattle.rr_graph.specs.declared.parts.Label.TheVariants.{Class, Pin, Pad, Track}
 use Rattle.rr_graph.specs.declared.parts.Span.{Span}
 use Rattle.rr_graph.specs.Fabric.{Fabric, numbers_below, is_between, is_block, is_pad}
-use Rattle.rr_graph.specs.Wires.{tracks_in, begins, last_of}
+use Rattle.rr_graph.specs.Wires.{tracks_in, begins, last_of, reach_of}
 use Rattle.rr_graph.specs.Pins.{classes_of, pins_of}
 
 -- at a block the numbers given, at a perimeter place the positions of its pads
@@ -136,7 +136,8 @@ span_by _ f n = record { x1 = n.x; y1 = n.y; x2 = n.x; y2 = n.y }
 abbrev pub span_of : Fabric → Node → Span
 span_of f n = span_by n.kind f n
 
--- a wire's kind, and its first and last place; none where the node is no wire
-unfoldable pub wire_in : Fabric → Option Node → Option (Kind × Span)
+-- a wire's kind, its first and last place, and how many places the wires of its track pass at most; none where the
+-- node is no wire
+unfoldable pub wire_in : Fabric → Option Node → Option (Kind × Span × ℕ)
 wire_in f None = None
-wire_in f (Some n) = if is_wire n.kind then Some (n.kind, span_of f n) else None
+wire_in f (Some n) = if is_wire n.kind then Some (n.kind, span_of f n, reach_of f n.number) else None

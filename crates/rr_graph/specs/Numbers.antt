@@ -1,5 +1,5 @@
 -- What the counts and lists of a device's nodes hold.
-use Rattle.std.specs.Prelude.{◌≡◌}
+use Rattle.std.specs.Prelude.{◌≡◌, ℕ, List}
 use Rattle.rr_graph.specs.declared.block.Block.{Block}
 use Rattle.rr_graph.specs.declared.channel.Channel.{Channel}
 use Rattle.rr_graph.specs.declared.pins.TapCounts.{TapCounts}
@@ -12,7 +12,7 @@ use Rattle.rr_graph.specs.Pins.{tap_count}
 use Rattle.rr_graph.specs.Nodes.{node_count_of}
 use Rattle.rr_graph.specs.Starts.{kind_start}
 use Rattle.rr_graph.specs.Numbering.{block_numbers}
-use Rattle.rr_graph.specs.Tables.{IsChannel}
+use Rattle.rr_graph.specs.Tables.{IsChannel, AreReaches}
 use Rattle.rr_graph.specs.TappingTables.{IsSides}
 use Rattle.rr_graph.specs.Strides.{AreStrides}
 
@@ -39,7 +39,7 @@ pub record IsTapCounts (f : Fabric) (t : TapCounts) : Type 0 where
   pub pad : t.pad ≡ tap_count f.architecture.fc_type f.architecture.fc_pad f.width
 
 -- the tables of a device
-pub record IsTabled (f : Fabric) (b : Block) (r c : Channel) (p : BlockSides) (s : Starts) (t : TapCounts) (d : Strides) : Type 0 where
+pub record IsTabled (f : Fabric) (b : Block) (r c : Channel) (p : BlockSides) (s : Starts) (t : TapCounts) (d : Strides) (l : List ℕ) : Type 0 where
   pub block : IsBlock f b
   pub rows : IsChannel f f.nx r
   pub columns : IsChannel f f.ny c
@@ -47,3 +47,4 @@ pub record IsTabled (f : Fabric) (b : Block) (r c : Channel) (p : BlockSides) (s
   pub starts : IsStarts f s
   pub counts : IsTapCounts f t
   pub strides : AreStrides f d
+  pub reaches : AreReaches f l

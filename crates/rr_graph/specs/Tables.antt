@@ -6,7 +6,7 @@ use Rattle.rr_graph.specs.declared.channel.Beginning.{Beginning}
 use Rattle.rr_graph.specs.declared.channel.Wire.{Wire}
 use Rattle.rr_graph.specs.declared.channel.Channel.{Channel}
 use Rattle.rr_graph.specs.Fabric.{Fabric, numbers_below, is_between}
-use Rattle.rr_graph.specs.Wires.{tracks_in, begins, last_of, length_of, rank_of}
+use Rattle.rr_graph.specs.Wires.{tracks_in, begins, last_of, length_of, reach_of, rank_of}
 use Rattle.rr_graph.specs.Nodes.{beginnings_at}
 use Rattle.rr_graph.specs.Channels.{first_of}
 
@@ -53,6 +53,10 @@ tracks_since f n place first = flat_map (tracks_from f n place) (range_with_len 
 -- all tracks, in the order of where their wires through a place begin
 abbrev pub tracks_through : Fabric → (n place : ℕ) → List ℕ
 tracks_through f n place = tracks_since f n place 1
+
+-- for each track how many places its wires pass at most
+abbrev pub AreReaches : Fabric → List ℕ → Type 0
+AreReaches f reaches = reaches ≡ map (reach_of f) (numbers_below (tracks_in f.mode f.width))
 
 -- the tables of a channel of n places
 pub record IsChannel (f : Fabric) (n : ℕ) (c : Channel) : Type 0 where

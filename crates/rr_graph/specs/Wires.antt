@@ -1,6 +1,6 @@
 -- The tracks of a channel and the wires in them (this project's profile; the subject is that of Betz, Rose and
 -- Marquardt 1999, "segmented routing").
-use Rattle.std.specs.Prelude.{ℕ, ◌+◌, ◌-◌, ◌*◌, ◌%◌, ◌==◌, Bool, ◌||◌, ◌&&◌, false, nat_lt, nat_le, if◌then◌else◌, List, length, take, slice_get, Option, Some, None}
+use Rattle.std.specs.Prelude.{ℕ, ◌+◌, ◌-◌, ◌*◌, ◌%◌, ◌==◌, Bool, ◌||◌, ◌&&◌, false, max, nat_lt, nat_le, if◌then◌else◌, List, length, take, slice_get, Option, Some, None}
 use Rattle.std.specs.List.{sum_by, position_or_len, range_with_len}
 use Rattle.arch_file.specs.declared.parts.Segment.{Segment}
 use Rattle.arch_file.specs.declared.parts.SegmentLength.{SegmentLength}
@@ -60,6 +60,10 @@ length_by Global segments width n track = 1
 -- how many places the wires of a track pass in a channel of n places; in a global device 1
 unfoldable pub length_of : Fabric → (n track : ℕ) → ℕ
 length_of f n track = length_by f.mode f.architecture.segments f.width n track
+
+-- how many places the wires of a track pass at most, in either direction
+unfoldable pub reach_of : Fabric → (track : ℕ) → ℕ
+reach_of f track = max (length_of f f.nx track) (length_of f f.ny track)
 
 -- a wire of the track begins at a place of a channel of n places, which are counted from 1: at the first place, and at
 -- every place that is a whole number of wires away, shifted by the track's rank

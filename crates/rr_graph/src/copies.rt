@@ -27,6 +27,7 @@ impl Device {
         let starts = layout.starts(&block, &rows, &columns);
         let counts = layout.tap_counts();
         let strides = layout.strides(alloc, &rows, &columns)?;
+        let reaches = layout.reaches(alloc)?;
         Ok(Device {
             layout,
             block,
@@ -36,6 +37,7 @@ impl Device {
             starts,
             counts,
             strides,
+            reaches,
         })
     }
 

@@ -33,6 +33,8 @@ pub struct Device {
     pub(crate) starts: Starts,
     pub(crate) counts: TapCounts,
     pub(crate) strides: Strides,
+    /// For each track how many places its wires pass at most.
+    pub(crate) reaches: Vec<u32>,
 }
 
 impl Model for Device {
@@ -45,7 +47,7 @@ impl Model for Device {
 
     ghost view = { λ d. d.layout };
 
-    ghost invariant = { λ d. IsFabric d.layout × IsTabled d.layout d.block d.rows d.columns d.sides d.starts d.counts d.strides };
+    ghost invariant = { λ d. IsFabric d.layout × IsTabled d.layout d.block d.rows d.columns d.sides d.starts d.counts d.strides d.reaches.items };
 }
 
 impl Device {
@@ -217,9 +219,10 @@ impl Device {
         }
     }
 
-    /// The kind of a wire and the places that it passes, from one look-up; None for what is no wire.
+    /// The kind of a wire, the places that it passes, and how many the wires of its track pass at most, from one look-up;
+    /// None for what is no wire.
     #[tactic(auto, unfolding(crate::specs::Nodes::wire_in))]
-    pub fn wire(&self, id: u32) -> Option<(Kind, Span)>
+    pub fn wire(&self, id: u32) -> Option<(Kind, Span, u32)>
         ensures { result ≡ wire_in self.now (node_at self.now id) }
     {
         if id < self.first_wire() {
@@ -227,7 +230,10 @@ impl Device {
         }
         match self.node_of(id) {
             None => None,
-            Some(node) => Some((node.kind, self.layout.span_of(node, self.last_of(id, node)))),
+            Some(node) => {
+                let span = self.layout.span_of(node, self.last_of(id, node));
+                Some((node.kind, span, self.reach_of(node.number)))
+            }
         }
     }
 

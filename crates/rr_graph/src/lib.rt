@@ -25,6 +25,7 @@ mod parts;
 mod parts_fault;
 mod pins;
 mod problem;
+mod reaches;
 mod same;
 mod sides;
 mod starts;
