@@ -50,10 +50,10 @@ steps_within f l n track place some =
     let first = first_by (begins f n track) (place + 1) (n - place) k (begins_behind f n track place k (up_to_multiple (place + rank f track) d positive)) in
     omega arith
 
-pub row_within : (f : Fabric) → IsFabric f → (track place : ℕ) → 1 ≤ place → steps_of f f.nx track place + 1 ≤ reach_of f track
+pub row_within : (f : Fabric) → IsFabric f → (track place : ℕ) → steps_of f f.nx track place + 1 ≤ reach_of f track
 unfolding reach_of
-row_within f l track place from = omega (arith, steps_within f l f.nx track place l.some_columns)
+row_within f l track place = omega (arith, steps_within f l f.nx track place l.some_columns)
 
-pub column_within : (f : Fabric) → IsFabric f → (track place : ℕ) → 1 ≤ place → steps_of f f.ny track place + 1 ≤ reach_of f track
+pub column_within : (f : Fabric) → IsFabric f → (track place : ℕ) → steps_of f f.ny track place + 1 ≤ reach_of f track
 unfolding reach_of
-column_within f l track place from = omega (arith, steps_within f l f.ny track place l.some_rows)
+column_within f l track place = omega (arith, steps_within f l f.ny track place l.some_rows)

@@ -1,5 +1,5 @@
 -- What is kept where boxes are put around the sinks anew.
-use Rattle.std.proofs.Common.{◌≡◌, true, ℕ, ◌+◌, ◌<◌, ◌≤◌, List, Contains, length, slice_index, inl, inr, ap, ◌∙◌, subst, sym, arith}
+use Rattle.std.proofs.Common.{◌≡◌, ℕ, ◌+◌, ◌<◌, ◌≤◌, List, Contains, length, slice_index, inl, inr, ap, ◌∙◌, subst, sym, arith}
 use Rattle.std.specs.Option.{option_map, option_map_or}
 use Rattle.std.proofs.lemmas.Bool.{cases_lt}
 use Rattle.std.proofs.lemmas.List.{get_or_default}
@@ -10,7 +10,7 @@ use Rattle.rr_graph.specs.Fabric.{Fabric}
 use Rattle.rr_graph.specs.Nodes.{span_by, span_of}
 use Rattle.wavefront.specs.declared.boxes.BoundingBox.{BoundingBox}
 use Rattle.wavefront.specs.Boxes.{box_of_node, box_of_span}
-use Rattle.wavefront.specs.Bounds.{AreShort, IsCovered, IsWithin, Surrounds}
+use Rattle.wavefront.specs.Bounds.{IsCovered, IsWithin, Surrounds}
 use Rattle.route_tree.specs.declared.tree.Row.{Row}
 use Rattle.wavefront.specs.WaveState.{Wave}
 use Rattle.wavefront.specs.Space.{Space}
@@ -60,12 +60,12 @@ surrounded f v outer within n at =
 
 -- of the first i sinks each open one is in a box
 abbrev pub AreCovered : Space → Wave → ℕ → Type 0
-AreCovered space w i = (k : ℕ) → k < i → IsOpen space w (slice_index space.net.sinks k) → IsCovered w.boxes.items (box_of_node space.device (slice_index space.net.sinks k))
+AreCovered space w i = (k : ℕ) → k < i → IsOpen space w (slice_index space.net.sinks k) → IsCovered w.boxes (box_of_node space.device (slice_index space.net.sinks k))
 
-pub covered_serves : (space : Space) (w : Wave) (i : ℕ) → (w.boxes.short ≡ true → AreShort space.device) → length space.net.sinks ≤ i → AreCovered space w i → Serves space w
-covered_serves space w i short all covered = record { short = short; around = inr (λ b target. around b target target.0) }
+pub covered_serves : (space : Space) (w : Wave) (i : ℕ) → length space.net.sinks ≤ i → AreCovered space w i → Serves space w
+covered_serves space w i all covered = inr (λ b target. around b target target.0)
   where
-    around : (b : ℕ) → IsOpen space w b → Contains space.net.sinks b → (box : BoundingBox) × Contains w.boxes.items box × Surrounds space.device box b
+    around : (b : ℕ) → IsOpen space w b → Contains space.net.sinks b → (box : BoundingBox) × Contains w.boxes box × Surrounds space.device box b
     around b target (k, lt, found) =
         let e : slice_index space.net.sinks k ≡ b = get_or_default space.net.sinks k 0 b lt ∙ found in
         let place = covered k (omega (arith, lt, all)) (subst (IsOpen space w) (sym e) target) in
@@ -79,10 +79,10 @@ aimed_trans s t u a b = record {
   limit = b.limit ∙ a.limit;
 }
 
-pub covered_more : (space : Space) (s t : Wave) (i : ℕ) → AreCovered space s i → IsAimed s t → ((other : BoundingBox) → IsCovered s.boxes.items other → IsCovered t.boxes.items other) → (IsOpen space s (slice_index space.net.sinks i) → IsCovered t.boxes.items (box_of_node space.device (slice_index space.net.sinks i))) → AreCovered space t (i + 1)
+pub covered_more : (space : Space) (s t : Wave) (i : ℕ) → AreCovered space s i → IsAimed s t → ((other : BoundingBox) → IsCovered s.boxes other → IsCovered t.boxes other) → (IsOpen space s (slice_index space.net.sinks i) → IsCovered t.boxes (box_of_node space.device (slice_index space.net.sinks i))) → AreCovered space t (i + 1)
 covered_more space s t i covered aimed kept place k lt target =
     let before = still_open space s t (slice_index space.net.sinks k) (aimed_spreads space s t aimed).lowers.starts target in
     elim (cases_lt k i) [
       | inl less ↦ kept _ (covered k less before)
-      | inr ge ↦ let e : k ≡ i = omega (arith, lt, ge) in subst (λ j. IsCovered t.boxes.items (box_of_node space.device (slice_index space.net.sinks j))) (sym e) (place (subst (λ j. IsOpen space s (slice_index space.net.sinks j)) e before))
+      | inr ge ↦ let e : k ≡ i = omega (arith, lt, ge) in subst (λ j. IsCovered t.boxes (box_of_node space.device (slice_index space.net.sinks j))) (sym e) (place (subst (λ j. IsOpen space s (slice_index space.net.sinks j)) e before))
     ]

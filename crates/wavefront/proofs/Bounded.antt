@@ -1,28 +1,26 @@
 -- What bounds say of ways to open sinks.
-use Rattle.std.proofs.Common.{◌≡◌, refl, ℕ, ◌+◌, ◌*◌, ◌<◌, ◌≤◌, Bool, true, false, Some, None, Option, inl, inr, sym, ◌∙◌, ap, arith}
+use Rattle.std.proofs.Common.{◌≡◌, refl, ℕ, ◌<◌, ◌≤◌, false, inl, inr, sym, ◌∙◌, ap, arith}
 use Rattle.std.specs.Prelude.{nat_le}
 use Rattle.std.proofs.lemmas.Bool.{false≢true}
 use Rattle.std.proofs.lemmas.Bool.Decides.{nat_tests}
 use Rattle.std.specs.Option.{option_map, option_map_or}
 use Rattle.std.proofs.lemmas.Option.{same_Some}
-use Rattle.rr_graph.specs.declared.parts.Node.{Node}
-use Rattle.rr_graph.specs.Nodes.{is_wire, is_wire_at, kind_of_node, node_at, span_of}
-use Rattle.rr_graph.specs.Edges.{is_edge}
+use Rattle.rr_graph.specs.Nodes.{is_wire, is_wire_at, span_of}
 use Rattle.wavefront.specs.declared.boxes.BoundingBox.{BoundingBox}
 use Rattle.wavefront.specs.declared.space.Wire.{Wire}
 use Rattle.wavefront.specs.WaveState.{Wave as Labelled}
 use Rattle.wavefront.specs.Space.{Space, IsSpace, HasEdge, node_count}
 use Rattle.wavefront.specs.Wave.{IsBound, IsDead, Serves}
-use Rattle.wavefront.specs.Bounds.{IsFar, IsFewest, IsWireAt, left_over, wires_by}
+use Rattle.wavefront.specs.Bounds.{IsFar, IsFewest, IsWireAt, left_over, steps_within, wires_by, wires_to}
 use Rattle.wavefront.proofs.WaysLeft.{edge_nodes, pin_left, way_left, wire_leads}
 
 module _ (s : Space) (w : Labelled) (ok : IsSpace s) (serves : Serves s w) where
   -- a wire's own fields tell of it
-  told : (v : ℕ) (wire : Wire) (box : BoundingBox) (at : IsWireAt s.device v wire) → wires_by w.boxes.short wire.kind box wire.span ≡ wires_by w.boxes.short at.node.kind box (span_of s.device at.node)
-  told v wire box at = rw (at.kind, at.span) refl
+  told : (v : ℕ) (wire : Wire) (box : BoundingBox) (at : IsWireAt s.device v wire) → wires_to box wire ≡ wires_by (steps_within s.device at.node.number) at.node.kind box (span_of s.device at.node)
+  told v wire box at = rw (at.kind, at.span, at.steps) refl
 
   pub bound_low : (v wires : ℕ) → IsFewest s.device w.boxes v wires → IsBound s w v (left_over wires)
-  bound_low v wires fewest b way target walk = elim serves.around [
+  bound_low v wires fewest b way target walk = elim serves [
     | inl none ↦ absurd (let f = fewest.fewest in f.some none)
     | inr around ↦
         let place = around b target in
@@ -30,13 +28,13 @@ module _ (s : Space) (w : Labelled) (ok : IsSpace s) (serves : Serves s w) where
         let from = fewest.fewest in
         let low = from.few place.0 place.1 in
         let same = told v fewest.wire place.0 there in
-        let left = way_left s ok w.boxes.short serves.short place.0 b place.2 (ok.are_sinks b target.0) way v there.node there.there there.is walk in
+        let left = way_left s ok place.0 b place.2 (ok.are_sinks b target.0) way v there.node there.there there.is walk in
         omega (arith, low, same, left)
   ]
 
   -- from a wire that is far from all sinks each edge leads to a wire, or to no sink
   pub far_dead : (v u first : ℕ) → IsFar s.device w.boxes v → ((i : ℕ) → i < node_count s → is_wire_at s.device i ≡ nat_le first i) → HasEdge s v u → u < first → IsDead s w u
-  far_dead v u first far wires edge less b way target walk = elim serves.around [
+  far_dead v u first far wires edge less b way target walk = elim serves [
     | inl none ↦ absurd (let f = far.fewest.fewest in f.some none)
     | inr around ↦
         let place = around b target in
@@ -52,7 +50,7 @@ module _ (s : Space) (w : Labelled) (ok : IsSpace s) (serves : Serves s w) where
               let test : nat_le first u ≡ false = grind (arith, nat_tests) in
               absurd (false≢true (sym test ∙ sym (wires u (ok.range v u edge)) ∙ ap (λ o. option_map_or is_wire (option_map (λ n. n.kind) o) false) e.to_at ∙ next))
           | inr enters ↦
-              let none = pin_left s ok w.boxes.short serves.short place.0 b place.2 (ok.are_sinks b target.0) way u there.node e.to e.to_at enters walk in
+              let none = pin_left s ok place.0 b place.2 (ok.are_sinks b target.0) (steps_within s.device there.node.number) way u there.node e.to e.to_at enters walk in
               omega (arith, low, same, some, none)
         ]
   ]

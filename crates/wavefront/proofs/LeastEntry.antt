@@ -168,6 +168,7 @@ popped_nearest space s t x p wave complete =
       origins = popped_origins s t x p;
       node_in = reached_in t x.node near.1;
       above = near.0;
+      label = let b = wave.entries x (popped_in s t x p) in let k = ap (λ l. l.key) (same_labels s t x p x.node) in omega (arith, k, b.0);
       reached = near.1;
       least = popped_least space s t x p wave complete;
       others = popped_but s t x p space complete;

@@ -10,17 +10,19 @@ pub mod Waits
 pub mod Queued
 pub mod Went
 pub mod Wanted
+pub mod WiresOver
 pub mod WireSteps
 mod WiresFound
 pub mod PinSteps
 pub mod WaysLeft
-pub mod ShortWires
 pub mod Bounded
 pub mod Covering
+pub mod KeptRows
 pub mod Spaces
 pub mod DeadEnds
 pub mod TargetPins
 pub mod LeastEntry
+pub mod WaitsAgain
 -- ways and trees
 pub mod WayNodes
 pub mod Traced

@@ -28,13 +28,10 @@ module _ (space : Space) where
   still_open s t b starts target = (target.0, λ o. target.1 (starts b o))
 
   pub still_serves : (s t : Wave) → t.boxes ≡ s.boxes → ((v : ℕ) → IsOrigin s v → IsOrigin t v) → Serves space s → Serves space t
-  still_serves s t same starts serves = record {
-    short = λ said. serves.short (rw same at said);
-    around = elim serves.around [
-      | inl none ↦ inl (ap (λ b. b.items) same ∙ none)
-      | inr around ↦ inr (λ b target. rw same (around b (still_open s t b starts target)))
-    ];
-  }
+  still_serves s t same starts serves = elim serves [
+    | inl none ↦ inl (same ∙ none)
+    | inr around ↦ inr (λ b target. rw same (around b (still_open s t b starts target)))
+  ]
 
   pub label_here : (s t : Wave) (node : ℕ) (label : Label) → IsLowered space s t node label → node < length s.labels → label_at t node ≡ label
   label_here s t node label r lt = ap (λ xs. slice_index_or xs node unreached) r.labels ∙ get_or-set_same s.labels node label unreached lt

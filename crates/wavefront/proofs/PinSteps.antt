@@ -1,5 +1,5 @@
 -- Where a wire stands from which an input pin is entered.
-use Rattle.std.proofs.Common.{◌≡◌, ℕ, ◌+◌, ◌-◌, ◌≤◌, Bool, true, false, ◌&&◌, ◌||◌, ◌==◌, not, nat_le, ◌⊎◌, inl, inr, List, ◌++◌, Option, Some, None, refl, ◌∙◌, arith}
+use Rattle.std.proofs.Common.{◌≡◌, ℕ, ◌+◌, ◌-◌, ◌≤◌, Bool, true, false, ◌&&◌, ◌||◌, ◌==◌, not, nat_le, ◌⊎◌, inl, inr, List, ◌++◌, Option, Some, None, refl, arith}
 use Rattle.std.specs.Prelude.{slice_get}
 use Rattle.std.specs.List.{list_any}
 use Rattle.std.proofs.lemmas.Bool.{cases_Bool, eqb-true, leb-true, false≢true}
@@ -7,14 +7,14 @@ use Rattle.arch_file.specs.declared.parts.Pin.{Pin}
 use Rattle.rr_graph.specs.declared.parts.Kind.{Kind}
 use Rattle.rr_graph.specs.declared.parts.Kind.TheVariants.{Chanx, Chany}
 use Rattle.rr_graph.specs.declared.parts.Node.{Node}
-use Rattle.rr_graph.specs.declared.parts.Span.{Span}
 use Rattle.rr_graph.specs.Fabric.{Fabric, is_block, is_pad}
 use Rattle.rr_graph.specs.Nodes.{span_by, span_of}
 use Rattle.rr_graph.specs.Wires.{Place, last_of, runs_by, runs_through}
 use Rattle.rr_graph.specs.Pins.{belongs, channel_of_pad, channels_beside, channels_of_pin, is_global_pin, taps, when}
 use Rattle.wavefront.specs.declared.boxes.BoundingBox.{BoundingBox}
-use Rattle.wavefront.specs.Bounds.{wires_by, wires_for}
+use Rattle.wavefront.specs.Bounds.{gap, wires_by}
 use Rattle.wavefront.proofs.WireSteps.{both}
+use Rattle.wavefront.proofs.WiresOver.{none_left}
 
 either : (a b : Bool) → (a || b) ≡ true → (a ≡ true) ⊎ (b ≡ true)
 either true b e = inl refl
@@ -28,16 +28,13 @@ any_last : {X : Type 0} (test : X → Bool) (b : Bool) (x : X) → list_any test
 any_last test true x e = elim (either (test x) false e) [ inl h ↦ h | inr h ↦ absurd (false≢true h) ]
 any_last test false x e = absurd (false≢true e)
 
--- a place alone
-abbrev point : (x y : ℕ) → Span
-point x y = record { x1 = x; y1 = y; x2 = x; y2 = y }
+-- how far a channel's place lies off those beside the box's blocks
+abbrev off : Kind → BoundingBox → (x y : ℕ) → ℕ
+off Chanx box x y = gap box.left box.right x x + gap (box.bottom - 1) box.top y y
+off Chany box x y = gap box.bottom box.top y y + gap (box.left - 1) box.right x x
+off _ box x y = 0
 
--- no wire leads on where none lies between
-none_left : (short : Bool) (along across : ℕ) → along + across ≡ 0 → wires_for short along across ≡ 0
-none_left true along across e = e
-none_left false along across e = omega (arith, e)
-
-module _ (f : Fabric) (b : Bool) where
+module _ (f : Fabric) (steps : ℕ) where
   at_row : (n : Node) (x y : ℕ) → (n.y == y && (nat_le n.x x && nat_le x (last_of f f.nx n.number n.x))) ≡ true → (n.x ≤ x) × (x ≤ last_of f f.nx n.number n.x) × (n.y ≡ y)
   at_row n x y e =
       let a = both (n.y == y) _ e in
@@ -51,20 +48,20 @@ module _ (f : Fabric) (b : Bool) where
       (leb-true _ _ b.0, leb-true _ _ b.1, eqb-true n.x x a.0)
 
   -- a wire that runs through a channel's place beside the box stands beside it
-  runs_at : (box : BoundingBox) (k c : Kind) (n : Node) (x y : ℕ) → runs_by k c f n x y ≡ true → wires_by true c box (point x y) ≡ 0 → wires_by b k box (span_by k f n) ≡ 0
-  runs_at box Chanx Chanx n x y e none = let at = at_row n x y e in none_left b _ _ (omega (arith, at.0, at.1, at.2, none))
-  runs_at box Chany Chany n x y e none = let at = at_column n x y e in none_left b _ _ (omega (arith, at.0, at.1, at.2, none))
+  runs_at : (box : BoundingBox) (k c : Kind) (n : Node) (x y : ℕ) → runs_by k c f n x y ≡ true → off c box x y ≡ 0 → wires_by steps k box (span_by k f n) ≡ 0
+  runs_at box Chanx Chanx n x y e none = let at = at_row n x y e in none_left steps _ _ (omega (arith, at.0, at.1, at.2, none))
+  runs_at box Chany Chany n x y e none = let at = at_column n x y e in none_left steps _ _ (omega (arith, at.0, at.1, at.2, none))
   runs_at box Chanx _ n x y e none = absurd (false≢true e)
   runs_at box Chany _ n x y e none = absurd (false≢true e)
   runs_at box _ _ n x y e none = absurd (false≢true e)
 
   module _ (box : BoundingBox) (wire : Node) where
-    near : (p : Place) → runs_through f wire p ≡ true → wires_by true p.0 box (point p.1 p.2) ≡ 0 → wires_by b wire.kind box (span_of f wire) ≡ 0
+    near : (p : Place) → runs_through f wire p ≡ true → off p.0 box p.1 p.2 ≡ 0 → wires_by steps wire.kind box (span_of f wire) ≡ 0
     unfolding runs_through
     near p e none = runs_at box wire.kind p.0 wire p.1 p.2 e none
 
     module _ (x y : ℕ) (left : box.left ≤ x) (right : x ≤ box.right) (bottom : box.bottom ≤ y) (top : y ≤ box.top) where
-      beside_block : (pin : Option Pin) → list_any (runs_through f wire) (channels_of_pin pin x y) ≡ true → wires_by b wire.kind box (span_of f wire) ≡ 0
+      beside_block : (pin : Option Pin) → list_any (runs_through f wire) (channels_of_pin pin x y) ≡ true → wires_by steps wire.kind box (span_of f wire) ≡ 0
       beside_block None e = absurd (false≢true e)
       beside_block (Some p) e = elim (any_when (runs_through f wire) p.sides.top (Chanx, x, y) _ e) [
         | inl here ↦ near (Chanx, x, y) here (omega (arith, left, right, bottom, top))
@@ -77,7 +74,7 @@ module _ (f : Fabric) (b : Bool) where
         ]
       ]
 
-      beside_pad : is_pad f x y ≡ true → runs_through f wire (channel_of_pad f x y) ≡ true → wires_by b wire.kind box (span_of f wire) ≡ 0
+      beside_pad : is_pad f x y ≡ true → runs_through f wire (channel_of_pad f x y) ≡ true → wires_by steps wire.kind box (span_of f wire) ≡ 0
       beside_pad pad e = elim (cases_Bool (x == 0)) [
         | inl first ↦ let at = eqb-true x 0 first in near (Chany, 0, y) (rw first at e) (omega (arith, at, left, right, bottom, top))
         | inr inner ↦ elim (cases_Bool (x == f.nx + 1)) [
@@ -93,7 +90,7 @@ module _ (f : Fabric) (b : Bool) where
           upper pad inner middle above = eqb-true y (f.ny + 1) (both _ _ (rw (inner, middle, above) at pad)).0
 
       -- an input pin that taps the wire stands beside it
-      pub pin_step : (pin : Node) → pin.x ≡ x → pin.y ≡ y → (is_block f x y ≡ false → is_pad f x y ≡ true) → taps f pin wire ≡ true → wires_by b wire.kind box (span_of f wire) ≡ 0
+      pub pin_step : (pin : Node) → pin.x ≡ x → pin.y ≡ y → (is_block f x y ≡ false → is_pad f x y ≡ true) → taps f pin wire ≡ true → wires_by steps wire.kind box (span_of f wire) ≡ 0
       unfolding taps channels_beside
       pin_step pin ex ey around e =
           let a = both (not (is_global_pin f pin)) _ e in

@@ -1,11 +1,11 @@
 -- Stamped rows, as what is known of nodes.
-use Rattle.std.proofs.Common.{◌≡◌, ℕ, ◌+◌, ◌<◌, ◌≤◌, inl, inr, get_or, get_or-set_same, get_or-set_other, List, [], ◌∷◌, All, map, replicate, length, refl, sym, ap, ◌∙◌, arith, slice_set, slice_index_or, max, zero, suc, eq-eqb, Bool, true, false, cond, ◌==◌, Option, Some, None}
+use Rattle.std.proofs.Common.{◌≡◌, ℕ, ◌+◌, ◌<◌, ◌≤◌, inl, inr, get_or, get_or-set_same, get_or-set_other, List, [], ◌∷◌, All, map, replicate, length, refl, sym, ap, ◌∙◌, arith, slice_set, slice_index_or, max, zero, suc, eq-eqb, true, false, ◌==◌, Option, Some, None}
 use Rattle.std.specs.Prelude.{nat_le}
-use Rattle.std.proofs.lemmas.Bool.{cases_eq, cases_lt, ne_eqb}
+use Rattle.std.proofs.lemmas.Bool.{cases_eq, cases_lt}
 use Rattle.std.proofs.lemmas.Bool.Decides.{nat_tests}
 use Rattle.std.proofs.lemmas.List.Elements.{recursion_from_All, All-replicate, All-weaker}
 use Rattle.std.specs.List.{AllByRecursion}
-use Rattle.std.proofs.lemmas.List.{length-set, map-set, length-map, length-replicate, set-get_or}
+use Rattle.std.proofs.lemmas.List.{length-set, map-set, length-replicate, set-get_or}
 use Rattle.wavefront.specs.declared.rows.Label.{Label}
 use Rattle.wavefront.specs.declared.rows.Row.{Row}
 use Rattle.wavefront.specs.declared.entrances.Entrance.{Entrance}

@@ -1,5 +1,5 @@
 -- What a way from a wire to a sink costs at least, and where one leads to no pin on.
-use Rattle.std.proofs.Common.{◌≡◌, ℕ, ◌+◌, ◌*◌, ◌≤◌, Bool, true, false, ◌-◌, ◌⊎◌, inl, inr, List, [], ◌∷◌, Option, Some, None, refl, sym, ap, ◌∙◌, subst, arith}
+use Rattle.std.proofs.Common.{◌≡◌, ℕ, ◌+◌, ◌*◌, ◌≤◌, true, false, ◌-◌, ◌⊎◌, inl, inr, List, [], ◌∷◌, Option, Some, None, refl, sym, ap, ◌∙◌, subst, arith}
 use Rattle.std.specs.Option.{option_map, option_map_or}
 use Rattle.std.proofs.Math.Nat.{mul-le-mul}
 use Rattle.std.proofs.lemmas.Bool.{false≢true}
@@ -20,7 +20,7 @@ use Rattle.route_tree.specs.Usage.{room_of}
 use Rattle.wavefront.specs.declared.boxes.BoundingBox.{BoundingBox}
 use Rattle.wavefront.specs.Space.{Space, IsSpace, base_cost, entry_cost}
 use Rattle.wavefront.specs.Ways.{IsWay, way_cost}
-use Rattle.wavefront.specs.Bounds.{AreShort, Surrounds, left_over, wires_by}
+use Rattle.wavefront.specs.Bounds.{Surrounds, left_over, steps_within, wires_by}
 use Rattle.wavefront.proofs.WayNodes.{way_cost_more}
 use Rattle.wavefront.proofs.WireSteps.{wire_step}
 use Rattle.wavefront.proofs.PinSteps.{pin_step, sink_step}
@@ -113,11 +113,11 @@ sink_at : (f : Fabric) (b : ℕ) (node : Node) → node_at f b ≡ Some node →
 unfolding is_sink
 sink_at f b node at e = rw at at e
 
-module _ (s : Space) (ok : IsSpace s) (short : Bool) (are_short : short ≡ true → AreShort s.device) (box : BoundingBox) (b : ℕ) (inside : Surrounds s.device box b) (sink : is_sink s.device b ≡ true) where
+module _ (s : Space) (ok : IsSpace s) (box : BoundingBox) (b : ℕ) (inside : Surrounds s.device box b) (sink : is_sink s.device b ≡ true) where
   -- behind an input pin its sink comes, and nothing else
-  pub pin_left : (way : List ℕ) (u : ℕ) (wire pin : Node) → node_at s.device u ≡ Some pin → Enters s.device wire pin → IsWay s u way b → wires_by short wire.kind box (span_of s.device wire) ≡ 0
-  pin_left [] u wire pin at enters walk = absurd (let h = sink_at s.device b pin (rw walk at at) sink in false≢true (rw enters.kind at h))
-  pin_left (w ∷ []) u wire pin at enters walk =
+  pub pin_left : (steps : ℕ) (way : List ℕ) (u : ℕ) (wire pin : Node) → node_at s.device u ≡ Some pin → Enters s.device wire pin → IsWay s u way b → wires_by steps wire.kind box (span_of s.device wire) ≡ 0
+  pin_left steps [] u wire pin at enters walk = absurd (let h = sink_at s.device b pin (rw walk at at) sink in false≢true (rw enters.kind at h))
+  pin_left steps (w ∷ []) u wire pin at enters walk =
       let e = edge_nodes s.device u w walk.0 in
       let same = same_Some pin e.from (sym at ∙ e.from_at) in
       let place = sink_step s.device e.from e.to (pin_belongs s.device e.from e.to (ap (λ n. n.kind) (sym same) ∙ enters.kind) e.edge) in
@@ -125,10 +125,10 @@ module _ (s : Space) (ok : IsSpace s) (short : Bool) (are_short : short ≡ true
       let terminal = terminal_node s.device ok.fabric u pin at (ap is_terminal enters.kind) in
       let ex = ap (λ n. n.x) same in
       let ey = ap (λ n. n.y) same in
-      pin_step s.device short box wire pin.x pin.y (omega (arith, ex, place.0, around.0)) (omega (arith, ex, place.0, around.1)) (omega (arith, ey, place.1, around.2)) (omega (arith, ey, place.1, around.3)) pin refl refl terminal.around enters.tap
-  pin_left (w ∷ x ∷ way) u wire pin at enters walk = absurd (false≢true (sym (ok.ends w x walk.2.0) ∙ pin_enters_sink s.device u w (ap (option_map (λ n. n.kind)) at ∙ ap Some enters.kind) walk.0))
+      pin_step s.device steps box wire pin.x pin.y (omega (arith, ex, place.0, around.0)) (omega (arith, ex, place.0, around.1)) (omega (arith, ey, place.1, around.2)) (omega (arith, ey, place.1, around.3)) pin refl refl terminal.around enters.tap
+  pin_left steps (w ∷ x ∷ way) u wire pin at enters walk = absurd (false≢true (sym (ok.ends w x walk.2.0) ∙ pin_enters_sink s.device u w (ap (option_map (λ n. n.kind)) at ∙ ap Some enters.kind) walk.0))
 
-  pub way_left : (way : List ℕ) (v : ℕ) (node : Node) → node_at s.device v ≡ Some node → is_wire node.kind ≡ true → IsWay s v way b → left_over (wires_by short node.kind box (span_of s.device node)) ≤ way_cost s way
+  pub way_left : (way : List ℕ) (v : ℕ) (node : Node) → node_at s.device v ≡ Some node → is_wire node.kind ≡ true → IsWay s v way b → left_over (wires_by (steps_within s.device node.number) node.kind box (span_of s.device node)) ≤ way_cost s way
   way_left [] v node at wire walk = absurd (wire_no_sink node.kind wire (sink_at s.device b node (rw walk at at) sink))
   way_left (u ∷ way) v node at wire walk =
       let e = edge_nodes s.device v u walk.0 in
@@ -138,12 +138,12 @@ module _ (s : Space) (ok : IsSpace s) (short : Bool) (are_short : short ≡ true
       let paid = base_paid s u e.to e.to_at in
       elim (wire_leads s.device node e.to wire edge) [
         | inl next ↦
-            let step = wire_step short s.device are_short box node.kind e.to.kind node.x node.y node.number e.to.x e.to.y e.to.number wire next edge in
+            let step = wire_step s.device ok.fabric box node.kind e.to.kind node.x node.y node.number e.to.x e.to.y e.to.number wire next edge in
             let rest = way_left way u e.to e.to_at next walk.2 in
             let base = wire_costs e.to.kind next in
             omega (arith, step, rest, base, sum, paid)
         | inr enters ↦
-            let none = pin_left way u node e.to e.to_at enters walk.2 in
+            let none = pin_left (steps_within s.device node.number) way u node e.to e.to_at enters walk.2 in
             let base = ap base_cost enters.kind in
             omega (arith, none, base, sum, paid)
       ]

@@ -3,6 +3,7 @@ pub mod Space
 pub mod Ways
 pub mod Entrances
 pub mod Bounds
+pub mod Known
 pub mod Label
 pub mod Rows
 pub mod Entries

@@ -101,6 +101,7 @@ pub record IsNearest (s : Space) (w t : Wave) (x : Entry) : Type 0 where
   pub origins : SameOrigins w t
   pub node_in : x.node < length t.labels
   pub above : key_of t x.node ≤ x.key
+  pub label : key_of t x.node ≤ x.label
   pub reached : key_of t x.node < FAR
   pub least : IsLeastKey s t (min x.key t.limit)
   pub others : IsCompleteBut s t x.node

@@ -1,5 +1,5 @@
 -- What the wave keeps true (Dijkstra 1959).
-use Rattle.std.specs.Prelude.{◌≡◌, ℕ, ◌+◌, ◌-◌, ◌*◌, ◌<◌, ◌≤◌, ◌⊎◌, List, [], length, slice_index_or, Contains, Bool, eqb, not, ◌&&◌, min, true}
+use Rattle.std.specs.Prelude.{◌≡◌, ℕ, ◌+◌, ◌-◌, ◌*◌, ◌<◌, ◌≤◌, ◌⊎◌, List, [], length, slice_index_or, Contains, Bool, eqb, not, ◌&&◌, min}
 use Rattle.std.specs.List.{sum_by, count_by}
 use Rattle.wavefront.specs.declared.rows.Label.{Label}
 use Rattle.wavefront.specs.declared.rows.TheConstants.{FAR}
@@ -9,7 +9,7 @@ use Rattle.wavefront.specs.Label.{unreached}
 use Rattle.wavefront.specs.Space.{Space, HasEdge, IsInside, IsWanted, entry_cost, node_count}
 use Rattle.wavefront.specs.Ways.{IsWay, way_cost}
 use Rattle.wavefront.specs.Entrances.{Knows}
-use Rattle.wavefront.specs.Bounds.{AreShort, Surrounds}
+use Rattle.wavefront.specs.Bounds.{Surrounds}
 use Rattle.wavefront.specs.declared.boxes.BoundingBox.{BoundingBox}
 
 -- a node's label; a number that is no node is never reached
@@ -34,10 +34,9 @@ IsOpen s w v = IsWanted s v × (IsOrigin w v → ⊥)
 abbrev pub IsBound : Space → Wave → (v k : ℕ) → Type 0
 IsBound s w v k = (b : ℕ) (way : List ℕ) → IsOpen s w b → IsWay s v way b → k ≤ way_cost s way
 
--- each open sink stands in one of the boxes, or there are none; and wires are short where they are said to be
-pub record Serves (s : Space) (w : Wave) : Type 0 where
-  pub short : w.boxes.short ≡ true → AreShort s.device
-  pub around : (w.boxes.items ≡ []) ⊎ ((b : ℕ) → IsOpen s w b → (box : BoundingBox) × Contains w.boxes.items box × Surrounds s.device box b)
+-- each open sink stands in one of the boxes, or there are none
+abbrev pub Serves : Space → Wave → Type 0
+Serves s w = (w.boxes ≡ []) ⊎ ((b : ℕ) → IsOpen s w b → (box : BoundingBox) × Contains w.boxes box × Surrounds s.device box b)
 
 -- v is entered from its parent, at a cost that its key covers
 pub record IsEntered (s : Space) (w : Wave) (v : ℕ) : Type 0 where

@@ -232,6 +232,13 @@ impl<K: Key> Queue<K> {
         self.bound = 0;
     }
 
+    /// How many wait.
+    pub(crate) fn len(&self) -> usize
+        ensures { result ≡ length self.now }
+    {
+        self.near.len() + self.far.len()
+    }
+
     /// Whether none waits.
     pub(crate) fn is_empty(&self) -> bool
         ensures { result ≡ eqb (length self.now) 0 }

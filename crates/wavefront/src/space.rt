@@ -1,6 +1,6 @@
 //! What a search of one net may enter, and at what cost.
 
-ghost use Rattle.std.specs.Prelude.{◌≡◌, ◌<◌, ◌≤◌, ◌^◌, ◌↔◌, All, IsTrue, IfOk, IfSome, IfNone, OnOk, ℕ, Contains, length, nat_le, true, Some, [], ◌∷◌};
+ghost use Rattle.std.specs.Prelude.{◌≡◌, ◌<◌, ◌≤◌, ◌^◌, ◌↔◌, IsTrue, IfOk, IfSome, IfNone, OnOk, ℕ, Contains, length, nat_le, true, Some, [], ◌∷◌};
 ghost use Rattle.rr_graph.specs.Nodes.{is_wire, is_wire_at, kind_of_node, node_count_of, wire_capacity};
 ghost use Rattle.node_cost.specs.Costs.{cost_of};
 ghost use Rattle.node_cost.specs.Views.{history_in, others_in};
@@ -8,15 +8,13 @@ ghost use Rattle.rr_graph.specs.declared.parts.Kind.{Kind};
 ghost use Rattle.std.specs.List.Sorted.{IsStrictlyIncreasing};
 ghost use Rattle.std.specs.Option.{option_map_or};
 ghost use Rattle.wavefront.specs.Boxes.{box_of_node, is_in_box};
-ghost use Rattle.wavefront.specs.Bounds.{AreShort, IsWireAt};
-ghost use Rattle.arch_file.specs.declared.parts.SegmentLength.TheVariants.{Places};
+ghost use Rattle.wavefront.specs.Bounds.{IsWireAt};
 ghost use Rattle.wavefront.specs.Space.{IsSpace, IsInside, IsWanted, HasEdge, LeadsOnlyTo, entry_cost, node_count, base_cost};
 ghost use Rattle.wavefront.specs.Growth.{space_of};
 ghost use Rattle.wavefront.specs.Entrances.{LeadsNowhere};
 
 use crate::boxes::BoundingBox;
 use crate::targets::TargetPins;
-use arch_file::{Segment, SegmentLength};
 use node_cost::{GREATEST_PRESENT, View, cost};
 use rr_graph::{Kind, Mode, Problem, Span};
 use smallvec::SmallVec;
@@ -47,11 +45,13 @@ impl<'a> Model for SearchSpace<'a> {
     ghost invariant = { IsSearchSpace };
 }
 
-/// A wire's kind, and the places that it passes.
+/// A wire's kind, the places that it passes, and over how many steps the wires of its track go on at most behind the places
+/// where they begin.
 #[derive(Clone, Copy, Debug, PartialEq, Eq)]
 pub(crate) struct Wire {
     pub(crate) kind: Kind,
     pub(crate) span: Span,
+    pub(crate) steps: u32,
 }
 
 /// What a node of a kind costs where nobody else wants it.
@@ -63,28 +63,6 @@ fn base_cost(kind: Option<Kind>) -> u32
         Some(Kind::Ipin) => 19,
         Some(Kind::Source | Kind::Opin | Kind::Chanx | Kind::Chany) => 20,
     }
-}
-
-/// Whether wires of a length are one place long.
-fn is_short(length: SegmentLength) -> bool
-    ensures { IsTrue result → length ≡ Places 1 }
-{
-    match length {
-        SegmentLength::Places(places) => places == 1,
-        SegmentLength::Longline => false,
-    }
-}
-
-/// Whether all wires are one place long.
-fn are_short(segments: &[Segment]) -> bool
-    ensures { IsTrue result → All (λ s. s.length ≡ Places 1) segments.now }
-{
-    for segment in segments {
-        if !is_short(segment.length) {
-            return false;
-        }
-    }
-    true
 }
 
 /// Whether a number is above all of these, which ascend.
@@ -293,7 +271,11 @@ impl<'a> SearchSpace<'a> {
         ensures { IfSome result (IsWireAt self.now.device node) }
     {
         match self.problem.device().wire(node) {
-            Some((kind, span)) => Some(Wire { kind, span }),
+            Some((kind, span, reach)) => Some(Wire {
+                kind,
+                span,
+                steps: reach.saturating_sub(1),
+            }),
             None => None,
         }
     }
@@ -311,17 +293,6 @@ impl<'a> SearchSpace<'a> {
         ensures { result ≡ box_of_node self.now.device node }
     {
         BoundingBox::of_node(self.problem.device(), node)
-    }
-
-    /// Whether each wire is one place long.
-    pub(crate) fn has_short_wires(&self) -> bool
-        ensures { IsTrue result → AreShort self.now.device }
-    {
-        let device = self.problem.device();
-        match device.mode() {
-            Mode::Global => true,
-            Mode::Detailed => are_short(device.architecture().segments()),
-        }
     }
 
     /// The sink to which an input pin leads, and to nothing else; None for what is no input pin.

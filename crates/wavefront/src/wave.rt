@@ -53,7 +53,7 @@ impl<K: Key> Wave<K> {
             rows: Rows::new(alloc, nodes)?,
             queue: Queue::new(alloc),
             limit: FAR,
-            bounds: Bounds::new(alloc),
+            bounds: Bounds::new(alloc)?,
         })
     }
 
@@ -93,11 +93,11 @@ impl<K: Key> Wave<K> {
         ensures entrances { self.new.entrances ≡ self.old.entrances }
         ensures queue { self.new.queue ≡ [] }
         ensures limit { self.new.limit ≡ FAR }
-        ensures boxes { self.new.boxes ≡ record { items = []; short = false } }
+        ensures boxes { self.new.boxes ≡ [] }
     {
         self.queue.clear();
         self.limit = FAR;
-        self.bounds.clear(0, false);
+        self.bounds.clear(0);
     }
 
     /// A node's label.
@@ -111,9 +111,10 @@ impl<K: Key> Wave<K> {
     /// How many wires lead on from a wire, at least; None for other nodes, and where nothing is known. The node may have been
     /// looked up.
     #[inline(always)]
-    fn fewest(&self, space: &SearchSpace<'_>, node: u32, known: Option<Wire>) -> Option<u64>
+    fn fewest(&mut self, space: &SearchSpace<'_>, node: u32, known: Option<Wire>) -> Option<u64>
         requires { IfSome known (IsWireAt space.now.device node) }
-        ensures { IfSome result (IsFewest space.now.device self.now.boxes node) }
+        ensures same { self.new ≡ self.old }
+        ensures few { IfSome result (IsFewest space.now.device self.old.boxes node) }
     {
         if let Some(wire) = known {
             return self.bounds.fewest_from(wire);
@@ -126,11 +127,12 @@ impl<K: Key> Wave<K> {
 
     /// No way from the node to a sink that the wave has yet to take costs less.
     #[inline(always)]
-    fn bound(&self, space: &SearchSpace<'_>, node: u32, wire: Option<Wire>) -> u128
+    fn bound(&mut self, space: &SearchSpace<'_>, node: u32, wire: Option<Wire>) -> u128
         requires space { IsSpace space.now }
-        requires wave { IsWave space.now self.now }
+        requires wave { IsWave space.now self.old }
         requires wire { IfSome wire (IsWireAt space.now.device node) }
-        ensures { IsBound space.now self.now node result }
+        ensures same { self.new ≡ self.old }
+        ensures low { IsBound space.now self.old node result }
     {
         match self.fewest(space, node, wire) {
             Some(wires) => 320 * u128::from(wires) + 304,
@@ -138,14 +140,11 @@ impl<K: Key> Wave<K> {
         }
     }
 
-    /// Whether another wire at least leads on from a wire to each sink that the wave has yet to take. Where all wires are one place
-    /// long that is not looked for, since few pins stand beside each.
-    fn is_far(&self, space: &SearchSpace<'_>, node: u32) -> bool
-        ensures { IsTrue result → IsFar space.now.device self.now.boxes node }
+    /// Whether another wire at least leads on from a wire to each sink that the wave has yet to take.
+    fn is_far(&mut self, space: &SearchSpace<'_>, node: u32) -> bool
+        ensures same { self.new ≡ self.old }
+        ensures far { IsTrue result → IsFar space.now.device self.old.boxes node }
     {
-        if self.bounds.are_short() {
-            return false;
-        }
         match self.fewest(space, node, None) {
             Some(wires) => wires > 0,
             None => false,
@@ -153,11 +152,12 @@ impl<K: Key> Wave<K> {
     }
 
     /// The nodes before this number to which a node leads are pins that lead to no sink that the wave has yet to take.
-    fn first_useful(&self, space: &SearchSpace<'_>, node: u32) -> u32
+    fn first_useful(&mut self, space: &SearchSpace<'_>, node: u32) -> u32
         requires space { IsSpace space.now }
-        requires wave { IsWave space.now self.now }
-        ensures { (to : ℕ) → HasEdge space.now node to → to < result →
-            IsDead space.now self.now to }
+        requires wave { IsWave space.now self.old }
+        ensures same { self.new ≡ self.old }
+        ensures dead { (to : ℕ) → HasEdge space.now node to → to < result →
+            IsDead space.now self.old to }
     {
         if self.is_far(space, node) {
             space.first_wire()
@@ -190,12 +190,13 @@ impl<K: Key> Wave<K> {
 
     /// A node's label and what a way from it costs at least, or the label alone where that doesn't fit.
     #[inline(always)]
-    fn nearest_by(&self, space: &SearchSpace<'_>, node: u32, key: K, wire: Option<Wire>) -> K
+    fn nearest_by(&mut self, space: &SearchSpace<'_>, node: u32, key: K, wire: Option<Wire>) -> K
         requires space { IsSpace space.now }
-        requires wave { IsWave space.now self.now }
+        requires wave { IsWave space.now self.old }
         requires wire { IfSome wire (IsWireAt space.now.device node) }
+        ensures same { self.new ≡ self.old }
         ensures above { K.value key ≤ K.value result }
-        ensures low { IsBound space.now self.now node (K.value result - K.value key) }
+        ensures low { IsBound space.now self.old node (K.value result - K.value key) }
     {
         let bound = self.bound(space, node, wire);
         match K::fit(key.wide().saturating_add(bound)) {
@@ -297,9 +298,9 @@ impl<K: Key> Wave<K> {
 }
 
 impl<K: Key> Wave<K> {
-    ghost use Rattle.std.specs.Prelude.{length, IfOk, OnOk, IfSome, IfNone, IsTrue, ◌↔◌, ◌⊎◌, [], Contains, reverse};
+    ghost use Rattle.std.specs.Prelude.{length, IfOk, OnOk, IfSome, IfNone, IsTrue, IsFalse, ◌↔◌, ◌⊎◌, [], Contains, reverse};
     ghost use Rattle.wavefront.specs.Space.{IsSpace, HasEdge, IsInside, entry_cost, node_count};
-    ghost use Rattle.wavefront.specs.Wave.{IsWave, IsComplete, IsDead, StillComplete, IsOrigin, IsOpen, WentOn, key_of, parent_of};
+    ghost use Rattle.wavefront.specs.Wave.{IsWave, IsComplete, IsDead, StillComplete, IsOrigin, IsOpen, WentOn, key_of, label_at, parent_of};
     ghost use Rattle.wavefront.specs.Boxes.{box_of_node};
     ghost use Rattle.wavefront.specs.Bounds.{CoversMore, IsCovered, IsWireAt};
     ghost use Rattle.wavefront.specs.Entrances.{IsClosed, IsStep, Knows, Tells};
@@ -402,9 +403,8 @@ impl<K: Key> Wave<K> {
         requires sink { sink < length self.old.labels }
         ensures aimed { OnOk result (IsAimed self.old self.new) }
         ensures place { OnOk result (IsOpen space.now self.old sink →
-            IsCovered self.new.boxes.items (box_of_node space.now.device sink)) }
-        ensures kept { OnOk result (CoversMore self.old.boxes.items self.new.boxes.items) }
-        ensures short { self.new.boxes.short ≡ self.old.boxes.short }
+            IsCovered self.new.boxes (box_of_node space.now.device sink)) }
+        ensures kept { OnOk result (CoversMore self.old.boxes self.new.boxes) }
         ensures rows { length self.new.labels ≡ length self.old.labels }
     {
         if !self.starts_at(sink) {
@@ -422,7 +422,7 @@ impl<K: Key> Wave<K> {
         ensures rows { length self.new.labels ≡ node_count space.now }
     {
         let sinks = self.open_sinks(space);
-        self.bounds.clear(sinks, space.has_short_wires());
+        self.bounds.clear(sinks);
         for sink in space.sinks() {
             self.surround(space, *sink)?;
         }
@@ -560,6 +560,52 @@ impl<K: Key> Wave<K> {
         Ok(())
     }
 
+    /// Lets a node whose entry was taken wait again where its way on is longer than that entry tells, since boxes have been made
+    /// anew meanwhile.
+    fn wait_again(&mut self, space: &SearchSpace<'_>, entry: Entry) -> Result<bool, AllocError>
+        requires space { IsSpace space.now }
+        requires wave { IsWave space.now self.old }
+        requires label { entry.label ≡ key_of self.old entry.node }
+        ensures waits { IfOk result (λ waits. IsTrue waits →
+            IsLowered space.now self.old self.new entry.node (label_at self.old entry.node)) }
+        ensures same { IfOk result (λ waits. IsFalse waits → self.new ≡ self.old) }
+        ensures rows { length self.new.labels ≡ length self.old.labels }
+    {
+        let Some(key) = K::fit(entry.label) else {
+            return Ok(false);
+        };
+        let nearest = self.nearest_by(space, entry.node, key, None);
+        if nearest.wide() <= entry.key {
+            return Ok(false);
+        }
+        self.queue.push(nearest, key, entry.node)?;
+        Ok(true)
+    }
+
+    /// Looks whether a node whose entry was taken is to wait again, where so many are still to be looked at.
+    fn look_again(
+        &mut self,
+        space: &SearchSpace<'_>,
+        entry: Entry,
+        waited: &mut usize,
+    ) -> Result<bool, AllocError>
+        requires space { IsSpace space.now }
+        requires wave { IsWave space.now self.old }
+        requires label { entry.label ≡ key_of self.old entry.node }
+        ensures waits { IfOk result (λ waits. IsTrue waits →
+            IsLowered space.now self.old self.new entry.node (label_at self.old entry.node)) }
+        ensures same { IfOk result (λ waits. IsFalse waits → self.new ≡ self.old) }
+        ensures fewer { IfOk result (λ waits. IsTrue waits → waited.new < waited.old) }
+        ensures most { waited.new ≤ waited.old }
+        ensures rows { length self.new.labels ≡ length self.old.labels }
+    {
+        if *waited == 0 {
+            return Ok(false);
+        }
+        *waited -= 1;
+        self.wait_again(space, entry)
+    }
+
     /// Takes the entry that is nearest, and what the search knows then.
     fn nearest(&mut self, space: &SearchSpace<'_>) -> Entry
         requires some { 0 < length self.old.queue }
@@ -570,7 +616,7 @@ impl<K: Key> Wave<K> {
         self.pop()
     }
 
-    /// Goes on to the next sink, and takes it.
+    /// Goes on to the next sink, and takes it. As many nodes as waited when boxes were last made are looked at again first.
     pub(crate) fn take_sink(
         &mut self,
         space: &SearchSpace<'_>,
@@ -586,6 +632,7 @@ impl<K: Key> Wave<K> {
             (λ taken. IfNone taken (IsLeastKey space.now self.new self.new.limit)) }
         ensures rows { length self.new.labels ≡ node_count space.now }
     {
+        let mut waited = self.queue.len();
         while !self.is_spent() {
             let entry = self.nearest(space);
             if self.limit() < entry.key {
@@ -597,6 +644,9 @@ impl<K: Key> Wave<K> {
             }
             if self.is_open(space, entry.node) {
                 return Ok(Some(entry.node));
+            }
+            if self.look_again(space, entry, &mut waited)? {
+                continue;
             }
             self.expand(space, next, entry.node, label.key)?;
         }

@@ -1,4 +1,4 @@
-use Rattle.std.proofs.Common.{ap, arith, sym, ◌∙◌, slice_index, length}
+use Rattle.std.proofs.Common.{ap, arith, slice_index, length}
 use Rattle.wavefront.proofs.Aimed.{aimed_spreads, aimed_wave, covered_more, covered_serves, aimed_trans}
 use Rattle.wavefront.proofs.Whole.{is_sink_at}
 use Rattle.wavefront.proofs.wave.Wave.aim.Goals as goal
@@ -9,7 +9,6 @@ loop-sink-preserved g c =
     let at = ap (λ xs. slice_index xs c.loop-sink.sink-index) sinks in
     record {
       aimed = aimed_trans c.args.self.now c.loop-sink.self c.surround.new.self c.loop-sink.invariant.aimed c.in_ok-surround.ensures.aimed;
-      short = λ said. c.loop-sink.invariant.short (sym c.in_ok-surround.ensures.short ∙ said);
       covered = covered_more c.args.space.now c.loop-sink.self c.surround.new.self c.loop-sink.sink-index c.loop-sink.invariant.covered c.in_ok-surround.ensures.aimed c.in_ok-surround.ensures.kept (rw at at c.in_ok-surround.ensures.place);
     }
 
@@ -23,7 +22,7 @@ surround-requires g c =
 pub returns-clause-wave : goal.returns-clause-wave
 returns-clause-wave g c =
     let all = ap length c.sinks-sink-items.ensures in
-    aimed_wave c.args.space.now c.args.self.now c.loop-sink.self c.loop-sink.invariant.aimed (covered_serves c.args.space.now c.loop-sink.self c.loop-sink.sink-index c.loop-sink.invariant.short (omega (arith, all, c.loop-sink-test.false)) c.loop-sink.invariant.covered) c.requires.wave
+    aimed_wave c.args.space.now c.args.self.now c.loop-sink.self c.loop-sink.invariant.aimed (covered_serves c.args.space.now c.loop-sink.self c.loop-sink.sink-index (omega (arith, all, c.loop-sink-test.false)) c.loop-sink.invariant.covered) c.requires.wave
 
 pub returns-clause-spreads : goal.returns-clause-spreads
 returns-clause-spreads g c = aimed_spreads c.args.space.now c.args.self.now c.loop-sink.self c.loop-sink.invariant.aimed

@@ -1,3 +1,4 @@
+use Rattle.std.proofs.Common.{◌+◌}
 use Rattle.wavefront.specs.Wave.{IsWave, IsComplete, work_of}
 use Rattle.wavefront.specs.Steps.{SameOrigins}
 use Rattle.wavefront.proofs.wave.Wave.take_sink.Given as goal
@@ -10,4 +11,4 @@ invariant-loop-self g l = record {
 }
 
 abbrev pub decreases-loop-self : goal.decreases-loop-self
-decreases-loop-self g l = work_of l.self
+decreases-loop-self g l = work_of l.self + l.waited
