@@ -53,7 +53,7 @@ fn compare_node(rt: &impl Abort, device: &Device, plan: Plan<'_>, item: Item, id
         id,
     );
     let wire = if is_wire {
-        Some((node.kind, item.span))
+        Some((node.kind, item.span, plan.reach(node.number)))
     } else {
         None
     };

@@ -81,6 +81,12 @@ impl Plan<'_> {
         }
     }
 
+    /// How many places the wires of a track pass at most, be their channel above a row or right of a column.
+    pub(crate) fn reach(&self, track: u32) -> u32 {
+        let above = self.wire_length(self.nx, track);
+        above.max(self.wire_length(self.ny, track))
+    }
+
     /// A wire begins at a place of a channel of so many places: at the first, and a whole number of wires on, turned by the rank.
     pub(crate) fn is_beginning(&self, places: u32, track: u32, place: u32) -> bool {
         if track >= self.tracks() {
