@@ -49,6 +49,19 @@ next_across steps along across next beside near up =
     let fourth = over_next steps across (next - 1) (omega (arith, up)) in
     omega (arith, first, second, third, fourth)
 
+over_each : (places : ℕ) → wires_over 0 places ≡ places
+unfolding wires_over
+over_each places = over_one places
+
+-- where wires are one place long, the last one may as well lie along the channel
+pub one_place : (along across : ℕ) → wires_for 0 along across ≡ max along (min 1 across) + across
+one_place along across =
+    let first = over_each (max along (min 1 across)) in
+    let second = over_each across in
+    let third = over_each (along - 1) in
+    let fourth = over_each (across + 1) in
+    omega (arith, first, second, third, fourth)
+
 -- no wire leads on where none lies between
 pub none_left : (steps along across : ℕ) → along + across ≡ 0 → wires_for steps along across ≡ 0
 none_left steps along across e =

@@ -43,12 +43,16 @@ fn wires_from(steps: u32, along: u64, across: u64) -> u64
 }
 
 /// How many wires lead on from one that lies so far off along its channel, and so far across.
+#[tactic(auto, using(crate::proofs::WiresOver::one_place))]
 fn wires_for(steps: u32, along: u64, across: u64) -> u64
     requires along { along ≤ 4294967295 + 4294967295 }
     requires across { across ≤ 4294967295 + 4294967295 }
     ensures exact { result ≡ wires_for steps along across }
     ensures few { result ≤ 4294967296 * 4 }
 {
+    if steps == 0 {
+        return along.max(across.min(1)) + across;
+    }
     let last_along = wires_from(steps, along.max(across.min(1)), across);
     let last_across = wires_from(steps, along.saturating_sub(1), across + 1);
     last_along.min(last_across)

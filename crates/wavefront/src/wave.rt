@@ -39,7 +39,7 @@ impl<K: Key> Model for Wave<K> {
 
 impl<K: Key> Wave<K> {
     ghost use Rattle.std.specs.Prelude.{length, replicate, [], ◌==◌, ◌⊎◌, OnOk, IfOk, IfSome, IsTrue, eqb, false, not};
-    ghost use Rattle.wavefront.specs.Bounds.{IsFar, IsFewest, IsWireAt};
+    ghost use Rattle.wavefront.specs.Bounds.{IsFewest, IsWireAt};
     ghost use Rattle.wavefront.specs.Label.{unreached};
     ghost use Rattle.wavefront.specs.Space.{IsSpace, HasEdge, node_count};
     ghost use Rattle.wavefront.specs.Wave.{IsWave, IsComplete, IsDead, IsOrigin, StillComplete, IsBound, key_of, label_at};
@@ -125,45 +125,37 @@ impl<K: Key> Wave<K> {
         }
     }
 
-    /// No way from the node to a sink that the wave has yet to take costs less.
+    /// No way from the node to a sink that the wave has yet to take costs less, if so many wires lead on from it at least.
     #[inline(always)]
-    fn bound(&mut self, space: &SearchSpace<'_>, node: u32, wire: Option<Wire>) -> u128
+    fn bound(&self, space: &SearchSpace<'_>, node: u32, fewest: Option<u64>) -> u128
         requires space { IsSpace space.now }
-        requires wave { IsWave space.now self.old }
-        requires wire { IfSome wire (IsWireAt space.now.device node) }
-        ensures same { self.new ≡ self.old }
-        ensures low { IsBound space.now self.old node result }
+        requires wave { IsWave space.now self.now }
+        requires fewest { IfSome fewest (IsFewest space.now.device self.now.boxes node) }
+        ensures { IsBound space.now self.now node result }
     {
-        match self.fewest(space, node, wire) {
+        match fewest {
             Some(wires) => 320 * u128::from(wires) + 304,
             None => 0,
         }
     }
 
-    /// Whether another wire at least leads on from a wire to each sink that the wave has yet to take.
-    fn is_far(&mut self, space: &SearchSpace<'_>, node: u32) -> bool
-        ensures same { self.new ≡ self.old }
-        ensures far { IsTrue result → IsFar space.now.device self.old.boxes node }
-    {
-        match self.fewest(space, node, None) {
-            Some(wires) => wires > 0,
-            None => false,
-        }
-    }
-
-    /// The nodes before this number to which a node leads are pins that lead to no sink that the wave has yet to take.
-    fn first_useful(&mut self, space: &SearchSpace<'_>, node: u32) -> u32
+    /// The nodes before this number to which a node leads are pins that lead to no sink that the wave has yet to take: so are all
+    /// pins where another wire leads on at least.
+    fn first_useful(&self, space: &SearchSpace<'_>, node: u32, fewest: Option<u64>) -> u32
         requires space { IsSpace space.now }
-        requires wave { IsWave space.now self.old }
-        ensures same { self.new ≡ self.old }
-        ensures dead { (to : ℕ) → HasEdge space.now node to → to < result →
-            IsDead space.now self.old to }
+        requires wave { IsWave space.now self.now }
+        requires fewest { IfSome fewest (IsFewest space.now.device self.now.boxes node) }
+        ensures { (to : ℕ) → HasEdge space.now node to → to < result →
+            IsDead space.now self.now to }
     {
-        if self.is_far(space, node) {
-            space.first_wire()
-        } else {
-            0
+        let wires = match fewest {
+            Some(wires) => wires,
+            None => return 0,
+        };
+        if wires == 0 {
+            return 0;
         }
+        space.first_wire()
     }
 
     /// Whether nothing waits.
@@ -190,15 +182,14 @@ impl<K: Key> Wave<K> {
 
     /// A node's label and what a way from it costs at least, or the label alone where that doesn't fit.
     #[inline(always)]
-    fn nearest_by(&mut self, space: &SearchSpace<'_>, node: u32, key: K, wire: Option<Wire>) -> K
+    fn nearest_by(&self, space: &SearchSpace<'_>, node: u32, key: K, fewest: Option<u64>) -> K
         requires space { IsSpace space.now }
-        requires wave { IsWave space.now self.old }
-        requires wire { IfSome wire (IsWireAt space.now.device node) }
-        ensures same { self.new ≡ self.old }
+        requires wave { IsWave space.now self.now }
+        requires fewest { IfSome fewest (IsFewest space.now.device self.now.boxes node) }
         ensures above { K.value key ≤ K.value result }
-        ensures low { IsBound space.now self.old node (K.value result - K.value key) }
+        ensures low { IsBound space.now self.now node (K.value result - K.value key) }
     {
-        let bound = self.bound(space, node, wire);
+        let bound = self.bound(space, node, fewest);
         match K::fit(key.wide().saturating_add(bound)) {
             Some(nearest) => nearest,
             None => key,
@@ -223,7 +214,8 @@ impl<K: Key> Wave<K> {
             (record { key = K.value key; parent = parent })) }
         ensures rows { length self.new.labels ≡ length self.old.labels }
     {
-        let nearest = self.nearest_by(space, node, key, wire);
+        let fewest = self.fewest(space, node, wire);
+        let nearest = self.nearest_by(space, node, key, fewest);
         self.rows.set_label(node, key, parent);
         self.queue.push(nearest, key, node)
     }
@@ -302,7 +294,7 @@ impl<K: Key> Wave<K> {
     ghost use Rattle.wavefront.specs.Space.{IsSpace, HasEdge, IsInside, entry_cost, node_count};
     ghost use Rattle.wavefront.specs.Wave.{IsWave, IsComplete, IsDead, StillComplete, IsOrigin, IsOpen, WentOn, key_of, label_at, parent_of};
     ghost use Rattle.wavefront.specs.Boxes.{box_of_node};
-    ghost use Rattle.wavefront.specs.Bounds.{CoversMore, IsCovered, IsWireAt};
+    ghost use Rattle.wavefront.specs.Bounds.{CoversMore, IsCovered, IsFewest, IsWireAt};
     ghost use Rattle.wavefront.specs.Entrances.{IsClosed, IsStep, Knows, Tells};
     ghost use Rattle.wavefront.specs.Steps.{IsAimed, IsPopped, IsNearest, IsNoted, IsLowered, IsPreferred, Spreads, SameOrigins, MoreOrigins, WentAlong, NoOrigins, IsTaken, IsLeastKey, IsTraced};
 
@@ -514,17 +506,19 @@ impl<K: Key> Wave<K> {
         next: &mut SmallVec<u32, 8>,
         node: u32,
         key: u128,
+        fewest: Option<u64>,
     ) -> Result<(), AllocError>
         requires space { IsSpace space.now }
         requires wave { IsWave space.now self.old }
         requires from { key_of self.old node ≤ key }
         requires near { key < FAR }
+        requires fewest { IfSome fewest (IsFewest space.now.device self.old.boxes node) }
         ensures wave { OnOk result (IsWave space.now self.new) }
         ensures spreads { OnOk result (Spreads space.now self.old self.new) }
         ensures went { OnOk result (WentAlong space.now self.new node key) }
         ensures rows { length self.new.labels ≡ node_count space.now }
     {
-        let first = self.first_useful(space, node);
+        let first = self.first_useful(space, node, fewest);
         space.successors(node, next)?;
         self.offer_all(space, node, key, next, first)
     }
@@ -562,10 +556,16 @@ impl<K: Key> Wave<K> {
 
     /// Lets a node whose entry was taken wait again where its way on is longer than that entry tells, since boxes have been made
     /// anew meanwhile.
-    fn wait_again(&mut self, space: &SearchSpace<'_>, entry: Entry) -> Result<bool, AllocError>
+    fn wait_again(
+        &mut self,
+        space: &SearchSpace<'_>,
+        entry: Entry,
+        fewest: Option<u64>,
+    ) -> Result<bool, AllocError>
         requires space { IsSpace space.now }
         requires wave { IsWave space.now self.old }
         requires label { entry.label ≡ key_of self.old entry.node }
+        requires fewest { IfSome fewest (IsFewest space.now.device self.old.boxes entry.node) }
         ensures waits { IfOk result (λ waits. IsTrue waits →
             IsLowered space.now self.old self.new entry.node (label_at self.old entry.node)) }
         ensures same { IfOk result (λ waits. IsFalse waits → self.new ≡ self.old) }
@@ -574,7 +574,7 @@ impl<K: Key> Wave<K> {
         let Some(key) = K::fit(entry.label) else {
             return Ok(false);
         };
-        let nearest = self.nearest_by(space, entry.node, key, None);
+        let nearest = self.nearest_by(space, entry.node, key, fewest);
         if nearest.wide() <= entry.key {
             return Ok(false);
         }
@@ -587,11 +587,13 @@ impl<K: Key> Wave<K> {
         &mut self,
         space: &SearchSpace<'_>,
         entry: Entry,
+        fewest: Option<u64>,
         waited: &mut usize,
     ) -> Result<bool, AllocError>
         requires space { IsSpace space.now }
         requires wave { IsWave space.now self.old }
         requires label { entry.label ≡ key_of self.old entry.node }
+        requires fewest { IfSome fewest (IsFewest space.now.device self.old.boxes entry.node) }
         ensures waits { IfOk result (λ waits. IsTrue waits →
             IsLowered space.now self.old self.new entry.node (label_at self.old entry.node)) }
         ensures same { IfOk result (λ waits. IsFalse waits → self.new ≡ self.old) }
@@ -603,7 +605,7 @@ impl<K: Key> Wave<K> {
             return Ok(false);
         }
         *waited -= 1;
-        self.wait_again(space, entry)
+        self.wait_again(space, entry, fewest)
     }
 
     /// Takes the entry that is nearest, and what the search knows then.
@@ -645,10 +647,11 @@ impl<K: Key> Wave<K> {
             if self.is_open(space, entry.node) {
                 return Ok(Some(entry.node));
             }
-            if self.look_again(space, entry, &mut waited)? {
+            let fewest = self.fewest(space, entry.node, None);
+            if self.look_again(space, entry, fewest, &mut waited)? {
                 continue;
             }
-            self.expand(space, next, entry.node, label.key)?;
+            self.expand(space, next, entry.node, label.key, fewest)?;
         }
         Ok(None)
     }

@@ -1,7 +1,6 @@
 use Rattle.std.proofs.Common.{sym, subst}
 use Rattle.std.specs.Prelude.{Contains}
 use Rattle.std.proofs.lemmas.Result.{on_ok_weaker}
-use Rattle.wavefront.specs.Wave.{IsDead}
 use Rattle.wavefront.proofs.wave.Wave.expand.Goals as goal
 
 pub returns-clause-went : goal.returns-clause-went
@@ -11,4 +10,4 @@ pub offer_all-requires-clause-edges : goal.offer_all-requires-clause-edges
 offer_all-requires-clause-edges g c = λ to has. (c.in_ok-successors.ensures to).0 (subst (λ xs. Contains xs to) c.deref.ensures has)
 
 pub offer_all-requires-clause-first : goal.offer_all-requires-clause-first
-offer_all-requires-clause-first g c = λ to has less. subst (λ w. IsDead c.args.space.now w to) (sym c.first_useful-first.ensures.same) (c.first_useful-first.ensures.dead to ((c.in_ok-successors.ensures to).0 (subst (λ xs. Contains xs to) c.deref.ensures has)) less)
+offer_all-requires-clause-first g c = λ to has less. c.first_useful-first.ensures to ((c.in_ok-successors.ensures to).0 (subst (λ xs. Contains xs to) c.deref.ensures has)) less

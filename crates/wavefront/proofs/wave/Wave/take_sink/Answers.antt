@@ -1,10 +1,12 @@
 use Rattle.std.proofs.Common.{◌∙◌, ap, arith, sym, subst, length}
 use Rattle.std.proofs.lemmas.Bool.{false≢true, eqb-true}
 use Rattle.wavefront.proofs.Lower.{expanded_complete, same_origins_trans}
-use Rattle.wavefront.specs.Steps.{Spreads}
+use Rattle.wavefront.specs.Wave.{label_at}
+use Rattle.wavefront.specs.Steps.{IsLowered, Spreads}
 use Rattle.wavefront.proofs.LeastEntry.{spent_least, taken}
 use Rattle.wavefront.proofs.WaitsAgain.{waits_complete, waits_origins, waits_wave, waits_work}
 use Rattle.wavefront.proofs.wave.Wave.take_sink.Goals as goal
+use Rattle.wavefront.proofs.wave.Wave.take_sink.Given.{Over}
 
 pub loop-self-preserved-then-label-entry : goal.loop-self-preserved-then-label-entry
 loop-self-preserved-then-label-entry g c =
@@ -24,7 +26,7 @@ returns-then-is_open-clause-taken g c = taken c.args.space.now c.loop-self.self 
 pub loop-self-preserved : goal.loop-self-preserved
 loop-self-preserved g c =
     let at = ap (λ l. l.key) c.label-label.ensures in
-    let s = subst (λ w. Spreads c.args.space.now w c.expand.new.self) (c.in_ok-look_again.ensures.same c.if-branch.false) c.in_ok-expand.ensures.spreads in
+    let s = subst (λ w. Spreads c.args.space.now w c.expand.new.self) (c.in_ok-look_again.ensures.same c.if-branch.false ∙ c.fewest-fewest.ensures.same) c.in_ok-expand.ensures.spreads in
     record {
       wave = c.in_ok-expand.ensures.wave;
       complete = expanded_complete c.args.space.now c.nearest-entry.new.self c.expand.new.self c.nearest-entry.result.node c.label-label.result.key c.nearest-entry.ensures.others s.lowers at c.in_ok-expand.ensures.went (λ h. false≢true (sym c.if-is_open.false ∙ c.is_open.ensures.1 h));
@@ -41,10 +43,14 @@ returns-then-limit-entry-clause-origins g c = same_origins_trans c.args.self.now
 pub returns-then-limit-entry-clause-spent : goal.returns-then-limit-entry-clause-spent
 returns-then-limit-entry-clause-spent g c = λ a b way start aim walk. let least = c.nearest-entry.ensures.least a b way start aim walk in omega (arith, least, c.limit.ensures, c.if-limit-entry.true)
 
+-- the entry that was taken out waits again
+waits : (g : Over) (c : goal.Then-branch g) → IsLowered c.args.space.now c.nearest-entry.new.self c.look_again.new.self c.nearest-entry.result.node (label_at c.nearest-entry.new.self c.nearest-entry.result.node)
+waits g c = subst (λ w. IsLowered c.args.space.now w c.look_again.new.self c.nearest-entry.result.node (label_at w c.nearest-entry.result.node)) c.fewest-fewest.ensures.same (c.in_ok-look_again.ensures.waits c.if-branch.true)
+
 -- an entry less is to be looked at, and the one that was taken out is put in again
 pub loop-self-smaller-then-branch : goal.loop-self-smaller-then-branch
 loop-self-smaller-then-branch g c =
-    let more = waits_work c.args.space.now c.nearest-entry.new.self c.look_again.new.self c.nearest-entry.result.node (c.in_ok-look_again.ensures.waits c.if-branch.true) c.nearest-entry.ensures.node_in in
+    let more = waits_work c.args.space.now c.nearest-entry.new.self c.look_again.new.self c.nearest-entry.result.node (waits g c) c.nearest-entry.ensures.node_in in
     let fewer = c.in_ok-look_again.ensures.fewer c.if-branch.true in
     omega (arith, more, fewer, c.nearest-entry.ensures.work)
 
@@ -53,10 +59,9 @@ loop-self-preserved-then-branch g c =
     let x = c.nearest-entry.result.node in
     let s = c.nearest-entry.new.self in
     let t = c.look_again.new.self in
-    let waits = c.in_ok-look_again.ensures.waits c.if-branch.true in
     let there = c.nearest-entry.ensures.node_in in
     record {
-      wave = waits_wave c.args.space.now s t x waits there c.nearest-entry.ensures.wave c.nearest-entry.ensures.reached;
-      complete = waits_complete c.args.space.now s t x waits there c.nearest-entry.ensures.others;
-      origins = same_origins_trans c.args.self.now s t (same_origins_trans c.args.self.now c.loop-self.self s c.loop-self.invariant.origins c.nearest-entry.ensures.origins) (waits_origins c.args.space.now s t x waits there);
+      wave = waits_wave c.args.space.now s t x (waits g c) there c.nearest-entry.ensures.wave c.nearest-entry.ensures.reached;
+      complete = waits_complete c.args.space.now s t x (waits g c) there c.nearest-entry.ensures.others;
+      origins = same_origins_trans c.args.self.now s t (same_origins_trans c.args.self.now c.loop-self.self s c.loop-self.invariant.origins c.nearest-entry.ensures.origins) (waits_origins c.args.space.now s t x (waits g c) there);
     }

@@ -8,7 +8,7 @@ use Rattle.wavefront.proofs.wave.Wave.wait_again.Goals as goal
 
 pub returns-clause-waits : goal.returns-clause-waits
 returns-clause-waits g c _ =
-    let view = c.self.view_is ∙ c.nearest_by-nearest.ensures.same in
+    let view = c.self.view_is in
     let key : key_of c.args.self.now c.args.entry.node ≡ g.K.Key.value c.in-Some.key = sym c.requires.label ∙ sym c.in-Some.ensures in
     record {
       labels = ap (λ w. w.labels) view ∙ sym (set-get_or c.args.self.now.labels c.args.entry.node unreached);
