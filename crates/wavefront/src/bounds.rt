@@ -1,6 +1,6 @@
 //! Lower bounds of what is left of a way.
 
-ghost use Rattle.std.specs.Prelude.{◌≡◌, ◌+◌, ◌*◌, ◌<◌, ◌≤◌, [], All, Contains, IfOk, IfSome, IsTrue, OnOk, length, replicate};
+ghost use Rattle.std.specs.Prelude.{◌≡◌, ◌+◌, ◌*◌, ◌<◌, ◌≤◌, [], All, Contains, IfOk, IfSome, IsTrue, OnOk, length};
 ghost use Rattle.wavefront.specs.declared.boxes.BoundingBox.{BoundingBox};
 ghost use Rattle.wavefront.specs.Bounds.{CoversMore, IsCovered, IsFewestFrom, IsLow, gap, wires_by, wires_for, wires_from, wires_over, wires_to};
 

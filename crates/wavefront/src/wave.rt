@@ -555,34 +555,7 @@ impl<K: Key> Wave<K> {
     }
 
     /// Lets a node whose entry was taken wait again where its way on is longer than that entry tells, since boxes have been made
-    /// anew meanwhile.
-    fn wait_again(
-        &mut self,
-        space: &SearchSpace<'_>,
-        entry: Entry,
-        fewest: Option<u64>,
-    ) -> Result<bool, AllocError>
-        requires space { IsSpace space.now }
-        requires wave { IsWave space.now self.old }
-        requires label { entry.label ≡ key_of self.old entry.node }
-        requires fewest { IfSome fewest (IsFewest space.now.device self.old.boxes entry.node) }
-        ensures waits { IfOk result (λ waits. IsTrue waits →
-            IsLowered space.now self.old self.new entry.node (label_at self.old entry.node)) }
-        ensures same { IfOk result (λ waits. IsFalse waits → self.new ≡ self.old) }
-        ensures rows { length self.new.labels ≡ length self.old.labels }
-    {
-        let Some(key) = K::fit(entry.label) else {
-            return Ok(false);
-        };
-        let nearest = self.nearest_by(space, entry.node, key, fewest);
-        if nearest.wide() <= entry.key {
-            return Ok(false);
-        }
-        self.queue.push(nearest, key, entry.node)?;
-        Ok(true)
-    }
-
-    /// Looks whether a node whose entry was taken is to wait again, where so many are still to be looked at.
+    /// anew meanwhile. So many are still looked at.
     fn look_again(
         &mut self,
         space: &SearchSpace<'_>,
@@ -605,7 +578,15 @@ impl<K: Key> Wave<K> {
             return Ok(false);
         }
         *waited -= 1;
-        self.wait_again(space, entry, fewest)
+        let Some(key) = K::fit(entry.label) else {
+            return Ok(false);
+        };
+        let nearest = self.nearest_by(space, entry.node, key, fewest);
+        if nearest.wide() <= entry.key {
+            return Ok(false);
+        }
+        self.queue.push(nearest, key, entry.node)?;
+        Ok(true)
     }
 
     /// Takes the entry that is nearest, and what the search knows then.

@@ -4,7 +4,7 @@ use Rattle.std.proofs.lemmas.List.{set-get_or}
 use Rattle.wavefront.specs.Label.{unreached}
 use Rattle.wavefront.specs.Wave.{key_of}
 use Rattle.wavefront.proofs.Bounded.{bound_down}
-use Rattle.wavefront.proofs.wave.Wave.wait_again.Goals as goal
+use Rattle.wavefront.proofs.wave.Wave.look_again.Goals as goal
 
 pub returns-clause-waits : goal.returns-clause-waits
 returns-clause-waits g c _ =
