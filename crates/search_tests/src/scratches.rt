@@ -81,7 +81,7 @@ fn expect_unseen(
     expect_all(rt, problem, &view, scratch)
 }
 
-/// More searches than 16 bits count.
+/// More searches than 16 bits count: stamps begin anew some times.
 fn expect_often(
     rt: &(impl Abort + AllocGlobal),
     problem: &Problem,
@@ -99,6 +99,27 @@ fn searches_66000_times(rt: HostRuntime) -> Result<(), Fail> {
     let problem = problem_again(&rt, NETS)?;
     let view = View::new(rt.alloc(), 41)?;
     let mut scratch = Scratch::new(rt.alloc(), &problem)?;
+    expect_often(&rt, &problem, &view, &mut scratch)
+}
+
+/// On a view that shows so much on the first wire that no cost fits narrow keys.
+fn expect_dear(
+    rt: &(impl Abort + AllocGlobal),
+    problem: &Problem,
+    scratch: &mut Scratch,
+) -> Result<(), Fail> {
+    let mut view = View::new(rt.alloc(), 41)?;
+    see(&mut view, 39, 65_535, 1 << 42);
+    expect(rt, problem, &view, scratch, FIRST)
+}
+
+/// A first search without a first path over narrow keys makes stamps begin anew between the paths of a later one.
+#[test]
+fn searches_66000_times_behind_a_dear_one(rt: HostRuntime) -> Result<(), Fail> {
+    let problem = problem_again(&rt, NETS)?;
+    let view = View::new(rt.alloc(), 41)?;
+    let mut scratch = Scratch::new(rt.alloc(), &problem)?;
+    expect_dear(&rt, &problem, &mut scratch)?;
     expect_often(&rt, &problem, &view, &mut scratch)
 }
 

