@@ -16,6 +16,9 @@ use rr_graph::Problem;
 use std::alloc::{AllocError, Global};
 use std::thread::Threads;
 
+/// For how many nets a thread is worth its start, which takes as long as to judge some hundred.
+const NETS_A_THREAD: usize = 128;
+
 /// What is wrong with each net, judged side by side.
 fn net_faults(
     rt: &(impl Threads + Sync),
@@ -28,7 +31,7 @@ fn net_faults(
 {
     (0..problem.nets())
         .into_par_iter()
-        .with_min_len(1)
+        .with_min_len(NETS_A_THREAD)
         .map(
             |net: u32| -> Result<Option<RouteFault>, AllocError>
                 requires there { net < length problem.now.nets }
