@@ -1,5 +1,5 @@
 -- How many wires a way still has to enter, at least.
-use Rattle.std.specs.Prelude.{◌≡◌, ℕ, ◌+◌, ◌-◌, ◌*◌, ◌/◌, ◌≤◌, true, List, [], Contains, Some, min, max}
+use Rattle.std.specs.Prelude.{◌≡◌, ◌⊎◌, ℕ, ◌+◌, ◌-◌, ◌*◌, ◌/◌, ◌≤◌, true, List, [], Contains, Some, min, max}
 use Rattle.rr_graph.specs.declared.parts.Kind.{Kind}
 use Rattle.rr_graph.specs.declared.parts.Kind.TheVariants.{Source, Sink, Opin, Ipin, Chanx, Chany}
 use Rattle.rr_graph.specs.declared.parts.Node.{Node}
@@ -80,12 +80,22 @@ CoversMore old new = (inner : BoundingBox) → IsCovered old inner → IsCovered
 abbrev pub IsLow : List BoundingBox → Wire → ℕ → Type 0
 IsLow boxes wire wires = (box : BoundingBox) → Contains boxes box → wires ≤ wires_to box wire
 
--- there are boxes, and none tells of fewer
+-- one of the boxes tells of so many
+abbrev pub IsMet : List BoundingBox → Wire → ℕ → Type 0
+IsMet boxes wire wires = (box : BoundingBox) × Contains boxes box × (wires_to box wire ≡ wires)
+
+-- the fewest of which the boxes tell, if there are any
+pub record IsLeast (boxes : List BoundingBox) (wire : Wire) (wires : ℕ) : Type 0 where
+  pub few : IsLow boxes wire wires
+  pub met : (boxes ≡ []) ⊎ IsMet boxes wire wires
+
+-- there are boxes, and it is the fewest of which they tell
 pub record IsFewestFrom (boxes : List BoundingBox) (wire : Wire) (wires : ℕ) : Type 0 where
   pub some : boxes ≡ [] → ⊥
   pub few : IsLow boxes wire wires
+  pub met : IsMet boxes wire wires
 
--- none tells of fewer that lead on from node v, which is a wire
+-- the fewest of which the boxes tell that lead on from node v, which is a wire
 pub record IsFewest (f : Fabric) (boxes : List BoundingBox) (v wires : ℕ) : Type 0 where
   pub wire : Wire
   pub there : IsWireAt f v wire

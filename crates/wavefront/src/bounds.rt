@@ -2,7 +2,7 @@
 
 ghost use Rattle.std.specs.Prelude.{◌≡◌, ◌+◌, ◌*◌, ◌<◌, ◌≤◌, [], All, Contains, IfOk, IfSome, IsTrue, OnOk, length};
 ghost use Rattle.wavefront.specs.declared.boxes.BoundingBox.{BoundingBox};
-ghost use Rattle.wavefront.specs.Bounds.{CoversMore, IsCovered, IsFewestFrom, IsLow, gap, wires_by, wires_for, wires_from, wires_over, wires_to};
+ghost use Rattle.wavefront.specs.Bounds.{CoversMore, IsCovered, IsFewestFrom, IsLeast, gap, wires_by, wires_for, wires_from, wires_over, wires_to};
 
 use crate::boxes::BoundingBox;
 use crate::space::Wire;
@@ -159,7 +159,7 @@ fn row_of(wire: Wire) -> usize {
 
 /// The fewest wires of which a box tells.
 fn fewest_in(boxes: &[BoundingBox], wire: Wire) -> u64
-    ensures { IsLow boxes.now wire result }
+    ensures { IsLeast boxes.now wire result }
 {
     let mut fewest = u64::MAX;
     for place in boxes {
@@ -275,7 +275,7 @@ impl Bounds {
     /// What was found for a wire in these boxes, if that is kept.
     #[inline(always)]
     fn known(&self, wire: Wire) -> Option<u64>
-        ensures { IfSome result (IsLow self.now wire) }
+        ensures { IfSome result (IsLeast self.now wire) }
     {
         let at = row_of(wire);
         if at >= self.kept.len() {
@@ -291,7 +291,7 @@ impl Bounds {
 
     /// Keeps what was found for a wire.
     fn keep(&mut self, wire: Wire, fewest: u64)
-        requires { IsLow self.old wire fewest }
+        requires { IsLeast self.old wire fewest }
         ensures { self.new ≡ self.old }
     {
         let stamp = self.stamp;
@@ -308,7 +308,7 @@ impl Bounds {
     /// The fewest wires of which a box tells, which may be known.
     fn fewest_kept(&mut self, wire: Wire) -> u64
         ensures same { self.new ≡ self.old }
-        ensures few { IsLow self.old wire result }
+        ensures least { IsLeast self.old wire result }
     {
         if let Some(fewest) = self.known(wire) {
             return fewest;

@@ -1,5 +1,5 @@
 //! How a wave spreads along edges until it takes a sink.
-//! What is done for each edge is inlined: through a call a wire or a step would pass through memory.
+//! What is done for each edge is inlined: through a call a wire or a step would go through memory.
 
 ghost use Rattle.std.specs.Prelude.{◌≡◌, ℕ, ◌<◌, ◌≤◌};
 
