@@ -1,5 +1,6 @@
-// Refuses one call of a program that it is loaded into (LD_PRELOAD): of the function whose name stands in REFUSED_CALL, `malloc` or
-// `pthread_create`, the call whose number, from 1, stands in REFUSED_NUMBER.
+// Refuses calls of a program that it is loaded into (LD_PRELOAD): of the kind that REFUSED_KIND names, `memory` (malloc, calloc, realloc,
+// aligned_alloc, posix_memalign and memalign, counted together) or `threads` (pthread_create), the one whose number, from 1, stands in
+// REFUSED_NUMBER, and where REFUSED_FROM is 1 all behind it too.
 // Where that call was made, a byte is written to the file descriptor that stands in REFUSED_TELLS.
 #define _GNU_SOURCE
 #include <dlfcn.h>
@@ -10,46 +11,81 @@
 #include <string.h>
 #include <unistd.h>
 
+// glibc's own, under names that nothing stands in for.
+void *__libc_malloc(size_t);
+void *__libc_calloc(size_t, size_t);
+void *__libc_realloc(void *, size_t);
+void *__libc_memalign(size_t, size_t);
+
 typedef int (*Create)(pthread_t *, const pthread_attr_t *, void *(*)(void *), void *);
 
-static void *(*real_malloc)(size_t);
-static Create real_create;
-static const char *refused_call = "";
-static atomic_ulong asked;
-static unsigned long refused;
+enum Kind { NOTHING, MEMORY, THREADS };
+
+static enum Kind kind = NOTHING;
+static unsigned long number;
+static int from;
 static int tells = -1;
+static atomic_ulong asked;
 
-static unsigned long number_in(const char *name) {
+static const char *word_in(const char *name) {
   const char *word = getenv(name);
-  return word ? strtoul(word, NULL, 10) : 0;
+  return word ? word : "";
 }
 
+// Nothing is refused before: only the loader and the C library have asked for anything.
 __attribute__((constructor)) static void begin(void) {
-  const char *name = getenv("REFUSED_CALL");
-  real_malloc = (void *(*)(size_t))dlsym(RTLD_NEXT, "malloc");
-  real_create = (Create)dlsym(RTLD_NEXT, "pthread_create");
-  refused_call = name ? name : "";
-  refused = number_in("REFUSED_NUMBER");
-  tells = (int)number_in("REFUSED_TELLS");
+  number = strtoul(word_in("REFUSED_NUMBER"), NULL, 10);
+  from = strcmp(word_in("REFUSED_FROM"), "1") == 0;
+  tells = (int)strtol(word_in("REFUSED_TELLS"), NULL, 10);
+  if (strcmp(word_in("REFUSED_KIND"), "memory") == 0)
+    kind = MEMORY;
+  if (strcmp(word_in("REFUSED_KIND"), "threads") == 0)
+    kind = THREADS;
 }
 
-// Whether this call of the function is the one to refuse.
-static int is_refused(const char *name) {
-  if (strcmp(name, refused_call) != 0 || atomic_fetch_add(&asked, 1) + 1 != refused)
+// Whether this call, of this kind, is one to refuse.
+static int is_refused(enum Kind of) {
+  if (of != kind)
     return 0;
-  if (write(tells, "1", 1) != 1)
+  unsigned long place = atomic_fetch_add(&asked, 1) + 1;
+  if (place == number && write(tells, "1", 1) != 1)
     abort();
+  return place == number || (from && place > number);
+}
+
+static int lacks_memory(void) {
+  if (!is_refused(MEMORY))
+    return 0;
+  errno = ENOMEM;
   return 1;
 }
 
-void *malloc(size_t size) {
-  if (!real_malloc)
-    begin();
-  return is_refused("malloc") ? NULL : real_malloc(size);
+void *malloc(size_t size) { return lacks_memory() ? NULL : __libc_malloc(size); }
+
+void *calloc(size_t count, size_t size) { return lacks_memory() ? NULL : __libc_calloc(count, size); }
+
+// With no size it is a `free`, which can't be refused.
+void *realloc(void *old, size_t size) { return size > 0 && lacks_memory() ? NULL : __libc_realloc(old, size); }
+
+void *memalign(size_t alignment, size_t size) { return lacks_memory() ? NULL : __libc_memalign(alignment, size); }
+
+void *aligned_alloc(size_t alignment, size_t size) { return memalign(alignment, size); }
+
+int posix_memalign(void **out, size_t alignment, size_t size) {
+  if (alignment % sizeof(void *) != 0 || (alignment & (alignment - 1)) != 0 || alignment == 0)
+    return EINVAL;
+  void *block = memalign(alignment, size);
+  if (!block)
+    return ENOMEM;
+  *out = block;
+  return 0;
 }
 
 int pthread_create(pthread_t *thread, const pthread_attr_t *attributes, void *(*start)(void *), void *argument) {
-  if (!real_create)
-    begin();
-  return is_refused("pthread_create") ? EAGAIN : real_create(thread, attributes, start, argument);
+  static _Atomic(Create) create;
+  if (is_refused(THREADS))
+    return EAGAIN;
+  if (!create)
+    create = (Create)dlsym(RTLD_NEXT, "pthread_create");
+  return create(thread, attributes, start, argument);
 }

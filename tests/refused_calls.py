@@ -1,106 +1,170 @@
-"""Runs tests and the program with each call of one function of the C library refused in turn: what without-memory and without-threads share."""
+"""Runs the program, and tests of crates, with calls for memory or for threads refused: what without-memory and without-threads share."""
+import argparse
+import concurrent.futures
 import os
 import pathlib
+import re
 import subprocess
-import sys
 import tempfile
 from dataclasses import dataclass
-from typing import Callable
+from typing import Callable, Optional
 
-TESTS = pathlib.Path(__file__).resolve().parent
-TOP = TESTS.parent
-PROGRAM = TOP / "crates/pathfinder/out/pathfinder"
-EXAMPLES = TOP / "examples"
-OUT_OF_MEMORY = (6, b"error: memory\n")
-WITHOUT_A_THREAD = (6, b"error: no thread\n")
+from bundled import TOP
+
+# Stands for the routing file in the words of a run.
+ROUTE = "ROUTE"
+OLD_ROUTING = b"an old routing\n"
+SECONDS = 120
+# Up to here each call is refused; of later ones, where they are thinned out, each hundredth of what lies behind.
+EACH_CALL = 300
 
 
-@dataclass
+@dataclass(frozen=True)
+class Answer:
+    """What came of a run: its status, what it printed on both streams, and what the routing file has, if it is there."""
+
+    status: int
+    printed: bytes
+    complained: bytes
+    routing: Optional[bytes]
+
+    def is_refusal(self, lines, before):
+        """Whether it is the answer to a refusal, one of these lines, with the routing file as before."""
+        return self.status == 6 and self.printed in lines and self.complained == b"" and self.routing == before
+
+
+@dataclass(frozen=True)
 class Run:
-    """A command that is run again and again: what goes before each time, and whether a status and a standard output are right."""
+    """A command that is run again and again: its words, what the routing file has before, and which answers are right."""
 
     name: str
-    words: list
+    words: tuple
+    before: Optional[bytes]
     is_right: Callable
-    prepare: Callable = lambda: None
+
+    def answer(self, variables, pass_fds=()):
+        with tempfile.TemporaryDirectory() as folder:
+            routing = pathlib.Path(folder, "new.route")
+            if self.before is not None:
+                routing.write_bytes(self.before)
+            words = [str(routing if word == ROUTE else word) for word in self.words]
+            ran = subprocess.run(words, cwd=folder, env=variables, pass_fds=pass_fds, stdin=subprocess.DEVNULL, capture_output=True, timeout=SECONDS)
+            return Answer(ran.returncode, ran.stdout, ran.stderr, routing.read_bytes() if routing.exists() else None)
 
 
 @dataclass(frozen=True)
 class Refusals:
-    """A function of which calls are refused, what a call asks for, and what tests without it are named after."""
+    """Which kind of call is refused, and by which library."""
 
     library: str
-    function: str
-    asks_for: str
-    suffix: str
+    kind: str
 
-    def answer(self, words, number):
-        """Status and standard output where the call of this number is refused, and whether it was made."""
+    def answer(self, run, number, is_from):
+        """The answer of a run where the call of this number is refused, and if wanted all behind it; and whether it was made."""
         reader, writer = os.pipe()
-        variables = {"LD_PRELOAD": self.library, "REFUSED_CALL": self.function, "REFUSED_NUMBER": str(number), "REFUSED_TELLS": str(writer)}
-        run = subprocess.run(words, env=variables, pass_fds=(writer,), stdout=subprocess.PIPE, stderr=subprocess.DEVNULL, timeout=600)
+        variables = {"LD_PRELOAD": self.library, "REFUSED_KIND": self.kind, "REFUSED_NUMBER": str(number)}
+        variables |= {"REFUSED_FROM": str(int(is_from)), "REFUSED_TELLS": str(writer)}
+        try:
+            answer = run.answer(variables, (writer,))
+        except subprocess.TimeoutExpired:
+            answer = None
         os.close(writer)
         told = os.read(reader, 1)
         os.close(reader)
-        return (run.returncode, run.stdout), bool(told)
+        return answer, bool(told)
 
-    def refuse_each(self, run):
-        """How many calls the run makes, and how many answers are wrong where one of them is refused."""
-        number, wrong = 1, 0
-        while True:
-            run.prepare()
-            given, told = self.answer(run.words, number)
-            if not run.is_right(given):
-                wrong += 1
-                print(f"{run.name}: {self.asks_for} {number}: status {given[0]}, {given[1][-200:]!r}")
-            if not told:
-                print(f"{run.name}: {number - 1} {self.asks_for}s refused, {wrong} wrong answers", flush=True)
-                return number - 1, wrong
-            number += 1
-
-    def tests_of(self, program):
-        listed = subprocess.run([program, "--list"], capture_output=True, text=True).stdout
-        names = (line.removesuffix(": test") for line in listed.splitlines())
-        return [name for name in names if name.endswith(self.suffix)]
-
-    def runs_of_crate(self, crate):
-        """The tests of a crate that are named so, as `rt test` or `rt ci` built them last."""
-        if not any(self.suffix in source.read_text() for source in (crate / "src").rglob("*.rt")):
-            return
-        program = crate / f"out/{crate.name}_tests"
-        if not program.is_file():
-            subprocess.run(["rt", "test"], cwd=crate, check=True, stdout=subprocess.DEVNULL)
-        for name in self.tests_of(program):
-            yield Run(f"{crate.name} {name}", [program, name], passes)
-
-    def all_runs(self, named, runs_of_program):
-        """The tests of the crates that are named; of all, and the program, where none is."""
-        for crate in [TOP / "crates" / name for name in named] or sorted((TOP / "crates").iterdir()):
-            yield from self.runs_of_crate(crate)
-        if not named:
-            if not PROGRAM.is_file():
-                subprocess.run(["rt", "run"], cwd=PROGRAM.parent.parent, check=True, stdout=subprocess.DEVNULL)
-            yield from runs_of_program(self)
-
-    def count(self, runs):
-        """Goes through the runs, and prints how many calls were refused, and how many runs were right throughout; the status to exit with."""
-        counts = [self.refuse_each(run) for run in runs]
-        asked, wrong = sum(calls for calls, _ in counts), sum(bad for _, bad in counts)
-        failed = sum(bad > 0 for _, bad in counts)
-        print(f"{len(counts)} runs, {asked} {self.asks_for}s refused, {wrong} wrong answers")
-        print(f"{len(counts) - failed} passed, {failed} failed")
-        return 1 if failed or not counts else 0
+    def refuse(self, run, is_from, is_thinned):
+        """Refuses one call after another until the run makes no more; how many were refused, the last one's number, and how many answers are wrong."""
+        way = f"all {self.kind} from" if is_from else self.kind
+        refused = last = wrong = 0
+        with concurrent.futures.ThreadPoolExecutor(len(os.sched_getaffinity(0))) as pool:
+            for chunk in chunks(numbers(is_thinned)):
+                given = list(pool.map(lambda number: self.answer(run, number, is_from), chunk))
+                for number, (answer, told) in zip(chunk, given):
+                    if answer is None or not run.is_right(answer):
+                        wrong += 1
+                        print(f"{run.name}: {way} call {number}: {answer or 'no answer'}"[:600], flush=True)
+                    if told:
+                        refused, last = refused + 1, number
+                if not all(told for _, told in given):
+                    break
+        print(f"{run.name}: {way}: {refused} of some {last} refused, {wrong} wrong answers", flush=True)
+        return refused, wrong
 
 
-def passes(given):
-    return given[0] == 0 and given[1].endswith(b"test result: ok\n")
+def numbers(is_thinned):
+    number = 1
+    while True:
+        yield number
+        number += 1 + (number // 100 if is_thinned and number >= EACH_CALL else 0)
 
 
-def main(function, asks_for, suffix, runs_of_program):
-    """Refuses the calls of a function in the crates that the command line names, or everywhere."""
+def chunks(sequence):
+    while True:
+        yield [next(sequence) for _ in range(16)]
+
+
+def usual_of(words, before=None):
+    """The answer of a command to which nothing is refused."""
+    return Run("", words, before, None).answer({})
+
+
+def run_of(name, words, before=None, refusals=(b"error: memory\n",)):
+    """A run whose answer is always the same, or that of a refusal."""
+    usual = usual_of(words, before)
+    return Run(name, words, before, lambda given: given == usual or given.is_refusal(refusals, before))
+
+
+def run_by_workers(name, program, design, width, workers, before=None):
+    """A run that routes a design by several workers: any legal routing is right."""
+    words = (program, "route", *design, ROUTE, "--width", width, "--workers", workers)
+
+    def is_right(given):
+        if given.is_refusal((b"error: memory\n", b"error: no thread\n"), before):
+            return True
+        return given.status == 0 and re.fullmatch(rb"routed, iterations \d+\n", given.printed) and not given.complained and is_legal(given.routing)
+
+    def is_legal(routing):
+        judged = Run("", (program, "check", *design, ROUTE, "--width", width), routing, None).answer({})
+        return judged.status == 0 and judged.printed == b"legal\n"
+
+    return Run(name, words, before, is_right)
+
+
+def tests_of(crate, suffix):
+    """The tests of a crate whose names end so, as `rt ci` or `rt test` built them last."""
+    program = TOP / f"crates/{crate}/out/{crate}_tests"
+    if not program.is_file():
+        return []
+    listed = subprocess.run([program, "--list"], capture_output=True, text=True, check=True).stdout
+    names = [line.removesuffix(": test") for line in listed.splitlines()]
+    return [run_of_test(crate, program, name) for name in names if name.endswith(suffix)]
+
+
+def run_of_test(crate, program, name):
+    return Run(f"{crate} {name}", (program, name), None, lambda given: given.status == 0 and given.printed.endswith(b"test result: ok\n"))
+
+
+def main(kind, runs_of_program):
+    """Refuses the calls of a kind in the program's runs, or in tests of crates; the status to exit with."""
+    words = argparse.ArgumentParser(description=f"Runs a program with {kind} refused.")
+    words.add_argument("program", nargs="?", metavar="PROGRAM", help="the program, one of this repository's")
+    words.add_argument("--all", action="store_true", help="refuse each call: else later ones are thinned out")
+    words.add_argument("--crates", nargs="*", metavar="CRATE", help=f"tests of these crates, or of all, that are named .._without_{kind}")
+    given = words.parse_args()
+    if (given.program is None) == (given.crates is None):
+        words.error("either a program or --crates")
     with tempfile.TemporaryDirectory() as folder:
         library = f"{folder}/refused_call.so"
-        source = TESTS / "refused_call.c"
-        subprocess.run([os.environ.get("CC", "cc"), "-O1", "-shared", "-fPIC", "-o", library, source, "-ldl"], check=True)
-        refusals = Refusals(library, function, asks_for, suffix)
-        return refusals.count(refusals.all_runs(sys.argv[1:], runs_of_program))
+        subprocess.run([os.environ.get("CC", "cc"), "-O1", "-shared", "-fPIC", "-o", library, TOP / "tests/refused_call.c", "-ldl"], check=True)
+        refusals = Refusals(library, kind)
+        if given.program:
+            counts = [refusals.refuse(run, is_from, not given.all) for run in runs_of_program(os.path.abspath(given.program)) for is_from in (False, True)]
+        else:
+            # behind a refusal such a test calls again, which must succeed: so none is refused from some call on
+            crates = given.crates or sorted(path.name for path in (TOP / "crates").iterdir())
+            counts = [refusals.refuse(run, False, False) for crate in crates for run in tests_of(crate, f"_without_{kind}")]
+    failed = sum(wrong > 0 for _, wrong in counts)
+    print(f"{len(counts)} runs, {sum(refused for refused, _ in counts)} refusals of {kind}, {sum(wrong for _, wrong in counts)} wrong answers")
+    print(f"{len(counts) - failed} passed, {failed} failed")
+    return 1 if failed or not counts else 0
