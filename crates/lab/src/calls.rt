@@ -3,7 +3,10 @@
 use crate::session::Session;
 use crate::unanswered::Unanswered;
 use crate::words::Call;
-use crate::{arch_calls, design_calls, device_calls, problem_calls, text_calls};
+use crate::{
+    arch_calls, design_calls, device_calls, problem_calls, route_text_calls, routing_calls,
+    text_calls, tree_calls,
+};
 use std::rt::Runtime;
 use std::sync::Wait;
 use std::thread::Threads;
@@ -24,6 +27,15 @@ pub fn make_call(
     }
     if let Err(Unanswered::NoCall) = made {
         made = problem_calls::call(rt, session, call, out);
+    }
+    if let Err(Unanswered::NoCall) = made {
+        made = tree_calls::call(rt, session, call, out);
+    }
+    if let Err(Unanswered::NoCall) = made {
+        made = routing_calls::call(rt, session, call, out);
+    }
+    if let Err(Unanswered::NoCall) = made {
+        made = route_text_calls::call(rt, session, call, out);
     }
     if let Err(Unanswered::NoCall) = made {
         made = device_calls::call(rt, session, call, out);

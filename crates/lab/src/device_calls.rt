@@ -31,7 +31,7 @@ pub fn call(
             nothing(call.given)?;
             put(out, suits(rt.alloc(), session)?)
         }
-        _ => node_call(rt.alloc(), session.device()?, call, out),
+        _ => node_call(rt.alloc(), session, call, out),
     }
 }
 

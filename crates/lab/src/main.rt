@@ -8,10 +8,13 @@ mod design_calls;
 mod device_calls;
 mod node_calls;
 mod problem_calls;
+mod route_text_calls;
+mod routing_calls;
 mod runner;
 mod session;
 mod sources;
 mod text_calls;
+mod tree_calls;
 mod unanswered;
 mod words;
 

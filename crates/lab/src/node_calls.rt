@@ -1,6 +1,7 @@
 //! Calls of `rr_graph`: the nodes and edges of a device, by their numbers.
 
 use crate::answer::{put, put_maybe, put_maybe_named, put_numbers};
+use crate::session::Session;
 use crate::unanswered::Unanswered;
 use crate::words::{Call, nothing, number, number_list, numbers};
 use rr_graph::{Device, EdgeFinder, Kind, Node, Span};
@@ -10,20 +11,17 @@ use std::alloc::Global;
 /// Makes a call, and adds its answer.
 pub fn call(
     alloc: Global,
-    device: &Device,
+    session: &Session,
     call: Call<'_>,
     out: &mut String,
 ) -> Result<(), Unanswered> {
     match call.name {
-        "id" => put_id(device, call.given, out),
-        "edge" => put_edge(device, call.given, out),
-        "lacks_edge" => put_lacks_edge(alloc, device, call.given, out),
-        "joins" => put_joins(alloc, device, call.given, out),
-        "successors" => {
-            let [id] = numbers::<1>(call.given)?;
-            put_successors(alloc, device, id, out)
-        }
-        "node"
+        "id" => put_id(session.device()?, call.given, out),
+        "edge" => put_edge(session.device()?, call.given, out),
+        "lacks_edge" => put_lacks_edge(alloc, session.device()?, call.given, out),
+        "joins" => put_joins(alloc, session.device()?, call.given, out),
+        "successors"
+        | "node"
         | "kind"
         | "label"
         | "capacity"
@@ -34,18 +32,26 @@ pub fn call(
         | "is_sink"
         | "pins_beside" => {
             let [id] = numbers::<1>(call.given)?;
-            look_up(device, call.name, id, out)
+            look_up(alloc, session.device()?, call.name, id, out)
         }
-        _ => {
+        "node_count" | "edge_count" | "first_wire" | "most_successors" | "input_pins" | "parts" => {
             nothing(call.given)?;
-            count(device, call.name, out)
+            count(session.device()?, call.name, out)
         }
+        _ => Err(Unanswered::NoCall),
     }
 }
 
 /// Makes a look-up of the node of a number.
-fn look_up(device: &Device, name: &str, id: u32, out: &mut String) -> Result<(), Unanswered> {
+fn look_up(
+    alloc: Global,
+    device: &Device,
+    name: &str,
+    id: u32,
+    out: &mut String,
+) -> Result<(), Unanswered> {
     match name {
+        "successors" => put_successors(alloc, device, id, out),
         "node" => put_node(device.node(id), out),
         "kind" => put_maybe_named(out, device.kind(id)),
         "label" => put_maybe_named(out, device.label(id)),
@@ -67,8 +73,7 @@ fn count(device: &Device, name: &str, out: &mut String) -> Result<(), Unanswered
         "first_wire" => put(out, device.first_wire()),
         "most_successors" => put(out, device.most_successors()),
         "input_pins" => put_input_pins(device, out),
-        "parts" => put_parts(device, out),
-        _ => Err(Unanswered::NoCall),
+        _ => put_parts(device, out),
     }
 }
 

@@ -79,7 +79,7 @@ impl Answer {
         let Some((line, next)) = line_at(self.text.as_bytes(), self.compared) else {
             return false;
         };
-        let is_same = line == wanted.as_bytes();
+        let is_same = line.trim_ascii_end() == wanted.as_bytes();
         self.compared = next;
         is_same
     }
@@ -154,7 +154,7 @@ impl<R: Runtime + Threads + Wait + Sync + AllocGlobal, I: BufRead> Run<'_, R, I>
         };
         let read = read.trim();
         if let Some(wanted) = read.strip_prefix('=') {
-            self.compare(wanted.trim());
+            self.compare(wanted.strip_prefix(' ').unwrap_or(wanted));
             return Ok(());
         }
         self.call(read, text)

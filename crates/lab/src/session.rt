@@ -2,6 +2,7 @@
 
 use crate::unanswered::Unanswered;
 use arch_file::Arch;
+use route_tree::{Marks, Routing, Tree};
 use rr_graph::{Device, Problem};
 
 /// The values that calls made and later calls use. A netlist and a placement are kept as the texts
@@ -13,6 +14,9 @@ pub struct Session {
     pub place: Option<Vec<u8>>,
     pub device: Option<Device>,
     pub problem: Option<Problem>,
+    pub tree: Option<Tree>,
+    pub marks: Option<Marks>,
+    pub routing: Option<Routing>,
 }
 
 impl Session {
@@ -23,6 +27,9 @@ impl Session {
             place: None,
             device: None,
             problem: None,
+            tree: None,
+            marks: None,
+            routing: None,
         }
     }
 
@@ -42,6 +49,18 @@ impl Session {
         self.problem
             .as_ref()
             .ok_or(Unanswered::Refused("there is no problem"))
+    }
+
+    pub fn tree(&self) -> Result<&Tree, Unanswered> {
+        self.tree
+            .as_ref()
+            .ok_or(Unanswered::Refused("there is no tree"))
+    }
+
+    pub fn routing(&self) -> Result<&Routing, Unanswered> {
+        self.routing
+            .as_ref()
+            .ok_or(Unanswered::Refused("there is no routing"))
     }
 
     /// The text of the netlist.

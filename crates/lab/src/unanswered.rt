@@ -3,6 +3,7 @@
 use arch_file::ArchFault;
 use net_file::NetFault;
 use place_file::PlaceFault;
+use route_file::RouteFileFault;
 use rr_graph::{DeviceFault, PartsFault};
 use std::alloc::{AllocError, AllocFailed};
 use thiserror::Error;
@@ -38,6 +39,8 @@ pub enum Unanswered {
     Device(DeviceFault),
     #[error("fault: problem: {0:?}")]
     Parts(PartsFault),
+    #[error("fault: route: {0:?}")]
+    Route(RouteFileFault),
 }
 
 impl From<AllocError> for Unanswered {
@@ -111,6 +114,15 @@ impl From<PartsFault> for Unanswered {
         match fault {
             PartsFault::Memory => Unanswered::Memory,
             _ => Unanswered::Parts(fault),
+        }
+    }
+}
+
+impl From<RouteFileFault> for Unanswered {
+    fn from(fault: RouteFileFault) -> Unanswered {
+        match fault {
+            RouteFileFault::Memory | RouteFileFault::Text(TextFault::Memory) => Unanswered::Memory,
+            _ => Unanswered::Route(fault),
         }
     }
 }
