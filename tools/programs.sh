@@ -6,17 +6,17 @@ programs=pathfinder
 # The loader that the programs in dist/ name: it goes with the C library, so that another machine is noticed.
 loader=/lib64/ld-linux-x86-64.so.2
 
-# The files by which it is decided which file the program NAME is, a line each with its size and when it was changed last.
+# The sizes of the files and folders that are named in a file, and when they were changed last, a line each. It ends the shell
+# that calls it, one of a pipe or of $(..).
 list_files() {
-  (cd "$top" && exec find -H crates/*/src crates/*/specs crates/*/proofs crates.txt dist "crates/$1/out/$1" \
-    "$loader" -type f -printf '%p %s %C@\n' 2>/dev/null)
+  cd "$top" && set -f && exec stat -L -c '%n %s %.9Z' $(cat "$1") 2>/dev/null
 }
 
-# Sets `program` to the file of the program NAME. What was found is kept beside the build's output, and holds until one of
-# these files is changed: then tools/program looks at what they have, and builds the program where it must.
+# Sets `program` to the file of the program NAME. What was found is kept beside the build's output, and holds until one of the
+# files or folders by which it was decided is changed: then tools/program looks at what they have, and builds where it must.
 find_program() {
-  kept=$top/crates/$1/out/program
-  if read -r program 2>/dev/null <"$kept" && { echo "$program"; list_files "$1"; } | cmp -s - "$kept"; then
+  kept=crates/$1/out/program
+  if read -r program 2>/dev/null <"$top/$kept" && { echo "$program" && list_files "$kept.names"; } | cmp -s - "$top/$kept"; then
     program=$top/$program
   else
     program=$("$top/tools/program" "$1") || exit 1
