@@ -1,7 +1,15 @@
 # Which file is a program of this repository. Sourced, with `top` set to the repository's folder.
 
 # The programs that users run: each is a crate, and stands in dist/.
-programs=pathfinder
+programs='pathfinder lab'
+
+# A word with which the program NAME does nothing but end well, where it runs at all.
+trial_word() {
+  case $1 in
+    lab) echo /dev/null ;;
+    *) echo --help ;;
+  esac
+}
 
 # The loader that the programs in dist/ name: it goes with the C library, so that another machine is noticed.
 loader=/lib64/ld-linux-x86-64.so.2

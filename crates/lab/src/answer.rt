@@ -1,0 +1,57 @@
+//! What a call answers, in lines of text.
+
+use crate::unanswered::Unanswered;
+use std::fmt::{Debug, Display};
+
+/// Adds a line.
+pub fn put(out: &mut String, value: impl Display + Drop) -> Result<(), Unanswered> {
+    writeln!(out, "{value}")?;
+    Ok(())
+}
+
+/// Adds a line with a value as the libraries name it.
+pub fn put_named(out: &mut String, value: impl Debug + Drop) -> Result<(), Unanswered> {
+    writeln!(out, "{value:?}")?;
+    Ok(())
+}
+
+/// Adds a line with a value, or with `none`.
+pub fn put_maybe(out: &mut String, value: Option<impl Display + Drop>) -> Result<(), Unanswered> {
+    match value {
+        Some(value) => put(out, value),
+        None => put(out, "none"),
+    }
+}
+
+/// Adds a line with a value as the libraries name it, or with `none`.
+pub fn put_maybe_named(
+    out: &mut String,
+    value: Option<impl Debug + Drop>,
+) -> Result<(), Unanswered> {
+    match value {
+        Some(value) => put_named(out, value),
+        None => put(out, "none"),
+    }
+}
+
+/// Adds a line with numbers, or with `none`.
+pub fn put_numbers(out: &mut String, numbers: &[u32]) -> Result<(), Unanswered> {
+    let [first, rest @ ..] = numbers else {
+        return put(out, "none");
+    };
+    write!(out, "{first}")?;
+    for number in rest {
+        write!(out, " {number}")?;
+    }
+    out.push('\n')?;
+    Ok(())
+}
+
+/// Adds a name to a line; bytes that are no text are told as such.
+pub fn put_name(out: &mut String, name: &[u8]) -> Result<(), Unanswered> {
+    match str::from_utf8(name) {
+        Ok(name) => out.push_str(name)?,
+        Err(_) => write!(out, "{name:?}")?,
+    }
+    Ok(())
+}

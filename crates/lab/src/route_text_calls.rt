@@ -1,0 +1,152 @@
+//! Calls of `route_file`: the text of a routing, written and read.
+
+ghost use Rattle.std.specs.Prelude.{◌≡◌, IfOk, map, true};
+ghost use Rattle.net_file.specs.Routed.{routed_numbers};
+ghost use Rattle.rr_graph.specs.Designs.{suits_design};
+ghost use Rattle.route_file.specs.Design.{IsDesign};
+
+use crate::answer::put_name;
+use crate::routing_calls::keep;
+use crate::session::Session;
+use crate::sources::{bytes_before_failing, source};
+use crate::unanswered::Unanswered;
+use crate::words::Call;
+use net_file::Netlist;
+use place_file::Placement;
+use route_file::{parse, write};
+use route_tree::{Routing, fits};
+use rr_graph::{Device, Problem};
+use std::alloc::{AllocError, Global};
+use std::io::{Error, ErrorKind, Result as IoResult, Write};
+use std::rt::Runtime;
+use vpr_text::Adapted;
+
+/// What a routing is written to: it fails behind so many bytes, or never.
+#[derive(Drop)]
+struct ShortSink {
+    bytes: Vec<u8>,
+    left: Option<usize>,
+    /// Whether it failed since memory ran out.
+    lacked: bool,
+}
+
+impl Write for ShortSink {
+    fn write(&mut self, bytes: &[u8]) -> IoResult<usize> {
+        let count = self.left.unwrap_or(bytes.len()).min(bytes.len());
+        if count == 0 {
+            return Err(Error::from(ErrorKind::Other));
+        }
+        if self.bytes.extend_from_slice(&bytes[..count]).is_err() {
+            self.lacked = true;
+            return Err(Error::from(ErrorKind::OutOfMemory));
+        }
+        self.left = self.left.map(|left| left.saturating_sub(count));
+        Ok(count)
+    }
+
+    fn flush(&mut self) -> IoResult<()> {
+        Ok(())
+    }
+}
+
+/// Makes a call, and adds its answer.
+pub fn call(
+    rt: &(impl Runtime + AllocGlobal),
+    session: &mut Session,
+    call: Call<'_>,
+    out: &mut String,
+) -> Result<(), Unanswered> {
+    match call.name {
+        "route" => {
+            let text = source(rt, call)?;
+            let routing = read(rt.alloc(), session, text.as_slice())?;
+            keep(session, routing, out)
+        }
+        "write" => {
+            let left = bytes_before_failing(call.given)?;
+            put_text(rt.alloc(), session, left, out)
+        }
+        _ => Err(Unanswered::NoCall),
+    }
+}
+
+/// The routing problem of a design that suits the device.
+#[tactic(auto, using(route_file::proofs::Making::design_made))]
+fn problem_on(
+    alloc: Global,
+    device: Device,
+    netlist: &Netlist<'_>,
+    placement: &Placement,
+) -> Result<Problem, AllocError>
+    requires { suits_design device netlist.now placement.now ≡ true }
+    ensures design { IfOk result (λ p. IsDesign netlist.now placement.now p) }
+    ensures numbers { IfOk result (λ p. map (λ n. n.number) p.nets ≡ routed_numbers netlist.now) }
+{
+    Problem::new(alloc, device, netlist, placement)
+}
+
+/// The problem of a design on a device, where it suits.
+fn problem_of(
+    alloc: Global,
+    device: &Device,
+    netlist: &Netlist<'_>,
+    placement: &Placement,
+) -> Result<Problem, Unanswered>
+    ensures design { IfOk result (λ p. IsDesign netlist.now placement.now p) }
+    ensures numbers { IfOk result (λ p. map (λ n. n.number) p.nets ≡ routed_numbers netlist.now) }
+{
+    let device = device.copy(alloc)?;
+    if !device.suits(netlist, placement) {
+        return Err(Unanswered::Refused("the design does not suit the device"));
+    }
+    let problem = problem_on(alloc, device, netlist, placement)?;
+    Ok(problem)
+}
+
+/// Reads a routing of the session's design on its device.
+fn read(alloc: Global, session: &Session, text: &[u8]) -> Result<Routing, Unanswered> {
+    let (arch, device) = (session.arch()?, session.device()?);
+    let netlist = net_file::parse(alloc, session.net()?, arch)?;
+    let placement = place_file::parse(alloc, session.place()?, arch, &netlist)?;
+    let problem = problem_of(alloc, device, &netlist, &placement)?;
+    Ok(parse(alloc, text, &netlist, &problem)?)
+}
+
+/// Writes the routing of the session's design on its device, and adds its text.
+fn put_text(
+    alloc: Global,
+    session: &Session,
+    left: Option<usize>,
+    out: &mut String,
+) -> Result<(), Unanswered> {
+    let (arch, device, routing) = (session.arch()?, session.device()?, session.routing()?);
+    let netlist = net_file::parse(alloc, session.net()?, arch)?;
+    let placement = place_file::parse(alloc, session.place()?, arch, &netlist)?;
+    let problem = problem_of(alloc, device, &netlist, &placement)?;
+    if !fits(&problem, routing) {
+        return Err(Unanswered::Refused("the routing does not fit the problem"));
+    }
+    let mut sink = Adapted::new(ShortSink {
+        bytes: Vec::new(alloc),
+        left,
+        lacked: false,
+    });
+    let is_written = write(&netlist, &placement, &problem, routing, &mut sink).is_ok();
+    put_written(&sink.into_inner(), is_written, out)
+}
+
+/// Adds what was written, or tells how much of it was before the sink failed.
+fn put_written(sink: &ShortSink, is_written: bool, out: &mut String) -> Result<(), Unanswered> {
+    if sink.lacked {
+        return Err(Unanswered::Memory);
+    }
+    if is_written {
+        return put_name(out, sink.bytes.as_slice());
+    }
+    writeln!(
+        out,
+        "fault: write: Failed, {} bytes were taken",
+        sink.bytes.len()
+    )?;
+    Ok(())
+}

@@ -1,0 +1,264 @@
+//! Runs a script: reads its lines, makes its calls, prints their answers and compares them.
+
+use crate::calls::make_call;
+use crate::session::Session;
+use crate::sources::BELOW;
+use crate::unanswered::Unanswered;
+use crate::words::{Call, words};
+use std::alloc::Global;
+use std::io::{BufRead, BufReader, Read, Result as IoResult};
+use std::rt::Runtime;
+use std::sync::Wait;
+use std::thread::Threads;
+
+/// How many bytes of lines and of answers need no further memory.
+const ROOM: usize = 65_536;
+
+/// The line that ends a text below a call.
+const END_OF_TEXT: &[u8] = b">>";
+
+/// The lines of a script.
+#[derive(Drop)]
+struct Script<'a, I> {
+    name: &'a str,
+    input: I,
+    /// The number of the line that was read last, counted from 1.
+    line: u64,
+}
+
+impl<I: BufRead> Script<'_, I> {
+    /// Reads a line; false at the end.
+    fn read(&mut self, line: &mut Vec<u8>) -> IoResult<bool> {
+        line.clear();
+        let count = self.input.read_until(b'\n', line)?;
+        self.line = self.line.saturating_add(1);
+        Ok(count > 0)
+    }
+
+    /// Reads the text up to the line that ends it.
+    fn read_text(&mut self, alloc: Global, text: &mut Vec<u8>) -> IoResult<()> {
+        let mut line = Vec::with_capacity(alloc, ROOM)?;
+        for _ in 0..u64::MAX {
+            if !self.read(&mut line)? || line.as_slice().trim_ascii() == END_OF_TEXT {
+                break;
+            }
+            text.extend_from_slice(line.as_slice())?;
+        }
+        Ok(())
+    }
+}
+
+/// What the last call answered, and how far it was compared.
+#[derive(Drop)]
+struct Answer {
+    text: String,
+    /// So many bytes of it were compared.
+    compared: usize,
+    /// Whether a line said what is wanted.
+    is_asked: bool,
+}
+
+/// The line at a place of a text, and where the next one begins; none at the end.
+fn line_at(text: &[u8], place: usize) -> Option<(&[u8], usize)> {
+    let rest = text.get(place..)?;
+    if rest.is_empty() {
+        return None;
+    }
+    let length = rest
+        .iter()
+        .position(|byte| *byte == b'\n')
+        .unwrap_or(rest.len());
+    let line = rest.get(..length)?;
+    Some((line, place.saturating_add(length).saturating_add(1)))
+}
+
+impl Answer {
+    /// Whether the next line is the one that is wanted.
+    fn goes_on_with(&mut self, wanted: &str) -> bool {
+        self.is_asked = true;
+        let Some((line, next)) = line_at(self.text.as_bytes(), self.compared) else {
+            return false;
+        };
+        let is_same = line.trim_ascii_end() == wanted.as_bytes();
+        self.compared = next;
+        is_same
+    }
+
+    /// Whether something is left that was to be compared.
+    fn is_left(&self) -> bool {
+        self.is_asked && self.compared < self.text.len()
+    }
+
+    /// Makes room for another answer.
+    fn begin(&mut self) {
+        self.text.clear();
+        self.compared = 0;
+        self.is_asked = false;
+    }
+
+    /// Tells why there is none.
+    fn refuse(&mut self, why: &Unanswered) -> Result<(), Unanswered> {
+        self.text.clear();
+        writeln!(self.text, "{why}")?;
+        Ok(())
+    }
+}
+
+/// A script that is run.
+#[derive(Drop)]
+struct Run<'a, R, I> {
+    rt: &'a R,
+    script: Script<'a, I>,
+    session: Session,
+    answer: Answer,
+    /// Whether a call that lacked memory is made again.
+    repeats: bool,
+    /// Whether all answers were as wanted.
+    is_good: bool,
+}
+
+impl<R: Runtime + Threads + Wait + Sync + AllocGlobal, I: BufRead> Run<'_, R, I> {
+    /// Runs the script to its end; whether all answers were as wanted.
+    fn run(&mut self) -> IoResult<bool> {
+        let mut line = Vec::with_capacity(self.rt.alloc(), ROOM)?;
+        let mut text = Vec::new(self.rt.alloc());
+        for _ in 0..u64::MAX {
+            if !self.script.read(&mut line)? {
+                break;
+            }
+            self.step(&mut line, &mut text)?;
+        }
+        self.settle();
+        Ok(self.is_good)
+    }
+
+    /// Says that something is not as wanted.
+    fn complain(&mut self, what: &str) {
+        self.is_good = false;
+        let (name, line) = (self.script.name, self.script.line);
+        let _ = eprintln!(self.rt; "{name}:{line}: {what}");
+    }
+
+    /// Says so where an answer had more lines than were wanted.
+    fn settle(&mut self) {
+        if self.answer.is_left() {
+            self.complain("more was answered above than is wanted");
+        }
+    }
+
+    /// Does what a line says.
+    fn step(&mut self, line: &mut Vec<u8>, text: &mut Vec<u8>) -> IoResult<()> {
+        let Ok(read) = str::from_utf8(line.as_slice()) else {
+            self.complain("the line is no text");
+            return Ok(());
+        };
+        let read = read.trim();
+        if let Some(wanted) = read.strip_prefix('=') {
+            self.compare(wanted.strip_prefix(' ').unwrap_or(wanted));
+            return Ok(());
+        }
+        self.call(read, text)
+    }
+
+    /// Compares the next line of the answer with the one that is wanted.
+    fn compare(&mut self, wanted: &str) {
+        if !self.answer.goes_on_with(wanted) {
+            self.complain("the answer is not the one that is wanted");
+        }
+    }
+
+    /// Makes the call of a line, if it has one.
+    fn call(&mut self, line: &str, text: &mut Vec<u8>) -> IoResult<()> {
+        let words = match words(self.rt.alloc(), line) {
+            Ok(words) => words,
+            Err(why) => return self.refuse(&why),
+        };
+        if words.is_empty() {
+            return Ok(());
+        }
+        self.settle();
+        text.clear();
+        if words.contains(&BELOW) {
+            self.script.read_text(self.rt.alloc(), text)?;
+        }
+        self.answer_words(words.as_slice(), text.as_slice())
+    }
+
+    /// Makes the call that the words of a line ask for.
+    fn answer_words(&mut self, words: &[&str], text: &[u8]) -> IoResult<()> {
+        let [name, given @ ..] = words else {
+            return Ok(());
+        };
+        if *name == "again" {
+            self.repeats = true;
+            return Ok(());
+        }
+        self.answer(Call { name, given, text })
+    }
+
+    /// Answers a call, and where it lacked memory, answers it once more.
+    fn answer(&mut self, call: Call<'_>) -> IoResult<()> {
+        let lacked = self.answer_once(call)?;
+        if lacked && self.repeats {
+            self.answer_once(call)?;
+        }
+        Ok(())
+    }
+
+    /// Makes a call and prints its answer; whether it lacked memory.
+    fn answer_once(&mut self, call: Call<'_>) -> IoResult<bool> {
+        self.answer.begin();
+        match make_call(self.rt, &mut self.session, call, &mut self.answer.text) {
+            Ok(()) => {
+                self.print()?;
+                Ok(false)
+            }
+            Err(why) => {
+                self.refuse(&why)?;
+                Ok(matches!(why, Unanswered::Memory))
+            }
+        }
+    }
+
+    /// Prints why there is no answer.
+    fn refuse(&mut self, why: &Unanswered) -> IoResult<()> {
+        if matches!(why, Unanswered::NoCall | Unanswered::Misread(_)) {
+            self.is_good = false;
+        }
+        let _ = self.answer.refuse(why);
+        self.print()
+    }
+
+    /// Prints the answer.
+    fn print(&mut self) -> IoResult<()> {
+        print!(self.rt; "{}", self.answer.text.as_str())
+    }
+}
+
+/// Runs a script in a session; whether all answers were as wanted.
+pub fn run_script<R: Runtime + Threads + Wait + Sync + AllocGlobal, I: Read + Drop>(
+    rt: &R,
+    name: &str,
+    input: I,
+    session: Session,
+) -> IoResult<bool> {
+    let mut text = String::new(rt.alloc());
+    text.reserve(ROOM)?;
+    let mut run = Run {
+        rt,
+        script: Script {
+            name,
+            input: BufReader::new(rt.alloc(), input)?,
+            line: 0,
+        },
+        session,
+        answer: Answer {
+            text,
+            compared: 0,
+            is_asked: false,
+        },
+        repeats: false,
+        is_good: true,
+    };
+    run.run()
+}

@@ -1,0 +1,68 @@
+//! What the texts of values are read from.
+
+use crate::unanswered::Unanswered;
+use crate::words::{Call, number};
+use std::alloc::Global;
+use std::fs;
+use std::io::{Error, ErrorKind, Read, Result as IoResult};
+use std::rt::Runtime;
+use vpr_text::{Adapted, read_all};
+
+/// The word for the text that stands below the line of a call.
+pub const BELOW: &str = "<<";
+
+/// A reader that fails behind so many bytes, or never.
+#[derive(Drop)]
+struct Failing<R> {
+    inner: R,
+    left: Option<usize>,
+}
+
+impl<R: Read> Read for Failing<R> {
+    fn read(&mut self, buffer: &mut [u8]) -> IoResult<usize> {
+        let Some(left) = self.left else {
+            return self.inner.read(buffer);
+        };
+        if left == 0 {
+            return Err(Error::from(ErrorKind::Other));
+        }
+        let most = left.min(buffer.len());
+        let count = self.inner.read(&mut buffer[..most])?;
+        self.left = Some(left - count);
+        Ok(count)
+    }
+}
+
+/// Behind how many bytes a source fails, by the last words of a call.
+pub fn bytes_before_failing(given: &[&str]) -> Result<Option<usize>, Unanswered> {
+    match given {
+        [] => Ok(None),
+        [word, count] if *word == "failing" => Ok(Some(number(count)? as usize)),
+        _ => Err(Unanswered::Misread("NAME FILE, NAME FILE failing N, or with `<<` for FILE")),
+    }
+}
+
+/// All bytes of a source.
+fn bytes_of<R: Read + Drop>(
+    alloc: Global,
+    inner: R,
+    left: Option<usize>,
+) -> Result<Vec<u8>, Unanswered> {
+    let mut source = Adapted::new(Failing { inner, left });
+    Ok(read_all(alloc, &mut source)?)
+}
+
+/// The bytes of the file that a call names, or of the text below it.
+pub fn source(rt: &(impl Runtime + AllocGlobal), call: Call<'_>) -> Result<Vec<u8>, Unanswered> {
+    let [name, rest @ ..] = call.given else {
+        return Err(Unanswered::Misread("NAME FILE"));
+    };
+    let left = bytes_before_failing(rest)?;
+    if *name == BELOW {
+        return bytes_of(rt.alloc(), call.text, left);
+    }
+    match fs::open(rt, *name) {
+        Ok(file) => bytes_of(rt.alloc(), file, left),
+        Err(_) => Err(Unanswered::Unopened),
+    }
+}

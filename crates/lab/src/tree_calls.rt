@@ -1,0 +1,196 @@
+//! Calls of `route_tree`: the tree of a net.
+
+ghost use Rattle.std.specs.Prelude.{◌≡◌, IfOk};
+ghost use Rattle.rr_graph.specs.Nodes.{node_count_of};
+
+use crate::answer::{put, put_maybe};
+use crate::session::Session;
+use crate::unanswered::Unanswered;
+use crate::words::{Call, nothing, number, number_list, numbers};
+use route_tree::{Marks, Row, Tree, check_tree};
+use rr_graph::Problem;
+use std::alloc::Global;
+use std::rt::Runtime;
+
+/// How a tree is written: chains of nodes, those behind the first one each behind its row.
+const TREE: &str = "SOURCE NODE .., and for each further way ROW: NODE ..";
+
+/// Makes a call, and adds its answer.
+pub fn call(
+    rt: &(impl Runtime + AllocGlobal),
+    session: &mut Session,
+    call: Call<'_>,
+    out: &mut String,
+) -> Result<(), Unanswered> {
+    match call.name {
+        "tree" => make(rt.alloc(), session, call.given, out),
+        "attach" => attach(rt.alloc(), session, call.given, out),
+        "check_tree" => check(rt.alloc(), session, call.given, out),
+        "rows" | "pair_count" | "dump_tree" | "copy_tree" => {
+            nothing(call.given)?;
+            look_up(rt.alloc(), session.tree()?, call.name, out)
+        }
+        "row_node" | "pair" | "covers" => {
+            let [index] = numbers::<1>(call.given)?;
+            look_at(session.tree()?, call.name, index, out)
+        }
+        _ => Err(Unanswered::NoCall),
+    }
+}
+
+/// Makes a tree, and tells how many rows it has.
+fn make(
+    alloc: Global,
+    session: &mut Session,
+    given: &[&str],
+    out: &mut String,
+) -> Result<(), Unanswered> {
+    let tree = tree_of_words(alloc, given)?;
+    writeln!(out, "{} rows", tree.rows())?;
+    session.tree = Some(tree);
+    Ok(())
+}
+
+/// The tree that words tell.
+pub fn tree_of_words(alloc: Global, given: &[&str]) -> Result<Tree, Unanswered> {
+    let [source, rest @ ..] = given else {
+        return Err(Unanswered::Misread(TREE));
+    };
+    let mut tree = Tree::start(alloc, number(source)?)?;
+    let mut way = Vec::new(alloc);
+    let mut row = 0;
+    for word in rest {
+        match word.strip_suffix(':') {
+            Some(next) => {
+                attach_at(&mut tree, row, way.as_slice())?;
+                way.clear();
+                row = number(next)?;
+            }
+            None => way.push(number(word)?)?,
+        }
+    }
+    attach_at(&mut tree, row, way.as_slice())?;
+    Ok(tree)
+}
+
+/// Attaches a way to a row of a tree.
+fn attach_at(tree: &mut Tree, row: u32, way: &[u32]) -> Result<(), Unanswered> {
+    let row = row as usize;
+    if row >= tree.rows() {
+        return Err(Unanswered::Refused("the tree has no such row"));
+    }
+    Ok(tree.attach(row, way)?)
+}
+
+/// Attaches a way to a row of the tree, and tells how many rows it has.
+fn attach(
+    alloc: Global,
+    session: &mut Session,
+    given: &[&str],
+    out: &mut String,
+) -> Result<(), Unanswered> {
+    let [row, way @ ..] = given else {
+        return Err(Unanswered::Misread("attach ROW: NODE .."));
+    };
+    let row = number(row.strip_suffix(':').unwrap_or(*row))?;
+    let way = number_list(alloc, way)?;
+    let Some(tree) = &mut session.tree else {
+        return Err(Unanswered::Refused("there is no tree"));
+    };
+    attach_at(tree, row, way.as_slice())?;
+    writeln!(out, "{} rows", tree.rows())?;
+    Ok(())
+}
+
+/// Marks that fit a problem: those that are there, or new ones.
+fn marks_for(alloc: Global, old: Option<Marks>, problem: &Problem) -> Result<Marks, Unanswered>
+    ensures { IfOk result (λ m. m ≡ node_count_of problem.now.device) }
+{
+    if let Some(marks) = old {
+        if marks.fits(problem) {
+            return Ok(marks);
+        }
+    }
+    Ok(Marks::new(alloc, problem)?)
+}
+
+/// Tells whether the tree routes a net of the problem. The marks of a check serve the next one.
+fn check(
+    alloc: Global,
+    session: &mut Session,
+    given: &[&str],
+    out: &mut String,
+) -> Result<(), Unanswered> {
+    let [net] = numbers::<1>(given)?;
+    let old = session.marks.take();
+    let (tree, problem) = (session.tree()?, session.problem()?);
+    let mut marks = marks_for(alloc, old, problem)?;
+    match check_tree(problem, net, tree, &mut marks) {
+        Ok(()) => put(out, "legal")?,
+        Err(fault) => writeln!(out, "{fault:?}")?,
+    }
+    session.marks = Some(marks);
+    Ok(())
+}
+
+/// Makes a look-up of the whole tree.
+fn look_up(alloc: Global, tree: &Tree, name: &str, out: &mut String) -> Result<(), Unanswered> {
+    match name {
+        "rows" => put(out, tree.rows()),
+        "pair_count" => put(out, tree.pairs()),
+        "dump_tree" => put_tree(tree, out),
+        _ => {
+            let copy = tree.copy(alloc)?;
+            put(out, copy == *tree)
+        }
+    }
+}
+
+/// Makes a look-up of a row, a pair or a node.
+fn look_at(tree: &Tree, name: &str, index: u32, out: &mut String) -> Result<(), Unanswered> {
+    match name {
+        "row_node" => put_maybe(out, row_node(tree, index as usize)),
+        "pair" => put_pair(tree, index as usize, out),
+        _ => put(out, tree.covers(index)),
+    }
+}
+
+/// The node of a row.
+fn row_node(tree: &Tree, row: usize) -> Option<u32> {
+    if row < tree.rows() {
+        Some(tree.node(row))
+    } else {
+        None
+    }
+}
+
+fn put_pair(tree: &Tree, index: usize, out: &mut String) -> Result<(), Unanswered> {
+    if index >= tree.pairs() {
+        return put(out, "none");
+    }
+    let (from, to) = tree.pair(index);
+    writeln!(out, "{from} {to}")?;
+    Ok(())
+}
+
+/// Adds a tree as it is written for `tree`: chains, those behind the first one each behind its row.
+pub fn put_tree(tree: &Tree, out: &mut String) -> Result<(), Unanswered> {
+    for (index, row) in tree.as_slice().iter().enumerate() {
+        put_tree_row(*row, index, out)?;
+    }
+    out.push('\n')?;
+    Ok(())
+}
+
+/// Adds the node of a row, behind the row of the one before where that is not the last one.
+fn put_tree_row(row: Row, index: usize, out: &mut String) -> Result<(), Unanswered> {
+    let Row { node, parent } = row;
+    if index == 0 {
+        write!(out, "{node}")?;
+    } else if parent.saturating_add(1) == index {
+        write!(out, " {node}")?;
+    } else {
+        write!(out, " {parent}: {node}")?;
+    }
+    Ok(())
+}

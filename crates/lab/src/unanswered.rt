@@ -1,0 +1,128 @@
+//! Why a call has no answer.
+
+use arch_file::ArchFault;
+use net_file::NetFault;
+use place_file::PlaceFault;
+use route_file::RouteFileFault;
+use rr_graph::{DeviceFault, PartsFault};
+use std::alloc::{AllocError, AllocFailed};
+use thiserror::Error;
+use vpr_text::{ReadFault, TextFault};
+
+/// Why a call has no answer. Memory is told in one way, whichever library lacked it.
+#[derive(Debug, Drop, Error)]
+pub enum Unanswered {
+    /// The first word names no call.
+    #[error("there is no such call")]
+    NoCall,
+    /// The other words are none that the call takes.
+    #[error("the call is wanted as: {0}")]
+    Misread(&'static str),
+    /// The call was not made.
+    #[error("refused: {0}")]
+    Refused(&'static str),
+    #[error("memory")]
+    Memory,
+    #[error("fault: the file cannot be opened")]
+    Unopened,
+    #[error("fault: read: {0:?}")]
+    Read(ReadFault),
+    #[error("fault: text: {0:?}")]
+    Text(TextFault),
+    #[error("fault: arch: {0:?}")]
+    Arch(ArchFault),
+    #[error("fault: net: {0:?}")]
+    Net(NetFault),
+    #[error("fault: place: {0:?}")]
+    Place(PlaceFault),
+    #[error("fault: device: {0:?}")]
+    Device(DeviceFault),
+    #[error("fault: problem: {0:?}")]
+    Parts(PartsFault),
+    #[error("fault: route: {0:?}")]
+    Route(RouteFileFault),
+}
+
+impl From<AllocError> for Unanswered {
+    fn from(_error: AllocError) -> Unanswered {
+        Unanswered::Memory
+    }
+}
+
+impl<T: Drop> From<AllocFailed<T>> for Unanswered {
+    fn from(_error: AllocFailed<T>) -> Unanswered {
+        Unanswered::Memory
+    }
+}
+
+impl From<ReadFault> for Unanswered {
+    fn from(fault: ReadFault) -> Unanswered {
+        match fault {
+            ReadFault::Memory => Unanswered::Memory,
+            ReadFault::Failed => Unanswered::Read(fault),
+        }
+    }
+}
+
+impl From<TextFault> for Unanswered {
+    fn from(fault: TextFault) -> Unanswered {
+        match fault {
+            TextFault::Memory => Unanswered::Memory,
+            _ => Unanswered::Text(fault),
+        }
+    }
+}
+
+impl From<ArchFault> for Unanswered {
+    fn from(fault: ArchFault) -> Unanswered {
+        match fault {
+            ArchFault::Memory | ArchFault::Text(TextFault::Memory) => Unanswered::Memory,
+            _ => Unanswered::Arch(fault),
+        }
+    }
+}
+
+impl From<NetFault> for Unanswered {
+    fn from(fault: NetFault) -> Unanswered {
+        match fault {
+            NetFault::Memory | NetFault::Text(TextFault::Memory) => Unanswered::Memory,
+            _ => Unanswered::Net(fault),
+        }
+    }
+}
+
+impl From<PlaceFault> for Unanswered {
+    fn from(fault: PlaceFault) -> Unanswered {
+        match fault {
+            PlaceFault::Memory | PlaceFault::Text(TextFault::Memory) => Unanswered::Memory,
+            _ => Unanswered::Place(fault),
+        }
+    }
+}
+
+impl From<DeviceFault> for Unanswered {
+    fn from(fault: DeviceFault) -> Unanswered {
+        match fault {
+            DeviceFault::Memory => Unanswered::Memory,
+            DeviceFault::Width => Unanswered::Device(fault),
+        }
+    }
+}
+
+impl From<PartsFault> for Unanswered {
+    fn from(fault: PartsFault) -> Unanswered {
+        match fault {
+            PartsFault::Memory => Unanswered::Memory,
+            _ => Unanswered::Parts(fault),
+        }
+    }
+}
+
+impl From<RouteFileFault> for Unanswered {
+    fn from(fault: RouteFileFault) -> Unanswered {
+        match fault {
+            RouteFileFault::Memory | RouteFileFault::Text(TextFault::Memory) => Unanswered::Memory,
+            _ => Unanswered::Route(fault),
+        }
+    }
+}

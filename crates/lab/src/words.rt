@@ -1,0 +1,70 @@
+//! The words of a line, and the values that they are.
+
+use crate::unanswered::Unanswered;
+use rr_graph::Mode;
+use std::alloc::Global;
+
+/// A call of a script: its name, the words behind it, and the text that stands below its line.
+#[derive(Clone, Copy)]
+pub struct Call<'a> {
+    pub name: &'a str,
+    pub given: &'a [&'a str],
+    pub text: &'a [u8],
+}
+
+/// The words of a line, up to a comment.
+pub fn words(alloc: Global, line: &str) -> Result<Vec<&str>, Unanswered> {
+    let code = line.split_once('#').map_or(line, |(code, _)| code);
+    Ok(code.split_whitespace().collect(alloc)?)
+}
+
+/// The number that a word is.
+pub fn number(word: &str) -> Result<u32, Unanswered> {
+    word.parse::<u32>().map_err(|_| Unanswered::Misread("a number below 2^32 in each place of one"))
+}
+
+/// The numbers that the words are, so many.
+pub fn numbers<const N: usize>(given: &[&str]) -> Result<[u32; N], Unanswered> {
+    if given.len() != N {
+        return Err(Unanswered::Misread("the call with another number of numbers"));
+    }
+    let mut found = [0; N];
+    for (slot, word) in found.iter_mut().zip(given) {
+        *slot = number(word)?;
+    }
+    Ok(found)
+}
+
+/// The numbers that the words are, as many as there are.
+pub fn number_list(alloc: Global, given: &[&str]) -> Result<Vec<u32>, Unanswered> {
+    let mut found = Vec::with_capacity(alloc, given.len())?;
+    for word in given {
+        found.push(number(word)?)?;
+    }
+    Ok(found)
+}
+
+/// No words.
+pub fn nothing(given: &[&str]) -> Result<(), Unanswered> {
+    match given {
+        [] => Ok(()),
+        _ => Err(Unanswered::Misread("the call with no word behind it")),
+    }
+}
+
+/// The one word that is given.
+pub fn one<'a>(given: &[&'a str]) -> Result<&'a str, Unanswered> {
+    match given {
+        [word] => Ok(*word),
+        _ => Err(Unanswered::Misread("the call with one word behind it")),
+    }
+}
+
+/// The mode that the last words name: `global`, or none for `detailed`.
+pub fn mode(given: &[&str]) -> Result<Mode, Unanswered> {
+    match given {
+        [] => Ok(Mode::Detailed),
+        [word] if *word == "global" => Ok(Mode::Global),
+        _ => Err(Unanswered::Misread("the call with no more words, or with `global`")),
+    }
+}
