@@ -4,8 +4,9 @@ use crate::session::Session;
 use crate::unanswered::Unanswered;
 use crate::words::Call;
 use crate::{
-    arch_calls, design_calls, device_calls, problem_calls, route_text_calls, routing_calls,
-    text_calls, tree_calls,
+    arch_calls, book_calls, design_calls, desk_calls, device_calls, event_calls, problem_calls,
+    route_text_calls, routing_calls, run_calls, search_calls, settings_calls, text_calls,
+    tree_calls, view_calls, work_calls,
 };
 use std::rt::Runtime;
 use std::sync::Wait;
@@ -39,6 +40,30 @@ pub fn make_call(
     }
     if let Err(Unanswered::NoCall) = made {
         made = device_calls::call(rt, session, call, out);
+    }
+    if let Err(Unanswered::NoCall) = made {
+        made = settings_calls::call(rt, session, call, out);
+    }
+    if let Err(Unanswered::NoCall) = made {
+        made = view_calls::call(rt, session, call, out);
+    }
+    if let Err(Unanswered::NoCall) = made {
+        made = search_calls::call(rt, session, call, out);
+    }
+    if let Err(Unanswered::NoCall) = made {
+        made = book_calls::call(rt, session, call, out);
+    }
+    if let Err(Unanswered::NoCall) = made {
+        made = event_calls::call(rt, session, call, out);
+    }
+    if let Err(Unanswered::NoCall) = made {
+        made = work_calls::call(rt, session, call, out);
+    }
+    if let Err(Unanswered::NoCall) = made {
+        made = desk_calls::call(rt, session, call, out);
+    }
+    if let Err(Unanswered::NoCall) = made {
+        made = run_calls::call(rt, session, call, out);
     }
     made
 }

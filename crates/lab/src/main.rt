@@ -3,20 +3,28 @@
 
 mod answer;
 mod arch_calls;
+mod book_calls;
 mod calls;
 mod design_calls;
+mod desk_calls;
 mod device_calls;
+mod event_calls;
 mod node_calls;
 mod problem_calls;
 mod route_text_calls;
 mod routing_calls;
+mod run_calls;
 mod runner;
+mod search_calls;
 mod session;
+mod settings_calls;
 mod sources;
 mod text_calls;
 mod tree_calls;
 mod unanswered;
+mod view_calls;
 mod words;
+mod work_calls;
 
 use runner::run_script;
 use session::Session;

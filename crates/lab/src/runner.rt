@@ -215,7 +215,7 @@ impl<R: Runtime + Threads + Wait + Sync + AllocGlobal, I: BufRead> Run<'_, R, I>
             }
             Err(why) => {
                 self.refuse(&why)?;
-                Ok(matches!(why, Unanswered::Memory))
+                Ok(matches!(why, Unanswered::Memory | Unanswered::Stopped(_)))
             }
         }
     }

@@ -2,8 +2,29 @@
 
 use crate::unanswered::Unanswered;
 use arch_file::Arch;
+use congestion_book::Book;
+use node_cost::{Counts, Histories, Settings, View};
 use route_tree::{Marks, Routing, Tree};
 use rr_graph::{Device, Problem};
+use wavefront::Scratch;
+
+/// The text of a file of a run of the program, and behind how many bytes its source fails.
+#[derive(Drop)]
+pub struct RunText {
+    pub bytes: Vec<u8>,
+    pub failing: Option<usize>,
+}
+
+/// The files of a run of the program, and behind how many bytes its sinks fail.
+#[derive(Drop)]
+pub struct RunFiles {
+    pub arch: Option<RunText>,
+    pub net: Option<RunText>,
+    pub place: Option<RunText>,
+    pub route: Option<RunText>,
+    pub route_room: Option<usize>,
+    pub out_room: Option<usize>,
+}
 
 /// The values that calls made and later calls use. A netlist and a placement are kept as the texts
 /// that they were read from, and are read again where a call looks into them.
@@ -17,6 +38,15 @@ pub struct Session {
     pub tree: Option<Tree>,
     pub marks: Option<Marks>,
     pub routing: Option<Routing>,
+    pub settings: Settings,
+    pub counts: Option<Counts>,
+    pub histories: Option<Histories>,
+    pub view: Option<View>,
+    pub scratch: Option<Scratch>,
+    pub book: Option<Book>,
+    /// How many events of a list stand that memory ran out for.
+    pub standing: usize,
+    pub files: RunFiles,
 }
 
 impl Session {
@@ -30,6 +60,21 @@ impl Session {
             tree: None,
             marks: None,
             routing: None,
+            settings: Settings::standard(),
+            counts: None,
+            histories: None,
+            view: None,
+            scratch: None,
+            book: None,
+            standing: 0,
+            files: RunFiles {
+                arch: None,
+                net: None,
+                place: None,
+                route: None,
+                route_room: None,
+                out_room: None,
+            },
         }
     }
 
@@ -61,6 +106,30 @@ impl Session {
         self.routing
             .as_ref()
             .ok_or(Unanswered::Refused("there is no routing"))
+    }
+
+    pub fn counts(&self) -> Result<&Counts, Unanswered> {
+        self.counts
+            .as_ref()
+            .ok_or(Unanswered::Refused("there are no counts"))
+    }
+
+    pub fn histories(&self) -> Result<&Histories, Unanswered> {
+        self.histories
+            .as_ref()
+            .ok_or(Unanswered::Refused("there are no histories"))
+    }
+
+    pub fn view(&self) -> Result<&View, Unanswered> {
+        self.view
+            .as_ref()
+            .ok_or(Unanswered::Refused("there is no view"))
+    }
+
+    pub fn book(&self) -> Result<&Book, Unanswered> {
+        self.book
+            .as_ref()
+            .ok_or(Unanswered::Refused("there is no book"))
     }
 
     /// The text of the netlist.

@@ -1,13 +1,17 @@
 //! Why a call has no answer.
 
 use arch_file::ArchFault;
+use congestion_book::RunFault;
 use net_file::NetFault;
+use net_workers::WorkFault;
+use node_cost::Range;
 use place_file::PlaceFault;
 use route_file::RouteFileFault;
 use rr_graph::{DeviceFault, PartsFault};
 use std::alloc::{AllocError, AllocFailed};
 use thiserror::Error;
 use vpr_text::{ReadFault, TextFault};
+use wavefront::SearchFault;
 
 /// Why a call has no answer. Memory is told in one way, whichever library lacked it.
 #[derive(Debug, Drop, Error)]
@@ -41,6 +45,17 @@ pub enum Unanswered {
     Parts(PartsFault),
     #[error("fault: route: {0:?}")]
     Route(RouteFileFault),
+    #[error("fault: settings: {0:?}")]
+    Settings(Range),
+    #[error("fault: search: {0:?}")]
+    Search(SearchFault),
+    /// So many events of a list stand.
+    #[error("memory after {0} events")]
+    Stopped(usize),
+    #[error("fault: work: {0:?}")]
+    Work(WorkFault),
+    #[error("fault: the clock cannot be read")]
+    Clock,
 }
 
 impl From<AllocError> for Unanswered {
@@ -123,6 +138,37 @@ impl From<RouteFileFault> for Unanswered {
         match fault {
             RouteFileFault::Memory | RouteFileFault::Text(TextFault::Memory) => Unanswered::Memory,
             _ => Unanswered::Route(fault),
+        }
+    }
+}
+
+impl From<Range> for Unanswered {
+    fn from(fault: Range) -> Unanswered {
+        Unanswered::Settings(fault)
+    }
+}
+
+impl From<SearchFault> for Unanswered {
+    fn from(fault: SearchFault) -> Unanswered {
+        match fault {
+            SearchFault::Memory => Unanswered::Memory,
+            SearchFault::ViewSize => Unanswered::Search(fault),
+        }
+    }
+}
+
+impl From<RunFault> for Unanswered {
+    fn from(fault: RunFault) -> Unanswered {
+        let RunFault::Memory(count) = fault;
+        Unanswered::Stopped(count)
+    }
+}
+
+impl From<WorkFault> for Unanswered {
+    fn from(fault: WorkFault) -> Unanswered {
+        match fault {
+            WorkFault::Memory => Unanswered::Memory,
+            _ => Unanswered::Work(fault),
         }
     }
 }
