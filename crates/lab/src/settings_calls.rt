@@ -1,6 +1,6 @@
 //! Calls of `node_cost`: settings, costs, and counts and histories of nodes.
 
-use crate::answer::put;
+use crate::answer::{put, put_maybe};
 use crate::session::Session;
 use crate::unanswered::Unanswered;
 use crate::words::{Call, nothing, number, numbers};
@@ -60,9 +60,17 @@ fn call_counts(
             Some(histories) => set_history(histories, call.given, out),
             None => Err(Unanswered::Refused("there are no histories")),
         },
+        "other_counts" => {
+            nothing(call.given)?;
+            swap_counts(session, out)
+        }
         "copy_counts" => {
             nothing(call.given)?;
-            copy_counts(alloc, session.counts()?, out)
+            copy_counts(session, out)
+        }
+        "dump_counts" => {
+            nothing(call.given)?;
+            dump_counts(session.counts()?, out)
         }
         "copy_histories" => {
             nothing(call.given)?;
@@ -252,18 +260,41 @@ fn set_history(
     put(out, value)
 }
 
-/// Whether other counts become these.
-fn copy_counts(alloc: Global, counts: &Counts, out: &mut String) -> Result<(), Unanswered> {
-    let mut copy = Counts::new(alloc, counts.len())?;
-    if copy.len() == counts.len() {
-        copy.copy_from(counts);
+/// Puts the other counts in the place of these, and tells of how many nodes they are.
+fn swap_counts(session: &mut Session, out: &mut String) -> Result<(), Unanswered> {
+    let counts = session.counts.take();
+    let other = session.other_counts.take();
+    let nodes = other.as_ref().map(|other| other.len());
+    session.counts = other;
+    session.other_counts = counts;
+    put_maybe(out, nodes)
+}
+
+/// The other counts become these, of as many nodes.
+fn copy_counts(session: &mut Session, out: &mut String) -> Result<(), Unanswered> {
+    let Some(counts) = &session.counts else {
+        return Err(Unanswered::Refused("there are no counts"));
+    };
+    let Some(other) = &mut session.other_counts else {
+        return Err(Unanswered::Refused("there are no other counts"));
+    };
+    if other.len() != counts.len() {
+        return Err(Unanswered::Refused("the counts are of different numbers of nodes"));
     }
+    other.copy_from(counts);
+    writeln!(out, "{} nodes", other.len())?;
+    Ok(())
+}
+
+/// Adds a line for each node that a net uses.
+fn dump_counts(counts: &Counts, out: &mut String) -> Result<(), Unanswered> {
     for id in 0..counts.len() {
-        if count(&copy, id as u32)? != count(counts, id as u32)? {
-            return put(out, false);
+        let count = count(counts, id as u32)?;
+        if count > 0 {
+            writeln!(out, "{id}: {count}")?;
         }
     }
-    put(out, true)
+    Ok(())
 }
 
 /// Whether a copy and other histories become these.

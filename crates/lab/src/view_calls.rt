@@ -1,6 +1,6 @@
 //! Calls of `node_cost`: what a net sees of the others.
 
-use crate::answer::put;
+use crate::answer::put_maybe;
 use crate::session::Session;
 use crate::settings_calls::{NO_NODE, long_number};
 use crate::unanswered::Unanswered;
@@ -31,6 +31,10 @@ pub fn call(
             nothing(call.given)?;
             look_at(rt.alloc(), session, out)
         }
+        "other_view" => {
+            nothing(call.given)?;
+            swap(session, out)
+        }
         "dump_view" => {
             nothing(call.given)?;
             dump(session.view()?, out)
@@ -57,6 +61,16 @@ fn make(
     writeln!(out, "{} nodes", view.len())?;
     session.view = Some(view);
     Ok(())
+}
+
+/// Puts the other view in the place of this one, and tells how many nodes it has.
+fn swap(session: &mut Session, out: &mut String) -> Result<(), Unanswered> {
+    let view = session.view.take();
+    let other = session.other_view.take();
+    let nodes = other.as_ref().map(|other| other.len());
+    session.view = other;
+    session.other_view = view;
+    put_maybe(out, nodes)
 }
 
 /// Adds how many other nets use a node, and its history.
