@@ -5,6 +5,7 @@ use crate::session::Session;
 use crate::sources::BELOW;
 use crate::unanswered::Unanswered;
 use crate::words::{Call, words};
+use net_workers::WorkFault;
 use std::alloc::Global;
 use std::io::{BufRead, BufReader, Read, Result as IoResult};
 use std::rt::Runtime;
@@ -36,16 +37,23 @@ impl<I: BufRead> Script<'_, I> {
     }
 
     /// Reads the text up to the line that ends it.
-    fn read_text(&mut self, alloc: Global, text: &mut Vec<u8>) -> IoResult<()> {
-        let mut line = Vec::with_capacity(alloc, ROOM)?;
+    fn read_text(&mut self, below: &mut Below) -> IoResult<()> {
+        below.text.clear();
         for _ in 0..u64::MAX {
-            if !self.read(&mut line)? || line.as_slice().trim_ascii() == END_OF_TEXT {
+            if !self.read(&mut below.line)? || below.line.as_slice().trim_ascii() == END_OF_TEXT {
                 break;
             }
-            text.extend_from_slice(line.as_slice())?;
+            below.text.extend_from_slice(below.line.as_slice())?;
         }
         Ok(())
     }
+}
+
+/// The text that stands below a call, and the line of it that was read last.
+#[derive(Drop)]
+struct Below {
+    text: Vec<u8>,
+    line: Vec<u8>,
 }
 
 /// What the last call answered, and how far it was compared.
@@ -121,12 +129,15 @@ impl<R: Runtime + Threads + Wait + Sync + AllocGlobal, I: BufRead> Run<'_, R, I>
     /// Runs the script to its end; whether all answers were as wanted.
     fn run(&mut self) -> IoResult<bool> {
         let mut line = Vec::with_capacity(self.rt.alloc(), ROOM)?;
-        let mut text = Vec::new(self.rt.alloc());
+        let mut below = Below {
+            text: Vec::with_capacity(self.rt.alloc(), ROOM)?,
+            line: Vec::with_capacity(self.rt.alloc(), ROOM)?,
+        };
         for _ in 0..u64::MAX {
             if !self.script.read(&mut line)? {
                 break;
             }
-            self.step(&mut line, &mut text)?;
+            self.step(line.as_slice(), &mut below)?;
         }
         self.settle();
         Ok(self.is_good)
@@ -147,8 +158,8 @@ impl<R: Runtime + Threads + Wait + Sync + AllocGlobal, I: BufRead> Run<'_, R, I>
     }
 
     /// Does what a line says.
-    fn step(&mut self, line: &mut Vec<u8>, text: &mut Vec<u8>) -> IoResult<()> {
-        let Ok(read) = str::from_utf8(line.as_slice()) else {
+    fn step(&mut self, line: &[u8], below: &mut Below) -> IoResult<()> {
+        let Ok(read) = str::from_utf8(line) else {
             self.complain("the line is no text");
             return Ok(());
         };
@@ -157,7 +168,7 @@ impl<R: Runtime + Threads + Wait + Sync + AllocGlobal, I: BufRead> Run<'_, R, I>
             self.compare(wanted.strip_prefix(' ').unwrap_or(wanted));
             return Ok(());
         }
-        self.call(read, text)
+        self.call(read, below)
     }
 
     /// Compares the next line of the answer with the one that is wanted.
@@ -168,20 +179,32 @@ impl<R: Runtime + Threads + Wait + Sync + AllocGlobal, I: BufRead> Run<'_, R, I>
     }
 
     /// Makes the call of a line, if it has one.
-    fn call(&mut self, line: &str, text: &mut Vec<u8>) -> IoResult<()> {
-        let words = match words(self.rt.alloc(), line) {
-            Ok(words) => words,
-            Err(why) => return self.refuse(&why),
+    fn call(&mut self, line: &str, below: &mut Below) -> IoResult<()> {
+        let words = match self.words_of(line)? {
+            Some(words) => words,
+            None => return Ok(()),
         };
         if words.is_empty() {
             return Ok(());
         }
         self.settle();
-        text.clear();
+        below.text.clear();
         if words.contains(&BELOW) {
-            self.script.read_text(self.rt.alloc(), text)?;
+            self.script.read_text(below)?;
         }
-        self.answer_words(words.as_slice(), text.as_slice())
+        self.answer_words(words.as_slice(), below.text.as_slice())
+    }
+
+    /// The words of a line; none where memory lacked, which is told.
+    fn words_of<'b>(&mut self, line: &'b str) -> IoResult<Option<Vec<&'b str>>> {
+        match words(self.rt.alloc(), line) {
+            Ok(words) => return Ok(Some(words)),
+            Err(why) => self.refuse(&why)?,
+        }
+        if !self.repeats {
+            return Ok(None);
+        }
+        Ok(words(self.rt.alloc(), line).ok())
     }
 
     /// Makes the call that the words of a line ask for.
@@ -215,7 +238,7 @@ impl<R: Runtime + Threads + Wait + Sync + AllocGlobal, I: BufRead> Run<'_, R, I>
             }
             Err(why) => {
                 self.refuse(&why)?;
-                Ok(matches!(why, Unanswered::Memory | Unanswered::Stopped(_)))
+                Ok(lacks(&why))
             }
         }
     }
@@ -232,6 +255,15 @@ impl<R: Runtime + Threads + Wait + Sync + AllocGlobal, I: BufRead> Run<'_, R, I>
     /// Prints the answer.
     fn print(&mut self) -> IoResult<()> {
         print!(self.rt; "{}", self.answer.text.as_str())
+    }
+}
+
+/// Whether a call lacked memory or a thread.
+fn lacks(why: &Unanswered) -> bool {
+    match why {
+        Unanswered::Memory | Unanswered::Stopped(_) => true,
+        Unanswered::Work(fault) => matches!(fault, WorkFault::NoThread),
+        _ => false,
     }
 }
 
