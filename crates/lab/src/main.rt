@@ -4,6 +4,7 @@
 mod answer;
 mod arch_calls;
 mod book_calls;
+mod book_look_ups;
 mod bounds;
 mod calls;
 mod counting;

@@ -1,16 +1,286 @@
-//! Calls.
+//! Calls of `node_cost`: settings, costs, and counts and histories of nodes.
 
+use crate::answer::put;
 use crate::session::Session;
 use crate::unanswered::Unanswered;
-use crate::words::Call;
+use crate::words::{Call, nothing, number, numbers};
+use node_cost::{
+    Counts, GREATEST_HISTORY, GREATEST_OTHERS, GREATEST_PRESENT, Histories, Settings, cost,
+};
+use std::alloc::Global;
 use std::rt::Runtime;
+
+/// What a node's number must be.
+pub const NO_NODE: Unanswered = Unanswered::Refused("there is no such node");
 
 /// Makes a call, and adds its answer.
 pub fn call(
-    _rt: &(impl Runtime + AllocGlobal),
-    _session: &mut Session,
-    _call: Call<'_>,
-    _out: &mut String,
+    rt: &(impl Runtime + AllocGlobal),
+    session: &mut Session,
+    call: Call<'_>,
+    out: &mut String,
 ) -> Result<(), Unanswered> {
-    Err(Unanswered::NoCall)
+    match call.name {
+        "settings" => {
+            session.settings = settings(session.settings, call.given)?;
+            put_settings(session.settings, out)
+        }
+        "present" => {
+            let [iteration] = numbers::<1>(call.given)?;
+            put_present(session.settings, iteration, out)
+        }
+        "cost" => put_cost(call.given, out),
+        _ => call_counts(rt.alloc(), session, call, out),
+    }
+}
+
+/// Makes a call of counts or histories, and adds its answer.
+fn call_counts(
+    alloc: Global,
+    session: &mut Session,
+    call: Call<'_>,
+    out: &mut String,
+) -> Result<(), Unanswered> {
+    match call.name {
+        "counts" => make_counts(alloc, session, call.given, out),
+        "histories" => make_histories(alloc, session, call.given, out),
+        "count" => {
+            let [id] = numbers::<1>(call.given)?;
+            put(out, count(session.counts()?, id)?)
+        }
+        "history_at" => {
+            let [id] = numbers::<1>(call.given)?;
+            put(out, history(session.histories()?, id)?)
+        }
+        "set_count" | "add_one" | "take_one" => match &mut session.counts {
+            Some(counts) => change_count(counts, call.name, call.given, out),
+            None => Err(Unanswered::Refused("there are no counts")),
+        },
+        "set_history" => match &mut session.histories {
+            Some(histories) => set_history(histories, call.given, out),
+            None => Err(Unanswered::Refused("there are no histories")),
+        },
+        "copy_counts" => {
+            nothing(call.given)?;
+            copy_counts(alloc, session.counts()?, out)
+        }
+        "copy_histories" => {
+            nothing(call.given)?;
+            copy_histories(alloc, session.histories()?, out)
+        }
+        _ => Err(Unanswered::NoCall),
+    }
+}
+
+/// The settings that six words give, in the order of `Settings::new`; the standard ones for `standard`; and without words the old ones.
+fn settings(old: Settings, given: &[&str]) -> Result<Settings, Unanswered> {
+    match given {
+        [] => Ok(old),
+        [word] if *word == "standard" => Ok(Settings::standard()),
+        [first, init, mult, acc, bb, iterations] => Ok(Settings::new(
+            number(first)?,
+            number(init)?,
+            number(mult)?,
+            number(acc)?,
+            number(bb)?,
+            number(iterations)?,
+        )?),
+        _ => Err(Unanswered::Misread("settings FIRST INIT MULT ACC BB ITERATIONS")),
+    }
+}
+
+fn put_settings(settings: Settings, out: &mut String) -> Result<(), Unanswered> {
+    write!(out, "first {}, init {}", settings.first(), settings.init())?;
+    write!(out, ", mult {}, acc {}", settings.mult(), settings.acc())?;
+    write!(out, ", bb {}", settings.bb())?;
+    writeln!(out, ", iterations {}", settings.iterations())?;
+    Ok(())
+}
+
+/// Adds the present-congestion factor of an iteration.
+fn put_present(settings: Settings, iteration: u32, out: &mut String) -> Result<(), Unanswered> {
+    if !(1..=500).contains(&iteration) {
+        return Err(Unanswered::Refused("an iteration is one of 1 to 500"));
+    }
+    put(out, settings.present(iteration))
+}
+
+/// The number of up to 64 bits that a word is.
+pub fn long_number(word: &str) -> Result<u64, Unanswered> {
+    word.parse::<u64>()
+        .map_err(|_| Unanswered::Misread("a number below 2^64 for a history"))
+}
+
+/// Adds what it costs to enter a node.
+fn put_cost(given: &[&str], out: &mut String) -> Result<(), Unanswered> {
+    let [base, history, capacity, others, present] = given else {
+        return Err(Unanswered::Misread("cost BASE HISTORY CAPACITY OTHERS PRESENT"));
+    };
+    let (base, history, capacity) = (number(base)?, long_number(history)?, number(capacity)?);
+    let (others, present) = (number(others)?, number(present)?);
+    if base > 20 || history > GREATEST_HISTORY || capacity < 1 {
+        return Err(Unanswered::Refused("base cost, history or capacity is out of range"));
+    }
+    if others > GREATEST_OTHERS || present > GREATEST_PRESENT {
+        return Err(Unanswered::Refused("others or present factor is out of range"));
+    }
+    put(out, cost(base, history, capacity, others, present))
+}
+
+/// How many nodes a value is made for; a few millions more than any device has.
+fn nodes(given: &[&str]) -> Result<usize, Unanswered> {
+    let [nodes] = numbers::<1>(given)?;
+    Ok(nodes as usize)
+}
+
+fn make_counts(
+    alloc: Global,
+    session: &mut Session,
+    given: &[&str],
+    out: &mut String,
+) -> Result<(), Unanswered> {
+    let counts = Counts::new(alloc, nodes(given)?)?;
+    writeln!(out, "{} nodes", counts.len())?;
+    session.counts = Some(counts);
+    Ok(())
+}
+
+fn make_histories(
+    alloc: Global,
+    session: &mut Session,
+    given: &[&str],
+    out: &mut String,
+) -> Result<(), Unanswered> {
+    let histories = Histories::new(alloc, nodes(given)?)?;
+    writeln!(out, "{} nodes", histories.len())?;
+    session.histories = Some(histories);
+    Ok(())
+}
+
+/// How many nets use a node.
+fn count(counts: &Counts, id: u32) -> Result<u32, Unanswered> {
+    if (id as usize) < counts.len() {
+        Ok(counts.get(id))
+    } else {
+        Err(NO_NODE)
+    }
+}
+
+/// The history of a node.
+fn history(histories: &Histories, id: u32) -> Result<u64, Unanswered> {
+    if (id as usize) < histories.len() {
+        Ok(histories.get(id))
+    } else {
+        Err(NO_NODE)
+    }
+}
+
+/// Changes how many nets use a node, and tells how many do.
+fn change_count(
+    counts: &mut Counts,
+    name: &str,
+    given: &[&str],
+    out: &mut String,
+) -> Result<(), Unanswered> {
+    match name {
+        "set_count" => {
+            let [id, value] = numbers::<2>(given)?;
+            set_count(counts, id, value)?;
+            put(out, count(counts, id)?)
+        }
+        "add_one" => {
+            let [id] = numbers::<1>(given)?;
+            add_one(counts, id)?;
+            put(out, count(counts, id)?)
+        }
+        _ => {
+            let [id] = numbers::<1>(given)?;
+            take_one(counts, id)?;
+            put(out, count(counts, id)?)
+        }
+    }
+}
+
+fn set_count(counts: &mut Counts, id: u32, value: u32) -> Result<(), Unanswered> {
+    if id as usize >= counts.len() {
+        return Err(NO_NODE);
+    }
+    if value > 65535 {
+        return Err(Unanswered::Refused("at most 65,535 nets use a node"));
+    }
+    counts.set(id, value);
+    Ok(())
+}
+
+fn add_one(counts: &mut Counts, id: u32) -> Result<(), Unanswered> {
+    if count(counts, id)? >= 65535 {
+        return Err(Unanswered::Refused("at most 65,535 nets use a node"));
+    }
+    if (id as usize) < counts.len() && counts.get(id) < 65535 {
+        counts.add_one(id);
+    }
+    Ok(())
+}
+
+fn take_one(counts: &mut Counts, id: u32) -> Result<(), Unanswered> {
+    if count(counts, id)? == 0 {
+        return Err(Unanswered::Refused("no net uses the node"));
+    }
+    if (id as usize) < counts.len() && counts.get(id) > 0 {
+        counts.take_one(id);
+    }
+    Ok(())
+}
+
+/// Gives a node a history, and tells it.
+fn set_history(
+    histories: &mut Histories,
+    given: &[&str],
+    out: &mut String,
+) -> Result<(), Unanswered> {
+    let [id, value] = given else {
+        return Err(Unanswered::Misread("set_history ID HISTORY"));
+    };
+    let (id, value) = (number(id)?, long_number(value)?);
+    if id as usize >= histories.len() {
+        return Err(NO_NODE);
+    }
+    if value > GREATEST_HISTORY {
+        return Err(Unanswered::Refused("a history is at most 2^42"));
+    }
+    histories.set(id, value);
+    put(out, value)
+}
+
+/// Whether other counts become these.
+fn copy_counts(alloc: Global, counts: &Counts, out: &mut String) -> Result<(), Unanswered> {
+    let mut copy = Counts::new(alloc, counts.len())?;
+    if copy.len() == counts.len() {
+        copy.copy_from(counts);
+    }
+    for id in 0..counts.len() {
+        if count(&copy, id as u32)? != count(counts, id as u32)? {
+            return put(out, false);
+        }
+    }
+    put(out, true)
+}
+
+/// Whether a copy and other histories become these.
+fn copy_histories(
+    alloc: Global,
+    histories: &Histories,
+    out: &mut String,
+) -> Result<(), Unanswered> {
+    let copy = histories.copy(alloc)?;
+    let mut other = Histories::new(alloc, histories.len())?;
+    if other.len() == copy.len() {
+        other.copy_from(&copy);
+    }
+    for id in 0..histories.len() {
+        if history(&other, id as u32)? != history(histories, id as u32)? {
+            return put(out, false);
+        }
+    }
+    put(out, true)
 }
