@@ -52,9 +52,7 @@ fn plain_gate(word: &str) -> Result<GateWords, Unanswered> {
 /// A gate that is named by a word and a number.
 fn numbered_gate(word: &str, number: u32, workers: u32) -> Result<GateWords, Unanswered> {
     match word {
-        "meeting" if number < 1 || number > 32 => {
-            Err(Unanswered::Refused("1 to 32 nets meet"))
-        }
+        "meeting" if number < 1 || number > 32 => { Err(Unanswered::Refused("1 to 32 nets meet")) }
         "meeting" => Ok(GateWords::Meeting(number)),
         "holding" if number >= workers => {
             Err(Unanswered::Refused("there is no such worker to hold"))

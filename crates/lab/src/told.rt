@@ -59,9 +59,15 @@ impl fmt::Display for Told {
                 iteration,
                 unrouted,
                 overused,
-            } => write!(f, "closed {iteration}, unrouted {unrouted}, overused {overused}"),
+            } => write!(
+                f,
+                "closed {iteration}, unrouted {unrouted}, overused {overused}"
+            ),
             Told::Tries(width) => write!(f, "tries {width}"),
-            Told::Routed { width, iterations } => write!(f, "tried {width}, routed in {iterations}"),
+            Told::Routed { width, iterations } => write!(
+                f,
+                "tried {width}, routed in {iterations}"
+            ),
             Told::NotRouted(width) => write!(f, "tried {width}, not routed"),
             Told::Iteration {
                 iteration,

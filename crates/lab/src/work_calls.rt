@@ -29,7 +29,7 @@ pub fn call(
     out: &mut String,
 ) -> Result<(), Unanswered> {
     match call.name {
-        "iterate" => make_iteration(rt, session, call.given, out),
+        "iterate" | "iterate_nets" => make_iteration(rt, session, call, out),
         "negotiate" => negotiate_routing(rt, session, call.given, out),
         "least_width" => search_widths(rt, session, call.given, out),
         _ => Err(Unanswered::NoCall),
@@ -60,23 +60,31 @@ pub fn take_fresh(session: &mut Session) -> Result<Book, Unanswered>
     }
 }
 
-/// Makes an iteration of the book by several workers, and tells their reports. A fault lets the book go.
+/// Makes an iteration of the book by several workers, and tells their reports, worker by worker or net by net. A fault lets the book
+/// go.
 fn make_iteration(
     rt: &(impl Runtime + Threads + Wait + Sync + AllocGlobal),
     session: &mut Session,
-    given: &[&str],
+    call: Call<'_>,
     out: &mut String,
 ) -> Result<(), Unanswered> {
-    let [iteration, workers, rest @ ..] = given else {
+    let [iteration, workers, rest @ ..] = call.given else {
         return Err(Unanswered::Misread("iterate K WORKERS, or with a gate behind it"));
     };
     let iteration = iteration_number(iteration)?;
     let workers = worker_count(workers)?;
-    let gate = LabGate::new(rt, gate_words(rest, workers)?, session.book()?.problem().nets())?;
+    let gate = LabGate::new(
+        rt,
+        gate_words(rest, workers)?,
+        session.book()?.problem().nets(),
+    )?;
     let settings = session.settings;
     let book = take_fresh(session)?;
     let (book, reports) = iterate(rt, rt.alloc(), book, &settings, iteration, workers, &gate)?;
-    put_reports(reports.as_slice(), out)?;
+    match call.name {
+        "iterate" => put_reports(reports.as_slice(), out)?,
+        _ => put_nets(reports.as_slice(), book.problem().nets(), out)?,
+    }
     gate.put(out)?;
     session.book = Some(book);
     Ok(())
@@ -97,6 +105,22 @@ fn put_entries(entries: &[Entry], out: &mut String) -> Result<(), Unanswered> {
         put_entry(entry, out)?;
     }
     Ok(())
+}
+
+/// Adds the turn at each net, whoever made it.
+fn put_nets(reports: &[Report], nets: u32, out: &mut String) -> Result<(), Unanswered> {
+    for net in 0..nets {
+        match reports.iter().find_map(|report| entry_of(report, net)) {
+            Some(entry) => put_entry(entry, out)?,
+            None => writeln!(out, "net {net}: none")?,
+        }
+    }
+    Ok(())
+}
+
+/// The turn of a worker at a net.
+fn entry_of(report: &Report, net: u32) -> Option<&Entry> {
+    report.entries().iter().find(|entry| entry.net == net)
 }
 
 fn put_entry(entry: &Entry, out: &mut String) -> Result<(), Unanswered> {
