@@ -2,18 +2,75 @@
 
 use crate::session::Session;
 use crate::unanswered::Unanswered;
-use crate::words::Call;
+use crate::words::{Call, number};
 use crate::{
-    arch_calls, book_calls, design_calls, desk_calls, device_calls, event_calls, problem_calls,
-    route_text_calls, routing_calls, run_calls, search_calls, settings_calls, text_calls,
-    tree_calls, view_calls, work_calls,
+    arch_calls, book_calls, design_calls, desk_calls, device_calls, event_calls, file_calls,
+    problem_calls, route_text_calls, routing_calls, run_calls, search_calls, settings_calls,
+    text_calls, tree_calls, view_calls, work_calls,
 };
 use std::rt::Runtime;
 use std::sync::Wait;
 use std::thread::Threads;
+use std::time::{Duration, Instant};
+
+/// How a call that is made many times is written.
+const TIME: &str = "time N CALL .., and CALL is not `time`";
 
 /// Makes a call, and adds its answer. Where there is none, the session is as it was.
 pub fn make_call(
+    rt: &(impl Runtime + Threads + Wait + Sync + AllocGlobal),
+    session: &mut Session,
+    call: Call<'_>,
+    out: &mut String,
+) -> Result<(), Unanswered> {
+    match call.name {
+        "time" => make_many(rt, session, call, out),
+        _ => make_one(rt, session, call, out),
+    }
+}
+
+/// Makes a call so many times, and tells how long that took.
+fn make_many(
+    rt: &(impl Runtime + Threads + Wait + Sync + AllocGlobal),
+    session: &mut Session,
+    call: Call<'_>,
+    out: &mut String,
+) -> Result<(), Unanswered> {
+    let [count, name, given @ ..] = call.given else {
+        return Err(Unanswered::Misread(TIME));
+    };
+    if *name == "time" {
+        return Err(Unanswered::Misread(TIME));
+    }
+    let count = number(count)?;
+    if count < 1 || count > 1_000_000 {
+        return Err(Unanswered::Refused("a call is made 1 to 1,000,000 times"));
+    }
+    let text = call.text;
+    let time = time_of(rt, session, Call { name, given, text }, count, out)?;
+    out.clear();
+    writeln!(out, "{count} times, {} us", time.as_micros())?;
+    Ok(())
+}
+
+/// How long a call takes that is made so many times.
+fn time_of(
+    rt: &(impl Runtime + Threads + Wait + Sync + AllocGlobal),
+    session: &mut Session,
+    call: Call<'_>,
+    count: u32,
+    out: &mut String,
+) -> Result<Duration, Unanswered> {
+    let start = Instant::now(rt).map_err(|_| Unanswered::Clock)?;
+    for _ in 0..count {
+        out.clear();
+        make_one(rt, session, call, out)?;
+    }
+    start.elapsed(rt).map_err(|_| Unanswered::Clock)
+}
+
+/// Makes a call once.
+fn make_one(
     rt: &(impl Runtime + Threads + Wait + Sync + AllocGlobal),
     session: &mut Session,
     call: Call<'_>,
@@ -61,6 +118,9 @@ pub fn make_call(
     }
     if let Err(Unanswered::NoCall) = made {
         made = desk_calls::call(rt, session, call, out);
+    }
+    if let Err(Unanswered::NoCall) = made {
+        made = file_calls::call(rt, session, call, out);
     }
     if let Err(Unanswered::NoCall) = made {
         made = run_calls::call(rt, session, call, out);

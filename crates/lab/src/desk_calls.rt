@@ -1,16 +1,179 @@
-//! Calls.
+//! Calls of `net_workers`: a desk, and the shares of its workers.
 
+ghost use Rattle.std.specs.Prelude.{◌≡◌};
+ghost use Rattle.net_workers.specs.Agreement.{IsFresh};
+
+use crate::book_calls::{put_committed, put_drawn, put_passed};
+use crate::bounds::worker_count;
 use crate::session::Session;
+use crate::sources::BELOW;
+use crate::tree_calls::tree_of_words;
 use crate::unanswered::Unanswered;
-use crate::words::Call;
+use crate::words::{Call, number, words};
+use crate::work_calls::take_fresh;
+use congestion_book::Book;
+use net_workers::{Desk, Round, Share};
+use node_cost::View;
+use route_tree::Tree;
+use std::alloc::Global;
+use std::marker::Brand;
 use std::rt::Runtime;
+use std::sync::ledger::Blank;
+
+/// How the call is written.
+const DESK: &str = "desk WORKERS <<, with lines draw W, commit W NET TREE or pass W NET";
+
+/// What a worker does at a desk.
+#[derive(Drop)]
+enum Act {
+    Draw,
+    Commit(u32, Tree),
+    Pass(u32),
+}
+
+/// A worker, and what it does.
+#[derive(Drop)]
+struct Step {
+    worker: u32,
+    act: Act,
+}
 
 /// Makes a call, and adds its answer.
 pub fn call(
-    _rt: &(impl Runtime + AllocGlobal),
-    _session: &mut Session,
-    _call: Call<'_>,
-    _out: &mut String,
+    rt: &(impl Runtime + AllocGlobal),
+    session: &mut Session,
+    call: Call<'_>,
+    out: &mut String,
 ) -> Result<(), Unanswered> {
-    Err(Unanswered::NoCall)
+    match (call.name, call.given) {
+        ("desk", [workers, below]) if *below == BELOW => {
+            share_desk(rt.alloc(), session, worker_count(workers)?, call.text, out)
+        }
+        ("desk", _) => Err(Unanswered::Misread(DESK)),
+        _ => Err(Unanswered::NoCall),
+    }
+}
+
+/// Lets workers do at a desk what a text tells. Where memory runs out, the book is let go.
+fn share_desk(
+    alloc: Global,
+    session: &mut Session,
+    workers: u32,
+    text: &[u8],
+    out: &mut String,
+) -> Result<(), Unanswered> {
+    let steps = steps_of_text(alloc, workers, text)?;
+    let nodes = session.book()?.problem().device().node_count();
+    let mut view = View::new(alloc, nodes as usize)?;
+    let book = take_fresh(session)?;
+    let blank = Blank::new(workers as u64);
+    let book = at_desk::<Brand>(alloc, book, workers, blank, steps, &mut view, out)?;
+    session.book = Some(book);
+    Ok(())
+}
+
+/// The steps of so many workers that a text tells, one a line.
+fn steps_of_text(alloc: Global, workers: u32, text: &[u8]) -> Result<Vec<Step>, Unanswered> {
+    let Ok(text) = str::from_utf8(text) else {
+        return Err(Unanswered::Misread(DESK));
+    };
+    let mut steps = Vec::new(alloc);
+    for line in text.lines() {
+        let words = words(alloc, line)?;
+        if !words.is_empty() {
+            steps.push(step_of_words(alloc, workers, words.as_slice())?)?;
+        }
+    }
+    Ok(steps)
+}
+
+/// The step of one of so many workers that the words of a line tell.
+fn step_of_words(alloc: Global, workers: u32, words: &[&str]) -> Result<Step, Unanswered> {
+    let [name, worker, given @ ..] = words else {
+        return Err(Unanswered::Misread(DESK));
+    };
+    let worker = number(worker)?;
+    if worker >= workers {
+        return Err(Unanswered::Refused("there is no such worker"));
+    }
+    let act = act_of_words(alloc, *name, given)?;
+    Ok(Step { worker, act })
+}
+
+/// What a worker does by the words behind it.
+fn act_of_words(alloc: Global, name: &str, given: &[&str]) -> Result<Act, Unanswered> {
+    match (name, given) {
+        ("draw", []) => Ok(Act::Draw),
+        ("commit", [net, tree @ ..]) => {
+            let net = number(net)?;
+            Ok(Act::Commit(net, tree_of_words(alloc, tree)?))
+        }
+        ("pass", [net]) => Ok(Act::Pass(number(net)?)),
+        _ => Err(Unanswered::Misread(DESK)),
+    }
+}
+
+/// Lets so many workers take steps at a desk of a book, and tells how many turns each share counts; the book.
+fn at_desk<L: Round>(
+    alloc: Global,
+    book: Book,
+    workers: u32,
+    blank: Blank,
+    steps: Vec<Step>,
+    view: &mut View,
+    out: &mut String,
+) -> Result<Book, Unanswered>
+    requires fresh { IsFresh book }
+    requires workers { workers ≡ L.workers }
+    requires book { book ≡ L.opening }
+    requires name { blank.name ≡ L.name }
+    requires parts { blank.parts ≡ L.parts }
+    requires one_each { blank.parts ≡ workers }
+{
+    let (mut desk, mut shares) = Desk::<L>::new(alloc, book, workers, blank)?;
+    take_steps(&mut desk, &mut shares, steps, view, out)?;
+    put_shares(&shares, out)?;
+    Ok(desk.end())
+}
+
+/// Takes steps one after another.
+fn take_steps<L: Round>(
+    desk: &mut Desk<L>,
+    shares: &mut Vec<Share<L>>,
+    steps: Vec<Step>,
+    view: &mut View,
+    out: &mut String,
+) -> Result<(), Unanswered> {
+    for Step { worker, act } in steps {
+        if let Some(share) = shares.get_mut(worker as usize) {
+            take_step(desk, share, act, view, out)?;
+        }
+    }
+    Ok(())
+}
+
+/// Lets a worker do something, and adds the desk's answer.
+fn take_step<L: Round>(
+    desk: &mut Desk<L>,
+    share: &mut Share<L>,
+    act: Act,
+    view: &mut View,
+    out: &mut String,
+) -> Result<(), Unanswered> {
+    match act {
+        Act::Draw => put_drawn(desk.draw(share, view), out),
+        Act::Commit(net, tree) => match desk.commit(share, net, tree) {
+            Ok(()) => put_committed(Ok(()), out),
+            Err((fault, _)) => put_committed(Err(fault), out),
+        },
+        Act::Pass(net) => put_passed(desk.pass(share, net), out),
+    }
+}
+
+/// Adds a line for each share.
+fn put_shares<L: Round>(shares: &Vec<Share<L>>, out: &mut String) -> Result<(), Unanswered> {
+    for share in shares {
+        writeln!(out, "worker {}: {} turns", share.worker(), share.turns())?;
+    }
+    Ok(())
 }

@@ -8,6 +8,7 @@ ghost use Rattle.route_file.specs.Design.{IsDesign};
 use crate::answer::put_name;
 use crate::routing_calls::keep;
 use crate::session::Session;
+use crate::sinks::{ShortSink, sink};
 use crate::sources::{bytes_before_failing, source};
 use crate::unanswered::Unanswered;
 use crate::words::Call;
@@ -17,37 +18,7 @@ use route_file::{parse, write};
 use route_tree::{Routing, fits};
 use rr_graph::{Device, Problem};
 use std::alloc::{AllocError, Global};
-use std::io::{Error, ErrorKind, Result as IoResult, Write};
 use std::rt::Runtime;
-use vpr_text::Adapted;
-
-/// What a routing is written to: it fails behind so many bytes, or never.
-#[derive(Drop)]
-struct ShortSink {
-    bytes: Vec<u8>,
-    left: Option<usize>,
-    /// Whether it failed since memory ran out.
-    lacked: bool,
-}
-
-impl Write for ShortSink {
-    fn write(&mut self, bytes: &[u8]) -> IoResult<usize> {
-        let count = self.left.unwrap_or(bytes.len()).min(bytes.len());
-        if count == 0 {
-            return Err(Error::from(ErrorKind::Other));
-        }
-        if self.bytes.extend_from_slice(&bytes[..count]).is_err() {
-            self.lacked = true;
-            return Err(Error::from(ErrorKind::OutOfMemory));
-        }
-        self.left = self.left.map(|left| left.saturating_sub(count));
-        Ok(count)
-    }
-
-    fn flush(&mut self) -> IoResult<()> {
-        Ok(())
-    }
-}
 
 /// Makes a call, and adds its answer.
 pub fn call(
@@ -126,13 +97,9 @@ fn put_text(
     if !fits(&problem, routing) {
         return Err(Unanswered::Refused("the routing does not fit the problem"));
     }
-    let mut sink = Adapted::new(ShortSink {
-        bytes: Vec::new(alloc),
-        left,
-        lacked: false,
-    });
-    let is_written = write(&netlist, &placement, &problem, routing, &mut sink).is_ok();
-    put_written(&sink.into_inner(), is_written, out)
+    let mut taken = sink(alloc, left);
+    let is_written = write(&netlist, &placement, &problem, routing, &mut taken).is_ok();
+    put_written(&taken.into_inner(), is_written, out)
 }
 
 /// Adds what was written, or tells how much of it was before the sink failed.

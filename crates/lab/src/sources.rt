@@ -13,7 +13,7 @@ pub const BELOW: &str = "<<";
 
 /// A reader that fails behind so many bytes, or never.
 #[derive(Drop)]
-struct Failing<R> {
+pub struct Failing<R> {
     inner: R,
     left: Option<usize>,
 }
@@ -52,17 +52,43 @@ fn bytes_of<R: Read + Drop>(
     Ok(read_all(alloc, &mut source)?)
 }
 
+/// A source of bytes that fails behind so many, or never.
+pub fn failing_source(bytes: &[u8], left: Option<usize>) -> Adapted<Failing<&[u8]>> {
+    Adapted::new(Failing { inner: bytes, left })
+}
+
+/// The bytes of the file of this name, or of the text below a call, from a source that fails behind so many, or never.
+fn named_source(
+    rt: &(impl Runtime + AllocGlobal),
+    name: &str,
+    text: &[u8],
+    left: Option<usize>,
+) -> Result<Vec<u8>, Unanswered> {
+    if name == BELOW {
+        return bytes_of(rt.alloc(), text, left);
+    }
+    match fs::open(rt, name) {
+        Ok(file) => bytes_of(rt.alloc(), file, left),
+        Err(_) => Err(Unanswered::Unopened),
+    }
+}
+
 /// The bytes of the file that a call names, or of the text below it.
 pub fn source(rt: &(impl Runtime + AllocGlobal), call: Call<'_>) -> Result<Vec<u8>, Unanswered> {
     let [name, rest @ ..] = call.given else {
         return Err(Unanswered::Misread("NAME FILE"));
     };
+    named_source(rt, *name, call.text, bytes_before_failing(rest)?)
+}
+
+/// All bytes of the file that a call names, or of the text below it, and behind how many of them a source is to fail.
+pub fn whole_source(
+    rt: &(impl Runtime + AllocGlobal),
+    call: Call<'_>,
+) -> Result<(Vec<u8>, Option<usize>), Unanswered> {
+    let [name, rest @ ..] = call.given else {
+        return Err(Unanswered::Misread("NAME FILE"));
+    };
     let left = bytes_before_failing(rest)?;
-    if *name == BELOW {
-        return bytes_of(rt.alloc(), call.text, left);
-    }
-    match fs::open(rt, *name) {
-        Ok(file) => bytes_of(rt.alloc(), file, left),
-        Err(_) => Err(Unanswered::Unopened),
-    }
+    Ok((named_source(rt, *name, call.text, None)?, left))
 }

@@ -1,16 +1,281 @@
-//! Calls.
+//! Calls of `net_workers`, `iteration` and `width_search`: iterations, negotiations and searches of widths.
 
+ghost use Rattle.std.specs.Prelude.{◌≤◌, IfOk};
+ghost use Rattle.net_workers.specs.Agreement.{IsFresh};
+
+use crate::answer::put;
+use crate::bounds::{channel_width, iteration_number, worker_count};
+use crate::gates::{LabGate, gate_words};
 use crate::session::Session;
+use crate::tree_calls::put_tree;
 use crate::unanswered::Unanswered;
 use crate::words::Call;
+use congestion_book::Book;
+use iteration::{Outcome, negotiate};
+use net_workers::{Entry, Report, iterate};
+use route_tree::{Pairs, Routing};
+use rr_graph::Mode;
+use std::alloc::{AllocError, Global};
 use std::rt::Runtime;
+use std::sync::Wait;
+use std::thread::Threads;
+use width_search::{Trial, WidthReport, least_width};
 
 /// Makes a call, and adds its answer.
 pub fn call(
-    _rt: &(impl Runtime + AllocGlobal),
-    _session: &mut Session,
-    _call: Call<'_>,
-    _out: &mut String,
+    rt: &(impl Runtime + Threads + Wait + Sync + AllocGlobal),
+    session: &mut Session,
+    call: Call<'_>,
+    out: &mut String,
 ) -> Result<(), Unanswered> {
-    Err(Unanswered::NoCall)
+    match call.name {
+        "iterate" | "iterate_nets" => make_iteration(rt, session, call, out),
+        "negotiate" => negotiate_routing(rt, session, call.given, out),
+        "least_width" => search_widths(rt, session, call.given, out),
+        _ => Err(Unanswered::NoCall),
+    }
+}
+
+/// A book in whose open iteration nothing was drawn.
+pub fn fresh_book(book: Book) -> Result<Book, Unanswered>
+    ensures { IfOk result IsFresh }
+{
+    let _sound = book.problem();
+    if !book.fresh() {
+        return Err(Unanswered::Refused("the open iteration is begun"));
+    }
+    Ok(book)
+}
+
+/// Takes the book, where nothing was drawn in its open iteration; else it stays.
+pub fn take_fresh(session: &mut Session) -> Result<Book, Unanswered>
+    ensures { IfOk result IsFresh }
+{
+    if !session.book()?.fresh() {
+        return Err(Unanswered::Refused("the open iteration is begun"));
+    }
+    match session.book.take() {
+        Some(book) => fresh_book(book),
+        None => Err(Unanswered::Refused("there is no book")),
+    }
+}
+
+/// Makes an iteration of the book by several workers, and tells their reports, worker by worker or net by net. A fault lets the book
+/// go.
+fn make_iteration(
+    rt: &(impl Runtime + Threads + Wait + Sync + AllocGlobal),
+    session: &mut Session,
+    call: Call<'_>,
+    out: &mut String,
+) -> Result<(), Unanswered> {
+    let [iteration, workers, rest @ ..] = call.given else {
+        return Err(Unanswered::Misread("iterate K WORKERS, or with a gate behind it"));
+    };
+    let iteration = iteration_number(iteration)?;
+    let workers = worker_count(workers)?;
+    let gate = LabGate::new(
+        rt,
+        gate_words(rest, workers)?,
+        session.book()?.problem().nets(),
+    )?;
+    let settings = session.settings;
+    let book = take_fresh(session)?;
+    let (book, reports) = iterate(rt, rt.alloc(), book, &settings, iteration, workers, &gate)?;
+    match call.name {
+        "iterate" => put_reports(reports.as_slice(), out)?,
+        _ => put_nets(reports.as_slice(), book.problem().nets(), out)?,
+    }
+    gate.put(out)?;
+    session.book = Some(book);
+    Ok(())
+}
+
+/// Adds the report of each worker.
+fn put_reports(reports: &[Report], out: &mut String) -> Result<(), Unanswered> {
+    for (worker, report) in reports.iter().enumerate() {
+        writeln!(out, "worker {worker}:")?;
+        put_entries(report.entries(), out)?;
+    }
+    Ok(())
+}
+
+/// Adds a line for each turn of a worker.
+fn put_entries(entries: &[Entry], out: &mut String) -> Result<(), Unanswered> {
+    for entry in entries {
+        put_entry(entry, out)?;
+    }
+    Ok(())
+}
+
+/// Adds the turn at each net, whoever made it.
+fn put_nets(reports: &[Report], nets: u32, out: &mut String) -> Result<(), Unanswered> {
+    for net in 0..nets {
+        match reports.iter().find_map(|report| entry_of(report, net)) {
+            Some(entry) => put_entry(entry, out)?,
+            None => writeln!(out, "net {net}: none")?,
+        }
+    }
+    Ok(())
+}
+
+/// The turn of a worker at a net.
+fn entry_of(report: &Report, net: u32) -> Option<&Entry> {
+    report.entries().iter().find(|entry| entry.net == net)
+}
+
+fn put_entry(entry: &Entry, out: &mut String) -> Result<(), Unanswered> {
+    write!(out, "net {}: ", entry.net)?;
+    match &entry.tree {
+        Some(tree) => put_tree(tree, out),
+        None => put(out, "passed"),
+    }
+}
+
+/// Negotiates a routing of a copy of the problem, and keeps it.
+fn negotiate_routing(
+    rt: &(impl Runtime + Threads + Wait + Sync + AllocGlobal),
+    session: &mut Session,
+    given: &[&str],
+    out: &mut String,
+) -> Result<(), Unanswered> {
+    let [workers, rest @ ..] = given else {
+        return Err(Unanswered::Misread("negotiate WORKERS, or with a gate behind it"));
+    };
+    let workers = worker_count(workers)?;
+    let words = gate_words(rest, workers)?;
+    let settings = session.settings;
+    let problem = session.problem()?.copy(rt.alloc())?;
+    let gate = LabGate::new(rt, words, problem.nets())?;
+    let outcome = negotiate(rt, rt.alloc(), problem, &settings, workers, &gate)?;
+    put_outcome(&outcome, out)?;
+    gate.put(out)?;
+    if let Outcome::Success(routing, _) = outcome {
+        session.routing = Some(routing);
+    }
+    Ok(())
+}
+
+/// Adds what a negotiation came to.
+fn put_outcome(outcome: &Outcome, out: &mut String) -> Result<(), Unanswered> {
+    match outcome {
+        Outcome::Success(_, iterations) => writeln!(out, "routed, iterations {iterations}")?,
+        Outcome::NotRouted {
+            unrouted,
+            overused,
+            iterations,
+        } => writeln!(
+            out,
+            "not routed: unrouted {unrouted}, overused {overused}, iterations {iterations}"
+        )?,
+    }
+    Ok(())
+}
+
+/// The mode that the first of some words names, and the words behind it.
+pub fn mode_before<'a, 'b>(given: &'a [&'b str]) -> (Mode, &'a [&'b str]) {
+    match given {
+        [word, rest @ ..] if *word == "global" => (Mode::Global, rest),
+        _ => (Mode::Detailed, given),
+    }
+}
+
+/// Searches for the least width at which the design is routed, and keeps the routing.
+fn search_widths(
+    rt: &(impl Runtime + Threads + Wait + Sync + AllocGlobal),
+    session: &mut Session,
+    given: &[&str],
+    out: &mut String,
+) -> Result<(), Unanswered> {
+    let [start, workers, rest @ ..] = given else {
+        return Err(Unanswered::Misread(
+            "least_width START WORKERS, or with `global` and a gate behind it",
+        ));
+    };
+    let start = channel_width(start)?;
+    let workers = worker_count(workers)?;
+    let (mode, rest) = mode_before(rest);
+    let gate = LabGate::new(rt, gate_words(rest, workers)?, 0)?;
+    let report = width_report(rt, session, start, mode, workers, &gate)?;
+    put_trials(report.trials(), out)?;
+    let routing = put_least(rt.alloc(), &report, out)?;
+    gate.put(out)?;
+    if let Some(routing) = routing {
+        session.routing = Some(routing);
+    }
+    Ok(())
+}
+
+/// What a search of widths for the design comes to.
+fn width_report<R: Runtime + Threads + Wait + Sync + AllocGlobal>(
+    rt: &R,
+    session: &Session,
+    start: u32,
+    mode: Mode,
+    workers: u32,
+    gate: &LabGate<'_, R>,
+) -> Result<WidthReport, Unanswered>
+    requires start { (1 ≤ start) × (start ≤ 256) }
+    requires workers { (1 ≤ workers) × (workers ≤ 16) }
+{
+    let (alloc, arch) = (rt.alloc(), session.arch()?);
+    let netlist = net_file::parse(alloc, session.net()?, arch)?;
+    let placement = place_file::parse(alloc, session.place()?, arch, &netlist)?;
+    let report = least_width(
+        rt,
+        alloc,
+        arch,
+        &netlist,
+        &placement,
+        &session.settings,
+        start,
+        mode,
+        workers,
+        gate,
+    )?;
+    Ok(report)
+}
+
+/// Adds a line for each trial.
+fn put_trials(trials: &[Trial], out: &mut String) -> Result<(), Unanswered> {
+    for trial in trials {
+        let outcome = if trial.routed { "routed" } else { "not routed" };
+        writeln!(out, "width {}: {outcome}", trial.width)?;
+    }
+    Ok(())
+}
+
+/// Adds the least width that was routed; a copy of its routing.
+fn put_least(
+    alloc: Global,
+    report: &WidthReport,
+    out: &mut String,
+) -> Result<Option<Routing>, Unanswered> {
+    match report.least() {
+        Some(least) => {
+            writeln!(out, "least {}", least.width)?;
+            Ok(Some(copy_of(alloc, &least.routing)?))
+        }
+        None => {
+            put(out, "none")?;
+            Ok(None)
+        }
+    }
+}
+
+/// A copy of a routing.
+fn copy_of(alloc: Global, routing: &Routing) -> Result<Routing, AllocError> {
+    let mut lists = Vec::with_capacity(alloc, routing.lists.len())?;
+    for list in routing.lists.as_slice() {
+        lists.push(copy_of_list(alloc, list)?)?;
+    }
+    Ok(Routing { lists })
+}
+
+fn copy_of_list(alloc: Global, list: &Option<Pairs>) -> Result<Option<Pairs>, AllocError> {
+    match list {
+        Some(pairs) => Ok(Some(Pairs {
+            items: Vec::from_slice(alloc, pairs.items.as_slice())?,
+        })),
+        None => Ok(None),
+    }
 }

@@ -1,0 +1,50 @@
+//! Numbers within the bounds that the libraries want.
+
+ghost use Rattle.std.specs.Prelude.{◌≤◌, IfOk};
+
+use crate::unanswered::Unanswered;
+use crate::words::number;
+
+/// How many workers there are.
+pub fn worker_count(word: &str) -> Result<u32, Unanswered>
+    ensures { IfOk result (λ n. (1 ≤ n) × (n ≤ 16)) }
+{
+    let count = number(word)?;
+    if count < 1 || count > 16 {
+        return Err(Unanswered::Refused("there are 1 to 16 workers"));
+    }
+    Ok(count)
+}
+
+/// The number of an iteration.
+pub fn iteration_number(word: &str) -> Result<u32, Unanswered>
+    ensures { IfOk result (λ n. (1 ≤ n) × (n ≤ 500)) }
+{
+    let iteration = number(word)?;
+    if iteration < 1 || iteration > 500 {
+        return Err(Unanswered::Refused("a negotiation has 1 to 500 iterations"));
+    }
+    Ok(iteration)
+}
+
+/// The width of channels.
+pub fn channel_width(word: &str) -> Result<u32, Unanswered>
+    ensures { IfOk result (λ n. (1 ≤ n) × (n ≤ 256)) }
+{
+    let width = number(word)?;
+    if width < 1 || width > 256 {
+        return Err(Unanswered::Refused("a channel has 1 to 256 tracks"));
+    }
+    Ok(width)
+}
+
+/// How many columns, or rows, an array has.
+pub fn array_side(word: &str) -> Result<u32, Unanswered>
+    ensures { IfOk result (λ n. (1 ≤ n) × (n ≤ 100)) }
+{
+    let side = number(word)?;
+    if side < 1 || side > 100 {
+        return Err(Unanswered::Refused("an array has 1 to 100 columns and rows"));
+    }
+    Ok(side)
+}

@@ -1,0 +1,161 @@
+//! The gates that a call can name.
+
+use crate::counting::Counting;
+use crate::holding::Holding;
+use crate::meeting::Meeting;
+use crate::timing::Timing;
+use crate::unanswered::Unanswered;
+use crate::words::number;
+use iteration::Outcome;
+use net_workers::{Gate, OpenGate};
+use std::alloc::AllocError;
+use std::sync::Wait;
+use std::time::Clock;
+use width_search::TrialGate;
+
+/// How a gate is written.
+const GATES: &str =
+    "the call and no gate, or `open`, `meeting N`, `holding W`, `counting` or `timing` behind it";
+
+/// What the last words of a call say of its gate.
+#[derive(Clone, Copy)]
+pub enum GateWords {
+    Open,
+    /// So many nets meet.
+    Meeting(u32),
+    /// This worker is held.
+    Holding(u32),
+    Counting,
+    Timing,
+}
+
+/// The gate that words name, of a call with so many workers.
+pub fn gate_words(given: &[&str], workers: u32) -> Result<GateWords, Unanswered> {
+    match given {
+        [] => Ok(GateWords::Open),
+        [word] => plain_gate(word),
+        [word, count] => numbered_gate(word, number(count)?, workers),
+        _ => Err(Unanswered::Misread(GATES)),
+    }
+}
+
+/// A gate that is named by one word.
+fn plain_gate(word: &str) -> Result<GateWords, Unanswered> {
+    match word {
+        "open" => Ok(GateWords::Open),
+        "counting" => Ok(GateWords::Counting),
+        "timing" => Ok(GateWords::Timing),
+        _ => Err(Unanswered::Misread(GATES)),
+    }
+}
+
+/// A gate that is named by a word and a number.
+fn numbered_gate(word: &str, number: u32, workers: u32) -> Result<GateWords, Unanswered> {
+    match word {
+        "meeting" if number < 1 || number > 32 => { Err(Unanswered::Refused("1 to 32 nets meet")) }
+        "meeting" => Ok(GateWords::Meeting(number)),
+        "holding" if number >= workers => {
+            Err(Unanswered::Refused("there is no such worker to hold"))
+        }
+        "holding" => Ok(GateWords::Holding(number)),
+        _ => Err(Unanswered::Misread(GATES)),
+    }
+}
+
+/// One of the gates.
+#[derive(Drop)]
+pub enum LabGate<'a, R: Wait + Clock> {
+    Open(OpenGate),
+    Meeting(Meeting),
+    Holding(Holding),
+    Counting(Counting<'a, R>),
+    Timing(Timing<'a, R>),
+}
+
+impl<'a, R: Wait + Clock + AllocGlobal> LabGate<'a, R> {
+    /// The gate that a call names, for so many nets.
+    pub fn new(rt: &'a R, words: GateWords, nets: u32) -> Result<LabGate<'a, R>, AllocError> {
+        match words {
+            GateWords::Open => Ok(LabGate::Open(OpenGate)),
+            GateWords::Meeting(count) => Ok(LabGate::Meeting(Meeting::of(count))),
+            GateWords::Holding(worker) => Ok(LabGate::Holding(Holding::of(worker, nets))),
+            GateWords::Counting => Ok(LabGate::Counting(Counting::new(rt, rt.alloc()))),
+            GateWords::Timing => Ok(LabGate::Timing(Timing::new(rt, rt.alloc())?)),
+        }
+    }
+
+    /// Adds the gate's own lines.
+    pub fn put(&self, out: &mut String) -> Result<(), Unanswered> {
+        match self {
+            LabGate::Open(_) => Ok(()),
+            LabGate::Meeting(gate) => gate.put(out),
+            LabGate::Holding(gate) => gate.put(out),
+            LabGate::Counting(gate) => gate.put(out),
+            LabGate::Timing(gate) => gate.put(out),
+        }
+    }
+}
+
+impl<R: Wait + Clock> Gate for LabGate<'_, R> {
+    fn opened(&self, iteration: u32, nets: u32) {
+        match self {
+            LabGate::Open(gate) => gate.opened(iteration, nets),
+            LabGate::Meeting(gate) => gate.opened(iteration, nets),
+            LabGate::Holding(gate) => gate.opened(iteration, nets),
+            LabGate::Counting(gate) => gate.opened(iteration, nets),
+            LabGate::Timing(gate) => gate.opened(iteration, nets),
+        }
+    }
+
+    fn between(&self, worker: u32, net: u32) {
+        match self {
+            LabGate::Open(gate) => gate.between(worker, net),
+            LabGate::Meeting(gate) => gate.between(worker, net),
+            LabGate::Holding(gate) => gate.between(worker, net),
+            LabGate::Counting(gate) => gate.between(worker, net),
+            LabGate::Timing(gate) => gate.between(worker, net),
+        }
+    }
+
+    fn searched(&self, worker: u32, net: u32) {
+        match self {
+            LabGate::Open(gate) => gate.searched(worker, net),
+            LabGate::Meeting(gate) => gate.searched(worker, net),
+            LabGate::Holding(gate) => gate.searched(worker, net),
+            LabGate::Counting(gate) => gate.searched(worker, net),
+            LabGate::Timing(gate) => gate.searched(worker, net),
+        }
+    }
+
+    fn closed(&self, iteration: u32, unrouted: u32, overused: u32) {
+        match self {
+            LabGate::Open(gate) => gate.closed(iteration, unrouted, overused),
+            LabGate::Meeting(gate) => gate.closed(iteration, unrouted, overused),
+            LabGate::Holding(gate) => gate.closed(iteration, unrouted, overused),
+            LabGate::Counting(gate) => gate.closed(iteration, unrouted, overused),
+            LabGate::Timing(gate) => gate.closed(iteration, unrouted, overused),
+        }
+    }
+}
+
+impl<R: Wait + Clock> TrialGate for LabGate<'_, R> {
+    fn tries(&self, width: u32) {
+        match self {
+            LabGate::Open(gate) => gate.tries(width),
+            LabGate::Meeting(gate) => gate.tries(width),
+            LabGate::Holding(gate) => gate.tries(width),
+            LabGate::Counting(gate) => gate.tries(width),
+            LabGate::Timing(gate) => gate.tries(width),
+        }
+    }
+
+    fn tried(&self, width: u32, outcome: &Outcome) {
+        match self {
+            LabGate::Open(gate) => gate.tried(width, outcome),
+            LabGate::Meeting(gate) => gate.tried(width, outcome),
+            LabGate::Holding(gate) => gate.tried(width, outcome),
+            LabGate::Counting(gate) => gate.tried(width, outcome),
+            LabGate::Timing(gate) => gate.tried(width, outcome),
+        }
+    }
+}
