@@ -14,7 +14,7 @@ use std::thread::Threads;
 use std::time::{Duration, Instant};
 
 /// How a call that is made many times is written.
-const TIME: &str = "time N CALL .., and CALL is not `time`";
+const MANY: &str = "time N CALL .. or repeat N CALL .., and CALL is another one";
 
 /// Makes a call, and adds its answer. Where there is none, the session is as it was.
 pub fn make_call(
@@ -24,12 +24,12 @@ pub fn make_call(
     out: &mut String,
 ) -> Result<(), Unanswered> {
     match call.name {
-        "time" => make_many(rt, session, call, out),
+        "time" | "repeat" => make_many(rt, session, call, out),
         _ => make_one(rt, session, call, out),
     }
 }
 
-/// Makes a call so many times, and tells how long that took.
+/// Makes a call so many times, and tells how long that took, or its last answer.
 fn make_many(
     rt: &(impl Runtime + Threads + Wait + Sync + AllocGlobal),
     session: &mut Session,
@@ -37,10 +37,10 @@ fn make_many(
     out: &mut String,
 ) -> Result<(), Unanswered> {
     let [count, name, given @ ..] = call.given else {
-        return Err(Unanswered::Misread(TIME));
+        return Err(Unanswered::Misread(MANY));
     };
-    if *name == "time" {
-        return Err(Unanswered::Misread(TIME));
+    if *name == "time" || *name == "repeat" {
+        return Err(Unanswered::Misread(MANY));
     }
     let count = number(count)?;
     if count < 1 || count > 1_000_000 {
@@ -48,6 +48,9 @@ fn make_many(
     }
     let text = call.text;
     let time = time_of(rt, session, Call { name, given, text }, count, out)?;
+    if call.name == "repeat" {
+        return Ok(());
+    }
     out.clear();
     writeln!(out, "{count} times, {} us", time.as_micros())?;
     Ok(())

@@ -81,13 +81,13 @@ fn make_iteration(
     let settings = session.settings;
     let book = take_fresh(session)?;
     let (book, reports) = iterate(rt, rt.alloc(), book, &settings, iteration, workers, &gate)?;
+    let nets = book.problem().nets();
+    session.book = Some(book);
     match call.name {
         "iterate" => put_reports(reports.as_slice(), out)?,
-        _ => put_nets(reports.as_slice(), book.problem().nets(), out)?,
+        _ => put_nets(reports.as_slice(), nets, out)?,
     }
-    gate.put(out)?;
-    session.book = Some(book);
-    Ok(())
+    gate.put(out)
 }
 
 /// Adds the report of each worker.
