@@ -9,6 +9,7 @@ use crate::sources::{Failing, failing_source};
 use crate::unanswered::Unanswered;
 use crate::words::{Call, mode};
 use crate::work_calls::mode_before;
+use net_workers::WorkFault;
 use runs::{
     AppFault, check_run, graph_run, outcome_status, print_fault, report_status, route_run, status,
     verdict_status, width_run,
@@ -218,6 +219,7 @@ fn put_end(
             Ok(())
         }
         Err(AppFault::Memory) => Err(Unanswered::Memory),
+        Err(AppFault::NoThread) => Err(Unanswered::Work(WorkFault::NoThread)),
         Err(fault) => {
             writeln!(out, "status {}", status(&fault))?;
             put_fault(alloc, &fault, out)
