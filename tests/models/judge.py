@@ -35,7 +35,7 @@ def dangles(pairs, source, sinks):
 def tree_fault(device, source, sinks, pairs):
     """The first of the faults of a net's list, None where it routes the net."""
     ends, wanted = [end for _, end in pairs], set(sinks)
-    sinks_met = {end for end in ends if device.nodes[end].kind == SINK}
+    sinks_met = {end for end in ends if end < len(device.nodes) and device.nodes[end].kind == SINK}
     faults = (
         ("WrongSource", lambda: not pairs or pairs[0][0] != source),
         ("NoSwitch", lambda: any(end not in device.successors[begin] for begin, end in pairs)),

@@ -52,6 +52,12 @@ def cost(device, node, others, history, present):
 
 def search(device, net, others, histories, present, margin):
     """The pairs of a net's tree; or None, where a sink isn't reached."""
+    pairs, open_sinks = grow(device, net, others, histories, present, margin)
+    return None if open_sinks else pairs
+
+
+def grow(device, net, others, histories, present, margin):
+    """The pairs of a net's tree as far as it grows, and the sinks that it doesn't reach."""
     source, sinks = net
     box, pairs, open_sinks = Box(device, [source, *sinks], margin), [], set(sinks)
     tree = {source}
@@ -59,11 +65,11 @@ def search(device, net, others, histories, present, margin):
         starts = tree - {source} or {source}
         path = way(device, tree, starts, open_sinks, box, lambda node: cost(device, node, others[node], histories[node], present))
         if path is None:
-            return None
+            break
         pairs += zip(path, path[1:])
         tree.update(path)
         open_sinks.discard(path[-1])
-    return pairs
+    return pairs, open_sinks
 
 
 def way(device, tree, starts, open_sinks, box, cost_of):

@@ -1,0 +1,117 @@
+"""A congestion book, plain and slow, from the definitions: what it holds, written down as lists, and counted by going over all of them."""
+from judge import tree_fault
+from trees import pairs_of, text_of
+
+MOST_ROWS = 500
+
+
+class Book:
+    """Of each net its tree's rows or nothing, the rows of overuse, the turns of each iteration, and who holds which drawn net."""
+
+    def __init__(self, problem, acc):
+        self.device, self.nets, self.acc = problem.device, problem.nets, acc
+        self.trees = [None] * len(self.nets)
+        self.rows, self.turns = [], [[]]
+        self.drawn, self.holders = 0, {}
+        self.histories = [0] * len(self.device.nodes)
+
+    def uses(self, but=None):
+        """By how many nets each node is used, one net left out."""
+        uses = [0] * len(self.device.nodes)
+        for net, rows in enumerate(self.trees):
+            if rows is not None and net != but:
+                for node in {node for node, _ in rows}:
+                    uses[node] += 1
+        return uses
+
+    def overuse(self):
+        """Of each node that more nets use than may, by how many, ascending by node."""
+        over = ((node, used - self.device.capacity(self.device.nodes[node])) for node, used in enumerate(self.uses()))
+        return [(node, by) for node, by in over if by > 0]
+
+    def draw(self, worker, view):
+        if len(view) != len(self.device.nodes):
+            return "ViewSize"
+        if self.drawn == len(self.nets):
+            return "none"
+        net = self.drawn
+        self.drawn += 1
+        self.holders[net] = worker
+        view.others, view.histories = self.uses(net), list(self.histories)
+        return str(net)
+
+    def commit(self, worker, net, rows):
+        if self.holders.get(net) != worker:
+            return "NotHeld"
+        fault = tree_fault(self.device, *self.nets[net], pairs_of(rows))
+        if fault:
+            return f"Illegal({fault})"
+        self.end_turn(worker, net, rows)
+        return "committed"
+
+    def pass_by(self, worker, net):
+        if self.holders.get(net) != worker:
+            return "NotHeld"
+        self.end_turn(worker, net, None)
+        return "passed"
+
+    def end_turn(self, worker, net, rows):
+        self.trees[net] = rows
+        del self.holders[net]
+        self.turns[-1].append((worker, net, rows is None))
+
+    def close(self):
+        ended = {net for _, net, _ in self.turns[-1]}
+        waiting = [net for net in range(len(self.nets)) if net not in ended]
+        if waiting:
+            return f"Unfinished({waiting[0]})"
+        if len(self.rows) == MOST_ROWS:
+            return "Full"
+        self.rows.append(self.overuse())
+        self.turns.append([])
+        self.drawn = 0
+        amounts = [0] * len(self.device.nodes)
+        for row in self.rows:
+            for node, by in row:
+                amounts[node] += by
+        self.histories = [self.acc * amount for amount in amounts]
+        return "closed"
+
+    def tree(self, net):
+        """The line of a net's tree."""
+        return "none" if net >= len(self.nets) or self.trees[net] is None else text_of(self.trees[net])
+
+    def occupancy(self, node):
+        return str(self.uses()[node]) if node < len(self.device.nodes) else "refused: there is no such node"
+
+    def history(self, node):
+        return str(self.histories[node]) if node < len(self.device.nodes) else "refused: there is no such node"
+
+    def turns_of(self, iteration):
+        if not 1 <= iteration <= len(self.turns):
+            return "refused: there is no such iteration"
+        turns = (f" {worker} {net}{' passed' if passed else ''}" for worker, net, passed in self.turns[iteration - 1])
+        return f"turns {iteration}:" + "".join(turns)
+
+    def row_lines(self):
+        return [f"row {place}:" + "".join(f" {node} {by}" for node, by in row) for place, row in enumerate(self.rows, 1)]
+
+    def overused(self):
+        return str(len(self.overuse()))
+
+    def unrouted(self):
+        return str(self.trees.count(None))
+
+    def fresh(self):
+        return "true" if self.drawn == 0 else "false"
+
+    def dump(self):
+        """All lines of what the book holds."""
+        nodes = enumerate(zip(self.uses(), self.histories))
+        return [
+            *(f"tree {net}: {self.tree(net)}" for net in range(len(self.nets))),
+            *(f"node {node}: {used} {history}" for node, (used, history) in nodes if used or history),
+            *self.row_lines(),
+            *(self.turns_of(iteration) for iteration in range(1, len(self.turns) + 1)),
+            f"overused {self.overused()}, unrouted {self.unrouted()}, fresh {self.fresh()}",
+        ]
