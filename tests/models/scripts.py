@@ -36,6 +36,15 @@ class Script:
         return [answer for _, answers in self.calls for answer in answers]
 
 
+def words(numbers):
+    """Numbers as `lab` prints them."""
+    return " ".join(map(str, numbers)) or "none"
+
+
+def boolean(value):
+    return "true" if value else "false"
+
+
 def answered(program, text):
     """The lines that a script answers, and what is wrong with the run itself."""
     try:
