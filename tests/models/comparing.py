@@ -65,13 +65,26 @@ def keep(case, seed):
     return folder
 
 
-def main(doc, draw, count):
-    """Compares the cases of the seeds that the command line names, or of the first ones; the status to exit with."""
+def asked(doc, count):
+    """The program that the command line names, and the seeds: the first ones, or those that it names."""
     words = argparse.ArgumentParser(description=doc.split("\n")[0])
     words.add_argument("program", metavar="PROGRAM")
     words.add_argument("--seeds", nargs=2, type=int, default=(0, count), metavar=("FROM", "TO"), help=f"by default 0 {count}")
     given = words.parse_args()
-    program, seeds = os.path.abspath(given.program), range(*given.seeds)
+    return os.path.abspath(given.program), range(*given.seeds)
+
+
+def tell(kinds, seeds, failed):
+    """Tells what was met how often, and how many seeds passed and failed; the status to exit with."""
+    name = pathlib.Path(sys.argv[0]).name
+    print(f"{name}: " + ", ".join(f"{kind} {number}" for kind, number in sorted(kinds.items())))
+    print(f"{len(seeds) - failed} passed, {failed} failed")
+    return 1 if failed or not seeds else 0
+
+
+def main(doc, draw, count):
+    """Compares the cases of the seeds that the command line names, or of the first ones; the status to exit with."""
+    program, seeds = asked(doc, count)
     failed, kinds = 0, {}
     with concurrent.futures.ProcessPoolExecutor(len(os.sched_getaffinity(0))) as pool:
         judged = pool.map(judge, [program] * len(seeds), [draw] * len(seeds), seeds, chunksize=8)
@@ -81,7 +94,4 @@ def main(doc, draw, count):
             if wrong:
                 failed += 1
                 print(f"seed {seed}: {' '.join(case.words)}: {wrong} (files in {keep(case, seed)})", flush=True)
-    name = pathlib.Path(sys.argv[0]).name
-    print(f"{name}: " + ", ".join(f"{kind} {number}" for kind, number in sorted(kinds.items())))
-    print(f"{len(seeds) - failed} passed, {failed} failed")
-    return 1 if failed or not seeds else 0
+    return tell(kinds, seeds, failed)

@@ -98,7 +98,8 @@ def hang_elsewhere(random, _device, rows):
 
 def leave_by_another_output(random, device, rows):
     outputs = [number for number, node in enumerate(device.nodes) if node.kind == OPIN]
-    rows.append((random.choice(device.successors[rows[0][0]] if random.random() < 0.8 else outputs), 0))
+    ends = device.successors[rows[0][0]] if random.random() < 0.8 else outputs
+    rows.append((random.choice(ends or outputs), 0))
 
 
 def take_another_order(random, _device, rows):

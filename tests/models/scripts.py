@@ -1,110 +1,120 @@
-"""Compares what `lab` answers to the calls of scripts with what a model says, over cases that are drawn by seeds."""
-import argparse
+"""Compares what `lab` answers to scripts that are drawn by seeds with what a model says."""
 import concurrent.futures
 import os
 import pathlib
 import random
 import subprocess
-import sys
 import tempfile
 from collections import Counter
 from dataclasses import dataclass, field
 
-SECONDS = 300
-# So many cases are run as one script.
-TOGETHER = 20
+from comparing import SECONDS, asked, tell
+
+# The scripts of so many seeds are one run of the program.
+CHUNK = 8
 
 
 @dataclass
-class Script:
-    """The calls of a case, each with the lines that it must answer, and how many things of which kinds it has."""
+class Case:
+    """The calls of a script, and of each the lines that must be answered, or functions that say what is wrong with them."""
 
     calls: list = field(default_factory=list)
     kinds: Counter = field(default_factory=Counter)
 
-    def call(self, line, *answers):
-        self.calls.append((line, list(answers)))
+    def ask(self, call, *answers):
+        self.calls.append((call, answers))
 
-    def call_with(self, line, text, *answers):
-        """A call with a text below its line."""
-        self.calls.append((f"{line} <<\n{text.rstrip(chr(10))}\n>>", list(answers)))
+    def ask_below(self, call, lines, *answers):
+        """Asks for a call that reads lines."""
+        self.ask("\n".join([f"{call} <<", *lines, ">>"]), *answers)
 
-    def text(self):
-        return "".join(f"{line}\n" for line, _ in self.calls)
+    def met(self, kind, number=1):
+        self.kinds[kind] += number
 
-    def answers(self):
-        return [answer for _, answers in self.calls for answer in answers]
+    def script(self):
+        return "".join(f"{call}\n" for call, _ in self.calls)
+
+    def script_with_answers(self):
+        """The script with the answers that are known."""
+        texts = []
+        for call, answers in self.calls:
+            texts += [call, *(f"= {answer}" for answer in answers if not any(map(callable, answers)))]
+        return "\n".join([*texts, ""])
+
+    def difference(self, lines):
+        """What is wrong with the lines that were answered, or nothing."""
+        have = iter(lines)
+        for number, (call, answers) in enumerate(self.calls, 1):
+            for answer in answers:
+                wrong = wrong_with(next(have, None), answer)
+                if wrong:
+                    return f"call {number} ({call[:60]!r}): {wrong}"
+        rest = list(have)
+        return f"behind the last call: got {rest[0][:100]!r}" if rest else ""
 
 
-def words(numbers):
-    """Numbers as `lab` prints them."""
-    return " ".join(map(str, numbers)) or "none"
+def wrong_with(line, answer):
+    """What is wrong with a line of an answer, or nothing."""
+    if line is None:
+        return "no answer"
+    if callable(answer):
+        return answer(line)
+    place = next((at for at, (have, wish) in enumerate(zip(line, answer)) if have != wish), min(len(line), len(answer)))
+    begin = max(place - 40, 0)
+    return "" if line == answer else f"got {line[begin:][:100]!r}, want {answer[begin:][:100]!r}"
 
 
-def boolean(value):
-    return "true" if value else "false"
+def mark(seed):
+    """The line that is answered ahead of a seed's case, and the call for it."""
+    return f"1: case {seed}", f"lines <<\ncase {seed}\n>>\n"
 
 
-def answered(program, text):
-    """The lines that a script answers, and what is wrong with the run itself."""
-    try:
-        ran = subprocess.run([program], input=text.encode(), capture_output=True, timeout=SECONDS, check=False)
-    except subprocess.TimeoutExpired:
-        return [], f"no answer in {SECONDS} s"
-    wrong = f"status {ran.returncode}: " if ran.returncode or ran.stderr else ""
-    return ran.stdout.decode().split("\n")[:-1], wrong + ran.stderr.decode()[:200]
-
-
-def difference(program, script):
-    """What is wrong with the answers to a script, or nothing."""
-    found, wrong = answered(program, script.text())
-    if wrong:
-        return wrong
-    place = 0
-    for line, wanted in script.calls:
-        for wish in wanted:
-            have = found[place] if place < len(found) else "nothing"
-            if have != wish:
-                return f"{line[:200]!r}: got {have[:200]!r}, want {wish[:200]!r}"
-            place += 1
-    return "" if place == len(found) else f"{len(found) - place} lines more than wanted"
+def answers_by_seed(text, seeds):
+    """The lines that were answered to the case of each seed."""
+    marks, found, lines = {mark(seed)[0]: seed for seed in seeds}, {seed: [] for seed in seeds}, []
+    for line in text.split("\n")[:-1]:
+        if line in marks:
+            lines = found[marks[line]]
+        else:
+            lines.append(line)
+    return found
 
 
 def judge(program, draw, seeds):
-    """What is wrong with the cases of some seeds, each with its script, and the kinds that they have."""
-    scripts = [draw(random.Random(seed)) for seed in seeds]
-    kinds = sum((script.kinds for script in scripts), Counter())
-    found, wrong = answered(program, "".join(script.text() for script in scripts))
-    if not wrong and found == [answer for script in scripts for answer in script.answers()]:
-        return [], kinds
-    told = [(seed, difference(program, script), script.text()) for seed, script in zip(seeds, scripts)]
-    differing = [it for it in told if it[1]]
-    return differing or [(seeds[0], f"with those behind it: {wrong or 'another answer'}", "")], kinds
+    """Of the case of each seed what is wrong with its answers, or nothing, where it is then kept, and the kinds that it met."""
+    cases = {seed: draw(random.Random(seed)) for seed in seeds}
+    script = "".join(mark(seed)[1] + case.script() for seed, case in cases.items())
+    try:
+        ran = subprocess.run([program], input=script.encode(), capture_output=True, timeout=SECONDS, check=False)
+    except subprocess.TimeoutExpired:
+        return [(seed, f"no answer in {SECONDS} s", keep(case, seed), case.kinds) for seed, case in cases.items()]
+    answers = answers_by_seed(ran.stdout.decode(errors="replace"), seeds)
+    wrong = {seed: case.difference(answers[seed]) for seed, case in cases.items()}
+    if ran.returncode or ran.stderr:
+        blamed = next((seed for seed in seeds if wrong[seed]), seeds[-1])
+        wrong[blamed] += f" (status {ran.returncode}, said {ran.stderr.decode(errors='replace')[:200]!r})"
+    for seed, case in cases.items():
+        case.met("answers", len(answers[seed]))
+    return [(seed, wrong[seed], wrong[seed] and keep(case, seed), case.kinds) for seed, case in cases.items()]
 
 
-def keep(text, seed):
-    """Keeps a script that failed, and says where."""
-    folder = pathlib.Path(tempfile.mkdtemp(prefix=f"seed-{seed}-"))
-    (folder / "script.lab").write_text(text)
-    return folder
+def keep(case, seed):
+    """Keeps the script of a case that failed, and says where."""
+    path = pathlib.Path(tempfile.mkdtemp(prefix=f"seed-{seed}-"), "case.lab")
+    path.write_text(case.script_with_answers())
+    return path
 
 
 def main(doc, draw, count):
     """Compares the cases of the seeds that the command line names, or of the first ones; the status to exit with."""
-    words = argparse.ArgumentParser(description=doc.split("\n")[0])
-    words.add_argument("program", metavar="PROGRAM")
-    words.add_argument("--seeds", nargs=2, type=int, default=(0, count), metavar=("FROM", "TO"), help=f"by default 0 {count}")
-    given = words.parse_args()
-    program, seeds = os.path.abspath(given.program), range(*given.seeds)
-    parts = [seeds[at : at + TOGETHER] for at in range(0, len(seeds), TOGETHER)]
+    program, seeds = asked(doc, count)
+    chunks = [seeds[begin : begin + CHUNK] for begin in range(0, len(seeds), CHUNK)]
     failed, kinds = 0, Counter()
     with concurrent.futures.ProcessPoolExecutor(len(os.sched_getaffinity(0))) as pool:
-        for differing, found in pool.map(judge, [program] * len(parts), [draw] * len(parts), parts):
-            kinds += found
-            failed += len(differing)
-            for seed, wrong, text in differing:
-                print(f"seed {seed}: {wrong} (script in {keep(text, seed)})", flush=True)
-    name = pathlib.Path(sys.argv[0]).name
-    print(f"{name}: " + ", ".join(f"{kind} {number}" for kind, number in sorted(kinds.items())))
-    print(f"{len(seeds) - failed} passed, {failed} failed")
-    return 1 if failed or not seeds else 0
+        for judged in pool.map(judge, [program] * len(chunks), [draw] * len(chunks), chunks):
+            for seed, wrong, path, met in judged:
+                kinds += met
+                if wrong:
+                    failed += 1
+                    print(f"seed {seed}: {wrong} (script in {path})", flush=True)
+    return tell(kinds, seeds, failed)
