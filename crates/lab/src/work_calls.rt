@@ -37,7 +37,8 @@ pub fn call(
 }
 
 /// A book in whose open iteration nothing was drawn.
-pub fn fresh_book(book: Book) -> Result<Book, Unanswered>
+#[tactic(auto, using(crate::proofs::Fresh::fresh_book))]
+fn fresh_book(book: Book) -> Result<Book, Unanswered>
     ensures { IfOk result IsFresh }
 {
     let _sound = book.problem();
