@@ -7,3 +7,9 @@ def words(numbers):
 
 def boolean(value):
     return "true" if value else "false"
+
+
+def counts(arch):
+    """What an architecture has, with one switch."""
+    classes = len(arch.groups(True)) + len(arch.groups(False))
+    return f"{len(arch.pins)} pins, {classes} classes, {len(arch.segments)} segments, 1 switches"
