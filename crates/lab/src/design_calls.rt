@@ -21,7 +21,7 @@ pub fn call(
         "net" => read_netlist(rt, session, call, out),
         "place" => read_placement(rt, session, call, out),
         "site" => site(rt.alloc(), session, call.given, out),
-        "block_named" | "net_named" | "block" | "blocks" | "net_at" | "netlist" => {
+        "block_named" | "net_named" | "block" | "block_net" | "blocks" | "net_at" | "netlist" => {
             let netlist = net_file::parse(rt.alloc(), session.net()?, session.arch()?)?;
             look_up(&netlist, call, out)
         }
@@ -94,6 +94,7 @@ fn look_up(netlist: &Netlist<'_>, call: Call<'_>, out: &mut String) -> Result<()
         "block_named" => put_maybe(out, netlist.block_named(one(call.given)?.as_bytes())),
         "net_named" => put_maybe(out, netlist.net_named(one(call.given)?.as_bytes())),
         "block" => put_block_at(netlist, call.given, out),
+        "block_net" => put_block_net(netlist, call.given, out),
         "net_at" => put_net_at(netlist, call.given, out),
         "blocks" => put_blocks(netlist, call.given, out),
         _ => put_nets(netlist, call.given, out),
@@ -104,6 +105,19 @@ fn put_block_at(netlist: &Netlist<'_>, given: &[&str], out: &mut String) -> Resu
     let [block] = numbers::<1>(given)?;
     match netlist.blocks().get(block as usize) {
         Some(block) => put_block(block, out),
+        None => put(out, "none"),
+    }
+}
+
+/// Adds the net of a block's pin.
+fn put_block_net(
+    netlist: &Netlist<'_>,
+    given: &[&str],
+    out: &mut String,
+) -> Result<(), Unanswered> {
+    let [block, pin] = numbers::<2>(given)?;
+    match netlist.blocks().get(block as usize) {
+        Some(block) => put_maybe(out, block.net(pin as usize)),
         None => put(out, "none"),
     }
 }

@@ -27,6 +27,10 @@ pub fn call(
             nothing(call.given)?;
             copy(rt.alloc(), session.device()?, out)
         }
+        "has_architecture" => {
+            nothing(call.given)?;
+            put(out, *session.device()?.architecture() == *session.arch()?)
+        }
         "suits" => {
             nothing(call.given)?;
             put(out, suits(rt.alloc(), session)?)

@@ -57,7 +57,7 @@ fn problem_on(
 }
 
 /// The problem of a design on a device, where it suits.
-fn problem_of(
+pub fn problem_of(
     alloc: Global,
     device: &Device,
     netlist: &Netlist<'_>,

@@ -26,6 +26,18 @@ pub struct RunFiles {
     pub out_room: Option<usize>,
 }
 
+/// The other values, which take the places of those of the session.
+#[derive(Drop)]
+pub struct Others {
+    pub arch: Option<Arch>,
+    pub net: Option<Vec<u8>>,
+    pub device: Option<Device>,
+    pub problem: Option<Problem>,
+    pub tree: Option<Tree>,
+    pub counts: Option<Counts>,
+    pub view: Option<View>,
+}
+
 /// The values that calls made and later calls use. A netlist and a placement are kept as the texts
 /// that they were read from, and are read again where a call looks into them.
 #[derive(Drop)]
@@ -40,15 +52,14 @@ pub struct Session {
     pub routing: Option<Routing>,
     pub settings: Settings,
     pub counts: Option<Counts>,
-    pub other_counts: Option<Counts>,
     pub histories: Option<Histories>,
     pub view: Option<View>,
-    pub other_view: Option<View>,
     pub scratch: Option<Scratch>,
     pub book: Option<Book>,
     /// How many events of a list stand that memory ran out for.
     pub standing: usize,
     pub files: RunFiles,
+    pub others: Others,
 }
 
 impl Session {
@@ -64,10 +75,8 @@ impl Session {
             routing: None,
             settings: Settings::standard(),
             counts: None,
-            other_counts: None,
             histories: None,
             view: None,
-            other_view: None,
             scratch: None,
             book: None,
             standing: 0,
@@ -78,6 +87,15 @@ impl Session {
                 route: None,
                 route_room: None,
                 out_room: None,
+            },
+            others: Others {
+                arch: None,
+                net: None,
+                device: None,
+                problem: None,
+                tree: None,
+                counts: None,
+                view: None,
             },
         }
     }

@@ -1,6 +1,6 @@
 //! Calls of `node_cost`: settings, costs, and counts and histories of nodes.
 
-use crate::answer::{put, put_maybe};
+use crate::answer::put;
 use crate::session::Session;
 use crate::unanswered::Unanswered;
 use crate::words::{Call, nothing, number, numbers};
@@ -60,10 +60,6 @@ fn call_counts(
             Some(histories) => set_history(histories, call.given, out),
             None => Err(Unanswered::Refused("there are no histories")),
         },
-        "other_counts" => {
-            nothing(call.given)?;
-            swap_counts(session, out)
-        }
         "copy_counts" => {
             nothing(call.given)?;
             copy_counts(session, out)
@@ -115,8 +111,7 @@ fn put_present(settings: Settings, iteration: u32, out: &mut String) -> Result<(
 
 /// The number of up to 64 bits that a word is.
 pub fn long_number(word: &str) -> Result<u64, Unanswered> {
-    word.parse::<u64>()
-        .map_err(|_| Unanswered::Misread("a number below 2^64 for a history"))
+    word.parse::<u64>().map_err(|_| Unanswered::Misread("a number below 2^64 for a history"))
 }
 
 /// Adds what it costs to enter a node.
@@ -260,22 +255,12 @@ fn set_history(
     put(out, value)
 }
 
-/// Puts the other counts in the place of these, and tells of how many nodes they are.
-fn swap_counts(session: &mut Session, out: &mut String) -> Result<(), Unanswered> {
-    let counts = session.counts.take();
-    let other = session.other_counts.take();
-    let nodes = other.as_ref().map(|other| other.len());
-    session.counts = other;
-    session.other_counts = counts;
-    put_maybe(out, nodes)
-}
-
 /// The other counts become these, of as many nodes.
 fn copy_counts(session: &mut Session, out: &mut String) -> Result<(), Unanswered> {
     let Some(counts) = &session.counts else {
         return Err(Unanswered::Refused("there are no counts"));
     };
-    let Some(other) = &mut session.other_counts else {
+    let Some(other) = &mut session.others.counts else {
         return Err(Unanswered::Refused("there are no other counts"));
     };
     if other.len() != counts.len() {

@@ -30,6 +30,10 @@ pub fn call(
             nothing(call.given)?;
             look_up(rt.alloc(), session.tree()?, call.name, out)
         }
+        "marks_fit" => {
+            nothing(call.given)?;
+            put(out, marks_fit(session)?)
+        }
         "row_node" | "pair" | "covers" => {
             let [index] = numbers::<1>(call.given)?;
             look_at(session.tree()?, call.name, index, out)
@@ -112,6 +116,15 @@ fn marks_for(alloc: Global, old: Option<Marks>, problem: &Problem) -> Result<Mar
         }
     }
     Ok(Marks::new(alloc, problem)?)
+}
+
+/// Whether the marks of the last check fit the problem.
+fn marks_fit(session: &Session) -> Result<bool, Unanswered> {
+    let problem = session.problem()?;
+    match &session.marks {
+        Some(marks) => Ok(marks.fits(problem)),
+        None => Err(Unanswered::Refused("nothing was checked")),
+    }
 }
 
 /// Tells whether the tree routes a net of the problem. The marks of a check serve the next one.

@@ -1,6 +1,5 @@
 //! Calls of `node_cost`: what a net sees of the others.
 
-use crate::answer::put_maybe;
 use crate::session::Session;
 use crate::settings_calls::{NO_NODE, long_number};
 use crate::unanswered::Unanswered;
@@ -31,10 +30,6 @@ pub fn call(
             nothing(call.given)?;
             look_at(rt.alloc(), session, out)
         }
-        "other_view" => {
-            nothing(call.given)?;
-            swap(session, out)
-        }
         "dump_view" => {
             nothing(call.given)?;
             dump(session.view()?, out)
@@ -63,16 +58,6 @@ fn make(
     Ok(())
 }
 
-/// Puts the other view in the place of this one, and tells how many nodes it has.
-fn swap(session: &mut Session, out: &mut String) -> Result<(), Unanswered> {
-    let view = session.view.take();
-    let other = session.other_view.take();
-    let nodes = other.as_ref().map(|other| other.len());
-    session.view = other;
-    session.other_view = view;
-    put_maybe(out, nodes)
-}
-
 /// Adds how many other nets use a node, and its history.
 fn put_seen(view: &View, id: u32, out: &mut String) -> Result<(), Unanswered> {
     if id as usize >= view.len() {
@@ -83,12 +68,7 @@ fn put_seen(view: &View, id: u32, out: &mut String) -> Result<(), Unanswered> {
 }
 
 /// Changes what is seen of a node, and tells it.
-fn change(
-    view: &mut View,
-    name: &str,
-    given: &[&str],
-    out: &mut String,
-) -> Result<(), Unanswered> {
+fn change(view: &mut View, name: &str, given: &[&str], out: &mut String) -> Result<(), Unanswered> {
     let [id, rest @ ..] = given else {
         return Err(Unanswered::Misread("set ID: OTHERS HISTORY, or leave_out ID"));
     };
