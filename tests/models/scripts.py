@@ -8,10 +8,11 @@ import tempfile
 from collections import Counter
 from dataclasses import dataclass, field
 
-from comparing import SECONDS, asked, tell
+from comparing import asked, tell
 
 # The scripts of so many seeds are one run of the program.
 CHUNK = 8
+SECONDS = 300
 
 
 @dataclass
