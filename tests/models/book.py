@@ -1,4 +1,4 @@
-"""A congestion book, plain and slow, from the definitions: what it holds, written down as lists, and counted by going over all of them."""
+"""A congestion book, plain and slow, from the definitions: what it holds, as lists, and counts made by going over all of them."""
 from judge import tree_fault
 from trees import pairs_of, text_of
 

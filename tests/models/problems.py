@@ -26,13 +26,16 @@ class Problem:
 
     @staticmethod
     def draw(random, device, count, sizes):
-        """So many nets, each of one of these numbers of sinks, or of all that there are; several may share a terminal."""
+        """So many nets, each of one of these numbers of sinks, or of all that there are. Several may share a terminal, and many
+        have a source of several outputs."""
         sources, sinks = nodes_of(device, SOURCE), nodes_of(device, SINK)
+        wide = [source for source in sources if len(device.successors[source]) > 1] or sources
         some = random.sample(sinks, min(len(sinks), random.choice((2, 4, len(sinks)))))
         nets = []
         for _ in range(count):
             size, among = random.choice(sizes), random.choice((some, sinks))
-            nets.append((random.choice(sources), sorted(random.sample(among, min(size, len(among))))))
+            source = random.choice(random.choice((sources, wide)))
+            nets.append((source, sorted(random.sample(among, min(size, len(among))))))
         return Problem(device, nets)
 
     def set_up(self, random, case):

@@ -48,7 +48,7 @@ def hang(rows, parent, way):
 
 
 def draw_legal(random, device, net):
-    """A tree that routes a net, by the search among random costs or by ways that are walked by chance; None where none is found."""
+    """A tree that routes a net, searched for among random costs or walked by chance; None where none is found."""
     if random.random() < 0.5:
         return wander(random, device, net)
     view = draw_view(random, len(device.nodes))
