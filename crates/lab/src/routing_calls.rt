@@ -56,6 +56,9 @@ pub fn keep(session: &mut Session, routing: Routing, out: &mut String) -> Result
 fn list_of_words(alloc: Global, words: &[&str]) -> Result<Option<Pairs>, Unanswered> {
     match words {
         [word] if *word == "none" => Ok(None),
+        [word, rest @ ..] if *word == "pairs" => Ok(Some(Pairs {
+            items: pairs(alloc, rest)?,
+        })),
         _ => Ok(Some(Pairs {
             items: pairs(alloc, words)?,
         })),

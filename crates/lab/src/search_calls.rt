@@ -7,12 +7,12 @@ ghost use Rattle.wavefront.specs.Scratches.{node_total};
 use crate::session::Session;
 use crate::tree_calls::put_tree;
 use crate::unanswered::Unanswered;
-use crate::words::{Call, numbers};
+use crate::words::{Call, nothing, numbers};
 use node_cost::{GREATEST_PRESENT, View};
 use rr_graph::Problem;
 use std::alloc::Global;
 use std::rt::Runtime;
-use wavefront::{Found, Scratch, route_net};
+use wavefront::{Found, Scratch, SearchFault, route_net};
 
 /// Makes a call, and adds its answer.
 pub fn call(
@@ -26,8 +26,19 @@ pub fn call(
             let [net, present, bb] = numbers::<3>(call.given)?;
             search(rt.alloc(), session, Asked { net, present, bb }, out)
         }
+        "search_faults" => {
+            nothing(call.given)?;
+            put_fault(SearchFault::ViewSize, out)?;
+            put_fault(SearchFault::Memory, out)
+        }
         _ => Err(Unanswered::NoCall),
     }
+}
+
+/// Adds a fault's name, and what it says.
+fn put_fault(fault: SearchFault, out: &mut String) -> Result<(), Unanswered> {
+    writeln!(out, "{fault:?}: {fault}")?;
+    Ok(())
 }
 
 /// What is searched for: a net, at a present-congestion factor, so far from its terminals at most.
