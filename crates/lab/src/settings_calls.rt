@@ -22,7 +22,7 @@ pub fn call(
 ) -> Result<(), Unanswered> {
     match call.name {
         "settings" => {
-            session.settings = settings(session.settings, call.given)?;
+            choose(&mut session.settings, call.given)?;
             put_settings(session.settings, out)
         }
         "present" => {
@@ -76,19 +76,23 @@ fn call_counts(
     }
 }
 
-/// The settings that six words give, in the order of `Settings::new`; the standard ones for `standard`; and without words the old ones.
-fn settings(old: Settings, given: &[&str]) -> Result<Settings, Unanswered> {
+/// Chooses the settings that words give; without words they stay.
+fn choose(settings: &mut Settings, given: &[&str]) -> Result<(), Unanswered> {
+    if !given.is_empty() {
+        *settings = chosen(given)?;
+    }
+    Ok(())
+}
+
+/// The settings that six words give, in the order of `Settings::new`, or the standard ones.
+fn chosen(given: &[&str]) -> Result<Settings, Unanswered> {
     match given {
-        [] => Ok(old),
         [word] if *word == "standard" => Ok(Settings::standard()),
-        [first, init, mult, acc, bb, iterations] => Ok(Settings::new(
-            number(first)?,
-            number(init)?,
-            number(mult)?,
-            number(acc)?,
-            number(bb)?,
-            number(iterations)?,
-        )?),
+        [first, init, mult, acc, bb, iterations] => {
+            let (first, init, mult) = (number(first)?, number(init)?, number(mult)?);
+            let (acc, bb, iterations) = (number(acc)?, number(bb)?, number(iterations)?);
+            Ok(Settings::new(first, init, mult, acc, bb, iterations)?)
+        }
         _ => Err(Unanswered::Misread("settings FIRST INIT MULT ACC BB ITERATIONS")),
     }
 }
