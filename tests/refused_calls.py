@@ -73,6 +73,16 @@ class Refusals:
         os.close(reader)
         return answer, bool(told)
 
+    def count(self, run):
+        """How many calls of the kind a run makes: the greatest number that one of them has, narrowed down from both sides."""
+        least, over = 0, 1
+        while self.answer(run, over, False)[1]:
+            least, over = over, 2 * over
+        while over - least > 1:
+            middle = (least + over) // 2
+            least, over = (middle, over) if self.answer(run, middle, False)[1] else (least, middle)
+        return least
+
     def refuse(self, run, is_from, is_thinned):
         """Refuses one call after another until the run makes no more; how many were refused, the last one's number, and how many answers are wrong."""
         way = f"all {self.kind} from" if is_from else self.kind

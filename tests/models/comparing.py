@@ -15,7 +15,7 @@ ROUTE = "new.route"
 
 @dataclass
 class Case:
-    """The words and files of a run, and what must come of it: its text, its status, and the routing file, if there is to be one."""
+    """The words and files of a run, and what must come of it: its text, its status, and the routing file, if there is one."""
 
     words: list
     files: dict
@@ -30,9 +30,9 @@ def difference(program, case):
     with tempfile.TemporaryDirectory() as folder:
         for name, text in case.files.items():
             pathlib.Path(folder, name).write_text(text)
-        run = [program, *case.words]
+        run, nothing = [program, *case.words], subprocess.DEVNULL
         try:
-            ran = subprocess.run(run, cwd=folder, stdin=subprocess.DEVNULL, capture_output=True, text=True, timeout=SECONDS, check=False)
+            ran = subprocess.run(run, cwd=folder, stdin=nothing, capture_output=True, text=True, timeout=SECONDS, check=False)
         except subprocess.TimeoutExpired:
             return f"no answer in {SECONDS} s"
         made = pathlib.Path(folder, ROUTE)

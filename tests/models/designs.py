@@ -54,7 +54,8 @@ def draw_segments(random, kinds=(1, 1, 1, 2, 3, 4, 16, None)):
 
 def draw_arch(random):
     is_absolute = random.random() < 0.3
-    values = (0, ONE // 2, ONE, 3 * ONE // 2, 2 * ONE, 5 * ONE) if is_absolute else (0, ONE // 4, ONE // 3, ONE // 2, ONE, 7 * ONE // 4)
+    tracks, shares = (0, ONE // 2, ONE, 3 * ONE // 2, 2 * ONE, 5 * ONE), (0, ONE // 4, ONE // 3, ONE // 2, ONE, 7 * ONE // 4)
+    values = tracks if is_absolute else shares
     fc = [random.choice(values) for _ in range(3)]
     return Architecture(random.randint(1, 3), draw_pins(random), is_absolute, *fc, draw_segments(random))
 

@@ -1,4 +1,4 @@
-"""A device, plain and slow, from the definitions: a list of its nodes in their order, and an edge wherever two of them have one."""
+"""A device, plain and slow, from the definitions: a list of its nodes in order, and an edge wherever two of them have one."""
 from collections import defaultdict
 from dataclasses import dataclass
 from typing import NamedTuple, Optional
@@ -189,7 +189,8 @@ class Device:
         for x, y in pads:
             for at in range(self.arch.pads):
                 for kind in (OPIN, IPIN):
-                    yield from self.taps_of(Node(kind, x, y, at), self.channels_beside(x, y, ()), self.tracks(self.arch.fc_pad, at))
+                    tracks = self.tracks(self.arch.fc_pad, at)
+                    yield from self.taps_of(Node(kind, x, y, at), self.channels_beside(x, y, ()), tracks)
 
     def taps_of(self, node, channels, tracks):
         for channel in channels:

@@ -1,7 +1,10 @@
-"""Trees of nets as rows, each a node and the row that it hangs on; how they are written, drawn and spoilt."""
-from device import IPIN, SINK
+"""Trees of nets as rows, each a node and the row that it hangs on, and lists of pairs; how they are written, drawn and spoilt."""
+from device import CHANX, IPIN, SINK
 from negotiation import grow
 from views import draw_margin, draw_present, draw_view
+
+# A number that no node has.
+GREATEST = 2**32 - 1
 
 
 def rows_of(source, pairs):
@@ -99,7 +102,7 @@ def begin_elsewhere(random, device, rows):
 
 def any_node(random, device):
     """A node, or rarely a number that is none."""
-    return random.choice((len(device.nodes), 2**32 - 1)) if random.random() < 0.1 else random.randrange(len(device.nodes))
+    return random.choice((len(device.nodes), GREATEST)) if random.random() < 0.1 else random.randrange(len(device.nodes))
 
 
 def replace_one(random, device, rows):
@@ -182,3 +185,84 @@ def spoil(random, device, rows):
     for _ in range(random.choice((1, 1, 1, 2))):
         rows = random.choice(SPOILS)(random, device, rows)
     return rows
+
+
+def draw_tree(random, device, net):
+    """A tree for a net, mostly spoilt."""
+    rows = draw_legal(random, device, net) or [(net[0], None)]
+    return spoil(random, device, rows) if random.random() < 0.8 else rows
+
+
+def shuffle(random, _device, pairs):
+    random.shuffle(pairs)
+
+
+def delete(random, _device, pairs):
+    del pairs[random.randrange(len(pairs))]
+
+
+def double(random, _device, pairs):
+    pairs.insert(random.randrange(len(pairs) + 1), random.choice(pairs))
+
+
+def exchange(random, _device, pairs):
+    one, other = random.randrange(len(pairs)), random.randrange(len(pairs))
+    pairs[one], pairs[other] = pairs[other], pairs[one]
+
+
+def turn(random, _device, pairs):
+    place = random.randrange(len(pairs))
+    pairs[place] = pairs[place][::-1]
+
+
+def add_a_circle(random, device, pairs):
+    """Two wires that join, there and back."""
+    wires = [number for number, node in enumerate(device.nodes) if node.kind >= CHANX]
+    one = random.choice(wires)
+    others = [end for end in device.successors[one] if device.nodes[end].kind >= CHANX]
+    if others:
+        other = random.choice(others)
+        pairs += [(one, other), (other, one)]
+
+
+def add_an_edge(random, device, pairs):
+    begin = random.randrange(len(device.nodes))
+    if device.successors[begin]:
+        pairs.insert(random.randrange(len(pairs) + 1), (begin, random.choice(device.successors[begin])))
+
+
+def replace_a_number(random, device, pairs):
+    place = random.randrange(len(pairs))
+    node = len(device.nodes) if random.random() < 0.1 else random.randrange(len(device.nodes))
+    pairs[place] = random.choice(((node, pairs[place][1]), (pairs[place][0], node)))
+
+
+SPOILS_OF_PAIRS = (shuffle, delete, double, exchange, turn, add_a_circle, add_an_edge, replace_a_number)
+
+
+def draw_list(random, device, net):
+    """The pairs of a tree that routes a net, None where none is found."""
+    rows = draw_legal(random, device, net)
+    return rows and pairs_of(rows)
+
+
+def draw_lists(random, device, problem):
+    """Lists of pairs, mostly such that route the nets; some spoilt, of other nets, left out or one too many."""
+    lists = [draw_list(random, device, net) for net in problem]
+    for _ in range(random.choice((0, 0, 1, 1, 2))):
+        net = random.randrange(len(lists)) if lists else None
+        kind = random.random()
+        if kind < 0.05:
+            lists.append([])
+        elif net is None:
+            break
+        elif kind < 0.1:
+            lists.pop()
+        elif kind < 0.2:
+            lists[net] = random.choice((None, [], random.choice(lists)))
+        elif kind < 0.5:
+            lists[net] = pairs_of(draw_tree(random, device, problem[net])) if net < len(problem) else []
+        elif lists[net]:
+            lists[net] = list(lists[net])
+            random.choice(SPOILS_OF_PAIRS)(random, device, lists[net])
+    return lists
