@@ -65,7 +65,7 @@ fn make(
     out: &mut String,
 ) -> Result<(), Unanswered> {
     let acc = match given {
-        [] => session.settings.acc(),
+        [] => session.settings().acc(),
         _ => {
             let [acc] = numbers::<1>(given)?;
             u16::try_from(acc).map_err(|_| Unanswered::Refused("a factor is at most 65,535"))?

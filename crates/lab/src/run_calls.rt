@@ -102,7 +102,7 @@ fn run_route(
         &mut printed,
         width,
         mode,
-        &session.settings,
+        &session.settings(),
         workers,
         &gate,
     );
@@ -146,7 +146,7 @@ fn run_width(
         &mut printed,
         start,
         mode,
-        &session.settings,
+        &session.settings(),
         workers,
         &gate,
     );

@@ -3,10 +3,52 @@
 use crate::unanswered::Unanswered;
 use arch_file::Arch;
 use congestion_book::Book;
-use node_cost::{Counts, Histories, Settings, View};
+use node_cost::{Counts, Histories, Range, Settings, View};
 use route_tree::{Marks, Routing, Tree};
 use rr_graph::{Device, Problem};
 use wavefront::Scratch;
+
+/// What was chosen of the settings, in the order of `Settings::new`.
+#[derive(Clone, Copy, Drop)]
+pub struct Choice {
+    pub first: u32,
+    pub init: u32,
+    pub mult: u32,
+    pub acc: u32,
+    pub bb: u32,
+    pub iterations: u32,
+}
+
+impl Choice {
+    /// That of the standard settings.
+    pub fn standard() -> Choice {
+        Choice::of(&Settings::standard())
+    }
+
+    /// That of these settings.
+    pub fn of(settings: &Settings) -> Choice {
+        Choice {
+            first: settings.first(),
+            init: settings.init(),
+            mult: settings.mult(),
+            acc: u32::from(settings.acc()),
+            bb: settings.bb(),
+            iterations: settings.iterations(),
+        }
+    }
+
+    /// These settings, or the first of them that is out of range.
+    pub fn settings(self) -> Result<Settings, Range> {
+        Settings::new(
+            self.first,
+            self.init,
+            self.mult,
+            self.acc,
+            self.bb,
+            self.iterations,
+        )
+    }
+}
 
 /// The text of a file of a run of the program, and behind how many bytes its source fails.
 #[derive(Drop)]
@@ -50,7 +92,7 @@ pub struct Session {
     pub tree: Option<Tree>,
     pub marks: Option<Marks>,
     pub routing: Option<Routing>,
-    pub settings: Settings,
+    pub choice: Choice,
     pub counts: Option<Counts>,
     pub histories: Option<Histories>,
     pub view: Option<View>,
@@ -73,7 +115,7 @@ impl Session {
             tree: None,
             marks: None,
             routing: None,
-            settings: Settings::standard(),
+            choice: Choice::standard(),
             counts: None,
             histories: None,
             view: None,
@@ -97,6 +139,14 @@ impl Session {
                 counts: None,
                 view: None,
             },
+        }
+    }
+
+    /// The settings that were chosen, else the standard ones.
+    pub fn settings(&self) -> Settings {
+        match self.choice.settings() {
+            Ok(settings) => settings,
+            Err(_) => Settings::standard(),
         }
     }
 

@@ -1,7 +1,7 @@
 //! Calls of `node_cost`: settings, costs, and counts and histories of nodes.
 
 use crate::answer::put;
-use crate::session::Session;
+use crate::session::{Choice, Session};
 use crate::unanswered::Unanswered;
 use crate::words::{Call, nothing, number, numbers};
 use node_cost::{
@@ -22,12 +22,12 @@ pub fn call(
 ) -> Result<(), Unanswered> {
     match call.name {
         "settings" => {
-            choose(&mut session.settings, call.given)?;
-            put_settings(session.settings, out)
+            session.choice = chosen(session.choice, call.given)?;
+            put_choice(session.choice, out)
         }
         "present" => {
             let [iteration] = numbers::<1>(call.given)?;
-            put_present(session.settings, iteration, out)
+            put_present(session.settings(), iteration, out)
         }
         "cost" => put_cost(call.given, out),
         _ => call_counts(rt.alloc(), session, call, out),
@@ -76,32 +76,34 @@ fn call_counts(
     }
 }
 
-/// Chooses the settings that words give; without words they stay.
-fn choose(settings: &mut Settings, given: &[&str]) -> Result<(), Unanswered> {
-    if !given.is_empty() {
-        *settings = chosen(given)?;
-    }
-    Ok(())
-}
-
-/// The settings that six words give, in the order of `Settings::new`, or the standard ones.
-fn chosen(given: &[&str]) -> Result<Settings, Unanswered> {
+/// The settings that six words give, or the standard ones; without words the old ones.
+fn chosen(old: Choice, given: &[&str]) -> Result<Choice, Unanswered> {
     match given {
-        [word] if *word == "standard" => Ok(Settings::standard()),
-        [first, init, mult, acc, bb, iterations] => {
-            let (first, init, mult) = (number(first)?, number(init)?, number(mult)?);
-            let (acc, bb, iterations) = (number(acc)?, number(bb)?, number(iterations)?);
-            Ok(Settings::new(first, init, mult, acc, bb, iterations)?)
-        }
+        [] => Ok(old),
+        [word] if *word == "standard" => Ok(Choice::standard()),
+        [first, init, mult, acc, bb, iterations] => within_ranges(Choice {
+            first: number(first)?,
+            init: number(init)?,
+            mult: number(mult)?,
+            acc: number(acc)?,
+            bb: number(bb)?,
+            iterations: number(iterations)?,
+        }),
         _ => Err(Unanswered::Misread("settings FIRST INIT MULT ACC BB ITERATIONS")),
     }
 }
 
-fn put_settings(settings: Settings, out: &mut String) -> Result<(), Unanswered> {
-    write!(out, "first {}, init {}", settings.first(), settings.init())?;
-    write!(out, ", mult {}, acc {}", settings.mult(), settings.acc())?;
-    write!(out, ", bb {}", settings.bb())?;
-    writeln!(out, ", iterations {}", settings.iterations())?;
+/// The choice, as the settings have it that it makes.
+fn within_ranges(choice: Choice) -> Result<Choice, Unanswered> {
+    let settings = choice.settings()?;
+    Ok(Choice::of(&settings))
+}
+
+fn put_choice(choice: Choice, out: &mut String) -> Result<(), Unanswered> {
+    write!(out, "first {}, init {}", choice.first, choice.init)?;
+    write!(out, ", mult {}, acc {}", choice.mult, choice.acc)?;
+    write!(out, ", bb {}", choice.bb)?;
+    writeln!(out, ", iterations {}", choice.iterations)?;
     Ok(())
 }
 

@@ -79,7 +79,7 @@ fn make_iteration(
         gate_words(rest, workers)?,
         session.book()?.problem().nets(),
     )?;
-    let settings = session.settings;
+    let settings = session.settings();
     let book = take_fresh(session)?;
     let (book, reports) = iterate(rt, rt.alloc(), book, &settings, iteration, workers, &gate)?;
     let nets = book.problem().nets();
@@ -144,7 +144,7 @@ fn negotiate_routing(
     };
     let workers = worker_count(workers)?;
     let words = gate_words(rest, workers)?;
-    let settings = session.settings;
+    let settings = session.settings();
     let problem = session.problem()?.copy(rt.alloc())?;
     let gate = LabGate::new(rt, words, problem.nets())?;
     let outcome = negotiate(rt, rt.alloc(), problem, &settings, workers, &gate)?;
@@ -227,7 +227,7 @@ fn width_report<R: Runtime + Threads + Wait + Sync + AllocGlobal>(
         arch,
         &netlist,
         &placement,
-        &session.settings,
+        &session.settings(),
         start,
         mode,
         workers,
