@@ -236,8 +236,8 @@ fn put_fault(alloc: Global, fault: &AppFault, out: &mut String) -> Result<(), Un
     put_name(out, line.into_inner().as_slice())
 }
 
-/// Adds the lines that a sink took, each behind the sink's name.
-fn put_taken(name: &str, taken: &ShortSink, out: &mut String) -> Result<(), Unanswered> {
+/// Adds the lines that a sink took, each behind the sink's name, and where the last one isn't whole that it breaks off.
+pub fn put_taken(name: &str, taken: &ShortSink, out: &mut String) -> Result<(), Unanswered> {
     let bytes = taken.bytes.as_slice();
     let Ok(text) = str::from_utf8(bytes) else {
         writeln!(out, "{name}: {bytes:?}")?;
@@ -245,6 +245,9 @@ fn put_taken(name: &str, taken: &ShortSink, out: &mut String) -> Result<(), Unan
     };
     for line in text.lines() {
         writeln!(out, "{name}: {line}")?;
+    }
+    if !text.is_empty() && !text.ends_with('\n') {
+        writeln!(out, "{name} breaks off")?;
     }
     Ok(())
 }
