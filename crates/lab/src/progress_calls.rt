@@ -19,7 +19,8 @@ use std::time::{Clock, Duration};
 use width_search::TrialGate;
 
 /// How the call is written.
-const PROGRESS: &str = "progress << or progress unwanted <<, with lines as they are told";
+const PROGRESS: &str =
+    "progress << or progress unwanted <<, with a time or a gate's call on each line, or end";
 
 /// Where the clock stands at first, in milliseconds: progress is made at any time.
 const BEGIN: u64 = 3_600_000;
