@@ -4,9 +4,10 @@ use crate::session::Session;
 use crate::unanswered::Unanswered;
 use crate::words::{Call, number};
 use crate::{
-    arch_calls, book_calls, design_calls, desk_calls, device_calls, event_calls, file_calls,
-    other_calls, problem_calls, reading_back, route_text_calls, routing_calls, run_calls,
-    search_calls, settings_calls, text_calls, tree_calls, view_calls, work_calls,
+    arch_calls, book_calls, design_calls, desk_calls, device_calls, event_calls, fault_calls,
+    file_calls, other_calls, problem_calls, progress_calls, reading_back, route_text_calls,
+    routing_calls, run_calls, search_calls, settings_calls, text_calls, tree_calls, view_calls,
+    work_calls,
 };
 use std::rt::Runtime;
 use std::sync::Wait;
@@ -127,6 +128,12 @@ fn make_one(
     }
     if let Err(Unanswered::NoCall) = made {
         made = run_calls::call(rt, session, call, out);
+    }
+    if let Err(Unanswered::NoCall) = made {
+        made = fault_calls::call(rt, session, call, out);
+    }
+    if let Err(Unanswered::NoCall) = made {
+        made = progress_calls::call(rt, call, out);
     }
     if let Err(Unanswered::NoCall) = made {
         made = reading_back::call(rt, session, call, out);

@@ -69,7 +69,7 @@ fn run_graph(
     let mut printed = sink(alloc, session.files.out_room);
     let answer = graph_run(alloc, &mut arch, nx, ny, width, mode, &mut printed);
     let printed = printed.into_inner();
-    put_end(alloc, answer.map(|_| 0), printed.lacked, out)?;
+    put_end(alloc, answer.map(|_| 0), &[&printed], out)?;
     put_taken("out", &printed, out)
 }
 
@@ -188,7 +188,8 @@ fn run_check(
         mode,
     );
     let printed = printed.into_inner();
-    put_end(rt.alloc(), answer.map(verdict_status), printed.lacked, out)?;
+    let answer = answer.map(|verdict| verdict_status(verdict));
+    put_end(rt.alloc(), answer, &[&printed], out)?;
     put_taken("out", &printed, out)
 }
 
@@ -200,26 +201,28 @@ fn put_run(
     written: ShortSink,
     out: &mut String,
 ) -> Result<(), Unanswered> {
-    put_end(alloc, answer, printed.lacked || written.lacked, out)?;
+    put_end(alloc, answer, &[&printed, &written], out)?;
     put_taken("out", &printed, out)?;
     put_taken("route", &written, out)
 }
 
-/// Adds the status of a run, and the line of its fault. Memory that a sink lacked is told as such.
+/// Adds the status of a run, and the line of its fault. Memory that a sink lacked is told as such, and so is a run without memory or a
+/// thread of which no sink took anything.
 fn put_end(
     alloc: Global,
     answer: Result<u8, AppFault>,
-    lacked: bool,
+    sinks: &[&ShortSink],
     out: &mut String,
 ) -> Result<(), Unanswered> {
+    let is_untouched = sinks.iter().all(|sink| sink.bytes.is_empty());
     match answer {
-        _ if lacked => Err(Unanswered::Memory),
+        _ if sinks.iter().any(|sink| sink.lacked) => Err(Unanswered::Memory),
         Ok(code) => {
             writeln!(out, "status {code}")?;
             Ok(())
         }
-        Err(AppFault::Memory) => Err(Unanswered::Memory),
-        Err(AppFault::NoThread) => Err(Unanswered::Work(WorkFault::NoThread)),
+        Err(AppFault::Memory) if is_untouched => Err(Unanswered::Memory),
+        Err(AppFault::NoThread) if is_untouched => Err(Unanswered::Work(WorkFault::NoThread)),
         Err(fault) => {
             writeln!(out, "status {}", status(&fault))?;
             put_fault(alloc, &fault, out)
@@ -236,8 +239,8 @@ fn put_fault(alloc: Global, fault: &AppFault, out: &mut String) -> Result<(), Un
     put_name(out, line.into_inner().as_slice())
 }
 
-/// Adds the lines that a sink took, each behind the sink's name.
-fn put_taken(name: &str, taken: &ShortSink, out: &mut String) -> Result<(), Unanswered> {
+/// Adds the lines that a sink took, each behind the sink's name, and where the last one isn't whole that it breaks off.
+pub fn put_taken(name: &str, taken: &ShortSink, out: &mut String) -> Result<(), Unanswered> {
     let bytes = taken.bytes.as_slice();
     let Ok(text) = str::from_utf8(bytes) else {
         writeln!(out, "{name}: {bytes:?}")?;
@@ -245,6 +248,9 @@ fn put_taken(name: &str, taken: &ShortSink, out: &mut String) -> Result<(), Unan
     };
     for line in text.lines() {
         writeln!(out, "{name}: {line}")?;
+    }
+    if !text.is_empty() && !text.ends_with('\n') {
+        writeln!(out, "{name} breaks off")?;
     }
     Ok(())
 }

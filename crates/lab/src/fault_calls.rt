@@ -1,0 +1,79 @@
+//! Calls of `runs`: the lines of faults, and the statuses that they give.
+
+use crate::answer::put;
+use crate::run_calls::put_taken;
+use crate::session::Session;
+use crate::sinks::sink;
+use crate::unanswered::Unanswered;
+use crate::words::Call;
+use runs::{AppFault, InputFile, print_fault, status};
+use std::alloc::Global;
+use std::rt::Runtime;
+
+/// How the call is written.
+const FAULT: &str = "fault_line unwritten, memory, no_thread, astray, or unread and a file's kind";
+
+/// Makes a call, and adds its answer.
+pub fn call(
+    rt: &(impl Runtime + AllocGlobal),
+    session: &Session,
+    call: Call<'_>,
+    out: &mut String,
+) -> Result<(), Unanswered> {
+    match call.name {
+        "fault_line" => put_line(rt.alloc(), session.files.out_room, fault(call.given)?, out),
+        _ => Err(Unanswered::NoCall),
+    }
+}
+
+/// The fault that the words name.
+fn fault(given: &[&str]) -> Result<AppFault, Unanswered> {
+    match given {
+        [word, file] if *word == "unread" => Ok(AppFault::Unread(input_file(*file)?)),
+        [word] => other_fault(*word),
+        _ => Err(Unanswered::Misread(FAULT)),
+    }
+}
+
+/// The fault that a word names.
+fn other_fault(word: &str) -> Result<AppFault, Unanswered> {
+    match word {
+        "unwritten" => Ok(AppFault::Unwritten),
+        "memory" => Ok(AppFault::Memory),
+        "no_thread" => Ok(AppFault::NoThread),
+        "astray" => Ok(AppFault::Astray),
+        _ => Err(Unanswered::Misread(FAULT)),
+    }
+}
+
+/// The file of a kind.
+fn input_file(kind: &str) -> Result<InputFile, Unanswered> {
+    match kind {
+        "arch" => Ok(InputFile::Arch),
+        "net" => Ok(InputFile::Net),
+        "place" => Ok(InputFile::Place),
+        "route" => Ok(InputFile::Route),
+        _ => Err(Unanswered::Misread(FAULT)),
+    }
+}
+
+/// Adds the status of a fault, what a sink took of its line, and whether that is all.
+fn put_line(
+    alloc: Global,
+    room: Option<usize>,
+    fault: AppFault,
+    out: &mut String,
+) -> Result<(), Unanswered> {
+    let mut printed = sink(alloc, room);
+    let answer = print_fault(&fault, &mut printed);
+    let printed = printed.into_inner();
+    if printed.lacked {
+        return Err(Unanswered::Memory);
+    }
+    writeln!(out, "status {}", status(&fault))?;
+    put_taken("out", &printed, out)?;
+    match answer {
+        Ok(()) => Ok(()),
+        Err(_) => put(out, "broken"),
+    }
+}
