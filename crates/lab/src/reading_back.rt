@@ -90,7 +90,8 @@ fn text_again(
 ) -> Result<Vec<u8>, Unanswered>
     requires design { IsDesign netlist.now placement.now problem.now }
     requires fits { fits_problem problem.now routing.now ≡ true }
-    ensures { IfOk result (λ text. text.items ≡ text_of netlist.now placement.now problem.now routing.now) }
+    ensures { IfOk result (λ text.
+        text.items ≡ text_of netlist.now placement.now problem.now routing.now) }
 {
     let mut sink = Adapted::new(Vec::new(alloc));
     if write(netlist, placement, problem, routing, &mut sink).is_err() {

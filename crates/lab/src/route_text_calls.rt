@@ -51,7 +51,8 @@ fn problem_on(
 ) -> Result<Problem, AllocError>
     requires { suits_design device netlist.now placement.now ≡ true }
     ensures design { IfOk result (λ p. IsDesign netlist.now placement.now p) }
-    ensures numbers { IfOk result (λ p. map (λ n. n.number) p.nets ≡ routed_numbers netlist.now) }
+    ensures numbers { IfOk result (λ p.
+        map (λ n. n.number) p.nets ≡ routed_numbers netlist.now) }
 {
     Problem::new(alloc, device, netlist, placement)
 }
@@ -64,7 +65,8 @@ pub fn problem_of(
     placement: &Placement,
 ) -> Result<Problem, Unanswered>
     ensures design { IfOk result (λ p. IsDesign netlist.now placement.now p) }
-    ensures numbers { IfOk result (λ p. map (λ n. n.number) p.nets ≡ routed_numbers netlist.now) }
+    ensures numbers { IfOk result (λ p.
+        map (λ n. n.number) p.nets ≡ routed_numbers netlist.now) }
 {
     let device = device.copy(alloc)?;
     if !device.suits(netlist, placement) {

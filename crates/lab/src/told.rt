@@ -75,10 +75,10 @@ impl fmt::Display for Told {
                 searches,
                 turns,
                 end,
-            } => write!(
-                f,
-                "iteration {iteration}: {all} us; searches {searches} us, turns {turns} us, end {end} us"
-            ),
+            } => {
+                write!(f, "iteration {iteration}: {all} us; searches {searches} us")?;
+                write!(f, ", turns {turns} us, end {end} us")
+            }
             Told::Trial { width, all } => write!(f, "width {width}: {all} us"),
         }
     }
