@@ -87,6 +87,12 @@ impl<'a, R: Wait> Terminal<'a, R> {
         }
     }
 
+    /// Sets the clock to so many milliseconds.
+    fn set_clock(&self, time: u32) {
+        let time = BEGIN.saturating_add(time as u64);
+        self.milliseconds.store(time, Ordering::SeqCst);
+    }
+
     /// Keeps what is written.
     fn keep<D: Display + Drop>(&self, value: D, end: &str) {
         let line = self.line.load(Ordering::SeqCst);
@@ -163,28 +169,23 @@ fn show(
     for line in text.lines() {
         terminal.line.fetch_add(1, Ordering::SeqCst);
         let words = words(rt.alloc(), line)?;
-        if let [name, given @ ..] = words.as_slice() {
-            step(rt.alloc(), &terminal, &progress, *name, given)?;
+        match words.as_slice() {
+            [name, time] if *name == "at" => terminal.set_clock(number(time)?),
+            [name, given @ ..] => step(rt.alloc(), &progress, *name, given)?,
+            [] => (),
         }
     }
     terminal.put(out)
 }
 
-/// Sets the clock, or tells the progress what a line says.
-fn step<R: Wait>(
+/// Tells the progress what a line says.
+fn step<T: Eprint + Clock>(
     alloc: Global,
-    terminal: &Terminal<'_, R>,
-    progress: &Progress<'_, Terminal<'_, R>>,
+    progress: &Progress<'_, T>,
     name: &str,
     given: &[&str],
 ) -> Result<(), Unanswered> {
     match name {
-        "at" => {
-            let [time] = numbers::<1>(given)?;
-            let time = BEGIN.saturating_add(time as u64);
-            terminal.milliseconds.store(time, Ordering::SeqCst);
-            Ok(())
-        }
         "tries" => {
             let [width] = numbers::<1>(given)?;
             progress.tries(width);
