@@ -10,6 +10,11 @@ use node_cost::{
 use std::alloc::Global;
 use std::rt::Runtime;
 
+/// The number of a node that stands at a place.
+pub fn index_of(place: usize) -> u32 {
+    u32::try_from(place).unwrap_or(u32::MAX)
+}
+
 /// What a node's number must be.
 pub const NO_NODE: Unanswered = Unanswered::Refused("there is no such node");
 
@@ -280,7 +285,7 @@ fn copy_counts(session: &mut Session, out: &mut String) -> Result<(), Unanswered
 /// Adds a line for each node that a net uses.
 fn dump_counts(counts: &Counts, out: &mut String) -> Result<(), Unanswered> {
     for id in 0..counts.len() {
-        let count = count(counts, id as u32)?;
+        let count = count(counts, index_of(id))?;
         if count > 0 {
             writeln!(out, "{id}: {count}")?;
         }
@@ -300,7 +305,8 @@ fn copy_histories(
         other.copy_from(&copy);
     }
     for id in 0..histories.len() {
-        if history(&other, id as u32)? != history(histories, id as u32)? {
+        let id = index_of(id);
+        if history(&other, id)? != history(histories, id)? {
             return put(out, false);
         }
     }

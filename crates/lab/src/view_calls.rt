@@ -1,7 +1,7 @@
 //! Calls of `node_cost`: what a net sees of the others.
 
 use crate::session::Session;
-use crate::settings_calls::{NO_NODE, long_number};
+use crate::settings_calls::{NO_NODE, index_of, long_number};
 use crate::unanswered::Unanswered;
 use crate::words::{Call, nothing, number, numbers};
 use node_cost::{GREATEST_HISTORY, GREATEST_OTHERS, View};
@@ -131,7 +131,7 @@ fn look_at(alloc: Global, session: &mut Session, out: &mut String) -> Result<(),
 /// Adds a line for each node that another net uses or that has a history.
 fn dump(view: &View, out: &mut String) -> Result<(), Unanswered> {
     for id in 0..view.len() {
-        put_known(view, id as u32, out)?;
+        put_known(view, index_of(id), out)?;
     }
     Ok(())
 }
