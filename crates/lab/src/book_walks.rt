@@ -97,10 +97,9 @@ pub fn check_trees(
 ) -> Result<Walked, Unanswered> {
     let trees = trees_of(rt.alloc(), problem, routing.lists.as_slice())?;
     let mut marks = Marks::new(rt.alloc(), problem)?;
-    let pairs = count_pairs(trees.as_slice());
     let begin = now(rt)?;
     let faults = count_faults(problem, trees.as_slice(), &mut marks);
-    ending(rt, begin, pairs, faults)
+    ending(rt, begin, count_pairs(trees.as_slice()), faults)
 }
 
 /// Draws so many times: how many nets were given.
