@@ -58,6 +58,7 @@ class Refusals:
 
     library: str
     kind: str
+    each: int = EACH_CALL
 
     def answer(self, run, number, is_from):
         """The answer of a run where the call of this number is refused, and if wanted all behind it; and whether it was made."""
@@ -88,7 +89,7 @@ class Refusals:
         way = f"all {self.kind} from" if is_from else self.kind
         refused = last = wrong = 0
         with concurrent.futures.ThreadPoolExecutor(len(os.sched_getaffinity(0))) as pool:
-            for chunk in chunks(numbers(is_thinned)):
+            for chunk in chunks(numbers(is_thinned, self.each)):
                 given = list(pool.map(lambda number: self.answer(run, number, is_from), chunk))
                 for number, (answer, told) in zip(chunk, given):
                     if answer is None or not run.is_right(answer):
@@ -102,11 +103,11 @@ class Refusals:
         return refused, wrong
 
 
-def numbers(is_thinned):
+def numbers(is_thinned, each):
     number = 1
     while True:
         yield number
-        number += 1 + (number // 100 if is_thinned and number >= EACH_CALL else 0)
+        number += 1 + (number // 100 if is_thinned and number >= each else 0)
 
 
 def chunks(sequence):
