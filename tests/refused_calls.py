@@ -59,6 +59,7 @@ class Refusals:
     library: str
     kind: str
     each: int = EACH_CALL
+    share: int = 100
 
     def answer(self, run, number, is_from):
         """The answer of a run where the call of this number is refused, and if wanted all behind it; and whether it was made."""
@@ -84,12 +85,19 @@ class Refusals:
             least, over = (middle, over) if self.answer(run, middle, False)[1] else (least, middle)
         return least
 
+    def numbers(self, is_thinned):
+        """The numbers of the calls that are refused: where they are thinned out, later ones by a share of what lies behind."""
+        number = 1
+        while True:
+            yield number
+            number += 1 + (number // self.share if is_thinned and number >= self.each else 0)
+
     def refuse(self, run, is_from, is_thinned):
         """Refuses one call after another until the run makes no more; how many were refused, the last one's number, and how many answers are wrong."""
         way = f"all {self.kind} from" if is_from else self.kind
         refused = last = wrong = 0
         with concurrent.futures.ThreadPoolExecutor(len(os.sched_getaffinity(0))) as pool:
-            for chunk in chunks(numbers(is_thinned, self.each)):
+            for chunk in chunks(self.numbers(is_thinned)):
                 given = list(pool.map(lambda number: self.answer(run, number, is_from), chunk))
                 for number, (answer, told) in zip(chunk, given):
                     if answer is None or not run.is_right(answer):
@@ -101,13 +109,6 @@ class Refusals:
                     break
         print(f"{run.name}: {way}: {refused} of some {last} refused, {wrong} wrong answers", flush=True)
         return refused, wrong
-
-
-def numbers(is_thinned, each):
-    number = 1
-    while True:
-        yield number
-        number += 1 + (number // 100 if is_thinned and number >= each else 0)
 
 
 def chunks(sequence):
