@@ -1,5 +1,5 @@
 -- What a draw shows, and what a turn leaves as it was.
-use Rattle.std.proofs.Common.{◌≡◌, inl, inr, ℕ, ◌+◌, ◌<◌, ◌==◌, List, [], ◌∷◌, ◌++◌, length, Option, Some, None, Result, Ok, Err, refl, sym, ap, ◌∙◌, arith, get_or-set_other}
+use Rattle.std.proofs.Common.{◌≡◌, inl, inr, ℕ, ◌+◌, ◌<◌, ◌==◌, List, [], ◌∷◌, ◌++◌, length, Option, Some, None, is_none, Result, Ok, Err, refl, sym, ap, ◌∙◌, arith, get_or-set_other}
 use Rattle.std.proofs.lemmas.Bool.{cases_eq, eq-eqb}
 use Rattle.std.proofs.lemmas.List.Sums.{sum_by-append, sum_by-cons}
 use Rattle.rr_graph.specs.Problems.{RoutingProblem}
@@ -44,11 +44,11 @@ turn_within opening c worker net list within = record {
   earlier = within.earlier;
   unturned = λ i none. elim (cases_eq i net) [
     | inl here ↦
-        let t = turn_of worker net _ in
+        let t = turn_of worker net (is_none list) in
         let one : one_if (net == i) ≡ 1 = ap one_if (eq-eqb net i (sym here)) in
         absurd (omega (arith, none, one, one_more_turn c.turns t i))
     | inr apart ↦
-        let t = turn_of worker net _ in
+        let t = turn_of worker net (is_none list) in
         get_or-set_other c.lists net i list None apart ∙ within.unturned i (omega (arith, none, one_more_turn c.turns t i))
   ];
 }
