@@ -22,7 +22,8 @@ pub(crate) trait Key: Copy + Drop {
 
     /// The number that is kept.
     fn wide(self) -> u128
-        ensures { result ≡ value self };
+        ensures exact { result ≡ value self }
+        ensures within { result ≤ range };
 
     /// Which of two is less.
     fn compare(&self, other: &Self) -> Ordering

@@ -265,7 +265,8 @@ impl<K: Key> Queue<K> {
     /// Takes the least entry out.
     pub(crate) fn pop(&mut self) -> Entry
         requires { 0 < length self.old }
-        ensures { IsPopped self.old self.new result }
+        ensures popped { IsPopped self.old self.new result }
+        ensures within { result.key ≤ K.range }
     {
         self.bound = refill(&mut self.near, &mut self.far, self.bound);
         let waiting = take_least(&mut self.near);

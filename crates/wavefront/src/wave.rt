@@ -166,13 +166,6 @@ impl<K: Key> Wave<K> {
         self.queue.is_empty()
     }
 
-    /// What costs this or more may have been left out.
-    fn limit(&self) -> u128
-        ensures { result ≡ self.now.limit }
-    {
-        self.limit
-    }
-
     /// Whether a way may have been left out since its cost is too great for the keys.
     pub(crate) fn leaves_out(&self) -> bool
         ensures left { result ≡ not (self.now.limit == FAR) }
@@ -281,10 +274,11 @@ impl<K: Key> Wave<K> {
         self.put(space, node, K::zero(), node, None)
     }
 
-    /// Takes the entry that is nearest out of the queue.
+    /// Takes the entry that is nearest out of the queue. Nothing was left out that costs less.
     fn pop(&mut self) -> Entry
         requires { 0 < length self.old.queue }
-        ensures { IsPopped self.old self.new result }
+        ensures popped { IsPopped self.old self.new result }
+        ensures within { result.key ≤ self.new.limit }
     {
         self.queue.pop()
     }

@@ -239,7 +239,8 @@ impl<K: Key> Wave<K> {
         requires some { 0 < length self.old.queue }
         requires wave { IsWave space.now self.old }
         requires complete { IsComplete space.now self.old }
-        ensures { IsNearest space.now self.old self.new result }
+        ensures nearest { IsNearest space.now self.old self.new result }
+        ensures within { result.key ≤ self.new.limit }
     {
         self.pop()
     }
@@ -263,9 +264,6 @@ impl<K: Key> Wave<K> {
         let mut waited = self.queue.len();
         while !self.is_spent() {
             let entry = self.nearest(space);
-            if self.limit() < entry.key {
-                return Ok(None);
-            }
             let label = self.label(entry.node);
             if label.key < entry.label {
                 continue;
