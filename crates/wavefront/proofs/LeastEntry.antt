@@ -9,7 +9,7 @@ use Rattle.wavefront.specs.WaveState.{Wave}
 use Rattle.wavefront.specs.Label.{unreached}
 use Rattle.wavefront.specs.Space.{Space, entry_cost}
 use Rattle.wavefront.specs.Ways.{IsWay, way_cost}
-use Rattle.wavefront.specs.Wave.{IsWave, IsComplete, IsCompleteBut, IsDone, IsEntered, IsSettled, IsOpen, WentOn, key_of, label_at, work_of, parent_of}
+use Rattle.wavefront.specs.Wave.{IsWave, IsComplete, IsCompleteBut, IsDone, IsEntered, IsOpen, WentOn, key_of, label_at, work_of, parent_of}
 use Rattle.wavefront.specs.Steps.{IsPopped, IsLeastKey, IsNearest, IsTaken, SameOrigins}
 use Rattle.wavefront.proofs.Lists.{contains_first, contains_later, contains_cases}
 use Rattle.wavefront.proofs.Lower.{same_origin, still_dead, still_open, still_serves}
@@ -60,12 +60,6 @@ module _ (s t : Wave) (x : Entry) (p : IsPopped s t x) where
   popped_went space key more b up (inl dead) = inl (still_dead space s t b (λ c. (popped_origins c).1) dead)
   popped_went space key more b up (inr went) = inr (let k = ap (λ l. l.key) (same_labels b) in let limit = p.limit in omega (arith, k, limit, went, up))
 
-  popped_settled : (space : Space) (v : ℕ) → IsSettled space s v → IsSettled space t v
-  popped_settled space v settled = record {
-    relaxed = λ b edge inside. popped_went space (key_of s v) (key_of t v) b (let d = ap (λ l. l.key) (same_labels v) in omega (arith, d)) (settled.relaxed b edge inside);
-    taken = λ h. settled.taken (h.0, λ o. h.1 (same_origin s t v (same_labels v) o));
-  }
-
   popped_wave : (space : Space) → IsWave space s → IsWave space t
   popped_wave space wave = record {
     rows = ap length p.labels ∙ wave.rows;
@@ -80,23 +74,38 @@ module _ (s t : Wave) (x : Entry) (p : IsPopped s t x) where
     entries = λ e h. let k = ap (λ l. l.key) (same_labels e.node) in let b = wave.entries e (still_in e h) in (omega (arith, k, b.0), b.1, omega (arith, k, b.2));
   }
 
+  -- an entry is still there where it is not the one taken
+  kept_in : (v : ℕ) → (v ≡ x.node → x.label ≡ key_of s v → ⊥) → (e : Entry) → Contains s.queue e → e.node ≡ v → e.label ≡ key_of s v → Contains t.queue e
+  kept_in v other e there node label = elim (contains_cases x e t.queue (Contains-permutation _ _ _ p.queue.moved there)) [
+    | inl same ↦ absurd (other (sym node ∙ ap (λ y. y.node) same) (sym (ap (λ y. y.label) same) ∙ label))
+    | inr later ↦ later
+  ]
+
   -- a node is done after the taking where its entry is not the one taken
   popped_done : (space : Space) (v : ℕ) → IsDone space s v → (v ≡ x.node → x.label ≡ key_of s v → ⊥) → IsDone space t v
   popped_done space v done other near =
       let k = ap (λ l. l.key) (same_labels v) in
-      elim (done (omega (arith, k, near))) [
-        | inl waits ↦ elim (contains_cases x waits.entry t.queue (Contains-permutation _ _ _ p.queue.moved waits.there)) [
-          | inl same ↦ absurd (other (sym waits.node ∙ ap (λ y. y.node) same) (sym (ap (λ y. y.label) same) ∙ waits.label))
-          | inr later ↦ inl (record {
-            entry = waits.entry;
-            there = later;
-            node = waits.node;
-            label = waits.label ∙ sym k;
-            low = λ b way target walk. let low = waits.low b way (still_open space s t b (λ v. (popped_origins v).1) target) walk in omega (arith, low, k);
+      let was = done (omega (arith, k, near)) in (
+        λ b edge inside. elim (was.0 b edge inside) [
+          | inl went ↦ inl (popped_went space (key_of s v) (key_of t v) b (omega (arith, k)) went)
+          | inr covered ↦ inr (record {
+            entry = covered.entry;
+            there = kept_in v other covered.entry covered.there covered.node covered.label;
+            node = covered.node;
+            label = covered.label ∙ sym k;
+            low = λ c way target walk. let low = covered.low c way (still_open space s t c (λ u. (popped_origins u).1) target) walk in omega (arith, low, k);
           })
-        ]
-        | inr settled ↦ inr (popped_settled space v settled)
-      ]
+        ],
+        λ target.
+            let awaited = was.1 (still_open space s t v (λ u. (popped_origins u).1) target) in
+            record {
+              entry = awaited.entry;
+              there = kept_in v other awaited.entry awaited.there awaited.node awaited.label;
+              node = awaited.node;
+              label = awaited.label ∙ sym k;
+              low = let low = awaited.low in omega (arith, low, k);
+            },
+      )
 
   popped_but : (space : Space) → IsComplete space s → IsCompleteBut space t x.node
   popped_but space complete = record { each = λ v ne. popped_done space v (complete.each v) (λ e _. ne e) }
@@ -115,32 +124,28 @@ below_up : (w : Wave) (k m : ℕ) → k ≤ m → HasEntryBelow w k → HasEntry
 below_up w k m up (inl far) = inl (omega (arith, far, up))
 below_up w k m up (inr (e, has, low)) = inr (e, has, omega (arith, low, up))
 
-bound_at : (space : Space) (w : Wave) → w.limit ≤ FAR → IsComplete space w → (v k b : ℕ) (way : List ℕ) → key_of w v ≤ k → IsOpen space w b → IsWay space v way b → HasEntryBelow w (k + way_cost space way) ⊎ IsSettled space w v
-bound_at space w within complete v k b way above target walk = elim (cases_lt (key_of w v) FAR) [
-  | inr far ↦ inl (inl (omega (arith, far, above, within)))
-  | inl near ↦ elim (complete.each v near) [
-    | inl waits ↦ inl (inr (waits.entry, waits.there, let low = waits.low b way target walk in omega (arith, low, above)))
-    | inr settled ↦ inr settled
-  ]
-]
-
 -- a way to an open sink costs no less than some entry's key
 way_bound : (space : Space) (w : Wave) → w.limit ≤ FAR → IsComplete space w → (way : List ℕ) (v b k : ℕ) → IsWay space v way b → IsOpen space w b → key_of w v ≤ k → HasEntryBelow w (k + way_cost space way)
-way_bound space w within complete [] v b k e target above = elim (bound_at space w within complete v k b [] above target e) [
-  | inl bound ↦ bound
-  | inr settled ↦ absurd (settled.taken (rw e target))
+way_bound space w within complete [] v b k e target above = elim (cases_lt (key_of w v) FAR) [
+  | inr far ↦ inl (omega (arith, far, above, within))
+  | inl near ↦
+      let awaited = (complete.each v near).1 (rw e target) in
+      inr (awaited.entry, awaited.there, let low = awaited.low in omega (arith, low, above))
 ]
-way_bound space w within complete (u ∷ us) v b k (edge, inside, rest) target above = elim (bound_at space w within complete v k b (u ∷ us) above target (edge, inside, rest)) [
-  | inl bound ↦ bound
-  | inr settled ↦ elim (settled.relaxed u edge inside) [
-    | inl dead ↦ absurd (dead b us target rest)
-    | inr step ↦
-        let sum = way_cost_more space u us in
-        elim (cases_lt (k + entry_cost space u) (key_of w u)) [
-          | inl dearer ↦ inl (omega (arith, step, above, sum, dearer))
-          | inr paid ↦ below_up w _ _ (omega (arith, sum)) (way_bound space w within complete us u b (k + entry_cost space u) rest target (omega (arith, paid)))
+way_bound space w within complete (u ∷ us) v b k (edge, inside, rest) target above = elim (cases_lt (key_of w v) FAR) [
+  | inr far ↦ inl (omega (arith, far, above, within))
+  | inl near ↦
+      let sum = way_cost_more space u us in
+      elim ((complete.each v near).0 u edge inside) [
+        | inr covered ↦ inr (covered.entry, covered.there, let low = covered.low b us target rest in omega (arith, low, above, sum))
+        | inl went ↦ elim went [
+          | inl dead ↦ absurd (dead b us target rest)
+          | inr step ↦ elim (cases_lt (k + entry_cost space u) (key_of w u)) [
+            | inl dearer ↦ inl (omega (arith, step, above, sum, dearer))
+            | inr paid ↦ below_up w _ _ (omega (arith, sum)) (way_bound space w within complete us u b (k + entry_cost space u) rest target (omega (arith, paid)))
+          ]
         ]
-  ]
+      ]
 ]
 
 popped_least : (space : Space) (s t : Wave) (x : Entry) → IsPopped s t x → IsWave space s → IsComplete space s → IsLeastKey space t (min x.key t.limit)

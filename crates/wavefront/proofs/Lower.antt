@@ -1,5 +1,5 @@
 -- What the lowering of a label keeps.
-use Rattle.std.proofs.Common.{◌≡◌, ℕ, ◌+◌, ◌<◌, ◌≤◌, length, slice_index_or, ◌⊎◌, inl, inr, refl, sym, ap, ◌∙◌, arith, sum_by, get_or-set_other, get_or-set_same}
+use Rattle.std.proofs.Common.{◌≡◌, ℕ, ◌+◌, ◌<◌, ◌≤◌, [], ◌∷◌, length, slice_index_or, ◌⊎◌, inl, inr, refl, sym, ap, ◌∙◌, arith, sum_by, get_or-set_other, get_or-set_same}
 use Rattle.std.specs.Prelude.{Contains}
 use Rattle.std.proofs.lemmas.List.Sorted.{Contains-permutation, IsPermutation-sym, length_permutation}
 use Rattle.std.proofs.lemmas.List.Sums.{sum_by-set}
@@ -11,9 +11,10 @@ use Rattle.wavefront.specs.declared.queue.Entry.{Entry}
 use Rattle.wavefront.specs.WaveState.{Wave}
 use Rattle.wavefront.specs.Label.{unreached}
 use Rattle.wavefront.specs.Space.{Space, HasEdge, IsInside, entry_cost, node_count}
-use Rattle.wavefront.specs.Wave.{IsWave, IsComplete, IsCompleteBut, IsOrigin, IsOpen, IsEntered, IsSettled, IsDone, IsWaiting, IsDead, WentOn, StillComplete, Serves, key_of, parent_of, label_at, work_of}
+use Rattle.wavefront.specs.Wave.{IsWave, IsComplete, IsCompleteBut, IsOrigin, IsOpen, IsEntered, IsDone, IsWaiting, IsEdgeCovered, IsAwaited, IsDead, WentOn, StillComplete, Serves, key_of, parent_of, label_at, work_of}
 use Rattle.wavefront.specs.Steps.{IsLowered, Lowers, Spreads, SameOrigins, MoreOrigins, WentAlong}
 use Rattle.wavefront.proofs.Lists.{contains_first, contains_later, contains_cases}
+use Rattle.wavefront.proofs.WayNodes.{way_cost_more, way_cost_none}
 
 -- the same label is an origin's before and after
 pub same_origin : (s t : Wave) (v : ℕ) → label_at t v ≡ label_at s v → IsOrigin s v → IsOrigin t v
@@ -138,11 +139,45 @@ module _ (space : Space) where
   went_up s key more b up (inl dead) = inl dead
   went_up s key more b up (inr went) = inr (omega (arith, up, went))
 
-  -- a node at the key that it had is as done as it was
-  pub done_lower : (s t : Wave) (v : ℕ) → Lowers space s t → key_of t v ≡ key_of s v → IsSettled space s v → IsSettled space t v
-  done_lower s t v low same settled = record {
-    relaxed = λ b edge inside. went_up t (key_of s v) (key_of t v) b (omega (arith, same)) (went_lower s t (key_of s v) b low (settled.relaxed b edge inside));
-    taken = λ h. settled.taken (h.0, λ o. h.1 (low.starts v o));
+  -- an entry of a node that waits covers each edge from it
+  waiting_done : (w : Wave) (v : ℕ) → IsWaiting space w v → IsDone space w v
+  waiting_done w v waits near = (
+    λ b edge inside. inr (record {
+      entry = waits.entry;
+      there = waits.there;
+      node = waits.node;
+      label = waits.label;
+      low = λ c way target walk.
+          let low = waits.low c (b ∷ way) target (edge, inside, walk) in
+          let sum = way_cost_more space b way in
+          omega (arith, low, sum);
+    }),
+    λ target. record {
+      entry = waits.entry;
+      there = waits.there;
+      node = waits.node;
+      label = waits.label;
+      low = let low = waits.low v [] target refl in let none = way_cost_none space in omega (arith, low, none);
+    },
+  )
+
+  -- at the key that it had a node goes on along each edge as it did
+  still_covered : (s t : Wave) (v b : ℕ) → Lowers space s t → key_of t v ≡ key_of s v → IsEdgeCovered space s v b → IsEdgeCovered space t v b
+  still_covered s t v b low same covered = record {
+    entry = covered.entry;
+    there = low.kept covered.entry covered.there;
+    node = covered.node;
+    label = covered.label ∙ sym same;
+    low = λ c way target walk. let l = covered.low c way (still_open s t c low.starts target) walk in omega (arith, l, same);
+  }
+
+  still_awaited : (s t : Wave) (v : ℕ) → Lowers space s t → key_of t v ≡ key_of s v → IsAwaited s v → IsAwaited t v
+  still_awaited s t v low same awaited = record {
+    entry = awaited.entry;
+    there = low.kept awaited.entry awaited.there;
+    node = awaited.node;
+    label = awaited.label ∙ sym same;
+    low = let l = awaited.low in omega (arith, l, same);
   }
 
   still_waits : (s t : Wave) (v : ℕ) → Lowers space s t → key_of t v ≡ key_of s v → IsWaiting space s v → IsWaiting space t v
@@ -156,11 +191,15 @@ module _ (space : Space) where
 
   pub still_done : (s t : Wave) → Lowers space s t → (v : ℕ) → IsDone space s v → IsDone space t v
   still_done s t low v done reached = elim (low.wait v) [
-    | inr waiting ↦ inl waiting
-    | inl same ↦ elim (done (omega (arith, same, reached))) [
-      | inl waiting ↦ inl (still_waits s t v low same waiting)
-      | inr settled ↦ inr (done_lower s t v low same settled)
-    ]
+    | inr waiting ↦ waiting_done t v waiting reached
+    | inl same ↦
+        let was = done (omega (arith, same, reached)) in (
+          λ b edge inside. elim (was.0 b edge inside) [
+            | inl went ↦ inl (went_up t (key_of s v) (key_of t v) b (omega (arith, same)) (went_lower s t (key_of s v) b low went))
+            | inr covered ↦ inr (still_covered s t v b low same covered)
+          ],
+          λ target. still_awaited s t v low same (was.1 (still_open s t v low.starts target)),
+        )
   ]
 
   -- where a label is lowered, the node waits, and so it is done if the others are
@@ -170,7 +209,7 @@ module _ (space : Space) where
         record { each = λ v ne. still_done s t low v (but.each v ne) },
         λ e. record {
           each = λ v reached. elim (cases_eq v node) [
-            | inl f ↦ inl (rw f (lowered_waits s t node label r lt low.starts))
+            | inl f ↦ waiting_done t v (rw f (lowered_waits s t node label r lt low.starts)) reached
             | inr ne ↦ still_done s t low v (but.each v (λ f. ne (f ∙ e))) reached
           ];
         },
@@ -180,12 +219,12 @@ module _ (space : Space) where
   pub expanded_complete : (s t : Wave) (x key : ℕ) → IsCompleteBut space s x → Lowers space s t → key ≡ key_of s x → WentAlong space t x key → (IsOpen space s x → ⊥) → IsComplete space t
   expanded_complete s t x key but low at went shut = record {
     each = λ v reached. elim (low.wait v) [
-      | inr waiting ↦ inl waiting
+      | inr waiting ↦ waiting_done t v waiting reached
       | inl same ↦ elim (cases_eq v x) [
-        | inl e ↦ inr (record {
-          relaxed = λ b edge inside. went_up t key (key_of t v) b (let f = ap (key_of s) e in omega (arith, same, at, f)) (went b (rw e at edge) inside);
-          taken = λ h. shut (rw e at h.0, λ o. h.1 (low.starts v (rw e o)));
-        })
+        | inl e ↦ (
+          λ b edge inside. inl (went_up t key (key_of t v) b (let f = ap (key_of s) e in omega (arith, same, at, f)) (went b (rw e at edge) inside)),
+          λ h. absurd (shut (rw e at h.0, λ o. h.1 (low.starts v (rw e o)))),
+        )
         | inr ne ↦ still_done s t low v (but.each v ne) reached
       ]
     ];

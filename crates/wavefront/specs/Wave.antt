@@ -53,6 +53,22 @@ pub record IsWaiting (s : Space) (w : Wave) (v : ℕ) : Type 0 where
   pub label : entry.label ≡ key_of w v
   pub low : IsBound s w v (entry.key - key_of w v)
 
+-- an entry covers the edge from v to b: it has v's label, and no way over the edge to an open sink can undercut its key
+pub record IsEdgeCovered (s : Space) (w : Wave) (v b : ℕ) : Type 0 where
+  pub entry : Entry
+  pub there : Contains w.queue entry
+  pub node : entry.node ≡ v
+  pub label : entry.label ≡ key_of w v
+  pub low : IsBound s w b (entry.key - (key_of w v + entry_cost s b))
+
+-- an entry of v's label waits, and its key is no greater
+pub record IsAwaited (w : Wave) (v : ℕ) : Type 0 where
+  pub entry : Entry
+  pub there : Contains w.queue entry
+  pub node : entry.node ≡ v
+  pub label : entry.label ≡ key_of w v
+  pub low : entry.key ≤ key_of w v
+
 -- no way leads on from v to an open sink
 abbrev pub IsDead : Space → Wave → ℕ → Type 0
 IsDead s w v = (b : ℕ) (way : List ℕ) → IsOpen s w b → IsWay s v way b → ⊥
@@ -61,9 +77,9 @@ IsDead s w v = (b : ℕ) (way : List ℕ) → IsOpen s w b → IsWay s v way b �
 abbrev pub WentOn : Space → Wave → (key b : ℕ) → Type 0
 WentOn s w key b = IsDead s w b ⊎ (min (key_of w b) w.limit ≤ key + entry_cost s b)
 
--- v's key went along each edge from v
-abbrev pub IsRelaxed : Space → Wave → ℕ → Type 0
-IsRelaxed s w v = (b : ℕ) → HasEdge s v b → IsInside s b → WentOn s w (key_of w v) b
+-- v's key went along each edge from v, or an entry covers the edge
+abbrev pub GoesOn : Space → Wave → ℕ → Type 0
+GoesOn s w v = (b : ℕ) → HasEdge s v b → IsInside s b → WentOn s w (key_of w v) b ⊎ IsEdgeCovered s w v b
 
 -- how many sinks the wave has yet to take
 abbrev pub is_origin : Wave → ℕ → Bool
@@ -71,11 +87,6 @@ is_origin w v = eqb (key_of w v) 0 && eqb (parent_of w v) v
 
 abbrev pub open_count : Space → Wave → ℕ
 open_count s w = count_by (λ v. not (is_origin w v)) s.net.sinks
-
--- nothing is left to do at v
-pub record IsSettled (s : Space) (w : Wave) (v : ℕ) : Type 0 where
-  pub relaxed : IsRelaxed s w v
-  pub taken : IsOpen s w v → ⊥
 
 -- each label is the cost of a way from an origin, or more
 pub record IsWave (s : Space) (w : Wave) : Type 0 where
@@ -87,9 +98,9 @@ pub record IsWave (s : Space) (w : Wave) : Type 0 where
   pub entered : (v : ℕ) → key_of w v < FAR → IsOrigin w v ⊎ IsEntered s w v
   pub entries : (e : Entry) → Contains w.queue e → (key_of w e.node ≤ e.label) × (e.label ≤ e.key) × (key_of w e.node < FAR)
 
--- a node that is reached waits, or is settled
+-- a node that is reached goes on, edge by edge, and is awaited where it is an open sink
 abbrev pub IsDone : Space → Wave → ℕ → Type 0
-IsDone s w v = key_of w v < FAR → IsWaiting s w v ⊎ IsSettled s w v
+IsDone s w v = key_of w v < FAR → GoesOn s w v × (IsOpen s w v → IsAwaited w v)
 
 pub record IsComplete (s : Space) (w : Wave) : Type 0 where
   pub each : (v : ℕ) → IsDone s w v
