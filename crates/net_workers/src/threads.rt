@@ -1,4 +1,4 @@
-//! The workers of an iteration, each in a thread of its own.
+//! The workers of an iteration, each in a thread of its own, but for the last, which works in the thread that calls.
 
 ghost use Rattle.std.specs.Prelude.{◌≡◌, All};
 
@@ -13,7 +13,8 @@ use std::sync::{Mutex, Wait};
 use std::thread;
 use std::thread::Threads;
 
-/// Starts a thread for each share and joins them all. The results are those of the threads that could be started.
+/// Starts a thread for each share but the last, works with that one itself, and joins them all. The results are those of the threads that
+/// could be started, in their order, and then its own: so one worker takes no thread.
 pub(crate) fn run_all<L: Round + Send + Sync, R: Threads + Wait + Sync, G: Gate + Sync>(
     rt: &R,
     alloc: Global,
@@ -37,7 +38,11 @@ pub(crate) fn run_all<L: Round + Send + Sync, R: Threads + Wait + Sync, G: Gate 
         {
             let mut results = Vec::with_capacity(alloc, shares.len())?;
             let mut handles = Vec::with_capacity(alloc, shares.len())?;
-            for share in shares {
+            let mut others = shares;
+            let Some(own) = others.pop() else {
+                return Ok(results);
+            };
+            for share in others {
                 let job = move || -> Result<Finished<L>, WorkFault>
                     requires fresh { share.turns ≡ 0 }
                     requires problem { problem.now ≡ L.opening.problem }
@@ -47,9 +52,11 @@ pub(crate) fn run_all<L: Round + Send + Sync, R: Threads + Wait + Sync, G: Gate 
                     handles.push_reserved(handle);
                 }
             }
+            let last = work_through(rt, alloc, desk, problem, options, own, gate);
             for handle in handles {
                 results.push_reserved(handle.join(rt));
             }
+            results.push_reserved(last);
             Ok(results)
         },
     )
