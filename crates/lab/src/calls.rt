@@ -7,7 +7,7 @@ use crate::{
     arch_calls, book_calls, design_calls, desk_calls, device_calls, event_calls, fault_calls,
     file_calls, other_calls, problem_calls, progress_calls, reading_back, route_text_calls,
     routing_calls, run_calls, search_calls, settings_calls, text_calls, tree_calls, view_calls,
-    work_calls,
+    walk_calls, work_calls,
 };
 use std::rt::Runtime;
 use std::sync::Wait;
@@ -101,6 +101,9 @@ fn make_one(
     }
     if let Err(Unanswered::NoCall) = made {
         made = device_calls::call(rt, session, call, out);
+    }
+    if let Err(Unanswered::NoCall) = made {
+        made = walk_calls::call(rt, session, call, out);
     }
     if let Err(Unanswered::NoCall) = made {
         made = settings_calls::call(rt, session, call, out);
