@@ -1,6 +1,7 @@
 //! All calls, by their names.
 
 use crate::session::Session;
+use crate::sources::BELOW;
 use crate::unanswered::Unanswered;
 use crate::words::{Call, number};
 use crate::{
@@ -73,8 +74,44 @@ fn time_of(
     start.elapsed(rt).map_err(|_| Unanswered::Clock)
 }
 
-/// Makes a call once.
+/// Whether a call reads a text that stands below it.
+fn reads_text(name: &str) -> bool {
+    matches!(
+        name,
+        "read"
+            | "lines"
+            | "arch"
+            | "net"
+            | "place"
+            | "problem"
+            | "routing"
+            | "routing_of_trees"
+            | "route"
+            | "run"
+            | "desk"
+            | "run_arch"
+            | "run_net"
+            | "run_place"
+            | "run_route"
+            | "progress"
+    )
+}
+
+/// Makes a call once, unless a text stands below it that it doesn't read.
 fn make_one(
+    rt: &(impl Runtime + Threads + Wait + Sync + AllocGlobal),
+    session: &mut Session,
+    call: Call<'_>,
+    out: &mut String,
+) -> Result<(), Unanswered> {
+    if call.given.contains(&BELOW) && !reads_text(call.name) {
+        return Err(Unanswered::Misread("the call with no text below it"));
+    }
+    dispatch(rt, session, call, out)
+}
+
+/// Gives a call to the one that makes calls of its name.
+fn dispatch(
     rt: &(impl Runtime + Threads + Wait + Sync + AllocGlobal),
     session: &mut Session,
     call: Call<'_>,

@@ -2,9 +2,8 @@
 
 use crate::calls::make_call;
 use crate::session::Session;
-use crate::sources::BELOW;
 use crate::unanswered::Unanswered;
-use crate::words::{Call, words};
+use crate::words::{Call, code_of, has_text, words};
 use net_workers::WorkFault;
 use std::alloc::Global;
 use std::io::{BufRead, BufReader, Read, Result as IoResult};
@@ -180,19 +179,31 @@ impl<R: Runtime + Threads + Wait + Sync + AllocGlobal, I: BufRead> Run<'_, R, I>
 
     /// Makes the call of a line, if it has one.
     fn call(&mut self, line: &str, below: &mut Below) -> IoResult<()> {
-        let words = match self.words_of(line)? {
-            Some(words) => words,
-            None => return Ok(()),
-        };
-        if words.is_empty() {
+        let code = code_of(line).trim();
+        if code.is_empty() {
             return Ok(());
         }
         self.settle();
-        below.text.clear();
-        if words.contains(&BELOW) {
-            self.script.read_text(below)?;
+        self.read_below(code, below)?;
+        self.call_words(code, below.text.as_slice())
+    }
+
+    /// Reads the text below a line, if one stands there.
+    fn read_below(&mut self, code: &str, below: &mut Below) -> IoResult<()> {
+        if has_text(code) {
+            self.script.read_text(below)
+        } else {
+            below.text.clear();
+            Ok(())
         }
-        self.answer_words(words.as_slice(), below.text.as_slice())
+    }
+
+    /// Makes the call that a line asks for.
+    fn call_words(&mut self, code: &str, text: &[u8]) -> IoResult<()> {
+        match self.words_of(code)? {
+            Some(words) => self.answer_words(words.as_slice(), text),
+            None => Ok(()),
+        }
     }
 
     /// The words of a line; none where memory lacked, which is told.
@@ -219,8 +230,9 @@ impl<R: Runtime + Threads + Wait + Sync + AllocGlobal, I: BufRead> Run<'_, R, I>
         self.answer(Call { name, given, text })
     }
 
-    /// Answers a call, and where it lacked memory, answers it once more.
+    /// Answers a call, and where it lacked memory, answers it once more. No event of a list stands before.
     fn answer(&mut self, call: Call<'_>) -> IoResult<()> {
+        self.session.standing = 0;
         let lacked = self.answer_once(call)?;
         if lacked && self.repeats {
             self.answer_once(call)?;
