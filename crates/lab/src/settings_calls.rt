@@ -27,8 +27,10 @@ pub fn call(
 ) -> Result<(), Unanswered> {
     match call.name {
         "settings" => {
-            session.choice = chosen(session.choice, call.given)?;
-            put_choice(session.choice, out)
+            let choice = chosen(session.choice, call.given)?;
+            put_choice(choice, out)?;
+            session.choice = choice;
+            Ok(())
         }
         "present" => {
             let [iteration] = numbers::<1>(call.given)?;
