@@ -79,6 +79,10 @@ fn call_counts(
             nothing(call.given)?;
             copy_histories(alloc, session.histories()?, out)
         }
+        "dump_histories" => {
+            nothing(call.given)?;
+            dump_histories(session.histories()?, out)
+        }
         _ => Err(Unanswered::NoCall),
     }
 }
@@ -290,6 +294,17 @@ fn dump_counts(counts: &Counts, out: &mut String) -> Result<(), Unanswered> {
         let count = count(counts, index_of(id))?;
         if count > 0 {
             writeln!(out, "{id}: {count}")?;
+        }
+    }
+    Ok(())
+}
+
+/// Adds a line for each node that has a history.
+fn dump_histories(histories: &Histories, out: &mut String) -> Result<(), Unanswered> {
+    for id in 0..histories.len() {
+        let history = history(histories, index_of(id))?;
+        if history > 0 {
+            writeln!(out, "{id}: {history}")?;
         }
     }
     Ok(())
