@@ -117,8 +117,8 @@ fn walk_once(alloc: Global, device: &Device, walk: Walk) -> Result<Walked, Alloc
     match walk {
         Walk::Nodes => Ok(walk_nodes(device)),
         Walk::Numbers => Ok(walk_numbers(device)),
-        Walk::Successors => walk_successors(alloc, device, 0),
-        Walk::WireSuccessors => walk_successors(alloc, device, device.first_wire()),
+        Walk::Successors => walk_successors(alloc, device),
+        Walk::WireSuccessors => walk_wires(alloc, device),
         Walk::Edges => walk_edges(alloc, device),
         Walk::Joins => walk_joins(alloc, device),
     }
@@ -161,11 +161,23 @@ fn number_again(device: &Device, id: u32) -> Option<u32> {
     }
 }
 
-/// Lists where the nodes from this one on lead, one after another, in one list that is used again; the sum is that of all numbers.
-fn walk_successors(alloc: Global, device: &Device, first: u32) -> Result<Walked, AllocError> {
+/// Lists where nodes lead that jump about, all in one list that is used again; the sum is that of all numbers in it.
+fn walk_successors(alloc: Global, device: &Device) -> Result<Walked, AllocError> {
+    let count = device.node_count();
     let mut list: SmallVec<u32, 8> = SmallVec::new(alloc);
     let mut walked = Walked::NOTHING;
-    for id in first..device.node_count() {
+    for turn in 0..count {
+        device.successors(spread(turn, count), &mut list)?;
+        add_each(&mut walked, list.as_slice());
+    }
+    Ok(walked)
+}
+
+/// Lists where wires lead, one after another, all in one list that is used again; the sum is that of all numbers in it.
+fn walk_wires(alloc: Global, device: &Device) -> Result<Walked, AllocError> {
+    let mut list: SmallVec<u32, 8> = SmallVec::new(alloc);
+    let mut walked = Walked::NOTHING;
+    for id in device.first_wire()..device.node_count() {
         device.successors(id, &mut list)?;
         add_each(&mut walked, list.as_slice());
     }
