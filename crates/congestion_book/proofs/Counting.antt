@@ -1,11 +1,11 @@
 -- Counts of nodes, and how many nodes are overused, when one count changes.
 use Rattle.std.proofs.Common.{◌≡◌, ◌≢◌, inl, inr, ℕ, ◌+◌, ◌-◌, ◌<◌, ◌≤◌, ◌==◌, ◌^◌, zero, suc, Bool, false, nat_lt, List, [], ◌∷◌, ◌++◌, length, get_or, set, replicate, Option, Some, None, refl, sym, ap, subst, ◌∙◌, arith, add-one, length-set, get_or-set_other}
-use Rattle.std.specs.Prelude.{count_by, take}
+use Rattle.std.specs.Prelude.{count_by, map, take}
 use Rattle.std.specs.Option.{option_map}
 use Rattle.std.proofs.lemmas.Bool.{cases_eq, eq-eqb, ne_eqb}
 use Rattle.std.proofs.lemmas.Bool.Decides.{nat_tests}
 use Rattle.std.proofs.lemmas.Grind.{get_or-set_at}
-use Rattle.std.proofs.lemmas.List.{get_or-set_same}
+use Rattle.std.proofs.lemmas.List.{get_or-set_same, same_lists, get_or_default}
 use Rattle.std.proofs.lemmas.Option.{slice_get_cases, same_Some, none-some}
 use Rattle.std.proofs.lemmas.List.Sums.{sum_by-append, sum_by-cons, count_by-le-length}
 use Rattle.std.proofs.lemmas.List.FromFn.{length-range_with_len}
@@ -13,7 +13,7 @@ use Rattle.rr_graph.specs.Fabric.{Fabric, IsFabric, numbers_below}
 use Rattle.rr_graph.specs.declared.parts.Node.{Node}
 use Rattle.rr_graph.specs.Nodes.{node_at, nodes_of, node_count_of, capacity_of}
 use Rattle.rr_graph.proofs.Capacities.{some_capacity}
-use Rattle.rr_graph.proofs.Ranges.{below_next}
+use Rattle.rr_graph.proofs.Ranges.{below_next, length_below, get_below}
 use Rattle.rr_graph.proofs.Order.{node_count_below}
 use Rattle.route_tree.specs.declared.tree.Row.{Row}
 use Rattle.route_tree.specs.Rows.{no_row}
@@ -21,6 +21,14 @@ use Rattle.route_tree.specs.Marked as tree
 use Rattle.route_tree.specs.Usage.{room_of}
 use Rattle.congestion_book.specs.Turns.{one_if}
 use Rattle.congestion_book.specs.Usage.{is_over, overused_by, times_in, AddsEach, TakesEach}
+
+-- a list that has the value of f at each place below n
+pub listed_below : (f : ℕ → ℕ) (n : ℕ) (xs : List ℕ) → length xs ≡ n → ((a : ℕ) → a < n → get_or xs a 0 ≡ f a) → xs ≡ map f (numbers_below n)
+listed_below f n xs size at =
+    same_lists xs (map f (numbers_below n)) (size ∙ sym (length_below f n))
+    (λ k d l.
+    let within : k < n = omega (arith, l, size) in
+    get_or_default xs k d 0 l ∙ (at k within ∙ sym (get_below f n k d within)))
 
 -- ---- one test of many changes
 count_next : (p : ℕ → Bool) (n : ℕ) → count_by p (numbers_below (suc n)) ≡ count_by p (numbers_below n) + one_if (p n)

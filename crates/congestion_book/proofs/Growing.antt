@@ -5,8 +5,8 @@ use Rattle.std.proofs.lemmas.Bool.{cases_lt, eq-eqb}
 use Rattle.std.proofs.lemmas.List.{get_or_past}
 use Rattle.std.proofs.lemmas.List.Sums.{sum_by-append, sum_by-cons, sum_by-le, sum_by_more, sum_by_more_le}
 use Rattle.std.proofs.lemmas.Nat.{mul-le}
-use Rattle.congestion_book.specs.Histories.{Amount, amount_in, history_of, AreHistories, GrowsByRow}
-use Rattle.congestion_book.proofs.Counting.{zeros}
+use Rattle.congestion_book.specs.Histories.{Amount, amount_in, history_of, histories_of, AreHistories, GrowsByRow}
+use Rattle.congestion_book.proofs.Counting.{zeros, listed_below}
 
 -- what an entry adds to the amount of node a
 abbrev part : ℕ → Amount → ℕ
@@ -71,6 +71,23 @@ module _ (acc : ℕ) (rows : List (List Amount)) (row : List Amount) (histories 
       | inl low ↦ omega (arith, exact a low, bound a)
       | inr past ↦ omega (arith, get_or_past histories a 0 past, bound a)
     ]
+
+-- no history grows beyond what 500 rows give it
+pub small_history : (acc : ℕ) (rows : List (List Amount)) → acc ≤ 65535 → length rows ≤ 500 → All (λ r. (a : ℕ) → amount_in r a ≤ 65535) rows → (a : ℕ) →
+    history_of acc rows a < 2 ^ 42
+unfolding history_of
+small_history acc rows few_acc few each a =
+    let total = sum_by (λ (r : List Amount). amount_in r a) rows in
+    let sum = sum_by-le (λ (r : List Amount). amount_in r a) 65535 rows (λ k d l. each k d l a) in
+    let terms : total ≤ 500 * 65535 = omega (arith, sum, few) in
+    let all = mul-le acc total 65535 (500 * 65535) few_acc terms in
+    omega (arith, all)
+
+-- histories that are exact are those of the rows
+pub histories_are : (nodes acc : ℕ) (rows : List (List Amount)) (histories : List ℕ) → length histories ≡ nodes → AreHistories acc rows histories →
+    histories ≡ histories_of nodes acc rows
+unfolding histories_of
+histories_are nodes acc rows histories size exact = listed_below (history_of acc rows) nodes histories size (λ a l. exact a (omega (arith, l, size)))
 
 -- where there are no rows there is no history
 pub none_yet : (acc nodes : ℕ) (histories : List ℕ) → histories ≡ replicate nodes 0 → AreHistories acc [] histories

@@ -14,10 +14,16 @@ use Rattle.route_tree.specs.Faults.{IsRoute}
 use Rattle.route_tree.specs.Usage.{use_by, use_of}
 use Rattle.route_tree.specs.TreeLists.{list_of_tree, lists_of_trees}
 use Rattle.route_tree.proofs.Uses.{use_replaced, own_within, few_uses, unused}
-use Rattle.congestion_book.proofs.Counting.{zeros, none_overused}
+use Rattle.congestion_book.proofs.Counting.{zeros, none_overused, listed_below}
 use Rattle.congestion_book.specs.Turns.{one_if}
 use Rattle.congestion_book.specs.Usage.{overused_by}
-use Rattle.congestion_book.specs.Recorded.{Lists, list_in, unrouted_in, RoutesOrNone, ChangesNet, AreRecorded}
+use Rattle.congestion_book.specs.Recorded.{Lists, list_in, occupancies_of, unrouted_in, RoutesOrNone, ChangesNet, AreRecorded}
+
+-- counts that are exact are the occupancies by the lists
+pub occupied_by : (p : RoutingProblem) (lists : Lists) (counts : List ℕ) (overused unrouted : ℕ) → AreRecorded p lists counts overused unrouted →
+    counts ≡ occupancies_of p lists
+unfolding occupancies_of
+occupied_by p lists counts overused unrouted kept = listed_below (λ a. use_of p.nets lists a) (node_count_of p.device) counts kept.size (λ a l. kept.uses a)
 
 none_alike : (t : Option (List Row)) → is_none (list_of_tree t) ≡ is_none t
 none_alike None = refl
@@ -107,7 +113,7 @@ no_lists : (n : ℕ) → lists_of_trees (replicate n None) ≡ replicate n None
 no_lists zero = refl
 no_lists (suc n) = ap (λ ls. None ∷ ls) (no_lists n)
 
-none_listed : (n i : ℕ) → list_in (replicate n None) i ≡ None
+pub none_listed : (n i : ℕ) → list_in (replicate n None) i ≡ None
 none_listed zero i = refl
 none_listed (suc n) zero = refl
 none_listed (suc n) (suc i) = none_listed n i

@@ -1,13 +1,13 @@
 -- The row of an iteration, node by node.
 use Rattle.std.proofs.Common.{◌≡◌, inl, inr, ℕ, ◌+◌, ◌-◌, ◌<◌, ◌≤◌, ◌==◌, zero, suc, Bool, true, false, cond, nat_lt, List, [], ◌∷◌, ◌++◌, length, map, get_or, refl, sym, ap, ◌∙◌, arith, add-one, add-zero, All, subst}
 use Rattle.std.specs.List.{filter}
-use Rattle.std.proofs.lemmas.List.{map-append}
+use Rattle.std.proofs.lemmas.List.{map-append, append-nil}
 use Rattle.std.proofs.lemmas.List.Elements.{filter-append}
 use Rattle.std.proofs.lemmas.List.Sums.{sum_by-cons, sum_by-append}
 use Rattle.std.proofs.lemmas.Bool.{cases_eq, eq-eqb, ne_eqb}
 use Rattle.std.proofs.lemmas.Bool.Decides.{nat_tests}
 use Rattle.std.specs.Prelude.{if◌then◌else◌, count_by}
-use Rattle.std.proofs.lemmas.List.Elements.{All-append, All-cons, All-nil}
+use Rattle.std.proofs.lemmas.List.Elements.{All-append, All-cons, All-nil, All-head, All-tail}
 use Rattle.route_tree.specs.Usage.{use_of, overuse_of, room_of}
 use Rattle.route_tree.proofs.Uses.{overuse_counted, few_uses}
 use Rattle.rr_graph.specs.Nodes.{node_at, node_count_of}
@@ -15,7 +15,7 @@ use Rattle.rr_graph.specs.Problems.{RoutingProblem, IsProblem}
 use Rattle.congestion_book.specs.Recorded.{Lists, overused_in}
 use Rattle.rr_graph.specs.Fabric.{Fabric, numbers_below}
 use Rattle.rr_graph.proofs.Ranges.{below_next}
-use Rattle.congestion_book.specs.Histories.{amount_in, row_of}
+use Rattle.congestion_book.specs.Histories.{Amount, AscendFrom, IsRow, amount_in, row_of}
 use Rattle.congestion_book.specs.Usage.{excess_of, row_by, entry_of, is_over, overused_by}
 use Rattle.congestion_book.proofs.Counting.{same_counts}
 
@@ -98,6 +98,47 @@ entries_below g (suc n) =
 pub row_below : (f : Fabric) (counts : List ℕ) → All (λ (e : ℕ × ℕ). e.0 < length counts) (row_by f counts)
 unfolding row_by
 row_below f counts = entries_below (excess_of f counts) (length counts)
+
+-- ---- the form of a row
+ascend_more : (least n by : ℕ) (es : List Amount) → AscendFrom least es → All (λ (e : Amount). e.0 < n) es → least ≤ n → AscendFrom least (es ++ (n, by) ∷ [])
+ascend_more least n by [] ascend below low = (low, tt)
+ascend_more least n by (e ∷ es) ascend below low =
+    let next : e.0 < n = All-head (λ (e : Amount). e.0 < n) e es below in
+    (ascend.0, ascend_more (e.0 + 1) n by es ascend.1 (All-tail (λ (e : Amount). e.0 < n) e es below) (omega (arith, next)))
+
+ascend_entry : (n by : ℕ) (es : List Amount) (some : Bool) → AscendFrom 0 es → All (λ (e : Amount). e.0 < n) es → AscendFrom 0 (es ++ cond some ((n, by) ∷ []) [])
+ascend_entry n by es true ascend below = ascend_more 0 n by es ascend below (omega arith)
+ascend_entry n by es false ascend below = subst (AscendFrom 0) (sym (append-nil es)) ascend
+
+entries_ascend : (g : ℕ → ℕ) (n : ℕ) → AscendFrom 0 (entries g n)
+entries_ascend g zero = tt
+entries_ascend g (suc n) =
+    subst (AscendFrom 0) (sym (row_next g n) ∙ ap (entries g) (add-one n))
+    (ascend_entry n (g n) (entries g n) (nat_lt 0 (g n)) (entries_ascend g n) (entries_below g n))
+
+-- what is true of each entry that there is, is true of each of a row
+module _ (P : Amount → Type 0) (g : ℕ → ℕ) (each : (a : ℕ) → 1 ≤ g a → P (a, g a)) where
+  entry_has : (n : ℕ) (some : Bool) → nat_lt 0 (g n) ≡ some → All P (cond some ((n, g n) ∷ []) [])
+  entry_has n true e = let more : 1 ≤ g n = grind (arith, nat_tests) in All-cons P (n, g n) [] (each n more) (All-nil P)
+  entry_has n false e = All-nil P
+
+  pub entries_have : (n : ℕ) → All P (entries g n)
+  entries_have zero = All-nil P
+  entries_have (suc n) =
+      subst (All P) (sym (row_next g n) ∙ ap (entries g) (add-one n))
+      (All-append P (entries g n) (entry_of (n, g n)) (entries_have n) (entry_has n (nat_lt 0 (g n)) refl))
+
+pub row_formed : (p : RoutingProblem) (lists : Lists) → IsRow (node_count_of p.device) (length p.nets) (row_of p lists)
+unfolding row_of overuse_of
+row_formed p lists =
+    let g = overuse_of p lists in
+    let nodes = node_count_of p.device in
+    record {
+      ascending = entries_ascend g nodes;
+      there = entries_below g nodes;
+      some = entries_have (λ e. 1 ≤ e.1) g (λ a some. some) nodes;
+      few = entries_have (λ e. e.1 ≤ length p.nets) g (λ a some. omega (arith, few_uses p.nets lists a)) nodes;
+    }
 
 -- where the counts are the uses, the row is that of the lists
 pub row_of_lists : (p : RoutingProblem) (lists : Lists) (counts : List ℕ) → length counts ≡ node_count_of p.device →

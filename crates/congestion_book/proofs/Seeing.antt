@@ -84,8 +84,8 @@ pub used_there : (counts histories : List ℕ) (a : ℕ) → length histories �
 used_there counts histories a same = others_at counts histories a same
 
 -- ---- the view of a sound book
-module _ (c : Content) (occupancies histories : List ℕ) (sound : IsSound c occupancies histories) (i : ℕ) (low : i < net_count c)
-    (view : List Seen) (sees : SeesOthers c.problem i (list_in c.lists i) occupancies histories view) where
+module _ (c : Content) (sound : IsSound c) (i : ℕ) (low : i < net_count c)
+    (view : List Seen) (sees : SeesOthers c.problem i (list_in c.lists i) c.occupancies c.histories view) where
   abbrev shown : ℕ → Seen
   shown a = (use_by_others c.problem.nets c.lists i a, history_of c.acc c.rows a)
 

@@ -1,20 +1,30 @@
 -- Every event keeps a book sound.
-use Rattle.std.proofs.Common.{◌≡◌, ℕ, ◌+◌, ◌<◌, ◌≤◌, [], ◌∷◌, ◌++◌, length, replicate, Option, None, refl, sym, ap, subst, ◌∙◌, arith, length-append}
+use Rattle.std.proofs.Common.{◌≡◌, ℕ, ◌+◌, ◌<◌, ◌≤◌, ◌==◌, List, [], ◌∷◌, ◌++◌, length, replicate, All, Option, None, refl, sym, ap, subst, ◌∙◌, arith, length-append}
 use Rattle.std.proofs.lemmas.List.{length-replicate}
-use Rattle.std.proofs.lemmas.List.Elements.{All-nil}
+use Rattle.std.proofs.lemmas.List.Sums.{sum_by-cons}
+use Rattle.std.proofs.lemmas.Option.{none-some}
+use Rattle.rr_graph.specs.Problems.{RoutingProblem}
+use Rattle.route_tree.proofs.Uses.{unused}
+use Rattle.std.proofs.lemmas.List.Elements.{All-nil, All-push}
 use Rattle.std.proofs.lemmas.Bool.Decides.{nat_tests}
 use Rattle.rr_graph.specs.Nodes.{node_count_of}
 use Rattle.route_tree.specs.TreeLists.{lists_of_trees}
-use Rattle.congestion_book.specs.Turns.{TurnTable, AreInOrder, NameEachOnce, IsFirstWaiting, no_turns, table_closed}
+use Rattle.congestion_book.specs.declared.turn.Turn.{Turn}
+use Rattle.congestion_book.specs.Turns.{TurnTable, AreInOrder, NameEachOnce, IsFirstWaiting, no_turns, table_closed, turns_at, one_if}
 use Rattle.congestion_book.specs.Recorded.{AreRecorded}
-use Rattle.congestion_book.specs.Histories.{HistoryTable, AreHistories}
+use Rattle.congestion_book.specs.Histories.{Amount, HistoryTable, AreHistories, IsRow, histories_of, row_of}
+use Rattle.congestion_book.specs.Contents.{Content, IsSound, IsFresh, opening, table_in}
+use Rattle.congestion_book.specs.Steps.{after_close}
 use Rattle.congestion_book.specs.declared.book.Book.TheInside.{Inside}
 use Rattle.std.specs.Arc.{arc_value}
 use Rattle.congestion_book.specs.declared.book.NextIteration.{NextIteration}
 use Rattle.congestion_book.specs.Closing.{IsNext}
 use Rattle.congestion_book.specs.Fields.{content_of, IsKept}
 use Rattle.congestion_book.proofs.Turning.{none_held, close_in_order}
-use Rattle.congestion_book.proofs.Growing.{none_yet}
+use Rattle.congestion_book.proofs.Recording.{none_listed}
+use Rattle.congestion_book.proofs.Counting.{zeros}
+use Rattle.congestion_book.proofs.Growing.{none_yet, histories_are}
+use Rattle.congestion_book.proofs.Rows.{row_formed}
 
 pub none_in_order : (nets : ℕ) → AreInOrder (no_turns nets)
 none_in_order nets = record {
@@ -22,6 +32,40 @@ none_in_order nets = record {
   once = λ i. rw (none_held nets i) (grind (arith, nat_tests));
   closed = All-nil (NameEachOnce (length (replicate {A = Option ℕ} nets None)));
 }
+
+-- ---- where nothing was drawn
+pub opening_sound : (p : RoutingProblem) (acc : ℕ) → IsSound (opening p acc)
+opening_sound p acc =
+    let nodes = node_count_of p.device in
+    let nets = length p.nets in
+    let zeroes : List ℕ = replicate nodes 0 in
+    let size : length zeroes ≡ nodes = length-replicate nodes 0 in
+    record {
+      one_each = length-replicate nets None;
+      routes = λ i pairs e. absurd (none-some pairs (sym (none_listed nets i) ∙ e));
+      occupied = size;
+      uses = λ a. zeros nodes a ∙ sym (unused p.nets nets a);
+      remembered = size;
+      accumulated = λ a l. none_yet acc nodes zeroes refl a (omega (arith, l, size));
+      held = length-replicate nets None;
+      order = none_in_order nets;
+      rows = refl;
+      few = omega arith;
+      formed = All-nil (IsRow nodes nets);
+    }
+
+undrawn : (t : TurnTable) (i : ℕ) → AreInOrder t → t.drawn ≡ 0 → turns_at t.turns i ≡ 0
+undrawn t i order none = let once = order.once i in grind (arith, nat_tests, none, once)
+
+no_turn : (ts : List Turn) → ((i : ℕ) → turns_at ts i ≡ 0) → ts ≡ []
+no_turn [] none = refl
+no_turn (t ∷ ts) none =
+    let here = none t.net in
+    let one : one_if (t.net == t.net) ≡ 1 = grind (arith, nat_tests) in
+    absurd (omega (arith, here, one, sum_by-cons (λ (u : Turn). one_if (u.net == t.net)) t ts))
+
+pub fresh_turns : (c : Content) → IsSound c → IsFresh c → c.turns ≡ []
+fresh_turns c sound none = no_turn c.turns (λ i. undrawn (table_in c) i sound.order none)
 
 -- what is counted of the recorded trees
 pub recorded : (b : Inside) → IsKept b →
@@ -39,8 +83,8 @@ recorded b kept = record {
 pub kept_by : (b : Inside) → AreRecorded b.problem (lists_of_trees b.routes.trees.items) b.routes.usage.counts b.routes.usage.overused b.routes.unrouted →
     length b.history.histories ≡ node_count_of b.problem.device → AreHistories b.history.acc b.history.rows b.history.histories →
     length b.turns.holders ≡ length b.problem.nets → AreInOrder b.turns → length b.history.rows ≡ length b.turns.earlier → length b.history.rows ≤ 500 →
-    b.marks ≡ node_count_of b.problem.device → IsKept b
-kept_by b rec size exact held order rows few marks = record {
+    All (IsRow (node_count_of b.problem.device) (length b.problem.nets)) b.history.rows → b.marks ≡ node_count_of b.problem.device → IsKept b
+kept_by b rec size exact held order rows few formed marks = record {
   sound = record {
     one_each = rec.one_each;
     routes = rec.routes;
@@ -52,6 +96,7 @@ kept_by b rec size exact held order rows few marks = record {
     order = order;
     rows = rows;
     few = few;
+    formed = formed;
   };
   over = rec.over;
   without = rec.without;
@@ -73,6 +118,8 @@ new_kept b acc nodes nets rec is_nodes is_nets history turns marks =
     (subst AreInOrder (sym turns) (none_in_order nets))
     (omega (arith, rows, earlier))
     (omega (arith, rows))
+    (subst (All (IsRow (node_count_of b.problem.device) (length b.problem.nets))) (sym (ap (λ (h : HistoryTable). h.rows) history))
+    (All-nil (IsRow (node_count_of b.problem.device) (length b.problem.nets))))
     marks
 
 pub done_there : (b : Inside) → IsKept b → IsFirstWaiting b.turns.turns (length b.problem.nets) None → IsFirstWaiting b.turns.turns (length b.turns.holders) None
@@ -84,6 +131,7 @@ pub closed_kept : (b : Inside) (n : NextIteration) (h : HistoryTable) (t : TurnT
     h ≡ record { acc = b.history.acc; rows = b.history.rows ++ n.row ∷ []; histories = arc_value n.histories } → t ≡ table_closed b.turns →
     IsKept (record { problem = b.problem; routes = b.routes; history = h; turns = t; marks = b.marks })
 closed_kept b n h t kept next done few history turns =
+    let IsFormed = λ (row : List Amount). IsRow (node_count_of b.problem.device) (length b.problem.nets) row in
     let grown : HistoryTable = record { acc = b.history.acc; rows = b.history.rows ++ n.row ∷ []; histories = arc_value n.histories } in
     let rows : length h.rows ≡ length b.history.rows + 1 = ap (λ (h : HistoryTable). length h.rows) history ∙ length-append b.history.rows (n.row ∷ []) in
     let earlier : length t.earlier ≡ length b.turns.earlier + 1 =
@@ -95,4 +143,23 @@ closed_kept b n h t kept next done few history turns =
     (subst AreInOrder (sym turns) (close_in_order b.turns kept.sound.order done))
     (omega (arith, rows, earlier, kept.sound.rows))
     (omega (arith, rows, few))
+    (subst (All IsFormed) (sym (ap (λ (h : HistoryTable). h.rows) history))
+    (All-push IsFormed b.history.rows n.row kept.sound.formed (subst IsFormed (sym next.row) (row_formed b.problem (lists_of_trees b.routes.trees.items)))))
     kept.marks
+
+-- what a close makes of the content
+pub closed_is : (b : Inside) (n : NextIteration) (h : HistoryTable) (t : TurnTable) → IsKept b → IsNext (content_of b) n →
+    h ≡ record { acc = b.history.acc; rows = b.history.rows ++ n.row ∷ []; histories = arc_value n.histories } → t ≡ table_closed b.turns →
+    content_of (record { problem = b.problem; routes = b.routes; history = h; turns = t; marks = b.marks }) ≡ after_close (content_of b)
+closed_is b n h t kept next history turns =
+    let old = content_of b in
+    let grown : HistoryTable = record { acc = b.history.acc; rows = b.history.rows ++ n.row ∷ []; histories = arc_value n.histories } in
+    let closed : (rows : List (List Amount)) → (histories : List ℕ) → (holders : List (Option ℕ)) → Content =
+    λ rows histories holders. record old { rows = rows; histories = histories; drawn = 0; holders = holders; turns = []; earlier = old.earlier ++ old.turns ∷ [] } in
+    let exact : arc_value n.histories ≡ histories_of (node_count_of b.problem.device) b.history.acc (b.history.rows ++ n.row ∷ []) =
+    histories_are (node_count_of b.problem.device) b.history.acc (b.history.rows ++ n.row ∷ []) (arc_value n.histories) next.size next.exact in
+    ap (λ (h : HistoryTable). content_of (record { problem = b.problem; routes = b.routes; history = h; turns = t; marks = b.marks })) history
+    ∙ ap (λ (t : TurnTable). content_of (record { problem = b.problem; routes = b.routes; history = grown; turns = t; marks = b.marks })) turns
+    ∙ ap (λ histories. closed (b.history.rows ++ n.row ∷ []) histories (replicate (length b.turns.holders) None)) exact
+    ∙ ap (λ row. closed (b.history.rows ++ row ∷ []) (histories_of (node_count_of b.problem.device) b.history.acc (b.history.rows ++ row ∷ [])) (replicate (length b.turns.holders) None)) next.row
+    ∙ ap (λ k. closed (b.history.rows ++ row_of b.problem old.lists ∷ []) (histories_of (node_count_of b.problem.device) b.history.acc (b.history.rows ++ row_of b.problem old.lists ∷ [])) (replicate k None)) kept.sound.held

@@ -28,7 +28,7 @@ draws_net b kept seen view worker net t size gives sees =
       gives.0,
       low,
       ap (with_turns b) gives.2,
-      view_is (content_of b) b.routes.usage.counts b.history.histories kept.sound net low view sees,
+      view_is (content_of b) kept.sound net low view sees,
     )
 
 -- ---- a close

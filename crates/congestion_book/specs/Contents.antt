@@ -1,5 +1,5 @@
 -- What a congestion book holds, and when it is sound (McMurchie and Ebeling 1995, "occupancy", "history of congestion").
-use Rattle.std.specs.Prelude.{◌≡◌, ℕ, ◌-◌, ◌<◌, ◌≤◌, List, [], ◌∷◌, ◌++◌, length, map, get_or, replicate, Option, None}
+use Rattle.std.specs.Prelude.{◌≡◌, ℕ, ◌-◌, ◌<◌, ◌≤◌, List, [], ◌∷◌, ◌++◌, length, map, get_or, replicate, Option, None, All}
 use Rattle.rr_graph.specs.Fabric.{numbers_below}
 use Rattle.rr_graph.specs.Nodes.{node_count_of}
 use Rattle.rr_graph.specs.Problems.{RoutingProblem}
@@ -7,7 +7,7 @@ use Rattle.route_tree.specs.Usage.{use_of, use_by_others}
 use Rattle.congestion_book.specs.declared.turn.Turn.{Turn}
 use Rattle.congestion_book.specs.Turns.{TurnTable, AreInOrder}
 use Rattle.congestion_book.specs.Recorded.{Lists, AreRoutes}
-use Rattle.congestion_book.specs.Histories.{Amount, history_of}
+use Rattle.congestion_book.specs.Histories.{Amount, IsRow, history_of}
 
 pub record Content : Type 0 where
   pub problem : RoutingProblem
@@ -15,8 +15,12 @@ pub record Content : Type 0 where
   pub acc : ℕ
   -- the recorded tree of each net as its pairs, or none
   pub lists : Lists
+  -- of each node its occupancy: how many nets use it
+  pub occupancies : List ℕ
   -- of each closed iteration the overused nodes
   pub rows : List (List Amount)
+  -- of each node its history
+  pub histories : List ℕ
   -- of the open iteration: how many nets were drawn, the worker that holds each net, and the turns made
   pub drawn : ℕ
   pub holders : List (Option ℕ)
@@ -34,23 +38,28 @@ node_total c = node_count_of c.problem.device
 abbrev pub table_in : Content → TurnTable
 table_in c = record { drawn = c.drawn; holders = c.holders; turns = c.turns; earlier = c.earlier }
 
--- The congestion invariant, over the occupancies and the histories that a book keeps.
-pub record IsSound (c : Content) (occupancies histories : List ℕ) : Type 0 where
+-- The congestion invariant.
+pub record IsSound (c : Content) : Type 0 where
   -- each recorded tree joins its net's source to exactly its sinks through switches of the device
   pub one_each : length c.lists ≡ net_count c
   pub routes : AreRoutes c.problem c.lists
   -- each occupancy is the number of recorded trees that use the node
-  pub occupied : length occupancies ≡ node_total c
-  pub uses : (a : ℕ) → get_or occupancies a 0 ≡ use_of c.problem.nets c.lists a
+  pub occupied : length c.occupancies ≡ node_total c
+  pub uses : (a : ℕ) → get_or c.occupancies a 0 ≡ use_of c.problem.nets c.lists a
   -- each history is the accumulated overuse
-  pub remembered : length histories ≡ node_total c
-  pub accumulated : (a : ℕ) → a < node_total c → get_or histories a 0 ≡ history_of c.acc c.rows a
+  pub remembered : length c.histories ≡ node_total c
+  pub accumulated : (a : ℕ) → a < node_total c → get_or c.histories a 0 ≡ history_of c.acc c.rows a
   -- each net below the count drawn is held or had one turn, and in each closed iteration each net had one
   pub held : length c.holders ≡ net_count c
   pub order : AreInOrder (table_in c)
   -- there is a row for each closed iteration, and at most 500
   pub rows : length c.rows ≡ length c.earlier
   pub few : length c.rows ≤ 500
+  pub formed : All (IsRow (node_total c) (net_count c)) c.rows
+
+-- nothing was drawn in the open iteration
+abbrev pub IsFresh : Content → Type 0
+IsFresh c = c.drawn ≡ 0
 
 -- a book of which nothing is known yet
 abbrev pub opening : RoutingProblem → (acc : ℕ) → Content
@@ -58,7 +67,9 @@ opening p acc = record {
   problem = p;
   acc = acc;
   lists = replicate (length p.nets) None;
+  occupancies = replicate (node_count_of p.device) 0;
   rows = [];
+  histories = replicate (node_count_of p.device) 0;
   drawn = 0;
   holders = replicate (length p.nets) None;
   turns = [];
@@ -72,7 +83,3 @@ view_of c i = map (λ a. (use_by_others c.problem.nets c.lists i a, history_of c
 -- the turns of iteration k, counted from 1; the open one is the last
 abbrev pub turns_of : Content → ℕ → List Turn
 turns_of c k = get_or (c.earlier ++ c.turns ∷ []) (k - 1) []
-
--- there are occupancies and histories by which the book is sound
-abbrev pub IsSoundBook : Content → Type 0
-IsSoundBook c = (occupancies : List ℕ) × (histories : List ℕ) × IsSound c occupancies histories

@@ -51,16 +51,18 @@ content_of b =
       problem = b.problem;
       acc = b.history.acc;
       lists = lists_kept b.routes;
+      occupancies = b.routes.usage.counts;
       rows = b.history.rows;
+      histories = b.history.histories;
       drawn = b.turns.drawn;
       holders = b.turns.holders;
       turns = b.turns.turns;
       earlier = b.turns.earlier;
     }
 
--- The book is sound by the occupancies and histories that it keeps, its counters are exact, and its marks fit.
+-- The book is sound, its counters are exact, and its marks fit.
 pub record IsKept (b : book.Inside) : Type 0 where
-  pub sound : IsSound (content_of b) b.routes.usage.counts b.history.histories
+  pub sound : IsSound (content_of b)
   pub over : b.routes.usage.overused ≡ overused_by b.problem.device b.routes.usage.counts
   pub without : b.routes.unrouted ≡ unrouted_in (lists_kept b.routes)
   pub marks : b.marks ≡ node_count_of b.problem.device

@@ -1,5 +1,5 @@
 -- What is kept of the recorded trees: how many nets use each node, how many nodes are overused, and how many nets have no tree.
-use Rattle.std.specs.Prelude.{◌≡◌, ℕ, ◌+◌, ◌≤◌, nat_lt, List, length, get_or, Option, Some, None, is_none, count_by}
+use Rattle.std.specs.Prelude.{◌≡◌, ℕ, ◌+◌, ◌≤◌, nat_lt, List, length, map, get_or, Option, Some, None, is_none, count_by}
 use Rattle.rr_graph.specs.Fabric.{numbers_below}
 use Rattle.rr_graph.specs.Nodes.{node_count_of}
 use Rattle.rr_graph.specs.Problems.{RoutingProblem, net_in}
@@ -19,6 +19,10 @@ list_in lists i = get_or lists i None
 -- each recorded list routes its net
 abbrev pub AreRoutes : RoutingProblem → Lists → Type 0
 AreRoutes p lists = (i : ℕ) (pairs : List Pair) → list_in lists i ≡ Some pairs → IsRoute p i pairs
+
+-- how many nets with a list use each node
+unfoldable pub occupancies_of : RoutingProblem → Lists → List ℕ
+occupancies_of p lists = map (λ a. use_of p.nets lists a) (numbers_below (node_count_of p.device))
 
 -- how many nets have no list
 unfoldable pub unrouted_in : Lists → ℕ

@@ -1,6 +1,5 @@
 -- What a list of events does to a book.
-use Rattle.std.specs.Prelude.{◌≡◌, ◌≢◌, ◌<◌, List, [], ◌∷◌, length, Err}
-use Rattle.std.specs.Prelude.{take}
+use Rattle.std.specs.Prelude.{◌≡◌, ◌≢◌, ◌⊎◌, ◌<◌, List, [], ◌∷◌, length, get_or, take, None, Err}
 use Rattle.route_tree.specs.Rows.{pairs_of}
 use Rattle.congestion_book.specs.declared.faults.CloseFault.TheVariants as close
 use Rattle.congestion_book.specs.declared.events.Event.{Event}
@@ -9,7 +8,8 @@ use Rattle.congestion_book.specs.declared.events.Reply.{Reply}
 use Rattle.congestion_book.specs.declared.events.Reply.TheVariants.{Drawn, Committed, Passed, Closed}
 use Rattle.congestion_book.specs.declared.events.RunFault.{RunFault}
 use Rattle.congestion_book.specs.declared.events.RunFault.TheVariants.{Memory}
-use Rattle.congestion_book.specs.Contents.{Content, IsSoundBook}
+use Rattle.congestion_book.specs.Turns.{IsFirstWaiting}
+use Rattle.congestion_book.specs.Contents.{Content, IsSound, net_count}
 use Rattle.congestion_book.specs.Steps.{Seen, Draws, Commits, Passes, Closes}
 
 -- One event: each call's answer is its reply, and only a draw changes the view. A close that has no memory has no reply.
@@ -24,9 +24,18 @@ Steps old seen _ _ new sees = ⊥
 abbrev pub Runs : Content → Seen → List Event → List Reply → Content → Seen → Type 0
 Runs old seen [] [] new sees = (new ≡ old) × (sees ≡ seen)
 Runs old seen (event ∷ events) (reply ∷ replies) new sees =
-    (between : Content) × (shown : Seen) × Steps old seen event reply between shown × IsSoundBook between × Runs between shown events replies new sees
+    (between : Content) × (shown : Seen) × Steps old seen event reply between shown × IsSound between × Runs between shown events replies new sees
 Runs old seen _ _ new sees = ⊥
 
--- Memory ran out at an event: those before it happened, and no other.
+-- The event takes memory: a commit, whose tree is copied, and a close that may go on.
+abbrev pub TakesMemory : Content → Event → Type 0
+TakesMemory c (Draw worker) = ⊥
+TakesMemory c (Commit worker net tree) = Unit {0}
+TakesMemory c (Pass worker net) = ⊥
+TakesMemory c Close = IsFirstWaiting c.turns (net_count c) None × (length c.rows < 500)
+
+-- Memory ran out at an event: those before it happened, and no other. It is the first one, where there was none for the replies, or one
+-- that takes memory.
 abbrev pub StopsAfter : Content → Seen → List Event → RunFault → Content → Seen → Type 0
-StopsAfter old seen events (Memory n) new sees = (n < length events) × ((replies : List Reply) × Runs old seen (take n events) replies new sees)
+StopsAfter old seen events (Memory n) new sees =
+    (n < length events) × ((n ≡ 0) ⊎ TakesMemory new (get_or events n Close)) × ((replies : List Reply) × Runs old seen (take n events) replies new sees)

@@ -11,7 +11,8 @@ use Rattle.congestion_book.specs.declared.faults.PassFault.TheVariants as pass
 use Rattle.congestion_book.specs.declared.faults.CloseFault.{CloseFault}
 use Rattle.congestion_book.specs.declared.faults.CloseFault.TheVariants.{Unfinished, Full, Memory}
 use Rattle.congestion_book.specs.Turns.{holder_in, turn_of, IsFirstWaiting}
-use Rattle.congestion_book.specs.Histories.{row_of}
+use Rattle.congestion_book.specs.Histories.{row_of, histories_of}
+use Rattle.congestion_book.specs.Recorded.{occupancies_of}
 use Rattle.congestion_book.specs.Contents.{Content, net_count, node_total, view_of}
 
 -- of each node how many other nets use it, and its history
@@ -22,20 +23,22 @@ Seen = List (ℕ × ℕ)
 abbrev pub after_draw : Content → (worker : ℕ) → Content
 after_draw c worker = record c { drawn = c.drawn + 1; holders = set c.holders c.drawn (Some worker) }
 
--- the net has this list, or none, nobody holds it, and the turn is noted
+-- the net has this list, or none, its nodes are used so, nobody holds it, and the turn is noted
 abbrev pub after_turn : Content → (worker net : ℕ) → Option (List Pair) → Content
 after_turn c worker net list =
     record c {
       lists = set c.lists net list;
+      occupancies = occupancies_of c.problem (set c.lists net list);
       holders = set c.holders net None;
       turns = c.turns ++ turn_of worker net (is_none list) ∷ [];
     }
 
--- the iteration's row is appended, and the next iteration opens with nothing drawn, held or turned
+-- the iteration's row is appended, the histories grow by it, and the next iteration opens with nothing drawn, held or turned
 abbrev pub after_close : Content → Content
 after_close c =
     record c {
       rows = c.rows ++ row_of c.problem c.lists ∷ [];
+      histories = histories_of (node_total c) c.acc (c.rows ++ row_of c.problem c.lists ∷ []);
       drawn = 0;
       holders = replicate (net_count c) None;
       turns = [];

@@ -3,7 +3,7 @@
 ghost use Rattle.std.specs.Prelude.{◌≡◌, ◌<◌, OnErr, IfOk, IfErr};
 ghost use Rattle.route_tree.specs.Rows.{pairs_of};
 ghost use Rattle.congestion_book.specs.Steps.{Commits};
-ghost use Rattle.congestion_book.specs.Runs.{Steps, Runs, StopsAfter};
+ghost use Rattle.congestion_book.specs.Runs.{Steps, Runs, TakesMemory, StopsAfter};
 
 use crate::book::Book;
 use crate::faults::{CloseFault, CommitFault, DrawFault, PassFault};
@@ -37,7 +37,7 @@ pub enum Reply {
 /// Why a list of events was not run to its end.
 #[derive(Clone, Copy, Debug, PartialEq, Eq, Error)]
 pub enum RunFault {
-    /// Memory ran out. So many events, the first ones, stand, and no other.
+    /// Memory ran out at an event that takes some, or ahead of them all. So many events, the first ones, stand, and no other.
     #[error("memory ran out after {0} events")]
     Memory(usize),
 }
@@ -78,6 +78,7 @@ impl Book {
             (λ reply. Steps self.old view.old event.now reply self.new view.new) }
         ensures refused { OnErr result (self.new ≡ self.old) }
         ensures unseen { OnErr result (view.new ≡ view.old) }
+        ensures wants { OnErr result (TakesMemory self.old event.now) }
     {
         match event {
             Event::Draw(worker) => Ok(Reply::Drawn(self.draw(*worker, view))),

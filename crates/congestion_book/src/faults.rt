@@ -47,19 +47,3 @@ pub enum CloseFault {
     #[error("memory ran out")]
     Memory,
 }
-
-impl From<AllocError> for CloseFault {
-    ghost from_gives = { λ _ e. e ≡ Memory };
-
-    fn from(_e: AllocError) -> CloseFault {
-        CloseFault::Memory
-    }
-}
-
-impl<T: Drop> From<AllocFailed<T>> for CloseFault {
-    ghost from_gives = { λ _ e. e ≡ Memory };
-
-    fn from(_e: AllocFailed<T>) -> CloseFault {
-        CloseFault::Memory
-    }
-}

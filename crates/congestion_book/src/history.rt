@@ -119,7 +119,8 @@ impl History {
 
     /// The histories, to be shared.
     pub(crate) fn histories(&self) -> &Arc<Histories, Global>
-        ensures { arc_value result.now ≡ self.now.histories }
+        ensures exact { arc_value result.now ≡ self.now.histories }
+        ensures small { (a : ℕ) → get_or self.now.histories a 0 < 2 ^ 42 }
     {
         &self.histories
     }

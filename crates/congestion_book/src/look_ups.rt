@@ -1,12 +1,12 @@
 //! What a congestion book answers.
 
-ghost use Rattle.std.specs.Prelude.{◌≡◌, ◌==◌, ◌+◌, ◌<◌, ◌≤◌, length, Some, None, MatchOption};
+ghost use Rattle.std.specs.Prelude.{◌≡◌, ◌↔◌, ◌+◌, ◌^◌, ◌<◌, ◌≤◌, true, length, get_or, Some, None, MatchOption};
 ghost use Rattle.route_tree.specs.Rows.{pairs_of};
 ghost use Rattle.route_tree.specs.Faults.{IsRoute};
 ghost use Rattle.route_tree.specs.Usage.{use_of};
 ghost use Rattle.congestion_book.specs.Recorded.{list_in, unrouted_in, overused_in};
 ghost use Rattle.congestion_book.specs.Histories.{history_of};
-ghost use Rattle.congestion_book.specs.Contents.{node_total, turns_of, IsSoundBook};
+ghost use Rattle.congestion_book.specs.Contents.{IsSound, IsFresh, node_total, turns_of};
 
 use crate::book::Book;
 use crate::history::OveruseRow;
@@ -18,7 +18,7 @@ impl Book {
     /// The problem whose nets are routed.
     pub fn problem(&self) -> &Problem
         ensures exact { result.now ≡ self.now.problem }
-        ensures sound { IsSoundBook self.now }
+        ensures sound { IsSound self.now }
     {
         &self.problem
     }
@@ -39,15 +39,18 @@ impl Book {
     /// How many recorded trees use a node.
     pub fn occupancy(&self, id: u32) -> u32
         requires { id < node_total self.now }
-        ensures { result ≡ use_of self.now.problem.nets self.now.lists id }
+        ensures exact { result ≡ use_of self.now.problem.nets self.now.lists id }
+        ensures kept { result ≡ get_or self.now.occupancies id 0 }
     {
         self.routes.usage.counts.get(id)
     }
 
-    /// The history of a node: acc times its overuse in all closed iterations.
+    /// The history of a node: acc times its overuse in all closed iterations. It is below 2^42.
     pub fn history(&self, id: u32) -> u64
         requires { id < node_total self.now }
-        ensures { result ≡ history_of self.now.acc self.now.rows id }
+        ensures exact { result ≡ history_of self.now.acc self.now.rows id }
+        ensures kept { result ≡ get_or self.now.histories id 0 }
+        ensures small { result < 2 ^ 42 }
     {
         self.history.histories().get(id)
     }
@@ -90,7 +93,7 @@ impl Book {
 
     /// Whether nothing was drawn in the open iteration.
     pub fn fresh(&self) -> bool
-        ensures { result ≡ (self.now.drawn == 0) }
+        ensures { (result ≡ true) ↔ IsFresh self.now }
     {
         self.turns.is_fresh()
     }

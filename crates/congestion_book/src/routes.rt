@@ -13,7 +13,7 @@ ghost use Rattle.route_tree.specs.TreeLists.{list_of_tree};
 ghost use Rattle.congestion_book.specs.Fields.{AreExact, lists_kept};
 ghost use Rattle.congestion_book.specs.Turns.{one_if};
 ghost use Rattle.congestion_book.specs.Usage.{overused_by};
-ghost use Rattle.congestion_book.specs.Recorded.{list_in, RoutesOrNone, HasRoom, HasRoomInPlace, IsCounted, GainsNet, LosesNet, ChangesNet};
+ghost use Rattle.congestion_book.specs.Recorded.{list_in, occupancies_of, RoutesOrNone, HasRoom, HasRoomInPlace, IsCounted, GainsNet, LosesNet, ChangesNet};
 
 use crate::history::OveruseRow;
 use crate::showing::show;
@@ -132,6 +132,8 @@ impl Routes {
     /// No net has a tree.
     pub(crate) fn new(alloc: Global, problem: &Problem) -> Result<Routes, AllocError>
         ensures lists { IfOk result (λ r. lists_kept r ≡ replicate (length problem.now.nets) None) }
+        ensures counts { IfOk result
+            (λ r. r.usage.counts ≡ replicate (node_count_of problem.now.device) 0) }
         ensures recorded { IfOk result (λ r. AreExact problem.now r) }
     {
         let trees = no_trees(alloc, problem.nets())?;
@@ -149,6 +151,8 @@ impl Routes {
         requires routes { RoutesOrNone problem.now net (list_of_tree tree) }
         requires recorded { AreExact problem.now self.old }
         ensures lists { lists_kept self.new ≡ set (lists_kept self.old) net (list_of_tree tree) }
+        ensures counts { self.new.usage.counts ≡
+            occupancies_of problem.now (set (lists_kept self.old) net (list_of_tree tree)) }
         ensures recorded { AreExact problem.now self.new }
     {
         let _limits = problem.nets();

@@ -142,7 +142,7 @@ impl Turns {
 
     /// Whether nothing was drawn in the open iteration.
     pub(crate) fn is_fresh(&self) -> bool
-        ensures { result ≡ (self.now.drawn == 0) }
+        ensures { (result ≡ true) ↔ (self.now.drawn ≡ 0) }
     {
         self.drawn == 0
     }

@@ -1,5 +1,5 @@
 -- What stays true of a negotiation from iteration to iteration, and what it comes to in the end.
-use Rattle.std.proofs.Common.{◌≡◌, ℕ, ◌+◌, ◌<◌, ◌≤◌, ◌==◌, nat_lt, true, false, ◌&&◌, ◌||◌, [], ◌∷◌, List, length, None, refl, sym, ap, subst, ◌∙◌, arith, length-append}
+use Rattle.std.proofs.Common.{◌≡◌, ℕ, ◌+◌, ◌<◌, ◌≤◌, ◌==◌, nat_lt, true, false, ◌&&◌, ◌||◌, [], ◌∷◌, ◌++◌, List, length, None, refl, sym, ap, subst, ◌∙◌, arith, length-append}
 use Rattle.std.proofs.lemmas.Bool.Decides.{nat_tests}
 use Rattle.rr_graph.specs.Problems.{RoutingProblem}
 use Rattle.node_cost.specs.Options.{RouterOptions, present_of}
@@ -7,8 +7,8 @@ use Rattle.congestion_book.specs.declared.turn.Turn.{Turn}
 use Rattle.congestion_book.specs.Turns.{NameEachOnce, IsFirstWaiting}
 use Rattle.congestion_book.specs.Recorded.{list_in}
 use Rattle.congestion_book.specs.Histories.{row_of}
-use Rattle.congestion_book.specs.Contents.{Content, opening}
-use Rattle.net_workers.specs.Agreement.{IsFresh}
+use Rattle.congestion_book.specs.Contents.{Content, IsSound, IsFresh, opening}
+use Rattle.congestion_book.proofs.Soundness.{opening_sound}
 use Rattle.net_workers.specs.Searches.{IsStuckNet}
 use Rattle.net_workers.proofs.Reports.{stuck_net}
 use Rattle.route_check.specs.Routed.{Lists, IsRouted}
@@ -19,7 +19,7 @@ use Rattle.iteration.specs.Outcomes.{Tells, Ends, IsBookAfter, IsOutcome}
 use Rattle.iteration.proofs.Successes.{routed_by}
 
 pub fresh_opening : (c : Content) (p : RoutingProblem) (acc : ℕ) → c ≡ opening p acc → IsFresh c
-fresh_opening c p acc is = record { drawn = ap (λ (k : Content). k.drawn) is; turns = ap (λ (k : Content). k.turns) is }
+fresh_opening c p acc is = ap (λ (k : Content). k.drawn) is
 
 pub all_done : (nets : ℕ) (turns : List Turn) → NameEachOnce nets turns → IsFirstWaiting turns nets None
 all_done nets turns once i low = let one = once i in grind (arith, nat_tests, one)
@@ -27,27 +27,32 @@ all_done nets turns once i low = let one = once i in grind (arith, nat_tests, on
 -- ---- an iteration
 module _ (o : RouterOptions) (crew : ℕ) (old new : Content) (made : IsIteration o crew old new) where
   pub fresh_after : IsFresh new
-  fresh_after = record { drawn = ap (λ (k : Content). k.drawn) made.closed; turns = ap (λ (k : Content). k.turns) made.closed }
+  fresh_after = ap (λ (k : Content). k.drawn) made.closed
 
   pub problem_after : new.problem ≡ old.problem
-  problem_after = ap (λ (k : Content). k.problem) made.closed ∙ made.agrees.later.problem
+  problem_after = ap (λ (k : Content). k.problem) made.closed ∙ made.agrees.within.problem
 
   acc_after : new.acc ≡ old.acc
-  acc_after = ap (λ (k : Content). k.acc) made.closed ∙ made.agrees.later.acc
-
-  pub rows_after : length new.rows ≡ length old.rows + 1
-  rows_after =
-      ap (λ (k : Content). length k.rows) made.closed
-      ∙ length-append made.between.rows (row_of made.between.problem made.between.lists ∷ [])
-      ∙ ap (λ (k : List (List (ℕ × ℕ))). length k + 1) made.agrees.later.rows
+  acc_after = ap (λ (k : Content). k.acc) made.closed ∙ made.agrees.within.acc
 
   lists_after : new.lists ≡ made.between.lists
   lists_after = ap (λ (k : Content). k.lists) made.closed
 
+  -- the rows are those before, and that of the iteration
+  row_after : new.rows ≡ old.rows ++ row_of old.problem new.lists ∷ []
+  row_after =
+      ap (λ (k : Content). k.rows) made.closed
+      ∙ ap (λ (k : List (List (ℕ × ℕ))). k ++ row_of made.between.problem made.between.lists ∷ []) made.agrees.within.rows
+      ∙ ap (λ (q : RoutingProblem). old.rows ++ row_of q made.between.lists ∷ []) made.agrees.within.problem
+      ∙ ap (λ ls. old.rows ++ row_of old.problem ls ∷ []) (sym lists_after)
+
+  pub rows_after : length new.rows ≡ length old.rows + 1
+  rows_after = ap length row_after ∙ length-append old.rows (row_of old.problem new.lists ∷ [])
+
   -- what has no tree behind it is stuck in it
   stuck_after : (i : ℕ) → i < length old.problem.nets → list_in new.lists i ≡ None → IsStuckNet old (present_of o (length old.rows + 1)) o.bb i
   stuck_after i low none =
-      let nets : length made.between.problem.nets ≡ length old.problem.nets = ap (λ (q : RoutingProblem). length q.nets) made.agrees.later.problem in
+      let nets : length made.between.problem.nets ≡ length old.problem.nets = ap (λ (q : RoutingProblem). length q.nets) made.agrees.within.problem in
       stuck_net old made.between (present_of o (length old.rows + 1)) o.bb crew made.reports made.agrees i (omega (arith, low, nets))
       (sym (ap (λ ls. list_in ls i) lists_after) ∙ none)
 
@@ -62,6 +67,10 @@ module _ (p : RoutingProblem) (o : RouterOptions) (workers : ℕ) where
         acc = acc_after o old.crew old.book new.book follows.made ∙ before.acc;
         rows = refl;
       }
+
+  sound_reached : (s : Standing) → IsReached p o workers s → IsSound s.book
+  sound_reached _ begun = opening_sound p o.acc
+  sound_reached _ (followed old new reached on follows) = follows.made.sound
 
   few_more : (rows u v : ℕ) → (rows == 0 || ((u == 0) && nat_lt 0 v && nat_lt rows o.iterations)) ≡ true → 1 ≤ o.iterations → rows < o.iterations
   few_more rows u v on some = grind (arith, nat_tests)
@@ -117,7 +126,11 @@ module _ (p : RoutingProblem) (o : RouterOptions) (workers : ℕ) where
           book = s.book;
           begins = record { problem = was.problem; acc = was.acc; rows = omega (arith, now) };
           ends = record { problem = is.problem; acc = is.acc; rows = sym told.2 };
+          sound_before = sound_reached last.before last.reached;
           sound = last.follows.made.sound;
+          row =
+              row_after o last.before.crew last.before.book s.book last.follows.made
+              ∙ ap (λ (q : RoutingProblem). last.before.book.rows ++ row_of q s.book.lists ∷ []) was.problem;
           without = sym told.0;
           over = sym told.1;
           stuck = λ i low none.

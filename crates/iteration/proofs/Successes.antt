@@ -11,14 +11,14 @@ use Rattle.route_tree.specs.Usage.{use_of, overuse_of}
 use Rattle.route_check.specs.Routed.{IsNetRouted, IsRouted}
 use Rattle.congestion_book.specs.Turns.{one_if}
 use Rattle.congestion_book.specs.Recorded.{list_in, unrouted_in, overused_in}
-use Rattle.congestion_book.specs.Contents.{Content, IsSoundBook, node_total}
+use Rattle.congestion_book.specs.Contents.{Content, IsSound, node_total}
 use Rattle.iteration.specs.Progress.{unrouted_of, overused_of}
 
 some_list : (l : Option (List Pair)) → one_if (is_none l) ≤ 0 → (pairs : List Pair) × (l ≡ Some pairs)
 some_list (Some pairs) none = (pairs, refl)
 some_list None none = absurd (omega (arith, none))
 
-module _ (c : Content) (sound : IsSoundBook c) where
+module _ (c : Content) (sound : IsSound c) where
   has_list : unrouted_of c ≡ 0 → (i : ℕ) → i < length c.lists → (pairs : List Pair) × (list_in c.lists i ≡ Some pairs)
   unfolding unrouted_in
   has_list none i low =
@@ -27,13 +27,13 @@ module _ (c : Content) (sound : IsSoundBook c) where
 
   net_routed : unrouted_of c ≡ 0 → (i : ℕ) → i < length c.problem.nets → IsNetRouted c.problem c.lists i
   net_routed none i low =
-      let has = has_list none i (omega (arith, low, sound.2.one_each)) in
-      (has.0, has.1, sound.2.routes i has.0 has.1)
+      let has = has_list none i (omega (arith, low, sound.one_each)) in
+      (has.0, has.1, sound.routes i has.0 has.1)
 
   none_past : (a : ℕ) → node_total c ≤ a → overuse_of c.problem c.lists a ≡ 0
   unfolding overuse_of
   none_past a past =
-      let none : use_of c.problem.nets c.lists a ≡ 0 = sym (sound.2.uses a) ∙ get_or_past sound.0 a 0 (omega (arith, past, sound.2.occupied)) in
+      let none : use_of c.problem.nets c.lists a ≡ 0 = sym (sound.uses a) ∙ get_or_past c.occupancies a 0 (omega (arith, past, sound.occupied)) in
       omega (arith, none)
 
   none_over : overused_of c ≡ 0 → (a : ℕ) → a < node_total c → overuse_of c.problem c.lists a ≡ 0
@@ -48,7 +48,7 @@ module _ (c : Content) (sound : IsSoundBook c) where
 
   pub routed_by : unrouted_of c ≡ 0 → overused_of c ≡ 0 → IsRouted c.problem c.lists
   routed_by listed fits = record {
-    one_each = sound.2.one_each;
+    one_each = sound.one_each;
     routed = net_routed listed;
     within = λ a. elim (cases_lt a (node_total c)) [ inl low ↦ none_over fits a low | inr past ↦ none_past a past ];
   }

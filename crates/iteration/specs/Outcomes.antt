@@ -1,10 +1,11 @@
 -- What a negotiation comes to.
-use Rattle.std.specs.Prelude.{◌≡◌, ℕ, ◌+◌, ◌-◌, ◌<◌, ◌≤◌, false, length, None}
+use Rattle.std.specs.Prelude.{◌≡◌, ℕ, ◌+◌, ◌-◌, ◌<◌, ◌≤◌, ◌++◌, ◌∷◌, [], false, length, None}
 use Rattle.rr_graph.specs.Problems.{RoutingProblem}
 use Rattle.node_cost.specs.Options.{RouterOptions, present_of}
 use Rattle.route_check.specs.Routed.{IsRouted}
 use Rattle.congestion_book.specs.Recorded.{list_in}
-use Rattle.congestion_book.specs.Contents.{Content, IsSoundBook}
+use Rattle.congestion_book.specs.Histories.{row_of}
+use Rattle.congestion_book.specs.Contents.{Content, IsSound}
 use Rattle.net_workers.specs.Searches.{IsStuckNet}
 use Rattle.iteration.specs.declared.outcome.Outcome.{Outcome}
 use Rattle.iteration.specs.declared.outcome.Outcome.TheVariants.{Success, NotRouted}
@@ -37,12 +38,14 @@ pub record IsLeft (p : RoutingProblem) (o : RouterOptions) (unrouted overused it
   pub least : 1 ≤ iterations
   pub most : iterations ≤ o.iterations
   pub early : iterations < o.iterations → 1 ≤ unrouted
-  -- the book before the last iteration, and the one that it leaves
+  -- the book before the last iteration, and the one that it leaves: both are sound, and this one has the iteration's row besides
   pub before : Content
   pub book : Content
   pub begins : IsBookAfter p o (iterations - 1) before
   pub ends : IsBookAfter p o iterations book
-  pub sound : IsSoundBook book
+  pub sound_before : IsSound before
+  pub sound : IsSound book
+  pub row : book.rows ≡ before.rows ++ row_of p book.lists ∷ []
   pub without : unrouted_of book ≡ unrouted
   pub over : overused_of book ≡ overused
   pub stuck : (i : ℕ) → i < length p.nets → list_in book.lists i ≡ None → IsStuckNet before (present_of o iterations) o.bb i

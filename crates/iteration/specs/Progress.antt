@@ -3,7 +3,7 @@ use Rattle.std.specs.Prelude.{◌≡◌, ℕ, ◌+◌, ◌==◌, nat_lt, Bool, t
 use Rattle.rr_graph.specs.Problems.{RoutingProblem}
 use Rattle.node_cost.specs.Options.{RouterOptions, present_of}
 use Rattle.congestion_book.specs.Recorded.{unrouted_in, overused_in}
-use Rattle.congestion_book.specs.Contents.{Content, IsSoundBook, net_count, opening}
+use Rattle.congestion_book.specs.Contents.{Content, IsSound, net_count, opening}
 use Rattle.congestion_book.specs.Steps.{after_close}
 use Rattle.net_workers.specs.declared.report.Entry.{Entry}
 use Rattle.net_workers.specs.Agreement.{Agrees}
@@ -35,7 +35,7 @@ pub record IsIteration (o : RouterOptions) (crew : ℕ) (old new : Content) : Ty
   pub reports : List (List Entry)
   pub agrees : Agrees old between (present_of o (length old.rows + 1)) o.bb crew reports
   pub closed : new ≡ after_close between
-  pub sound : IsSoundBook new
+  pub sound : IsSound new
 
 -- the iteration between two standings
 abbrev pub made_between : (old new : Standing) → Made

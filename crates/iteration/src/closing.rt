@@ -2,9 +2,8 @@
 
 ghost use Rattle.std.specs.Prelude.{◌≡◌, ◌+◌, ◌<◌, ◌≤◌, length, None, IfOk, IfErr, OnOk};
 ghost use Rattle.congestion_book.specs.Turns.{IsFirstWaiting};
-ghost use Rattle.congestion_book.specs.Contents.{net_count};
+ghost use Rattle.congestion_book.specs.Contents.{IsFresh, net_count};
 ghost use Rattle.congestion_book.specs.Steps.{after_close};
-ghost use Rattle.net_workers.specs.Agreement.{IsFresh};
 ghost use Rattle.net_workers.specs.declared.fault.WorkFault.TheVariants.{Memory};
 ghost use Rattle.iteration.specs.Progress.{IsIteration};
 

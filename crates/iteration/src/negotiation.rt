@@ -31,7 +31,7 @@ struct Negotiation {
 
 impl Model for Negotiation {
     ghost use Rattle.std.specs.Prelude.{◌≤◌};
-    ghost use Rattle.net_workers.specs.Agreement.{IsFresh};
+    ghost use Rattle.congestion_book.specs.Contents.{IsFresh};
     ghost use Rattle.iteration.specs.Progress.{Standing};
 
     ghost Value = { Standing };
@@ -174,6 +174,26 @@ fn run<R: Threads + Wait + Sync, G: Gate + Sync>(
     Ok(negotiation)
 }
 
+/// Makes iterations until none follows, and tells what they come to.
+fn outcome_of<R: Threads + Wait + Sync, G: Gate + Sync>(
+    rt: &R,
+    alloc: Global,
+    own: &Problem,
+    problem: Problem,
+    settings: &Settings,
+    workers: u32,
+    gate: &G,
+) -> Result<Outcome, WorkFault>
+    requires workers { (1 ≤ workers) × (workers ≤ 16) }
+    requires own { own.now ≡ problem }
+    ensures run { IfOk result (Ends problem settings.now workers) }
+    ensures limit { 1 ≤ settings.now.iterations }
+{
+    let negotiation = run(rt, alloc, problem, settings, workers, gate)?;
+    let outcome = negotiation.outcome(rt, alloc, own)?;
+    Ok(outcome)
+}
+
 /// Negotiates a routing of the problem. Iteration by iteration each net is routed anew by so many workers (the first iteration by all of
 /// them, the others by as many as `next_crew` says), on one congestion book, and the iteration is closed: nodes that stay overused cost
 /// more from then on. It ends where each net has a tree and no node is overused; else behind the iteration in which a net found no path,
@@ -196,7 +216,6 @@ pub fn negotiate<R: Threads + Wait + Sync, G: Gate + Sync>(
     ensures run { IfOk result (Ends problem settings.now workers) }
 {
     let own = problem.copy(alloc)?;
-    let negotiation = run(rt, alloc, problem, settings, workers, gate)?;
-    let outcome = negotiation.outcome(rt, alloc, &own)?;
+    let outcome = outcome_of(rt, alloc, &own, problem, settings, workers, gate)?;
     Ok(outcome)
 }

@@ -7,7 +7,7 @@ use Rattle.std.proofs.lemmas.List.Sums.{sum_by-cons, sum_by_more, length-filter,
 use Rattle.std.specs.Prelude.{All, sum_by, count_by}
 use Rattle.congestion_book.specs.declared.turn.Turn.{Turn}
 use Rattle.congestion_book.specs.Turns.{AreInOrder, NameEachOnce, holder_in, one_if}
-use Rattle.congestion_book.specs.Contents.{Content, IsSoundBook, net_count, table_in}
+use Rattle.congestion_book.specs.Contents.{Content, IsSound, net_count, table_in}
 use Rattle.net_workers.specs.declared.report.Entry.{Entry}
 use Rattle.net_workers.specs.Agreement.{Begins, Tells, told_turn}
 
@@ -77,9 +77,9 @@ not_some : (o : Option ℕ) → one_if (is_some o) ≡ 0 → o ≡ None
 not_some None none = refl
 not_some (Some w) none = cc
 
-module _ (c : Content) (sound : IsSoundBook c) (full : length c.turns ≡ net_count c) where
+module _ (c : Content) (sound : IsSound c) (full : length c.turns ≡ net_count c) where
   order : AreInOrder (table_in c)
-  order = sound.2.order
+  order = sound.order
 
   abbrev most : ℕ → ℕ
   most i = one_if (nat_lt i c.drawn)
@@ -109,7 +109,7 @@ module _ (c : Content) (sound : IsSoundBook c) (full : length c.turns ≡ net_co
   all_drawn =
       let all = below_all (λ t. t.net) c.turns c.drawn drawn in
       let few = below_within (λ t. t.net) c.turns most c.drawn below_drawn c.drawn (omega arith) in
-      omega (arith, all, few, sum_is c.drawn (omega arith), full, order.drawn, sound.2.held)
+      omega (arith, all, few, sum_is c.drawn (omega arith), full, order.drawn, sound.held)
 
   turned : (i : ℕ) → i < c.drawn → at (λ t. t.net) i c.turns ≡ most i
   turned i low =

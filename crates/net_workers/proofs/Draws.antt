@@ -1,63 +1,54 @@
--- What a draw shows.
-use Rattle.std.proofs.Common.{◌≡◌, ℕ, ◌<◌, zero, suc, List, [], ◌∷◌, length, get_or, Option, Some, None, Result, Ok, Err, sym, ap, subst, ◌∙◌, arith}
-use Rattle.rr_graph.specs.Problems.{Net, RoutingProblem}
-use Rattle.rr_graph.specs.Nodes.{node_count_of}
-use Rattle.rr_graph.proofs.Ranges.{length_below, get_below}
+-- What a draw shows, and what a turn leaves as it was.
+use Rattle.std.proofs.Common.{◌≡◌, inl, inr, ℕ, ◌+◌, ◌<◌, ◌==◌, List, [], ◌∷◌, ◌++◌, length, Option, Some, None, Result, Ok, Err, refl, sym, ap, ◌∙◌, arith, get_or-set_other}
+use Rattle.std.proofs.lemmas.Bool.{cases_eq, eq-eqb}
+use Rattle.std.proofs.lemmas.List.Sums.{sum_by-append, sum_by-cons}
+use Rattle.rr_graph.specs.Problems.{RoutingProblem}
 use Rattle.route_tree.specs.Paths.{Pair}
-use Rattle.route_tree.specs.Usage.{use_by_others}
-use Rattle.route_tree.proofs.Uses.{counts_once, few_uses}
-use Rattle.node_cost.specs.Views.{Seen, others_in}
+use Rattle.node_cost.specs.Views.{Seen}
+use Rattle.congestion_book.specs.declared.turn.Turn.{Turn}
 use Rattle.congestion_book.specs.declared.faults.DrawFault.{DrawFault}
-use Rattle.congestion_book.specs.Histories.{history_of}
-use Rattle.congestion_book.specs.Contents.{Content, net_count, node_total, view_of}
-use Rattle.congestion_book.specs.Steps.{Draws}
-use Rattle.net_workers.specs.Evenness.{IsLater}
-use Rattle.net_workers.specs.Searches.{IsSeenIn, ShowsNet}
+use Rattle.congestion_book.specs.Turns.{one_if, turns_at, turn_of}
+use Rattle.congestion_book.specs.Recorded.{list_in}
+use Rattle.congestion_book.specs.Contents.{Content, IsSound, net_count}
+use Rattle.congestion_book.specs.Steps.{Draws, after_turn}
+use Rattle.net_workers.specs.Evenness.{IsOfIteration}
+use Rattle.net_workers.specs.Searches.{ShowsNet}
 
--- a node is used by fewer other nets than there are nets
-few_others : (nets : List Net) (lists : List (Option (List Pair))) (i a : ℕ) → i < length nets → use_by_others nets lists i a < length nets
-few_others [] lists i a low = absurd (omega arith)
-few_others (n ∷ ns) [] i a low = omega arith
-few_others (n ∷ ns) (x ∷ xs) zero a low = let rest = few_uses ns xs a in omega (arith, rest)
-few_others (n ∷ ns) (x ∷ xs) (suc i) a low =
-    let one = counts_once n x a in
-    let rest = few_others ns xs i a (omega (arith, low)) in
-    omega (arith, one, rest)
-
-view_seen : (c : Content) (i : ℕ) → i < net_count c → IsSeenIn c (view_of c i)
-unfolding view_of
-view_seen c i low =
-    let shown : ℕ → Seen = λ a. (use_by_others c.problem.nets c.lists i a, history_of c.acc c.rows a) in
-    let at : (a : ℕ) → a < node_total c → get_or (view_of c i) a (0, 0) ≡ shown a = λ a l. get_below shown (node_total c) a (0, 0) l in
-    record {
-      size = length_below shown (node_total c);
-      others = λ a l.
-          let few = few_others c.problem.nets c.lists i a low in
-          let here : others_in (view_of c i) a ≡ use_by_others c.problem.nets c.lists i a = ap (λ (s : Seen). s.0) (at a l) in
-          omega (arith, here, few);
-      histories = λ a l. ap (λ (s : Seen). s.1) (at a l);
-    }
-
--- what may be seen in the iteration of a book may be seen in that of each later one
-seen_later : (old new : Content) (view : List Seen) → IsLater old new → IsSeenIn new view → IsSeenIn old view
-seen_later old new view later seen =
-    let nodes : node_total new ≡ node_total old = ap (λ (p : RoutingProblem). node_count_of p.device) later.problem in
-    let nets : net_count new ≡ net_count old = ap (λ (p : RoutingProblem). length p.nets) later.problem in
-    record {
-      size = seen.size ∙ nodes;
-      others = λ a l. omega (arith, seen.others a (omega (arith, l, nodes)), nets);
-      histories = λ a l.
-          seen.histories a (omega (arith, l, nodes))
-          ∙ ap (λ acc. history_of acc new.rows a) later.acc ∙ ap (λ rows. history_of old.acc rows a) later.rows;
-    }
-
-pub shows_net : (opening old new : Content) (seen view : List Seen) (worker : ℕ) (answer : Result (Option ℕ) DrawFault) → IsLater opening old →
+pub shows_net : (opening old new : Content) (seen view : List Seen) (worker : ℕ) (answer : Result (Option ℕ) DrawFault) → IsSound old → IsOfIteration opening old →
     Draws old seen worker answer new view → ShowsNet opening answer view
-shows_net opening old new seen view worker (Err fault) later draws = tt
-shows_net opening old new seen view worker (Ok None) later draws = tt
-shows_net opening old new seen view worker (Ok (Some net)) later draws =
-    let nets : net_count old ≡ net_count opening = ap (λ (p : RoutingProblem). length p.nets) later.problem in
+shows_net opening old new seen view worker (Err fault) sound within draws = tt
+shows_net opening old new seen view worker (Ok None) sound within draws = tt
+shows_net opening old new seen view worker (Ok (Some net)) sound within draws =
+    let nets : net_count old ≡ net_count opening = ap (λ (p : RoutingProblem). length p.nets) within.problem in
     let low : net < net_count old = draws.2 in (
       omega (arith, low, nets),
-      seen_later opening old view later (subst (IsSeenIn old) (sym draws.4) (view_seen old net low)),
+      record { book = old; sound = sound; within = within; shown = draws.4 },
     )
+
+-- a book in whose open iteration there was no turn is the first of the iteration
+pub opens_iteration : (c : Content) → IsOfIteration c c
+opens_iteration c = record { problem = refl; acc = refl; rows = refl; histories = refl; earlier = refl; unturned = λ i none. refl }
+
+one_more_turn : (turns : List Turn) (t : Turn) (i : ℕ) → turns_at (turns ++ t ∷ []) i ≡ turns_at turns i + one_if (t.net == i)
+one_more_turn turns t i =
+    let all = sum_by-append (λ (u : Turn). one_if (u.net == i)) turns (t ∷ []) in
+    let last = sum_by-cons (λ (u : Turn). one_if (u.net == i)) t [] in
+    omega (arith, all, last)
+
+pub turn_within : (opening c : Content) (worker net : ℕ) (list : Option (List Pair)) → IsOfIteration opening c → IsOfIteration opening (after_turn c worker net list)
+turn_within opening c worker net list within = record {
+  problem = within.problem;
+  acc = within.acc;
+  rows = within.rows;
+  histories = within.histories;
+  earlier = within.earlier;
+  unturned = λ i none. elim (cases_eq i net) [
+    | inl here ↦
+        let t = turn_of worker net _ in
+        let one : one_if (net == i) ≡ 1 = ap one_if (eq-eqb net i (sym here)) in
+        absurd (omega (arith, none, one, one_more_turn c.turns t i))
+    | inr apart ↦
+        let t = turn_of worker net _ in
+        get_or-set_other c.lists net i list None apart ∙ within.unturned i (omega (arith, none, one_more_turn c.turns t i))
+  ];
+}

@@ -7,13 +7,8 @@ use Rattle.congestion_book.specs.Turns.{NameEachOnce, holder_in, turn_of}
 use Rattle.congestion_book.specs.Recorded.{list_in}
 use Rattle.congestion_book.specs.Contents.{Content, net_count}
 use Rattle.net_workers.specs.declared.report.Entry.{Entry}
-use Rattle.net_workers.specs.Evenness.{IsLater}
+use Rattle.net_workers.specs.Evenness.{IsOfIteration}
 use Rattle.net_workers.specs.Searches.{AreFound}
-
--- nothing was drawn in the open iteration
-pub record IsFresh (c : Content) : Type 0 where
-  pub drawn : c.drawn ≡ 0
-  pub turns : c.turns ≡ []
 
 -- the turn of which a worker's entry tells
 abbrev pub told_turn : (worker : ℕ) → Entry → Turn
@@ -38,7 +33,7 @@ pub record Begins (c : Content) (turns : List Turn) (worker n : ℕ) (entries : 
 -- boxes, and these are their reports.
 pub record Agrees (old new : Content) (present bb workers : ℕ) (reports : List (List Entry)) : Type 0 where
   -- all but the open iteration is as it was
-  pub later : IsLater old new
+  pub within : IsOfIteration old new
   -- each net had one turn, and none is held
   pub once : NameEachOnce (net_count new) new.turns
   pub free : (i : ℕ) → holder_in new.holders i ≡ None

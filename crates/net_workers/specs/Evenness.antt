@@ -3,6 +3,8 @@ use Rattle.std.specs.Prelude.{◌≡◌, ℕ, ◌+◌, ◌<◌, List, [], length
 use Rattle.arch_file.specs.Reading.{architecture_from}
 use Rattle.rr_graph.specs.declared.parts.Mode.TheVariants.{Detailed}
 use Rattle.rr_graph.specs.Fabric.{fabric_with}
+use Rattle.congestion_book.specs.Turns.{turns_at}
+use Rattle.congestion_book.specs.Recorded.{list_in}
 use Rattle.congestion_book.specs.Contents.{Content, opening}
 
 -- a worker's number, and how many turns it made
@@ -25,16 +27,19 @@ pub record AreParts (parts : List Part) (workers : ℕ) : Type 0 where
 abbrev pub no_book : Content
 no_book = opening (record { device = fabric_with 0 0 0 Detailed (architecture_from []); nets = [] }) 0
 
--- a book of the same problem whose closed iterations are the same
-pub record IsLater (old new : Content) : Type 0 where
-  pub problem : new.problem ≡ old.problem
-  pub acc : new.acc ≡ old.acc
-  pub rows : new.rows ≡ old.rows
-  pub earlier : new.earlier ≡ old.earlier
+-- A book of the iteration that opens with this one: all but the open iteration is the same, and a net that had no turn in it yet has
+-- the list that it had before.
+pub record IsOfIteration (opening c : Content) : Type 0 where
+  pub problem : c.problem ≡ opening.problem
+  pub acc : c.acc ≡ opening.acc
+  pub rows : c.rows ≡ opening.rows
+  pub histories : c.histories ≡ opening.histories
+  pub earlier : c.earlier ≡ opening.earlier
+  pub unturned : (i : ℕ) → turns_at c.turns i ≡ 0 → list_in c.lists i ≡ list_in opening.lists i
 
--- Each turn of the open iteration is one of these workers', the total is the number of these turns, and all but the open iteration
--- is as in the book that was handed in.
+-- Each turn of the open iteration is one of these workers', the total is the number of these turns, and the book is one of the
+-- iteration that opens with the book that was handed in.
 pub record IsEven (c : Content) (total workers : ℕ) (opening : Content) : Type 0 where
   pub counted : total ≡ length c.turns
   pub known : All (λ t. t.worker < workers) c.turns
-  pub later : IsLater opening c
+  pub within : IsOfIteration opening c

@@ -4,9 +4,9 @@ ghost use Rattle.std.specs.Prelude.{◌≡◌, ◌+◌, ◌<◌, ◌↔◌, [], 
 ghost use Rattle.route_tree.specs.Rows.{pairs_of};
 ghost use Rattle.route_tree.specs.Faults.{IsRoute};
 ghost use Rattle.congestion_book.specs.Turns.{holder_in};
+ghost use Rattle.congestion_book.specs.Contents.{IsSound, IsFresh};
 ghost use Rattle.congestion_book.specs.Steps.{Draws, Commits, Passes, fault_alone};
-ghost use Rattle.net_workers.specs.Agreement.{IsFresh};
-ghost use Rattle.net_workers.specs.Evenness.{AreParts, IsLater, one_more};
+ghost use Rattle.net_workers.specs.Evenness.{AreParts, IsOfIteration, one_more};
 ghost use Rattle.net_workers.specs.Searches.{ShowsNet};
 
 use crate::share::{Round, Share};
@@ -19,8 +19,8 @@ use std::sync::ledger;
 use std::sync::ledger::Blank;
 
 /// The book of an iteration, with the total of its shares. Contracts see the book's content. That each open turn is a worker's of the
-/// round, that the total is the number of open turns, and that all but the open iteration is as in the book handed in, are facts of
-/// the type, and so is the congestion invariant, by the book's.
+/// round, that the total is the number of open turns, and that the book is one of the iteration that opens with the book handed in, are
+/// facts of the type, and so is the congestion invariant, by the book's.
 #[derive(Drop)]
 pub struct Desk<L: Round> {
     book: Book,
@@ -66,6 +66,7 @@ impl<L: Round> Desk<L> {
         ensures book { IfOk result (λ r. r.0 ≡ book) }
         ensures shares { IfOk result (λ r. AreParts r.1.items workers) }
     {
+        let _sound = book.problem();
         let (total, mut rest) = blank.open::<L>();
         let mut shares = Vec::with_capacity(alloc, workers as usize)?;
         for worker in 0..workers {
@@ -78,17 +79,23 @@ impl<L: Round> Desk<L> {
     /// The book.
     pub fn book(&self) -> &Book
         ensures exact { result.now ≡ self.now }
-        ensures later { IsLater L.opening self.now }
+        ensures sound { IsSound self.now }
+        ensures within { IsOfIteration L.opening self.now }
         ensures known { All (λ t. t.worker < L.workers) self.now.turns }
     {
+        let _sound = self.book.problem();
         &self.book
     }
 
-    /// The book.
+    /// The book, in which the turns stand that were made.
     pub fn end(self) -> Book
-        ensures { result ≡ self }
+        ensures exact { result ≡ self }
+        ensures sound { IsSound result }
+        ensures within { IsOfIteration L.opening result }
+        ensures known { All (λ t. t.worker < L.workers) result.turns }
     {
         let Desk { book, .. } = self;
+        let _sound = book.problem();
         book
     }
 
@@ -98,6 +105,7 @@ impl<L: Round> Desk<L> {
         ensures share { share.new ≡ share.old }
         ensures shown { ShowsNet L.opening result view.new }
     {
+        let _sound = self.book.problem();
         self.book.draw(share.worker(), view)
     }
 
@@ -145,12 +153,13 @@ impl<L: Round> Desk<L> {
     }
 
     /// The book, whose open turns are as many as all shares together have counted.
-    pub(crate) fn gather(self, shares: Vec<Share<L>>) -> Book
+    pub fn gather(self, shares: Vec<Share<L>>) -> Book
         requires { vec_len shares ≡ L.parts }
-        ensures book { result ≡ self }
+        ensures exact { result ≡ self }
+        ensures sound { IsSound result }
         ensures turns { sum_by (λ s. s.turns) shares.items ≡ length result.turns }
         ensures known { All (λ t. t.worker < L.workers) result.turns }
-        ensures later { IsLater L.opening result }
+        ensures within { IsOfIteration L.opening result }
     {
         let Desk {
             book,
@@ -161,6 +170,7 @@ impl<L: Round> Desk<L> {
             share.merge_into(&mut rest);
         }
         total.audit(&mut rest);
+        let _sound = book.problem();
         book
     }
 }

@@ -2,8 +2,9 @@
 
 ghost use Rattle.std.specs.Prelude.{◌≡◌, ◌<◌, ◌≤◌, length, vec_len, sum_by, All, None, Err, IfOk, IfSome};
 ghost use Rattle.node_cost.specs.Options.{present_of};
-ghost use Rattle.net_workers.specs.Agreement.{IsFresh, Agrees};
-ghost use Rattle.net_workers.specs.Evenness.{AreParts, IsLater};
+ghost use Rattle.congestion_book.specs.Contents.{IsSound, IsFresh};
+ghost use Rattle.net_workers.specs.Agreement.{Agrees};
+ghost use Rattle.net_workers.specs.Evenness.{AreParts, IsOfIteration};
 ghost use Rattle.net_workers.specs.Faults.{first_of, first_met};
 ghost use Rattle.net_workers.specs.Searches.{AreFound};
 
@@ -118,7 +119,8 @@ fn settle<L: Round>(
     ensures found { IfOk result (λ r. All (AreFound L.opening L.present L.bb) r.1.items) }
     ensures turns { IfOk result (λ r. sum_by length r.1.items ≡ length r.0.turns) }
     ensures known { IfOk result (λ r. All (λ t. t.worker < L.workers) r.0.turns) }
-    ensures later { IfOk result (λ r. IsLater L.opening r.0) }
+    ensures sound { IfOk result (λ r. IsSound r.0) }
+    ensures within { IfOk result (λ r. IsOfIteration L.opening r.0) }
 {
     let all = all_finished(alloc, results)?;
     let (shares, reports) = take_apart(alloc, all)?;
@@ -132,8 +134,10 @@ fn compare<L: Round>(book: Book, reports: Vec<Report>) -> Result<(Book, Vec<Repo
     requires found { All (AreFound L.opening L.present L.bb) reports.items }
     requires turns { sum_by length reports.items ≡ length book.turns }
     requires known { All (λ t. t.worker < L.workers) book.turns }
-    requires later { IsLater L.opening book }
-    ensures { IfOk result (λ r. Agrees L.opening r.0 L.present L.bb L.workers r.1.items) }
+    requires sound { IsSound book }
+    requires within { IsOfIteration L.opening book }
+    ensures sound { IfOk result (λ r. IsSound r.0) }
+    ensures agrees { IfOk result (λ r. Agrees L.opening r.0 L.present L.bb L.workers r.1.items) }
 {
     if !is_done(&book) || !all_begin(&book, &reports) {
         return Err(WorkFault::Astray);
@@ -155,7 +159,8 @@ fn work_at<L: Round + Send + Sync, R: Threads + Wait + Sync, G: Gate + Sync>(
     requires workers { (L.parts ≡ L.workers) × (L.workers ≤ 16) }
     requires problem { problem.now ≡ L.opening.problem }
     requires options { (options.present ≡ L.present) × (options.bb ≡ L.bb) }
-    ensures { IfOk result (λ r. Agrees L.opening r.0 L.present L.bb L.workers r.1.items) }
+    ensures sound { IfOk result (λ r. IsSound r.0) }
+    ensures agrees { IfOk result (λ r. Agrees L.opening r.0 L.present L.bb L.workers r.1.items) }
 {
     let workers = shares.len();
     let desk = Mutex::new(desk);
@@ -185,7 +190,8 @@ fn iterate_as<L: Round + Send + Sync, R: Threads + Wait + Sync, G: Gate + Sync>(
     requires name { blank.name ≡ L.name }
     requires parts { blank.parts ≡ L.parts }
     requires one_each { blank.parts ≡ workers }
-    ensures { IfOk result (λ r. Agrees book r.0 options.present options.bb workers r.1.items) }
+    ensures sound { IfOk result (λ r. IsSound r.0) }
+    ensures agrees { IfOk result (λ r. Agrees book r.0 options.present options.bb workers r.1.items) }
 {
     let (problem, desk, shares) = open::<L>(alloc, book, workers, blank)?;
     work_at(rt, alloc, desk, &problem, options, shares, gate)
@@ -193,7 +199,7 @@ fn iterate_as<L: Round + Send + Sync, R: Threads + Wait + Sync, G: Gate + Sync>(
 
 /// Iteration k of a negotiation: so many workers draw the nets of the book, in whose open iteration nothing was drawn yet, search for
 /// their trees and make a turn at each. The workers wait for one another at the book's lock, and the call waits for them all. The book
-/// comes back with the iteration still open, and a report of each worker, whose turns and trees are those of the book.
+/// comes back sound, with the iteration still open, and a report of each worker, whose turns and trees are those of the book.
 ///
 /// `NoThread` where a thread couldn't be started, `Memory` where memory ran out, `Astray` where the book refused a call or a report
 /// disagrees with it. Of several the first is answered, and the book is let go.
@@ -209,7 +215,8 @@ pub fn iterate<R: Threads + Wait + Sync, G: Gate + Sync>(
     requires fresh { IsFresh book }
     requires iteration { (1 ≤ iteration) × (iteration ≤ 500) }
     requires workers { (1 ≤ workers) × (workers ≤ 16) }
-    ensures { IfOk result (λ r. Agrees book r.0 (present_of settings.now iteration)
+    ensures sound { IfOk result (λ r. IsSound r.0) }
+    ensures agrees { IfOk result (λ r. Agrees book r.0 (present_of settings.now iteration)
         settings.now.bb workers r.1.items) }
 {
     let options = SearchOptions::of(settings, iteration);

@@ -13,7 +13,7 @@ mod worker;
 
 pub use desk::Desk;
 pub use fault::WorkFault;
-pub use gate::{Gate, OpenGate};
+pub use gate::{Gate, OpenGate, TrialEnd};
 pub use iteration::iterate;
 pub use report::{Entry, Report};
 pub use share::{Round, Share};

@@ -4,7 +4,6 @@ ghost use Rattle.std.specs.Prelude.{◌≡◌, ◌<◌, ◌≤◌, length, vec_l
 ghost use Rattle.rr_graph.specs.Nodes.{node_count_of};
 ghost use Rattle.node_cost.specs.Options.{greatest_present, present_of};
 ghost use Rattle.wavefront.specs.Growth.{space_of};
-ghost use Rattle.wavefront.specs.Scratches.{node_total};
 ghost use Rattle.net_workers.specs.Evenness.{one_more};
 ghost use Rattle.net_workers.specs.Searches.{AreFound, IsFoundIn};
 
@@ -55,11 +54,11 @@ fn search(
     scratch: &mut Scratch,
 ) -> Result<(Option<Tree>, Option<Tree>), WorkFault>
     requires net { net < length problem.now.nets }
-    requires fits { node_total scratch.old ≡ node_count_of problem.now.device }
+    requires fits { scratch.old ≡ node_count_of problem.now.device }
     ensures found { IfOk result (λ r.
         IsFoundIn (space_of problem.now net view.now options.present options.bb) r.0) }
     ensures copy { IfOk result (λ r. r.1 ≡ r.0) }
-    ensures fits { node_total scratch.new ≡ node_total scratch.old }
+    ensures fits { scratch.new ≡ scratch.old }
 {
     match route_net(
         alloc,
@@ -153,11 +152,9 @@ impl<L: Round> Model for Worker<L> {
 
     ghost view = { λ w. w.entries.items };
 
-    ghost use Rattle.wavefront.specs.Scratches.{node_total};
-
     ghost invariant = { λ w. (w.share.turns ≡ length w.entries.items)
         × AreFound L.opening L.present L.bb w.entries.items
-        × (node_total w.scratch ≡ node_count_of L.opening.problem.device) };
+        × (w.scratch ≡ node_count_of L.opening.problem.device) };
 }
 
 impl<L: Round> Worker<L> {

@@ -48,11 +48,14 @@ module _ {R : Type 0} (value : R) (taken taken' : Option (List ℕ)) (failed fai
   pub broke_off : buffer.broken ≡ true → failed' ≡ true
   broke_off broken = (all.breaks refl broken).failed
 
+  pub broken_front : buffer.broken ≡ true → TakesFront (writing taken taken' failed') text
+  broken_front broken =
+      let b = all.breaks refl broken in
+      (b.front, b.rest, sym (append-nil text) ∙ b.whole, b.taken)
+
   pub broken_text : buffer.broken ≡ true → PrintsText (writing taken taken' failed') text value (Err Unwritten)
   broken_text broken =
-      let b = all.breaks refl broken in
-      let front : TakesFront (writing taken taken' failed') text = (b.front, b.rest, sym (append-nil text) ∙ b.whole, b.taken) in
-      subst (λ (f : Bool). PrintsText (writing taken taken' f) text value (Err Unwritten)) (sym b.failed) (refl, front)
+      subst (λ (f : Bool). PrintsText (writing taken taken' f) text value (Err Unwritten)) (sym (broke_off broken)) (refl, broken_front broken)
 
 -- a listing isn't empty
 pub listing_filled : (f : Fabric) → 0 < length (listing_of f)

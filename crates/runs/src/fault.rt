@@ -5,6 +5,7 @@ ghost use Rattle.std.specs.Io.KnownBytes.{Appends};
 ghost use Rattle.vpr_text.specs.Output.{Sends, stream};
 ghost use Rattle.runs.specs.declared.fault.AppFault.TheVariants.{Memory};
 ghost use Rattle.runs.specs.Faults.{fault_of_work, fault_text, input_text, line_fault_text, status_of, unread_text};
+ghost use Rattle.runs.specs.Runs.{TakesFront, writing};
 
 use crate::arch_fault::{arch_line, arch_name};
 use crate::net_fault::{net_line, net_name};
@@ -189,12 +190,17 @@ fn put_fault<W: ByteSink>(out: &mut OutputBuffer, sink: &mut W, fault: &AppFault
 /// Prints a fault's line. It takes no memory.
 ///
 /// # Errors
-/// Broken where the sink failed.
+/// Broken where the sink failed, which then took a front of the line.
 pub fn print_fault<W: ByteSink>(fault: &AppFault, out: &mut W) -> Result<(), Broken>
     ensures ok { OnOk result (Appends (W.taken out.old) (W.taken out.new) (fault_text fault.now)) }
     ensures err { OnErr result (IsTrue (W.failed out.new)) }
+    ensures front { OnErr result (TakesFront
+        (writing (W.taken out.old) (W.taken out.new) (W.failed out.new)) (fault_text fault.now)) }
 {
     let mut buffer = OutputBuffer::new();
     put_fault(&mut buffer, out, fault);
-    buffer.finish(out)
+    match buffer.finish(out) {
+        Ok(()) => Ok(()),
+        Err(broken) => Err(broken),
+    }
 }

@@ -1,12 +1,10 @@
 //! A line that tells people how far a negotiation is, and a line for each width that was tried.
 
-use iteration::Outcome;
-use net_workers::Gate;
+use net_workers::{Gate, TrialEnd};
 use std::fmt;
 use std::io::Eprint;
 use std::sync::atomic::{AtomicBool, AtomicU32, AtomicU64, Ordering};
 use std::time::{Clock, Duration};
-use width_search::TrialGate;
 
 /// How many milliseconds pass at least before the line is written anew.
 const PAUSE: u64 = 100;
@@ -153,14 +151,12 @@ impl<R: Eprint + Clock> Gate for Progress<'_, R> {
     fn closed(&self, _iteration: u32, _unrouted: u32, overused: u32) {
         self.overused.store(overused, Ordering::SeqCst);
     }
-}
 
-impl<R: Eprint + Clock> TrialGate for Progress<'_, R> {
     fn tries(&self, width: u32) {
         self.width.store(width, Ordering::SeqCst);
     }
 
-    fn tried(&self, width: u32, outcome: &Outcome) {
+    fn tried(&self, width: u32, end: TrialEnd) {
         if !self.is_wanted {
             return;
         }
@@ -168,11 +164,11 @@ impl<R: Eprint + Clock> TrialGate for Progress<'_, R> {
         let time = Seconds {
             milliseconds: self.elapsed(),
         };
-        let _ = match outcome {
-            Outcome::Success(_, iterations) => {
+        let _ = match end {
+            TrialEnd::Routed { iterations } => {
                 eprintln!(self.rt; "width {width}: routed, iterations {iterations}, {time}")
             }
-            Outcome::NotRouted {
+            TrialEnd::NotRouted {
                 unrouted,
                 overused,
                 iterations,

@@ -15,6 +15,7 @@ use crate::netlist_text::NetlistText;
 use crate::placed::PlacedNetlist;
 use crate::routing::write_routing;
 use crate::trials::put_report;
+use net_workers::Gate;
 use node_cost::Settings;
 use route_tree::Routing;
 use rr_graph::{Mode, Problem};
@@ -22,7 +23,7 @@ use std::alloc::{AllocGlobal, Global};
 use std::sync::Wait;
 use std::thread::Threads;
 use vpr_text::{ByteSink, ByteSource, OutputBuffer};
-use width_search::{TrialGate, WidthReport, least_width};
+use width_search::{WidthReport, least_width};
 
 /// Prints the lines of a search.
 fn print_report<W: ByteSink>(report: &WidthReport, out: &mut W) -> Result<(), AppFault>
@@ -105,7 +106,7 @@ fn write_report<R: ByteSink, W: ByteSink>(
 }
 
 /// Searches for the least width of a placed netlist.
-fn search_widths<T: Threads + Wait + Sync + AllocGlobal, G: TrialGate + Sync>(
+fn search_widths<T: Threads + Wait + Sync + AllocGlobal, G: Gate + Sync>(
     rt: &T,
     placed: &PlacedNetlist<'_>,
     start: u32,
@@ -136,12 +137,7 @@ fn search_widths<T: Threads + Wait + Sync + AllocGlobal, G: TrialGate + Sync>(
 }
 
 /// Searches for the least width of a placed netlist, prints the lines of the search, and writes the routing of that width.
-fn width_placed<
-    T: Threads + Wait + Sync + AllocGlobal,
-    R: ByteSink,
-    W: ByteSink,
-    G: TrialGate + Sync,
->(
+fn width_placed<T: Threads + Wait + Sync + AllocGlobal, R: ByteSink, W: ByteSink, G: Gate + Sync>(
     rt: &T,
     placed: &PlacedNetlist<'_>,
     route: &mut R,
@@ -190,7 +186,7 @@ pub fn width_run<
     P: ByteSource,
     R: ByteSink,
     W: ByteSink,
-    G: TrialGate + Sync,
+    G: Gate + Sync,
 >(
     rt: &T,
     net: &mut N,

@@ -14,4 +14,3 @@ pub mod Steps
 pub mod Growth
 pub mod Targets
 pub mod Fields
-pub mod Scratches

@@ -2,7 +2,6 @@
 
 ghost use Rattle.std.specs.Prelude.{◌≡◌, ℕ, ◌<◌, ◌≤◌, ◌==◌, IfOk, OnOk, IfSome, IfNone, IsTrue, IsFalse, length, ◌↔◌, Contains, Err, true};
 ghost use Rattle.rr_graph.specs.Nodes.{node_count_of};
-ghost use Rattle.wavefront.specs.Scratches.{node_total};
 ghost use Rattle.wavefront.specs.Space.{IsSpace, IsWanted, node_count};
 ghost use Rattle.wavefront.specs.Wave.{IsWave, IsOrigin, open_count};
 ghost use Rattle.wavefront.specs.Growth.{IsAnswer, IsGrowth, IsShut, IsLeft, IsStarted, IsRouted, space_of};
@@ -34,14 +33,14 @@ pub fn route_net(
     scratch: &mut Scratch,
 ) -> Result<Found, SearchFault>
     requires net { net < length problem.now.nets }
-    requires fits { node_total scratch.old ≡ node_count_of problem.now.device }
+    requires fits { scratch.old ≡ node_count_of problem.now.device }
     requires present { present ≤ GREATEST_PRESENT }
     requires bb { (1 ≤ bb) × (bb ≤ 255) }
     ensures found { IfOk result (IsAnswer (space_of problem.now net view.now present bb)) }
     ensures routed { IfOk result (IsRouted problem.now net) }
     ensures view_size { (result ≡ Err ViewSize) ↔
         (length view.now ≡ node_count_of problem.now.device → ⊥) }
-    ensures fits { node_total scratch.new ≡ node_count_of problem.now.device }
+    ensures fits { scratch.new ≡ node_count_of problem.now.device }
 {
     if view.len() != problem.device().node_count() as usize {
         return Err(SearchFault::ViewSize);

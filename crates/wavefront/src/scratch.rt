@@ -2,13 +2,13 @@
 
 ghost use Rattle.std.specs.Prelude.{◌≡◌, ◌==◌, length, IfOk, true};
 ghost use Rattle.rr_graph.specs.Nodes.{node_count_of};
-ghost use Rattle.wavefront.specs.Scratches.{node_total};
 
 use crate::keys::Key;
 use crate::wave::Wave;
 use rr_graph::Problem;
 use smallvec::SmallVec;
 use std::alloc::{AllocError, Global};
+use std::marker::Model;
 
 /// What a search with keys of one width works in.
 #[derive(Drop)]
@@ -33,7 +33,7 @@ impl<K: Key> WaveScratch<K> {
     }
 }
 
-/// What a search works in: it may be used again, whatever an earlier search left in it.
+/// What a search works in: it may be used again, whatever an earlier search left in it. Contracts see for how many nodes it is.
 #[derive(Drop)]
 pub struct Scratch {
     pub(crate) narrow: WaveScratch<u32>,
@@ -41,10 +41,18 @@ pub struct Scratch {
     pub(crate) wide: WaveScratch<u128>,
 }
 
+impl Model for Scratch {
+    ghost use Rattle.std.specs.Prelude.{ℕ, length};
+
+    ghost Value = { ℕ };
+
+    ghost view = { λ s. length s.narrow.wave.labels };
+}
+
 impl Scratch {
     /// For the nets of a problem.
     pub fn new(alloc: Global, problem: &Problem) -> Result<Scratch, AllocError>
-        ensures { IfOk result (λ scratch. node_total scratch ≡ node_count_of problem.now.device) }
+        ensures { IfOk result (λ scratch. scratch ≡ node_count_of problem.now.device) }
     {
         Ok(Scratch {
             narrow: WaveScratch::new(alloc, problem.device().node_count() as usize)?,
@@ -54,7 +62,7 @@ impl Scratch {
 
     /// Whether it is for as many nodes as the problem's device has.
     pub fn fits(&self, problem: &Problem) -> bool
-        ensures { result ≡ (node_total self.now == node_count_of problem.now.device) }
+        ensures { result ≡ (self.now == node_count_of problem.now.device) }
     {
         self.narrow.wave.len() == problem.device().node_count() as usize
     }

@@ -11,6 +11,8 @@ use Rattle.node_cost.specs.Options.{RouterOptions}
 use Rattle.iteration.specs.declared.outcome.Outcome.{Outcome}
 use Rattle.iteration.specs.declared.outcome.Outcome.TheVariants.{Success, NotRouted}
 use Rattle.iteration.specs.Outcomes.{Ends, IsOutcome}
+use Rattle.net_workers.specs.declared.gate.TrialEnd.{TrialEnd}
+use Rattle.net_workers.specs.declared.gate.TrialEnd.TheVariants as ended
 use Rattle.width_search.specs.declared.report.LeastWidth.{LeastWidth}
 use Rattle.width_search.specs.declared.trial.Trial.{Trial}
 use Rattle.width_search.specs.Widths.{IsSequence, least_routed, next_width}
@@ -25,6 +27,11 @@ pub record Report : Type 0 where
 abbrev pub is_success : Outcome → Bool
 is_success (Success lists iterations) = true
 is_success (NotRouted unrouted overused iterations) = false
+
+-- what the gate is told of a trial
+abbrev pub end_of : Outcome → TrialEnd
+end_of (Success lists iterations) = ended.Routed iterations
+end_of (NotRouted unrouted overused iterations) = ended.NotRouted unrouted overused iterations
 
 -- the routing of a success at this width, else the one that was found before
 abbrev pub found_at : (width : ℕ) → Outcome → Option LeastWidth → Option LeastWidth

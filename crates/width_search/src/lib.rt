@@ -1,12 +1,10 @@
 //! The search for the least channel width: trials of widths, one after another, each a negotiation of its own.
 #![tactic(auto)]
 
-mod gate;
 mod report;
 mod search;
 mod trial;
 
-pub use gate::TrialGate;
 pub use report::{LeastWidth, WidthReport};
 pub use search::least_width;
 pub use trial::Trial;

@@ -3,15 +3,14 @@
 ghost use Rattle.std.specs.Prelude.{◌≡◌, ℕ, ◌≤◌, List, IfOk};
 ghost use Rattle.net_file.specs.Reads.{ReadsBytes};
 ghost use Rattle.place_file.specs.Placement.{IsPlaced};
-ghost use Rattle.width_search.specs.Reports.{IsWidthReport, Negotiates, problem_at};
+ghost use Rattle.width_search.specs.Reports.{IsWidthReport, Negotiates, end_of, problem_at};
 
-use crate::gate::TrialGate;
 use crate::report::WidthReport;
 use crate::trial::next_width;
 use arch_file::Arch;
 use iteration::{Outcome, negotiate};
 use net_file::Netlist;
-use net_workers::WorkFault;
+use net_workers::{Gate, TrialEnd, WorkFault};
 use node_cost::Settings;
 use place_file::Placement;
 use rr_graph::{Mode, Problem};
@@ -19,8 +18,28 @@ use std::alloc::Global;
 use std::sync::Wait;
 use std::thread::Threads;
 
+/// What the gate is told of a trial.
+fn end_of(outcome: &Outcome) -> TrialEnd
+    ensures { result ≡ end_of outcome.now }
+{
+    match outcome {
+        Outcome::Success(_, iterations) => TrialEnd::Routed {
+            iterations: *iterations,
+        },
+        Outcome::NotRouted {
+            unrouted,
+            overused,
+            iterations,
+        } => TrialEnd::NotRouted {
+            unrouted: *unrouted,
+            overused: *overused,
+            iterations: *iterations,
+        },
+    }
+}
+
 /// Negotiates a routing of a placed netlist on a device of this width.
-fn try_width<R: Threads + Wait + Sync, G: TrialGate + Sync>(
+fn try_width<R: Threads + Wait + Sync, G: Gate + Sync>(
     rt: &R,
     alloc: Global,
     arch: &Arch,
@@ -42,7 +61,7 @@ fn try_width<R: Threads + Wait + Sync, G: TrialGate + Sync>(
     gate.tries(width);
     let problem = Problem::from_design(alloc, arch, netlist, placement, width, mode)?;
     let outcome = negotiate(rt, alloc, problem, settings, workers, gate)?;
-    gate.tried(width, &outcome);
+    gate.tried(width, end_of(&outcome));
     Ok(outcome)
 }
 
@@ -56,7 +75,7 @@ fn try_width<R: Threads + Wait + Sync, G: TrialGate + Sync>(
 /// # Errors
 /// `NoThread`, `Memory` and `Astray` as `negotiate` answers them; `Memory` also where a device, a problem or the list of trials found
 /// none. The call waits for the workers.
-pub fn least_width<R: Threads + Wait + Sync, G: TrialGate + Sync>(
+pub fn least_width<R: Threads + Wait + Sync, G: Gate + Sync>(
     rt: &R,
     alloc: Global,
     arch: &Arch,

@@ -14,4 +14,4 @@ returns c =
     subst (λ old. Draws old c.args.view.now c.args.worker (Ok (Some c.in-Some.net)) (with_turns b c.draw.new.self) c.show.new.view) c.self.view_is
     (draws_net b c.self.invariant c.args.view.now c.show.new.view c.args.worker c.in-Some.net c.draw.new.self
     (omega (arith, c.len.ensures, c.if-len-node_count.false, c.node_count.ensures.count, ap node_count_of c.device.ensures)) c.in-Some.ensures
-    (subst Sees c.histories.ensures c.show.ensures))
+    (subst Sees c.histories.ensures.exact c.show.ensures))

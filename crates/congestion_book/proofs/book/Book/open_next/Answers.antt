@@ -1,8 +1,10 @@
-use Rattle.std.proofs.Common.{◌<◌, length, None, sym, subst}
+use Rattle.std.proofs.Common.{◌≡◌, ◌<◌, length, None, sym, subst}
 use Rattle.congestion_book.specs.Turns.{IsFirstWaiting}
 use Rattle.congestion_book.specs.Contents.{Content, net_count}
 use Rattle.congestion_book.specs.Closing.{IsNext}
-use Rattle.congestion_book.proofs.Soundness.{closed_kept, done_there}
+use Rattle.congestion_book.specs.Steps.{after_close}
+use Rattle.congestion_book.specs.Fields.{content_of}
+use Rattle.congestion_book.proofs.Soundness.{closed_kept, closed_is, done_there}
 use Rattle.congestion_book.proofs.book.Book.open_next.Goals as goal
 
 abbrev Done : Content → Type 0
@@ -20,3 +22,11 @@ invariant_of-self c =
     let is = sym c.self.view_is in
     closed_kept b c.args.next c.append.new.self c.open_next.new.self c.self.invariant (subst (λ k. IsNext k c.args.next) is c.requires.next)
     (done_there b c.self.invariant (subst Done is c.requires.done)) (subst HasRoom is c.requires.few) c.append.ensures c.open_next.ensures
+
+pub returns : goal.returns
+returns c =
+    let b = c.self.inside in
+    let new = content_of (record { problem = b.problem; routes = b.routes; history = c.append.new.self; turns = c.open_next.new.self; marks = b.marks }) in
+    subst (λ old. new ≡ after_close old) c.self.view_is
+    (closed_is b c.args.next c.append.new.self c.open_next.new.self c.self.invariant (subst (λ k. IsNext k c.args.next) (sym c.self.view_is) c.requires.next)
+    c.append.ensures c.open_next.ensures)

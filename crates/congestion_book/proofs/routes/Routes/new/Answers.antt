@@ -10,6 +10,9 @@ none_yet c = c.in_ok-trees.ensures ∙ ap (λ n. replicate n None) c.nets.ensure
 pub returns-clause-lists : goal.returns-clause-lists
 returns-clause-lists c = no_lists_yet c.in_ok-trees.trees.items (length c.args.problem.now.nets) (none_yet c)
 
+pub returns-clause-counts : goal.returns-clause-counts
+returns-clause-counts c = c.in_ok-usage.ensures.counts ∙ ap (λ f. replicate (node_count_of f) 0) c.device.ensures
+
 pub returns-clause-recorded : goal.returns-clause-recorded
 returns-clause-recorded c =
     none_recorded c.args.problem.now c.in_ok-trees.trees.items c.in_ok-usage.usage.counts c.in_ok-usage.usage.overused c.nets-2.result

@@ -7,7 +7,7 @@ pub invariant_of-self-2 : goal.invariant_of-self-2
 invariant_of-self-2 g c =
     let round = g.L.Round in
     let view = c.draw-drawn.new.view in
-    let seen : IsSeenIn round.opening view = search rules in
+    let seen : IsSeenIn round.opening c.in-Ok-Some.net view = search rules in
     let found = rw (c.requires.problem, c.requires.options.0, c.requires.options.1) at c.in_ok-tree.ensures.found in
     let more = found_more round.opening round.present round.bb c.in-Ok-Some.net view c.in_ok-tree.tree c.self.inside.entries.items c.self.invariant.1 seen found in (
       search rules,
