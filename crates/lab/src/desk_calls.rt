@@ -1,7 +1,7 @@
 //! Calls of `net_workers`: a desk, and the shares of its workers.
 
 ghost use Rattle.std.specs.Prelude.{◌≡◌};
-ghost use Rattle.net_workers.specs.Agreement.{IsFresh};
+ghost use Rattle.congestion_book.specs.Contents.{IsFresh};
 
 use crate::book_calls::{put_committed, put_drawn, put_passed};
 use crate::bounds::worker_count;

@@ -4,9 +4,7 @@ use crate::answer::put;
 use crate::sources::BELOW;
 use crate::unanswered::Unanswered;
 use crate::words::{Call, nothing, number, numbers, words};
-use iteration::Outcome;
-use net_workers::Gate;
-use route_tree::Routing;
+use net_workers::{Gate, TrialEnd};
 use runs::Progress;
 use std::alloc::Global;
 use std::fmt;
@@ -16,7 +14,6 @@ use std::rt::Runtime;
 use std::sync::atomic::{AtomicBool, AtomicU32, AtomicU64, Ordering};
 use std::sync::{Mutex, Wait};
 use std::time::{Clock, Duration};
-use width_search::TrialGate;
 
 /// How the call is written.
 const PROGRESS: &str =
@@ -171,7 +168,7 @@ fn show(
         let words = words(rt.alloc(), line)?;
         match words.as_slice() {
             [name, time] if *name == "at" => terminal.set_clock(number(time)?),
-            [name, given @ ..] => step(rt.alloc(), &progress, *name, given)?,
+            [name, given @ ..] => step(&progress, *name, given)?,
             [] => (),
         }
     }
@@ -180,7 +177,6 @@ fn show(
 
 /// Tells the progress what a line says.
 fn step<T: Eprint + Clock>(
-    alloc: Global,
     progress: &Progress<'_, T>,
     name: &str,
     given: &[&str],
@@ -192,8 +188,8 @@ fn step<T: Eprint + Clock>(
             Ok(())
         }
         "tried" => {
-            let (width, outcome) = tried(alloc, given)?;
-            progress.tried(width, &outcome);
+            let (width, end) = tried(given)?;
+            progress.tried(width, end);
             Ok(())
         }
         "end" => {
@@ -229,8 +225,8 @@ fn step_of_negotiation(progress: &impl Gate, name: &str, given: &[&str]) -> Resu
     Ok(())
 }
 
-/// A width, and what its trial came to. Of a routing progress says nothing, so it has no lists.
-fn tried(alloc: Global, given: &[&str]) -> Result<(u32, Outcome), Unanswered> {
+/// A width, and what its trial came to.
+fn tried(given: &[&str]) -> Result<(u32, TrialEnd), Unanswered> {
     let [width, word, rest @ ..] = given else {
         return Err(Unanswered::Misread(PROGRESS));
     };
@@ -238,17 +234,16 @@ fn tried(alloc: Global, given: &[&str]) -> Result<(u32, Outcome), Unanswered> {
     match *word {
         "routed" => {
             let [iterations] = numbers::<1>(rest)?;
-            let lists = Vec::new(alloc);
-            Ok((width, Outcome::Success(Routing { lists }, iterations)))
+            Ok((width, TrialEnd::Routed { iterations }))
         }
         "unrouted" => {
             let [unrouted, overused, iterations] = numbers::<3>(rest)?;
-            let outcome = Outcome::NotRouted {
+            let end = TrialEnd::NotRouted {
                 unrouted,
                 overused,
                 iterations,
             };
-            Ok((width, outcome))
+            Ok((width, end))
         }
         _ => Err(Unanswered::Misread(PROGRESS)),
     }

@@ -2,7 +2,6 @@
 
 ghost use Rattle.std.specs.Prelude.{◌≡◌};
 ghost use Rattle.rr_graph.specs.Nodes.{node_count_of};
-ghost use Rattle.wavefront.specs.Scratches.{node_total};
 
 use crate::session::Session;
 use crate::tree_calls::put_tree;
@@ -107,7 +106,7 @@ fn search_in(
     asked: Asked,
     scratch: &mut Scratch,
 ) -> Result<Found, Unanswered>
-    requires { node_total scratch.old ≡ node_count_of problem.now.device }
+    requires { scratch.old ≡ node_count_of problem.now.device }
 {
     let Asked { net, present, bb } = asked;
     if net >= problem.nets() {

@@ -1,7 +1,7 @@
 //! Calls of `net_workers`, `iteration` and `width_search`: iterations, negotiations and searches of widths.
 
 ghost use Rattle.std.specs.Prelude.{◌≤◌, IfOk};
-ghost use Rattle.net_workers.specs.Agreement.{IsFresh};
+ghost use Rattle.congestion_book.specs.Contents.{IsFresh};
 
 use crate::answer::put;
 use crate::bounds::{channel_width, iteration_number, worker_count};
@@ -38,11 +38,9 @@ pub fn call(
 }
 
 /// A book in whose open iteration nothing was drawn.
-#[tactic(auto, using(crate::proofs::Fresh::fresh_book))]
 fn fresh_book(book: Book) -> Result<Book, Unanswered>
     ensures { IfOk result IsFresh }
 {
-    let _sound = book.problem();
     if !book.fresh() {
         return Err(Unanswered::Refused("the open iteration is begun"));
     }
