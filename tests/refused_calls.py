@@ -1,6 +1,7 @@
 """Runs the program, and tests of crates, with calls for memory or for threads refused: what without-memory and without-threads share."""
 import argparse
 import concurrent.futures
+import itertools
 import os
 import pathlib
 import re
@@ -107,21 +108,33 @@ class Refusals:
             yield number
             number += 1 + (number // self.share if is_thinned and number >= self.each else 0)
 
-    def answers(self, run, is_from, is_thinned):
+    def counts_at(self, run, mark):
+        """The answer of a run to which nothing is refused, and how many calls it made before each line that is a mark."""
+        with tempfile.TemporaryFile() as told:
+            variables = {"LD_PRELOAD": self.library, "REFUSED_KIND": self.kind, "REFUSED_NUMBER": "0", "REFUSED_FROM": "0"}
+            variables |= {"REFUSED_TELLS": str(told.fileno()), "REFUSED_MARK": mark}
+            answer = run.answer(variables, (told.fileno(),))
+            told.seek(0)
+            return answer, [int(line) for line in told]
+
+    def answers(self, run, is_from, numbers):
         """Refuses one call after another until the run makes no more: the number of each, the answer, and whether the call was made."""
         with concurrent.futures.ThreadPoolExecutor(len(os.sched_getaffinity(0))) as pool:
-            for chunk in chunks(self.numbers(is_thinned)):
+            for chunk in chunks(numbers):
                 given = list(pool.map(lambda number: self.answer(run, number, is_from), chunk))
                 yield from ((number, *answered) for number, answered in zip(chunk, given))
                 if not all(told for _, told in given):
                     break
 
-    def refuse(self, run, is_from, is_thinned, keep=lambda number, answer: None):
-        """Refuses one call after another until the run makes no more, and hands on what came of each; how many were refused, and how many answers
-        are wrong."""
+    def refuse(self, run, is_from, is_thinned):
+        """Refuses one call after another until the run makes no more; how many were refused, and how many answers are wrong."""
+        return self.refuse_numbers(run, is_from, self.numbers(is_thinned))
+
+    def refuse_numbers(self, run, is_from, numbers, keep=lambda number, answer: None):
+        """Refuses the calls of some numbers, and hands on what came of each; how many were refused, and how many answers are wrong."""
         way = f"all {self.kind} from" if is_from else self.kind
         refused = last = wrong = 0
-        for number, answer, told in self.answers(run, is_from, is_thinned):
+        for number, answer, told in self.answers(run, is_from, numbers):
             if answer is None or not run.is_right(answer):
                 wrong += 1
                 print(f"{run.name}: {way} call {number}: {answer or 'no answer'}"[:600], flush=True)
@@ -133,9 +146,11 @@ class Refusals:
         return refused, wrong
 
 
-def chunks(sequence):
-    while True:
-        yield [next(sequence) for _ in range(16)]
+def chunks(numbers):
+    """Some numbers at a time."""
+    rest = iter(numbers)
+    while chunk := list(itertools.islice(rest, 16)):
+        yield chunk
 
 
 def usual_of(words, before=None):

@@ -1,5 +1,4 @@
 """What stands in a session of lab behind a call that lacked memory or a thread: what refusals compares with what stood before it."""
-import bisect
 import pathlib
 import re
 from dataclasses import dataclass
@@ -69,16 +68,16 @@ def dumps_of(calls):
 
 
 class States:
-    """A script, of which calls are refused memory or a thread: what stands behind each of them, and what should."""
+    """A script, of which calls are refused memory or a thread: which of these each of its calls makes, what stands behind it, and what should."""
 
-    def __init__(self, lab, script, folder, offset):
-        self.lab, self.name, self.folder = lab, script.stem, pathlib.Path(folder)
-        # What is asked for up to a call is so much less without the line `again`.
-        self.offset = offset
+    def __init__(self, refusals, lab, script, folder):
+        self.refusals, self.lab, self.name, self.folder = refusals, lab, script.stem, pathlib.Path(folder)
         self.calls = calls_of(script)
         self.dumps = dumps_of(self.calls)
         self.wanted = {}
-        self.starts = self.find_starts()
+        # How many calls the line `again` makes, the line of what is printed with which the answer to each call begins, and the numbers of what
+        # each asks for.
+        self.offset, self.starts, self.asked = self.count()
 
     def run(self, name, text):
         """A run of a script."""
@@ -87,49 +86,45 @@ class States:
             file.write_text(text, errors="surrogateescape")
         return Run("", (self.lab, file), None, None)
 
-    def printed(self, name, text):
-        """What a script prints to which nothing is refused."""
-        answer = self.run(name, text).answer({})
-        if answer.status != 0 or answer.complained:
-            raise SystemExit(f"{self.name}: {name}: {answer}")
-        return answer.printed.decode("utf-8", "surrogateescape").split("\n")
-
-    def find_starts(self):
-        """The line of what is printed with which each call's answer begins."""
-        lines = self.printed("marked", "".join(text_of([call], [f"number {MARK}"]) for call in self.calls))
-        marks = [place for place, line in enumerate(lines) if line == MARK]
-        return [mark - place for place, mark in enumerate(marks)]
-
-    def calls_at(self, line):
-        """The calls whose answers begin with a line of what is printed: before the last of them stand some without an answer."""
-        first, behind = bisect.bisect_left(self.starts, line), bisect.bisect_right(self.starts, line)
-        return range(first, behind)
+    def count(self):
+        """Counts what is asked for up to a mark before each call. Two marks stand at the end, so that what one asks for can be taken off."""
+        mark = f"number {MARK}"
+        marked = self.run("marked", "".join(text_of([call], (mark,)) for call in self.calls) + f"{mark}\n{mark}\n")
+        answer, counts = self.refusals.counts_at(marked, MARK)
+        lines = lines_of(answer)
+        starts = [line - place for place, line in enumerate(line for line, text in enumerate(lines) if text == MARK)]
+        own = counts[-1] - counts[-2]
+        after = [count - own * (place + 1) for place, count in enumerate(counts[:-1])]
+        _, again = self.refusals.counts_at(self.run("again", f"again\n{mark}\n"), MARK)
+        offset = again[0] - counts[0]
+        return offset, starts, [range(begin + offset + 1, end + offset + 1) for begin, end in zip(after, after[1:])]
 
     def script_behind(self, place, calls):
         """A script of the calls before one, and of some in its place, with all that stands then."""
         dumps = [f"number {MARK}", *(line for dump in self.dumps for line in (dump, f"number {MARK}"))]
-        return text_of([*self.calls[:place], *calls], ()) + "\n".join([*dumps, ""])
+        return text_of([*self.calls[:place], *calls]) + "\n".join([*dumps, ""])
 
     def wanted_behind(self, place, stood):
         """What should stand behind a call that was refused, of which so many events stand where it is a list of some."""
         key = (place, stood)
         if key not in self.wanted:
             events = [self.calls[place].cut(stood)] if stood else []
-            self.wanted[key] = parts_of(self.printed(f"wanted.{place}.{stood}", self.script_behind(place, events)))[1:]
+            answer = self.run(f"wanted.{place}.{stood}", self.script_behind(place, events)).answer({})
+            self.wanted[key] = parts_of(lines_of(answer))[1:]
         return self.wanted[key]
 
-    def compare(self, refusals, number, line, lacks):
-        """Whether all stands as it should behind the call of this number, whose answer was refused at a line; None where that can't be told."""
-        for place in self.calls_at(line):
-            run = self.run(f"refused.{place}", self.script_behind(place, [self.calls[place]]))
-            answer, _ = refusals.answer(run, number - self.offset, False)
-            if answer is None or answer.status != 0 or answer.complained:
-                return None
-            before, *given = parts_of(answer.printed.decode("utf-8", "surrogateescape").split("\n"))
-            stopped = STOPPED.fullmatch(before[line]) if len(before) == line + 1 else None
-            if stopped or (len(before) == line + 1 and before[line].encode() in lacks):
-                wanted = self.wanted_behind(place, int(stopped[1]) if stopped else 0)
-                return self.are_same(self.calls[place], given, wanted)
+    def compare(self, number, place, lacks):
+        """Whether all stands as it should behind a call for which one of this number is refused; None where it didn't come to that."""
+        run = self.run(f"refused.{place}", self.script_behind(place, [self.calls[place]]))
+        answer, _ = self.refusals.answer(run, number - self.offset, False)
+        if answer is None or answer.status != 0 or answer.complained:
+            return None
+        before, *given = parts_of(lines_of(answer))
+        if len(before) != self.starts[place] + 1:
+            return None
+        stopped = STOPPED.fullmatch(before[-1])
+        if stopped or before[-1].encode() in lacks:
+            return self.are_same(self.calls[place], given, self.wanted_behind(place, int(stopped[1]) if stopped else 0))
         return None
 
     def are_same(self, call, given, wanted):
@@ -141,6 +136,13 @@ class States:
             if have != want and not is_gone and in_any_order(have) != in_any_order(want):
                 return False
         return True
+
+
+def lines_of(answer):
+    """The lines that a run printed, in which nothing went wrong."""
+    if answer.status != 0 or answer.complained:
+        raise SystemExit(f"{answer}"[:600])
+    return answer.printed.decode("utf-8", "surrogateescape").split("\n")
 
 
 def parts_of(lines):
