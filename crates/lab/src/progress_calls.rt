@@ -163,16 +163,43 @@ fn show(
     };
     let terminal = Terminal::new(rt, rt.alloc());
     let progress = Progress::new(&terminal, is_wanted);
+    show_lines(rt.alloc(), &terminal, &progress, text)?;
+    terminal.put(out)
+}
+
+/// Tells the progress what some lines say.
+fn show_lines<R: Wait>(
+    alloc: Global,
+    terminal: &Terminal<'_, R>,
+    progress: &Progress<'_, Terminal<'_, R>>,
+    text: &str,
+) -> Result<(), Unanswered> {
     for line in text.lines() {
         terminal.line.fetch_add(1, Ordering::SeqCst);
-        let words = words(rt.alloc(), line)?;
-        match words.as_slice() {
-            [name, time] if *name == "at" => terminal.set_clock(number(time)?),
-            [name, given @ ..] => step(&progress, *name, given)?,
-            [] => (),
-        }
+        show_line(alloc, terminal, progress, line)?;
     }
-    terminal.put(out)
+    Ok(())
+}
+
+/// Sets the clock, or tells the progress what a line says.
+fn show_line<R: Wait>(
+    alloc: Global,
+    terminal: &Terminal<'_, R>,
+    progress: &Progress<'_, Terminal<'_, R>>,
+    line: &str,
+) -> Result<(), Unanswered> {
+    let words = words(alloc, line)?;
+    match words.as_slice() {
+        [name, time] if *name == "at" => set_clock(terminal, *time),
+        [name, given @ ..] => step(progress, *name, given),
+        [] => Ok(()),
+    }
+}
+
+/// Sets the clock to the milliseconds that a word is.
+fn set_clock<R: Wait>(terminal: &Terminal<'_, R>, word: &str) -> Result<(), Unanswered> {
+    terminal.set_clock(number(word)?);
+    Ok(())
 }
 
 /// Tells the progress what a line says.

@@ -278,9 +278,20 @@ fn put_run(
     written: ShortSink,
     out: &mut String,
 ) -> Result<(), Unanswered> {
-    put_end(alloc, answer, &[&printed, &written], out)?;
-    put_taken("out", &printed, out)?;
-    put_taken("route", &written, out)
+    put_ran(alloc, answer, &printed, &written, out)
+}
+
+/// Adds the end of a run, and what two sinks took.
+fn put_ran(
+    alloc: Global,
+    answer: Result<u8, AppFault>,
+    printed: &ShortSink,
+    written: &ShortSink,
+    out: &mut String,
+) -> Result<(), Unanswered> {
+    put_end(alloc, answer, &[printed, written], out)?;
+    put_taken("out", printed, out)?;
+    put_taken("route", written, out)
 }
 
 /// Adds the status of a run, and the line of its fault. Memory that a sink lacked is told as such, and so is a run without memory or a

@@ -55,6 +55,15 @@ struct Below {
     line: Vec<u8>,
 }
 
+impl Below {
+    /// Of no line.
+    fn new(alloc: Global) -> IoResult<Below> {
+        let text = Vec::with_capacity(alloc, ROOM)?;
+        let line = Vec::with_capacity(alloc, ROOM)?;
+        Ok(Below { text, line })
+    }
+}
+
 /// What the last call answered, and how far it was compared.
 #[derive(Drop)]
 struct Answer {
@@ -128,18 +137,21 @@ impl<R: Runtime + Threads + Wait + Sync + AllocGlobal, I: BufRead> Run<'_, R, I>
     /// Runs the script to its end; whether all answers were as wanted.
     fn run(&mut self) -> IoResult<bool> {
         let mut line = Vec::with_capacity(self.rt.alloc(), ROOM)?;
-        let mut below = Below {
-            text: Vec::with_capacity(self.rt.alloc(), ROOM)?,
-            line: Vec::with_capacity(self.rt.alloc(), ROOM)?,
-        };
-        for _ in 0..u64::MAX {
-            if !self.script.read(&mut line)? {
-                break;
-            }
-            self.step(line.as_slice(), &mut below)?;
-        }
+        let mut below = Below::new(self.rt.alloc())?;
+        self.run_lines(&mut line, &mut below)?;
         self.settle();
         Ok(self.is_good)
+    }
+
+    /// Does what all lines say.
+    fn run_lines(&mut self, line: &mut Vec<u8>, below: &mut Below) -> IoResult<()> {
+        for _ in 0..u64::MAX {
+            if !self.script.read(line)? {
+                break;
+            }
+            self.step(line.as_slice(), below)?;
+        }
+        Ok(())
     }
 
     /// Says that something is not as wanted.

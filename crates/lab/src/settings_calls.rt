@@ -317,15 +317,24 @@ fn copy_histories(
     out: &mut String,
 ) -> Result<(), Unanswered> {
     let copy = histories.copy(alloc)?;
+    let other = copied(alloc, &copy)?;
+    put(out, are_equal(histories, &other))
+}
+
+/// Others that become these histories.
+fn copied(alloc: Global, histories: &Histories) -> Result<Histories, Unanswered> {
     let mut other = Histories::new(alloc, histories.len())?;
-    if other.len() == copy.len() {
-        other.copy_from(&copy);
+    if other.len() == histories.len() {
+        other.copy_from(histories);
     }
-    for id in 0..histories.len() {
-        let id = index_of(id);
-        if history(&other, id)? != history(histories, id)? {
-            return put(out, false);
-        }
-    }
-    put(out, true)
+    Ok(other)
+}
+
+/// Whether all nodes have the same histories in both.
+fn are_equal(one: &Histories, other: &Histories) -> bool {
+    let nodes = one.len().max(other.len());
+    (0..nodes).all(|id| match (history(one, index_of(id)), history(other, index_of(id))) {
+        (Ok(one), Ok(other)) => one == other,
+        _ => false,
+    })
 }

@@ -1,18 +1,21 @@
 //! Calls of `net_workers`, `iteration` and `width_search`: iterations, negotiations and searches of widths.
 
-ghost use Rattle.std.specs.Prelude.{◌≤◌, IfOk};
+ghost use Rattle.std.specs.Prelude.{◌≤◌, IfOk, List, ℕ};
+ghost use Rattle.net_file.specs.Reads.{ReadsBytes};
 ghost use Rattle.congestion_book.specs.Contents.{IsFresh};
 
 use crate::answer::put;
 use crate::bounds::{channel_width, iteration_number, worker_count};
 use crate::gates::{LabGate, gate_words};
-use crate::session::Session;
+use crate::session::{DesignTexts, Session};
 use crate::tree_calls::put_tree;
 use crate::unanswered::Unanswered;
 use crate::words::Call;
 use congestion_book::Book;
 use iteration::{Outcome, negotiate};
+use net_file::Netlist;
 use net_workers::{Entry, Report, iterate};
+use node_cost::Settings;
 use route_tree::{Pairs, Routing};
 use rr_graph::Mode;
 use std::alloc::{AllocError, Global};
@@ -299,20 +302,30 @@ fn width_report<R: Runtime + Threads + Wait + Sync + AllocGlobal>(
     requires start { (1 ≤ start) × (start ≤ 256) }
     requires workers { (1 ≤ workers) × (workers ≤ 16) }
 {
-    let (alloc, arch) = (rt.alloc(), session.arch()?);
-    let netlist = net_file::parse(alloc, session.net()?, arch)?;
-    let placement = place_file::parse(alloc, session.place()?, arch, &netlist)?;
+    let (design, settings) = (session.design()?, session.settings());
+    let netlist = net_file::parse(rt.alloc(), design.net, design.arch)?;
+    report_of(rt, design, &netlist, &settings, start, mode, workers, gate)
+}
+
+/// What a search of widths for a design with this netlist comes to.
+fn report_of<R: Runtime + Threads + Wait + Sync + AllocGlobal>(
+    rt: &R,
+    design: DesignTexts<'_>,
+    netlist: &Netlist<'_>,
+    settings: &Settings,
+    start: u32,
+    mode: Mode,
+    workers: u32,
+    gate: &LabGate<'_, R>,
+) -> Result<WidthReport, Unanswered>
+    requires start { (1 ≤ start) × (start ≤ 256) }
+    requires workers { (1 ≤ workers) × (workers ≤ 16) }
+    requires read { (bytes : List ℕ) × ReadsBytes design.arch.now.pins bytes netlist.now }
+{
+    let (alloc, arch) = (rt.alloc(), design.arch);
+    let placement = place_file::parse(alloc, design.place, arch, netlist)?;
     let report = least_width(
-        rt,
-        alloc,
-        arch,
-        &netlist,
-        &placement,
-        &session.settings(),
-        start,
-        mode,
-        workers,
-        gate,
+        rt, alloc, arch, netlist, &placement, settings, start, mode, workers, gate,
     )?;
     Ok(report)
 }
