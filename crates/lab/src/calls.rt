@@ -110,76 +110,136 @@ fn make_one(
     dispatch(rt, session, call, out)
 }
 
-/// Gives a call to the one that makes calls of its name.
+/// Makes a call of a text or a file, or another one.
 fn dispatch(
     rt: &(impl Runtime + Threads + Wait + Sync + AllocGlobal),
     session: &mut Session,
     call: Call<'_>,
     out: &mut String,
 ) -> Result<(), Unanswered> {
-    let mut made = text_calls::call(rt, call, out);
-    if let Err(Unanswered::NoCall) = made {
-        made = arch_calls::call(rt, session, call, out);
+    match text_calls::call(rt, call, out) {
+        Err(Unanswered::NoCall) => (),
+        made => return made,
     }
-    if let Err(Unanswered::NoCall) = made {
-        made = design_calls::call(rt, session, call, out);
+    match arch_calls::call(rt, session, call, out) {
+        Err(Unanswered::NoCall) => (),
+        made => return made,
     }
-    if let Err(Unanswered::NoCall) = made {
-        made = problem_calls::call(rt, session, call, out);
+    match design_calls::call(rt, session, call, out) {
+        Err(Unanswered::NoCall) => (),
+        made => return made,
     }
-    if let Err(Unanswered::NoCall) = made {
-        made = tree_calls::call(rt, session, call, out);
+    match route_text_calls::call(rt, session, call, out) {
+        Err(Unanswered::NoCall) => (),
+        made => return made,
     }
-    if let Err(Unanswered::NoCall) = made {
-        made = routing_calls::call(rt, session, call, out);
+    call_devices(rt, session, call, out)
+}
+
+/// Makes a call of devices and what stands on them, or another one.
+fn call_devices(
+    rt: &(impl Runtime + Threads + Wait + Sync + AllocGlobal),
+    session: &mut Session,
+    call: Call<'_>,
+    out: &mut String,
+) -> Result<(), Unanswered> {
+    match problem_calls::call(rt, session, call, out) {
+        Err(Unanswered::NoCall) => (),
+        made => return made,
     }
-    if let Err(Unanswered::NoCall) = made {
-        made = route_text_calls::call(rt, session, call, out);
+    match tree_calls::call(rt, session, call, out) {
+        Err(Unanswered::NoCall) => (),
+        made => return made,
     }
-    if let Err(Unanswered::NoCall) = made {
-        made = device_calls::call(rt, session, call, out);
+    match routing_calls::call(rt, session, call, out) {
+        Err(Unanswered::NoCall) => (),
+        made => return made,
     }
-    if let Err(Unanswered::NoCall) = made {
-        made = walk_calls::call(rt, session, call, out);
+    match device_calls::call(rt, session, call, out) {
+        Err(Unanswered::NoCall) => (),
+        made => return made,
     }
-    if let Err(Unanswered::NoCall) = made {
-        made = settings_calls::call(rt, session, call, out);
+    match walk_calls::call(rt, session, call, out) {
+        Err(Unanswered::NoCall) => (),
+        made => return made,
     }
-    if let Err(Unanswered::NoCall) = made {
-        made = view_calls::call(rt, session, call, out);
+    call_nets(rt, session, call, out)
+}
+
+/// Makes a call of what nets see and cost, or another one.
+fn call_nets(
+    rt: &(impl Runtime + Threads + Wait + Sync + AllocGlobal),
+    session: &mut Session,
+    call: Call<'_>,
+    out: &mut String,
+) -> Result<(), Unanswered> {
+    match settings_calls::call(rt, session, call, out) {
+        Err(Unanswered::NoCall) => (),
+        made => return made,
     }
-    if let Err(Unanswered::NoCall) = made {
-        made = search_calls::call(rt, session, call, out);
+    match view_calls::call(rt, session, call, out) {
+        Err(Unanswered::NoCall) => (),
+        made => return made,
     }
-    if let Err(Unanswered::NoCall) = made {
-        made = book_calls::call(rt, session, call, out);
+    match search_calls::call(rt, session, call, out) {
+        Err(Unanswered::NoCall) => (),
+        made => return made,
     }
-    if let Err(Unanswered::NoCall) = made {
-        made = event_calls::call(rt, session, call, out);
+    match book_calls::call(rt, session, call, out) {
+        Err(Unanswered::NoCall) => (),
+        made => return made,
     }
-    if let Err(Unanswered::NoCall) = made {
-        made = work_calls::call(rt, session, call, out);
+    match event_calls::call(rt, session, call, out) {
+        Err(Unanswered::NoCall) => (),
+        made => return made,
     }
-    if let Err(Unanswered::NoCall) = made {
-        made = desk_calls::call(rt, session, call, out);
+    call_workers(rt, session, call, out)
+}
+
+/// Makes a call of workers and runs, or another one.
+fn call_workers(
+    rt: &(impl Runtime + Threads + Wait + Sync + AllocGlobal),
+    session: &mut Session,
+    call: Call<'_>,
+    out: &mut String,
+) -> Result<(), Unanswered> {
+    match work_calls::call(rt, session, call, out) {
+        Err(Unanswered::NoCall) => (),
+        made => return made,
     }
-    if let Err(Unanswered::NoCall) = made {
-        made = file_calls::call(rt, session, call, out);
+    match desk_calls::call(rt, session, call, out) {
+        Err(Unanswered::NoCall) => (),
+        made => return made,
     }
-    if let Err(Unanswered::NoCall) = made {
-        made = run_calls::call(rt, session, call, out);
+    match file_calls::call(rt, session, call, out) {
+        Err(Unanswered::NoCall) => (),
+        made => return made,
     }
-    if let Err(Unanswered::NoCall) = made {
-        made = fault_calls::call(rt, session, call, out);
+    match run_calls::call(rt, session, call, out) {
+        Err(Unanswered::NoCall) => (),
+        made => return made,
     }
-    if let Err(Unanswered::NoCall) = made {
-        made = progress_calls::call(rt, call, out);
+    match fault_calls::call(rt, session, call, out) {
+        Err(Unanswered::NoCall) => (),
+        made => return made,
     }
-    if let Err(Unanswered::NoCall) = made {
-        made = reading_back::call(rt, session, call, out);
+    call_others(rt, session, call, out)
+}
+
+/// Makes a call of progress, of what is read back, or of another value.
+fn call_others(
+    rt: &(impl Runtime + Threads + Wait + Sync + AllocGlobal),
+    session: &mut Session,
+    call: Call<'_>,
+    out: &mut String,
+) -> Result<(), Unanswered> {
+    match progress_calls::call(rt, call, out) {
+        Err(Unanswered::NoCall) => (),
+        made => return made,
     }
-    if let Err(Unanswered::NoCall) = made {
-        made = other_calls::call(rt, session, call, out);
+    match reading_back::call(rt, session, call, out) {
+        Err(Unanswered::NoCall) => (),
+        made => return made,
     }
-    made
+    other_calls::call(rt, session, call, out)
 }

@@ -4,7 +4,7 @@ use crate::answer::put;
 use crate::design_calls::are_suited;
 use crate::session::{DesignTexts, Others, Session};
 use crate::unanswered::Unanswered;
-use crate::words::{Call, one};
+use crate::words::{Call, nothing, one};
 use net_file::Netlist;
 use rr_graph::Device;
 use std::alloc::Global;
@@ -26,7 +26,10 @@ pub fn call(
             put(out, if is_there { "there is one" } else { "none" })
         }
         "same" => put(out, are_same(session, one(call.given)?)?),
-        "suits_other" => put(out, suits_other(rt.alloc(), session)?),
+        "suits_other" => {
+            nothing(call.given)?;
+            put(out, suits_other(rt.alloc(), session)?)
+        }
         _ => Err(Unanswered::NoCall),
     }
 }
