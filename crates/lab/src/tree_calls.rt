@@ -174,18 +174,32 @@ fn check(
     out: &mut String,
 ) -> Result<(), Unanswered> {
     let [net] = numbers::<1>(given)?;
-    if let Session {
-        tree: Some(tree),
-        problem: Some(problem),
-        marks: Some(marks),
-        ..
-    } = session
-    {
-        if marks.fits(problem) {
-            return put_check(problem, net, tree, marks, out);
-        }
+    if marks_serve(session) {
+        check_again(session, net, out)
+    } else {
+        check_anew(alloc, session, net, out)
     }
-    check_anew(alloc, session, net, out)
+}
+
+/// Whether there are marks of a check, and they fit the problem.
+fn marks_serve(session: &Session) -> bool {
+    match (&session.problem, &session.marks) {
+        (Some(problem), Some(marks)) => marks.fits(problem),
+        _ => false,
+    }
+}
+
+/// Tells whether the tree routes a net, by the marks of the last check, which must fit.
+fn check_again(session: &mut Session, net: u32, out: &mut String) -> Result<(), Unanswered> {
+    let Some(tree) = &session.tree else {
+        return Err(Unanswered::Refused("there is no tree"));
+    };
+    match (&session.problem, &mut session.marks) {
+        (Some(problem), Some(marks)) if marks.fits(problem) => {
+            put_check(problem, net, tree, marks, out)
+        }
+        _ => Err(Unanswered::Refused("nothing was checked")),
+    }
 }
 
 /// Tells whether the tree routes a net, by new marks, which are kept when that is told.
