@@ -1,6 +1,7 @@
 """Runs the program, and tests of crates, with calls for memory or for threads refused: what without-memory and without-threads share."""
 import argparse
 import concurrent.futures
+import itertools
 import os
 import pathlib
 import re
@@ -15,6 +16,8 @@ from bundled import TOP
 ROUTE = "ROUTE"
 OLD_ROUTING = b"an old routing\n"
 SECONDS = 120
+# So often a run is made that says nothing.
+TRIES = 5
 # Up to here each call is refused; of later ones, where they are thinned out, each hundredth of what lies behind.
 EACH_CALL = 300
 
@@ -33,14 +36,20 @@ class Answer:
         return self.status == 6 and self.printed in lines and self.complained == b"" and self.routing == before
 
 
+def says_all(_answer):
+    """Of no answer."""
+    return False
+
+
 @dataclass(frozen=True)
 class Run:
-    """A command that is run again and again: its words, what the routing file has before, and which answers are right."""
+    """A command that is run again and again: its words, what the routing file has before, which answers are right, and which say nothing."""
 
     name: str
     words: tuple
     before: Optional[bytes]
     is_right: Callable
+    says_nothing: Callable = says_all
 
     def answer(self, variables, pass_fds=()):
         with tempfile.TemporaryDirectory() as folder:
@@ -63,6 +72,13 @@ class Refusals:
 
     def answer(self, run, number, is_from):
         """The answer of a run where the call of this number is refused, and if wanted all behind it; and whether it was made."""
+        for _ in range(TRIES):
+            answer, told = self.answer_once(run, number, is_from)
+            if answer is None or not run.says_nothing(answer):
+                break
+        return answer, told
+
+    def answer_once(self, run, number, is_from):
         reader, writer = os.pipe()
         variables = {"LD_PRELOAD": self.library, "REFUSED_KIND": self.kind, "REFUSED_NUMBER": str(number)}
         variables |= {"REFUSED_FROM": str(int(is_from)), "REFUSED_TELLS": str(writer)}
@@ -92,28 +108,49 @@ class Refusals:
             yield number
             number += 1 + (number // self.share if is_thinned and number >= self.each else 0)
 
-    def refuse(self, run, is_from, is_thinned):
-        """Refuses one call after another until the run makes no more; how many were refused, the last one's number, and how many answers are wrong."""
-        way = f"all {self.kind} from" if is_from else self.kind
-        refused = last = wrong = 0
+    def counts_at(self, run, mark):
+        """The answer of a run to which nothing is refused, and how many calls it made before each line that is a mark."""
+        with tempfile.TemporaryFile() as told:
+            variables = {"LD_PRELOAD": self.library, "REFUSED_KIND": self.kind, "REFUSED_NUMBER": "0", "REFUSED_FROM": "0"}
+            variables |= {"REFUSED_TELLS": str(told.fileno()), "REFUSED_MARK": mark}
+            answer = run.answer(variables, (told.fileno(),))
+            told.seek(0)
+            return answer, [int(line) for line in told]
+
+    def answers(self, run, is_from, numbers):
+        """Refuses one call after another until the run makes no more: the number of each, the answer, and whether the call was made."""
         with concurrent.futures.ThreadPoolExecutor(len(os.sched_getaffinity(0))) as pool:
-            for chunk in chunks(self.numbers(is_thinned)):
+            for chunk in chunks(numbers):
                 given = list(pool.map(lambda number: self.answer(run, number, is_from), chunk))
-                for number, (answer, told) in zip(chunk, given):
-                    if answer is None or not run.is_right(answer):
-                        wrong += 1
-                        print(f"{run.name}: {way} call {number}: {answer or 'no answer'}"[:600], flush=True)
-                    if told:
-                        refused, last = refused + 1, number
+                yield from ((number, *answered) for number, answered in zip(chunk, given))
                 if not all(told for _, told in given):
                     break
+
+    def refuse(self, run, is_from, is_thinned):
+        """Refuses one call after another until the run makes no more; how many were refused, and how many answers are wrong."""
+        return self.refuse_numbers(run, is_from, self.numbers(is_thinned))
+
+    def refuse_numbers(self, run, is_from, numbers, keep=lambda number, answer: None):
+        """Refuses the calls of some numbers, and hands on what came of each; how many were refused, and how many answers are wrong."""
+        way = f"all {self.kind} from" if is_from else self.kind
+        refused = last = wrong = 0
+        for number, answer, told in self.answers(run, is_from, numbers):
+            if answer is None or not run.is_right(answer):
+                wrong += 1
+                print(f"{run.name}: {way} call {number}: {answer or 'no answer'}"[:600], flush=True)
+            elif told:
+                keep(number, answer)
+            if told:
+                refused, last = refused + 1, number
         print(f"{run.name}: {way}: {refused} of some {last} refused, {wrong} wrong answers", flush=True)
         return refused, wrong
 
 
-def chunks(sequence):
-    while True:
-        yield [next(sequence) for _ in range(16)]
+def chunks(numbers):
+    """Some numbers at a time."""
+    rest = iter(numbers)
+    while chunk := list(itertools.islice(rest, 16)):
+        yield chunk
 
 
 def usual_of(words, before=None):

@@ -20,7 +20,10 @@ pub fn call(
         "arch" => read(rt, session, call, out),
         "class_size" => class_size(session.arch()?, call.given, out),
         "class_direction" => class_direction(session.arch()?, call.given, out),
-        "copy_arch" => copy(rt, session.arch()?, out),
+        "copy_arch" => {
+            nothing(call.given)?;
+            copy(rt, session.arch()?, out)
+        }
         _ => look_up(session, call, out),
     }
 }
@@ -57,10 +60,20 @@ fn look_up(session: &Session, call: Call<'_>, out: &mut String) -> Result<(), Un
             nothing(call.given)?;
             put_named(out, session.arch()?.fc_type())
         }
-        "pins" => put_each(session.arch()?.pins(), out),
-        "segments" => put_each(session.arch()?.segments(), out),
-        "switches" => put_each(session.arch()?.switches(), out),
+        "pins" | "segments" | "switches" => {
+            nothing(call.given)?;
+            put_entries(session.arch()?, call.name, out)
+        }
         _ => Err(Unanswered::NoCall),
+    }
+}
+
+/// Adds a line for each entry of this kind.
+fn put_entries(arch: &Arch, kind: &str, out: &mut String) -> Result<(), Unanswered> {
+    match kind {
+        "pins" => put_each(arch.pins(), out),
+        "segments" => put_each(arch.segments(), out),
+        _ => put_each(arch.switches(), out),
     }
 }
 

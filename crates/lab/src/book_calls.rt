@@ -101,12 +101,32 @@ fn commit(
         return Err(Unanswered::Misread(COMMIT));
     };
     let (worker, net) = (number(worker)?, number(net)?);
-    let tree = match rest {
-        [] => session.tree()?.copy(alloc)?,
-        _ => tree_of_words(alloc, rest)?,
-    };
+    let tree = given_tree(alloc, session, rest)?;
+    commit_tree(alloc, session, worker, net, tree, out)
+}
+
+/// The tree that words tell, or a copy of the session's.
+fn given_tree(alloc: Global, session: &Session, words: &[&str]) -> Result<Tree, Unanswered> {
+    match words {
+        [] => Ok(session.tree()?.copy(alloc)?),
+        _ => tree_of_words(alloc, words),
+    }
+}
+
+/// Commits a tree.
+fn commit_tree(
+    alloc: Global,
+    session: &mut Session,
+    worker: u32,
+    net: u32,
+    tree: Tree,
+    out: &mut String,
+) -> Result<(), Unanswered> {
     let copy = tree.copy(alloc)?;
-    match book_of(session)?.commit(worker, net, tree) {
+    let Some(book) = &mut session.book else {
+        return Err(Unanswered::Refused("there is no book"));
+    };
+    match book.commit(worker, net, tree) {
         Ok(()) => put(out, "committed"),
         Err((fault, back)) => put_refused(fault, &back, &copy, out),
     }

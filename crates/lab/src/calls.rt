@@ -1,13 +1,14 @@
 //! All calls, by their names.
 
 use crate::session::Session;
+use crate::sources::BELOW;
 use crate::unanswered::Unanswered;
 use crate::words::{Call, number};
 use crate::{
     arch_calls, book_calls, design_calls, desk_calls, device_calls, event_calls, fault_calls,
     file_calls, other_calls, problem_calls, progress_calls, reading_back, route_text_calls,
     routing_calls, run_calls, search_calls, settings_calls, text_calls, tree_calls, view_calls,
-    work_calls,
+    walk_calls, work_calls,
 };
 use std::rt::Runtime;
 use std::sync::Wait;
@@ -73,73 +74,172 @@ fn time_of(
     start.elapsed(rt).map_err(|_| Unanswered::Clock)
 }
 
-/// Makes a call once.
+/// Whether a call reads a text that stands below it.
+fn reads_text(name: &str) -> bool {
+    matches!(
+        name,
+        "read"
+            | "lines"
+            | "arch"
+            | "net"
+            | "place"
+            | "problem"
+            | "routing"
+            | "routing_of_trees"
+            | "route"
+            | "run"
+            | "desk"
+            | "run_arch"
+            | "run_net"
+            | "run_place"
+            | "run_route"
+            | "progress"
+    )
+}
+
+/// Makes a call once, unless a text stands below it that it doesn't read.
 fn make_one(
     rt: &(impl Runtime + Threads + Wait + Sync + AllocGlobal),
     session: &mut Session,
     call: Call<'_>,
     out: &mut String,
 ) -> Result<(), Unanswered> {
-    let mut made = text_calls::call(rt, call, out);
-    if let Err(Unanswered::NoCall) = made {
-        made = arch_calls::call(rt, session, call, out);
+    if call.given.contains(&BELOW) && !reads_text(call.name) {
+        return Err(Unanswered::Misread("the call with no text below it"));
     }
-    if let Err(Unanswered::NoCall) = made {
-        made = design_calls::call(rt, session, call, out);
+    dispatch(rt, session, call, out)
+}
+
+/// Makes a call of a text or a file, or another one.
+fn dispatch(
+    rt: &(impl Runtime + Threads + Wait + Sync + AllocGlobal),
+    session: &mut Session,
+    call: Call<'_>,
+    out: &mut String,
+) -> Result<(), Unanswered> {
+    match text_calls::call(rt, call, out) {
+        Err(Unanswered::NoCall) => (),
+        made => return made,
     }
-    if let Err(Unanswered::NoCall) = made {
-        made = problem_calls::call(rt, session, call, out);
+    match arch_calls::call(rt, session, call, out) {
+        Err(Unanswered::NoCall) => (),
+        made => return made,
     }
-    if let Err(Unanswered::NoCall) = made {
-        made = tree_calls::call(rt, session, call, out);
+    match design_calls::call(rt, session, call, out) {
+        Err(Unanswered::NoCall) => (),
+        made => return made,
     }
-    if let Err(Unanswered::NoCall) = made {
-        made = routing_calls::call(rt, session, call, out);
+    match route_text_calls::call(rt, session, call, out) {
+        Err(Unanswered::NoCall) => (),
+        made => return made,
     }
-    if let Err(Unanswered::NoCall) = made {
-        made = route_text_calls::call(rt, session, call, out);
+    call_devices(rt, session, call, out)
+}
+
+/// Makes a call of devices and what stands on them, or another one.
+fn call_devices(
+    rt: &(impl Runtime + Threads + Wait + Sync + AllocGlobal),
+    session: &mut Session,
+    call: Call<'_>,
+    out: &mut String,
+) -> Result<(), Unanswered> {
+    match problem_calls::call(rt, session, call, out) {
+        Err(Unanswered::NoCall) => (),
+        made => return made,
     }
-    if let Err(Unanswered::NoCall) = made {
-        made = device_calls::call(rt, session, call, out);
+    match tree_calls::call(rt, session, call, out) {
+        Err(Unanswered::NoCall) => (),
+        made => return made,
     }
-    if let Err(Unanswered::NoCall) = made {
-        made = settings_calls::call(rt, session, call, out);
+    match routing_calls::call(rt, session, call, out) {
+        Err(Unanswered::NoCall) => (),
+        made => return made,
     }
-    if let Err(Unanswered::NoCall) = made {
-        made = view_calls::call(rt, session, call, out);
+    match device_calls::call(rt, session, call, out) {
+        Err(Unanswered::NoCall) => (),
+        made => return made,
     }
-    if let Err(Unanswered::NoCall) = made {
-        made = search_calls::call(rt, session, call, out);
+    match walk_calls::call(rt, session, call, out) {
+        Err(Unanswered::NoCall) => (),
+        made => return made,
     }
-    if let Err(Unanswered::NoCall) = made {
-        made = book_calls::call(rt, session, call, out);
+    call_nets(rt, session, call, out)
+}
+
+/// Makes a call of what nets see and cost, or another one.
+fn call_nets(
+    rt: &(impl Runtime + Threads + Wait + Sync + AllocGlobal),
+    session: &mut Session,
+    call: Call<'_>,
+    out: &mut String,
+) -> Result<(), Unanswered> {
+    match settings_calls::call(rt, session, call, out) {
+        Err(Unanswered::NoCall) => (),
+        made => return made,
     }
-    if let Err(Unanswered::NoCall) = made {
-        made = event_calls::call(rt, session, call, out);
+    match view_calls::call(rt, session, call, out) {
+        Err(Unanswered::NoCall) => (),
+        made => return made,
     }
-    if let Err(Unanswered::NoCall) = made {
-        made = work_calls::call(rt, session, call, out);
+    match search_calls::call(rt, session, call, out) {
+        Err(Unanswered::NoCall) => (),
+        made => return made,
     }
-    if let Err(Unanswered::NoCall) = made {
-        made = desk_calls::call(rt, session, call, out);
+    match book_calls::call(rt, session, call, out) {
+        Err(Unanswered::NoCall) => (),
+        made => return made,
     }
-    if let Err(Unanswered::NoCall) = made {
-        made = file_calls::call(rt, session, call, out);
+    match event_calls::call(rt, session, call, out) {
+        Err(Unanswered::NoCall) => (),
+        made => return made,
     }
-    if let Err(Unanswered::NoCall) = made {
-        made = run_calls::call(rt, session, call, out);
+    call_workers(rt, session, call, out)
+}
+
+/// Makes a call of workers and runs, or another one.
+fn call_workers(
+    rt: &(impl Runtime + Threads + Wait + Sync + AllocGlobal),
+    session: &mut Session,
+    call: Call<'_>,
+    out: &mut String,
+) -> Result<(), Unanswered> {
+    match work_calls::call(rt, session, call, out) {
+        Err(Unanswered::NoCall) => (),
+        made => return made,
     }
-    if let Err(Unanswered::NoCall) = made {
-        made = fault_calls::call(rt, session, call, out);
+    match desk_calls::call(rt, session, call, out) {
+        Err(Unanswered::NoCall) => (),
+        made => return made,
     }
-    if let Err(Unanswered::NoCall) = made {
-        made = progress_calls::call(rt, call, out);
+    match file_calls::call(rt, session, call, out) {
+        Err(Unanswered::NoCall) => (),
+        made => return made,
     }
-    if let Err(Unanswered::NoCall) = made {
-        made = reading_back::call(rt, session, call, out);
+    match run_calls::call(rt, session, call, out) {
+        Err(Unanswered::NoCall) => (),
+        made => return made,
     }
-    if let Err(Unanswered::NoCall) = made {
-        made = other_calls::call(rt, session, call, out);
+    match fault_calls::call(rt, session, call, out) {
+        Err(Unanswered::NoCall) => (),
+        made => return made,
     }
-    made
+    call_others(rt, session, call, out)
+}
+
+/// Makes a call of progress, of what is read back, or of another value.
+fn call_others(
+    rt: &(impl Runtime + Threads + Wait + Sync + AllocGlobal),
+    session: &mut Session,
+    call: Call<'_>,
+    out: &mut String,
+) -> Result<(), Unanswered> {
+    match progress_calls::call(rt, call, out) {
+        Err(Unanswered::NoCall) => (),
+        made => return made,
+    }
+    match reading_back::call(rt, session, call, out) {
+        Err(Unanswered::NoCall) => (),
+        made => return made,
+    }
+    other_calls::call(rt, session, call, out)
 }

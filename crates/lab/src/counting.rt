@@ -3,12 +3,10 @@
 use crate::meeting::flag;
 use crate::told::{Told, ToldList};
 use crate::unanswered::Unanswered;
-use iteration::Outcome;
-use net_workers::Gate;
+use net_workers::{Gate, TrialEnd};
 use std::alloc::Global;
 use std::sync::Wait;
 use std::sync::atomic::{AtomicU32, Ordering};
-use width_search::TrialGate;
 
 /// Counts how many nets came after their draws and after their searches, keeps which workers came with them, and what the driver
 /// told.
@@ -84,14 +82,12 @@ impl<R: Wait> Gate for Counting<'_, R> {
             overused,
         });
     }
-}
 
-impl<R: Wait> TrialGate for Counting<'_, R> {
     fn tries(&self, width: u32) {
         self.told.add(Told::Tries(width));
     }
 
-    fn tried(&self, width: u32, outcome: &Outcome) {
-        self.told.add(Told::tried(width, outcome));
+    fn tried(&self, width: u32, end: TrialEnd) {
+        self.told.add(Told::tried(width, end));
     }
 }

@@ -1,12 +1,14 @@
 //! Calls of `net_file` and `place_file`: netlists and placements.
 
 use crate::answer::{put, put_maybe, put_name};
-use crate::session::Session;
+use crate::session::{DesignTexts, Session};
 use crate::sources::source;
 use crate::unanswered::Unanswered;
 use crate::words::{Call, nothing, numbers, one};
+use arch_file::Arch;
 use net_file::{Block, Net, Netlist, Terminal};
-use place_file::{Placement, Site};
+use place_file::Site;
+use rr_graph::Device;
 use std::alloc::Global;
 use std::rt::Runtime;
 
@@ -20,7 +22,7 @@ pub fn call(
     match call.name {
         "net" => read_netlist(rt, session, call, out),
         "place" => read_placement(rt, session, call, out),
-        "site" => site(rt.alloc(), session, call.given, out),
+        "site" => put_site_of(rt.alloc(), session, call.given, out),
         "block_named" | "net_named" | "block" | "block_net" | "blocks" | "net_at" | "netlist" => {
             let netlist = net_file::parse(rt.alloc(), session.net()?, session.arch()?)?;
             look_up(&netlist, call, out)
@@ -38,12 +40,17 @@ fn read_netlist(
 ) -> Result<(), Unanswered> {
     let arch = session.arch()?;
     let text = source(rt, call)?;
-    let netlist = net_file::parse(rt.alloc(), text.as_slice(), arch)?;
-    let (blocks, nets) = (netlist.blocks().len(), netlist.nets().len());
-    drop(netlist);
-    writeln!(out, "{blocks} blocks, {nets} nets")?;
+    put_counts(rt.alloc(), arch, text.as_slice(), out)?;
     session.net = Some(text);
     session.place = None;
+    Ok(())
+}
+
+/// Adds how many blocks and nets a netlist has.
+fn put_counts(alloc: Global, arch: &Arch, text: &[u8], out: &mut String) -> Result<(), Unanswered> {
+    let netlist = net_file::parse(alloc, text, arch)?;
+    let (blocks, nets) = (netlist.blocks().len(), netlist.nets().len());
+    writeln!(out, "{blocks} blocks, {nets} nets")?;
     Ok(())
 }
 
@@ -56,28 +63,52 @@ fn read_placement(
 ) -> Result<(), Unanswered> {
     let (arch, net) = (session.arch()?, session.net()?);
     let text = source(rt, call)?;
-    let netlist = net_file::parse(rt.alloc(), net, arch)?;
-    let placement = place_file::parse(rt.alloc(), text.as_slice(), arch, &netlist)?;
-    let (nx, ny) = (placement.nx(), placement.ny());
-    drop(netlist);
-    drop(placement);
-    writeln!(out, "{nx} x {ny}")?;
+    let place = text.as_slice();
+    put_array(rt.alloc(), DesignTexts { arch, net, place }, out)?;
     session.place = Some(text);
     Ok(())
 }
 
+/// Adds the array of a design.
+fn put_array(alloc: Global, design: DesignTexts<'_>, out: &mut String) -> Result<(), Unanswered> {
+    let netlist = net_file::parse(alloc, design.net, design.arch)?;
+    let (nx, ny) = array_of(alloc, design, &netlist)?;
+    writeln!(out, "{nx} x {ny}")?;
+    Ok(())
+}
+
+/// How many columns and rows the array of a design has.
+fn array_of(
+    alloc: Global,
+    design: DesignTexts<'_>,
+    netlist: &Netlist<'_>,
+) -> Result<(u32, u32), Unanswered> {
+    let placement = place_file::parse(alloc, design.place, design.arch, netlist)?;
+    Ok((placement.nx(), placement.ny()))
+}
+
 /// The site of a block.
-fn site(
+fn put_site_of(
     alloc: Global,
     session: &Session,
     given: &[&str],
     out: &mut String,
 ) -> Result<(), Unanswered> {
     let [block] = numbers::<1>(given)?;
-    let arch = session.arch()?;
-    let netlist = net_file::parse(alloc, session.net()?, arch)?;
-    let placement = place_file::parse(alloc, session.place()?, arch, &netlist)?;
-    put_site(placement.site(block as usize), out)
+    let design = session.design()?;
+    let netlist = net_file::parse(alloc, design.net, design.arch)?;
+    put_site(site_of(alloc, design, &netlist, block)?, out)
+}
+
+/// The site of a block of a design.
+fn site_of(
+    alloc: Global,
+    design: DesignTexts<'_>,
+    netlist: &Netlist<'_>,
+    block: u32,
+) -> Result<Option<Site>, Unanswered> {
+    let placement = place_file::parse(alloc, design.place, design.arch, netlist)?;
+    Ok(placement.site(block as usize))
 }
 
 fn put_site(site: Option<Site>, out: &mut String) -> Result<(), Unanswered> {
@@ -187,10 +218,21 @@ fn put_terminal(terminal: Terminal, out: &mut String) -> Result<(), Unanswered> 
     Ok(())
 }
 
-/// Reads the session's netlist and placement, and tells whether they suit its device.
+/// Whether the session's netlist and placement suit its device.
 pub fn suits(alloc: Global, session: &Session) -> Result<bool, Unanswered> {
-    let (arch, device) = (session.arch()?, session.device()?);
-    let netlist = net_file::parse(alloc, session.net()?, arch)?;
-    let placement: Placement = place_file::parse(alloc, session.place()?, arch, &netlist)?;
-    Ok(device.suits(&netlist, &placement))
+    let (design, device) = (session.design()?, session.device()?);
+    let netlist = net_file::parse(alloc, design.net, design.arch)?;
+    are_suited(alloc, design, device, &netlist, &netlist)
+}
+
+/// Whether a device suits a netlist, and the placement of a design as it is read for a netlist.
+pub fn are_suited(
+    alloc: Global,
+    design: DesignTexts<'_>,
+    device: &Device,
+    netlist: &Netlist<'_>,
+    placed: &Netlist<'_>,
+) -> Result<bool, Unanswered> {
+    let placement = place_file::parse(alloc, design.place, design.arch, placed)?;
+    Ok(device.suits(netlist, &placement))
 }

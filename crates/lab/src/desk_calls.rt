@@ -1,7 +1,7 @@
 //! Calls of `net_workers`: a desk, and the shares of its workers.
 
 ghost use Rattle.std.specs.Prelude.{◌≡◌};
-ghost use Rattle.net_workers.specs.Agreement.{IsFresh};
+ghost use Rattle.congestion_book.specs.Contents.{IsFresh};
 
 use crate::book_calls::{put_committed, put_drawn, put_passed};
 use crate::bounds::worker_count;
@@ -9,7 +9,7 @@ use crate::session::Session;
 use crate::sources::BELOW;
 use crate::tree_calls::tree_of_words;
 use crate::unanswered::Unanswered;
-use crate::words::{Call, number, words};
+use crate::words::{Call, number, text_of, words};
 use crate::work_calls::take_fresh;
 use congestion_book::Book;
 use net_workers::{Desk, Round, Share};
@@ -47,44 +47,65 @@ pub fn call(
 ) -> Result<(), Unanswered> {
     match (call.name, call.given) {
         ("desk", [workers, below]) if *below == BELOW => {
-            share_desk(rt.alloc(), session, worker_count(workers)?, call.text, out)
+            begin_desk(rt.alloc(), session, worker_count(workers)?, call.text, out)
         }
         ("desk", _) => Err(Unanswered::Misread(DESK)),
         _ => Err(Unanswered::NoCall),
     }
 }
 
-/// Lets workers do at a desk what a text tells. Where memory runs out, the book is let go.
-fn share_desk(
+/// Lets workers do at a desk what a text tells, with a view of the book's nodes.
+fn begin_desk(
     alloc: Global,
     session: &mut Session,
     workers: u32,
     text: &[u8],
     out: &mut String,
 ) -> Result<(), Unanswered> {
-    let steps = steps_of_text(alloc, workers, text)?;
     let nodes = session.book()?.problem().device().node_count();
     let mut view = View::new(alloc, nodes as usize)?;
+    let steps = steps_of_text(alloc, workers, text_of(text)?)?;
+    share_desk(alloc, session, workers, steps, &mut view, out)
+}
+
+/// Lets workers take steps at a desk. Where memory runs out, the book is let go.
+fn share_desk(
+    alloc: Global,
+    session: &mut Session,
+    workers: u32,
+    steps: Vec<Step>,
+    view: &mut View,
+    out: &mut String,
+) -> Result<(), Unanswered> {
     let book = take_fresh(session)?;
     let blank = Blank::new(workers as u64);
-    let book = at_desk::<Brand>(alloc, book, workers, blank, steps, &mut view, out)?;
+    let book = at_desk::<Brand>(alloc, book, workers, blank, steps, view, out)?;
     session.book = Some(book);
     Ok(())
 }
 
 /// The steps of so many workers that a text tells, one a line.
-fn steps_of_text(alloc: Global, workers: u32, text: &[u8]) -> Result<Vec<Step>, Unanswered> {
-    let Ok(text) = str::from_utf8(text) else {
-        return Err(Unanswered::Misread(DESK));
-    };
+fn steps_of_text(alloc: Global, workers: u32, text: &str) -> Result<Vec<Step>, Unanswered> {
     let mut steps = Vec::new(alloc);
     for line in text.lines() {
-        let words = words(alloc, line)?;
-        if !words.is_empty() {
-            steps.push(step_of_words(alloc, workers, words.as_slice())?)?;
-        }
+        add_step(alloc, &mut steps, workers, line)?;
     }
     Ok(steps)
+}
+
+/// Adds the step of a line, if it has words.
+fn add_step(
+    alloc: Global,
+    steps: &mut Vec<Step>,
+    workers: u32,
+    line: &str,
+) -> Result<(), Unanswered> {
+    let words = words(alloc, line)?;
+    if words.is_empty() {
+        return Ok(());
+    }
+    let step = step_of_words(alloc, workers, words.as_slice())?;
+    Ok(steps.push(step)?)
 }
 
 /// The step of one of so many workers that the words of a line tell.

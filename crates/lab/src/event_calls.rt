@@ -5,13 +5,17 @@ use crate::session::Session;
 use crate::sources::BELOW;
 use crate::tree_calls::tree_of_words;
 use crate::unanswered::Unanswered;
-use crate::words::{Call, nothing, number, numbers, one, words};
+use crate::words::{Call, nothing, number, numbers, text_of, words};
 use congestion_book::{Event, Reply, RunFault};
 use std::alloc::Global;
-use std::rt::Runtime;
+use std::rt::{Clock, Runtime};
+use std::time::Instant;
 
 /// How a line of events is written.
 const EVENT: &str = "draw WORKER, commit WORKER NET TREE, pass WORKER NET or close";
+
+/// How many bytes the line of a reply has at most: the longest ones name a fault with a number or another fault in it.
+const LONGEST_REPLY: usize = 64;
 
 /// Makes a call, and adds its answer.
 pub fn call(
@@ -20,22 +24,79 @@ pub fn call(
     call: Call<'_>,
     out: &mut String,
 ) -> Result<(), Unanswered> {
-    match call.name {
-        "run" if one(call.given)? == BELOW => run(rt.alloc(), session, call.text, out),
-        "run" => Err(Unanswered::Misread("run <<, with a line for each event")),
+    match (call.name, call.given) {
+        ("run", [below]) if *below == BELOW => run(rt.alloc(), session, call.text, out),
+        ("run", [word, below]) if *word == "timed" && *below == BELOW => {
+            run_timed(rt, session, call.text, out)
+        }
+        ("run", _) => Err(Unanswered::Misread("run << or run timed <<, a line for each event")),
         _ => Err(Unanswered::NoCall),
     }
 }
 
-/// Lets the events happen that a text tells, and adds the reply to each. Where memory ran out the first time, those that stand aren't
-/// repeated.
+/// Lets the events happen that a text tells, and adds the reply to each. There is room for the replies before one happens.
 fn run(
     alloc: Global,
     session: &mut Session,
     text: &[u8],
     out: &mut String,
 ) -> Result<(), Unanswered> {
-    let events = events(alloc, text)?;
+    let events = events(alloc, text_of(text)?)?;
+    out.reserve(events.len().saturating_mul(LONGEST_REPLY))?;
+    run_events(alloc, session, events.as_slice(), out)
+}
+
+/// Lets events happen, and adds the reply to each.
+fn run_events(
+    alloc: Global,
+    session: &mut Session,
+    events: &[Event],
+    out: &mut String,
+) -> Result<(), Unanswered> {
+    let replies = replies(alloc, session, events)?;
+    put_replies(replies.as_slice(), out)
+}
+
+/// Lets the events happen that a text tells, and tells how many replies there are and how long that took.
+fn run_timed(
+    rt: &(impl Runtime + AllocGlobal),
+    session: &mut Session,
+    text: &[u8],
+    out: &mut String,
+) -> Result<(), Unanswered> {
+    let events = events(rt.alloc(), text_of(text)?)?;
+    time_events(rt, session, events.as_slice(), out)
+}
+
+/// Lets events happen, and tells how many replies there are and how long that took.
+fn time_events(
+    rt: &(impl Clock + AllocGlobal),
+    session: &mut Session,
+    events: &[Event],
+    out: &mut String,
+) -> Result<(), Unanswered> {
+    let start = Instant::now(rt).map_err(|_| Unanswered::Clock)?;
+    let count = count_replies(rt.alloc(), session, events)?;
+    let time = start.elapsed(rt).map_err(|_| Unanswered::Clock)?;
+    writeln!(out, "{count} replies, {} us", time.as_micros())?;
+    Ok(())
+}
+
+fn count_replies(
+    alloc: Global,
+    session: &mut Session,
+    events: &[Event],
+) -> Result<usize, Unanswered> {
+    let replies = replies(alloc, session, events)?;
+    Ok(replies.len())
+}
+
+/// Lets events happen but those that stand, since memory ran out behind them before; the replies.
+fn replies(
+    alloc: Global,
+    session: &mut Session,
+    events: &[Event],
+) -> Result<Vec<Reply>, Unanswered> {
     let stood = session.standing.min(events.len());
     let Some(book) = &mut session.book else {
         return Err(Unanswered::Refused("there is no book"));
@@ -43,11 +104,11 @@ fn run(
     let Some(view) = &mut session.view else {
         return Err(Unanswered::Refused("there is no view"));
     };
-    let (_, rest) = events.as_slice().split_at(stood);
+    let (_, rest) = events.split_at(stood);
     match book.run(alloc, rest, view) {
         Ok(replies) => {
             session.standing = 0;
-            put_replies(replies.as_slice(), out)
+            Ok(replies)
         }
         Err(RunFault::Memory(count)) => {
             session.standing = stood.saturating_add(count);
@@ -56,19 +117,46 @@ fn run(
     }
 }
 
-/// The events that a text tells, one a line.
-fn events(alloc: Global, text: &[u8]) -> Result<Vec<Event>, Unanswered> {
-    let Ok(text) = str::from_utf8(text) else {
-        return Err(Unanswered::Misread(EVENT));
-    };
-    let mut events = Vec::new(alloc);
-    for line in text.lines() {
-        let words = words(alloc, line)?;
-        if let [name, given @ ..] = words.as_slice() {
-            events.push(event(alloc, *name, given)?)?;
+/// Events that are read one after another.
+#[derive(Drop)]
+struct EventList {
+    alloc: Global,
+    events: Vec<Event>,
+}
+
+impl EventList {
+    /// Reads the event of a line, if it has one.
+    fn read(&mut self, line: &str) -> Result<(), Unanswered> {
+        let words = words(self.alloc, line)?;
+        match words.as_slice() {
+            [name, given @ ..] => self.add(*name, given),
+            [] => Ok(()),
         }
     }
-    Ok(events)
+
+    /// Adds the event that the words of a line tell.
+    fn add(&mut self, name: &str, given: &[&str]) -> Result<(), Unanswered> {
+        let event = event(self.alloc, name, given)?;
+        Ok(self.events.push(event)?)
+    }
+
+    /// Reads the events of some lines.
+    fn read_all(&mut self, text: &str) -> Result<(), Unanswered> {
+        for line in text.lines() {
+            self.read(line)?;
+        }
+        Ok(())
+    }
+}
+
+/// The events that a text tells, one a line.
+fn events(alloc: Global, text: &str) -> Result<Vec<Event>, Unanswered> {
+    let mut list = EventList {
+        alloc,
+        events: Vec::new(alloc),
+    };
+    list.read_all(text)?;
+    Ok(list.events)
 }
 
 /// The event that the words of a line tell.

@@ -3,7 +3,7 @@
 use crate::answer::put;
 use crate::run_calls::put_taken;
 use crate::session::Session;
-use crate::sinks::sink;
+use crate::sinks::{ShortSink, sink};
 use crate::unanswered::Unanswered;
 use crate::words::Call;
 use runs::{AppFault, InputFile, print_fault, status};
@@ -66,14 +66,20 @@ fn put_line(
 ) -> Result<(), Unanswered> {
     let mut printed = sink(alloc, room);
     let answer = print_fault(&fault, &mut printed);
-    let printed = printed.into_inner();
+    put_printed(&fault, answer.is_ok(), &printed.into_inner(), out)
+}
+
+/// Adds the status of a fault, what a sink took of its line, and whether that isn't all.
+fn put_printed(
+    fault: &AppFault,
+    is_whole: bool,
+    printed: &ShortSink,
+    out: &mut String,
+) -> Result<(), Unanswered> {
     if printed.lacked {
         return Err(Unanswered::Memory);
     }
-    writeln!(out, "status {}", status(&fault))?;
-    put_taken("out", &printed, out)?;
-    match answer {
-        Ok(()) => Ok(()),
-        Err(_) => put(out, "broken"),
-    }
+    writeln!(out, "status {}", status(fault))?;
+    put_taken("out", printed, out)?;
+    if is_whole { Ok(()) } else { put(out, "broken") }
 }

@@ -1,10 +1,10 @@
 //! Calls that keep the files of a run of the program.
 
 use crate::answer::put;
-use crate::session::{RunText, Session};
+use crate::session::{RunFiles, RunText, Session};
 use crate::sources::whole_source;
 use crate::unanswered::Unanswered;
-use crate::words::{Call, number};
+use crate::words::{Call, nothing, number};
 use std::rt::Runtime;
 
 /// Makes a call, and adds its answer.
@@ -21,7 +21,44 @@ pub fn call(
         "run_route" => session.files.route = Some(run_text(rt, call, out)?),
         "route_sink" => session.files.route_room = room(call.given, out)?,
         "out_sink" => session.files.out_room = room(call.given, out)?,
+        "dump_files" => {
+            nothing(call.given)?;
+            dump(&session.files, out)?;
+        }
         _ => return Err(Unanswered::NoCall),
+    }
+    Ok(())
+}
+
+/// Adds a line for each file, and for each sink.
+fn dump(files: &RunFiles, out: &mut String) -> Result<(), Unanswered> {
+    put_file("arch", &files.arch, out)?;
+    put_file("net", &files.net, out)?;
+    put_file("place", &files.place, out)?;
+    put_file("route", &files.route, out)?;
+    put_room("route sink", files.route_room, out)?;
+    put_room("out sink", files.out_room, out)
+}
+
+/// Adds how many bytes a file has, or `none`, and behind how many its source fails.
+fn put_file(name: &str, file: &Option<RunText>, out: &mut String) -> Result<(), Unanswered> {
+    match file {
+        Some(text) => {
+            write!(out, "{name}: {} bytes, ", text.bytes.len())?;
+            put_room("source", text.failing, out)
+        }
+        None => {
+            writeln!(out, "{name}: none")?;
+            Ok(())
+        }
+    }
+}
+
+/// Adds behind how many bytes a source or sink fails.
+fn put_room(name: &str, room: Option<usize>, out: &mut String) -> Result<(), Unanswered> {
+    match room {
+        Some(count) => writeln!(out, "{name} failing {count}")?,
+        None => writeln!(out, "{name} whole")?,
     }
     Ok(())
 }

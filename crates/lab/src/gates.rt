@@ -6,12 +6,10 @@ use crate::meeting::Meeting;
 use crate::timing::Timing;
 use crate::unanswered::Unanswered;
 use crate::words::number;
-use iteration::Outcome;
-use net_workers::{Gate, OpenGate};
+use net_workers::{Gate, OpenGate, TrialEnd};
 use std::alloc::AllocError;
 use std::sync::Wait;
 use std::time::Clock;
-use width_search::TrialGate;
 
 /// How a gate is written.
 const GATES: &str =
@@ -136,9 +134,7 @@ impl<R: Wait + Clock> Gate for LabGate<'_, R> {
             LabGate::Timing(gate) => gate.closed(iteration, unrouted, overused),
         }
     }
-}
 
-impl<R: Wait + Clock> TrialGate for LabGate<'_, R> {
     fn tries(&self, width: u32) {
         match self {
             LabGate::Open(gate) => gate.tries(width),
@@ -149,13 +145,13 @@ impl<R: Wait + Clock> TrialGate for LabGate<'_, R> {
         }
     }
 
-    fn tried(&self, width: u32, outcome: &Outcome) {
+    fn tried(&self, width: u32, end: TrialEnd) {
         match self {
-            LabGate::Open(gate) => gate.tried(width, outcome),
-            LabGate::Meeting(gate) => gate.tried(width, outcome),
-            LabGate::Holding(gate) => gate.tried(width, outcome),
-            LabGate::Counting(gate) => gate.tried(width, outcome),
-            LabGate::Timing(gate) => gate.tried(width, outcome),
+            LabGate::Open(gate) => gate.tried(width, end),
+            LabGate::Meeting(gate) => gate.tried(width, end),
+            LabGate::Holding(gate) => gate.tried(width, end),
+            LabGate::Counting(gate) => gate.tried(width, end),
+            LabGate::Timing(gate) => gate.tried(width, end),
         }
     }
 }

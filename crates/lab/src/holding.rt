@@ -4,7 +4,6 @@ use crate::patience::Patience;
 use crate::unanswered::Unanswered;
 use net_workers::Gate;
 use std::sync::atomic::{AtomicBool, AtomicU32, Ordering};
-use width_search::TrialGate;
 
 /// Holds a worker at its first net, after its search, until all other nets were searched for. The other workers wait behind their
 /// draws until that worker has drawn. It does so in the first iteration of a negotiation alone, which all workers make.
@@ -91,5 +90,3 @@ impl Gate for Holding {
         }
     }
 }
-
-impl TrialGate for Holding {}

@@ -38,6 +38,7 @@ mod told;
 mod tree_calls;
 mod unanswered;
 mod view_calls;
+mod walk_calls;
 mod words;
 mod work_calls;
 

@@ -5,7 +5,6 @@ use crate::patience::Patience;
 use crate::unanswered::Unanswered;
 use net_workers::Gate;
 use std::sync::atomic::{AtomicBool, AtomicU32, Ordering};
-use width_search::TrialGate;
 
 /// The flag of a net, or of a worker; none from 32 on.
 pub fn flag(number: u32) -> u32 {
@@ -90,5 +89,3 @@ impl Gate for Meeting {
         }
     }
 }
-
-impl TrialGate for Meeting {}

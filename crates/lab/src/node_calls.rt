@@ -157,8 +157,12 @@ fn put_edge(device: &Device, given: &[&str], out: &mut String) -> Result<(), Una
 /// Numbers two by two.
 pub fn pairs(alloc: Global, given: &[&str]) -> Result<Vec<(u32, u32)>, Unanswered> {
     let numbers = number_list(alloc, given)?;
+    two_by_two(alloc, numbers.as_slice())
+}
+
+fn two_by_two(alloc: Global, numbers: &[u32]) -> Result<Vec<(u32, u32)>, Unanswered> {
     let mut pairs = Vec::with_capacity(alloc, numbers.len())?;
-    let mut rest = numbers.as_slice();
+    let mut rest = numbers;
     for _ in 0..numbers.len() {
         match rest {
             [] => break,
@@ -190,8 +194,16 @@ fn put_joins(
     out: &mut String,
 ) -> Result<(), Unanswered> {
     let pairs = pairs(alloc, given)?;
+    put_each_join(device, pairs.as_slice(), out)
+}
+
+fn put_each_join(
+    device: &Device,
+    pairs: &[(u32, u32)],
+    out: &mut String,
+) -> Result<(), Unanswered> {
     let mut finder = EdgeFinder::new(device);
-    for (from, to) in pairs.as_slice() {
+    for (from, to) in pairs {
         put(out, finder.joins(*from, *to))?;
     }
     Ok(())

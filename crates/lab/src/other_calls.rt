@@ -1,9 +1,12 @@
 //! Calls that exchange a value with another one of its kind, or compare the two.
 
 use crate::answer::put;
-use crate::session::{Others, Session};
+use crate::design_calls::are_suited;
+use crate::session::{DesignTexts, Others, Session};
 use crate::unanswered::Unanswered;
-use crate::words::{Call, one};
+use crate::words::{Call, nothing, one};
+use net_file::Netlist;
+use rr_graph::Device;
 use std::alloc::Global;
 use std::rt::Runtime;
 
@@ -23,7 +26,10 @@ pub fn call(
             put(out, if is_there { "there is one" } else { "none" })
         }
         "same" => put(out, are_same(session, one(call.given)?)?),
-        "suits_other" => put(out, suits_other(rt.alloc(), session)?),
+        "suits_other" => {
+            nothing(call.given)?;
+            put(out, suits_other(rt.alloc(), session)?)
+        }
         _ => Err(Unanswered::NoCall),
     }
 }
@@ -89,9 +95,19 @@ fn suits_other(alloc: Global, session: &Session) -> Result<bool, Unanswered> {
     else {
         return Err(Unanswered::Refused("there is no other netlist"));
     };
-    let (arch, device) = (session.arch()?, session.device()?);
-    let netlist = net_file::parse(alloc, session.net()?, arch)?;
-    let other = net_file::parse(alloc, other.as_slice(), arch)?;
-    let placement = place_file::parse(alloc, session.place()?, arch, &other)?;
-    Ok(device.suits(&netlist, &placement))
+    let (design, device) = (session.design()?, session.device()?);
+    let netlist = net_file::parse(alloc, design.net, design.arch)?;
+    suits_both(alloc, design, device, &netlist, other.as_slice())
+}
+
+/// Whether a device suits a netlist, and the placement of a design as it is read for the netlist of a text.
+fn suits_both(
+    alloc: Global,
+    design: DesignTexts<'_>,
+    device: &Device,
+    netlist: &Netlist<'_>,
+    other: &[u8],
+) -> Result<bool, Unanswered> {
+    let other = net_file::parse(alloc, other, design.arch)?;
+    are_suited(alloc, design, device, netlist, &other)
 }

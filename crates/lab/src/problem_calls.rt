@@ -1,11 +1,17 @@
 //! Calls of `rr_graph`: routing problems.
 
+ghost use Rattle.std.specs.Prelude.{◌≤◌, List, ℕ};
+ghost use Rattle.net_file.specs.Reads.{ReadsBytes};
+
 use crate::answer::{put, put_numbers};
-use crate::session::Session;
+use crate::bounds::channel_width;
+use crate::route_text_calls::problem_of;
+use crate::session::{DesignTexts, Session};
 use crate::sources::BELOW;
 use crate::unanswered::Unanswered;
-use crate::words::{Call, mode, nothing, number, number_list, numbers, words};
-use rr_graph::{Device, Problem, Terminals};
+use crate::words::{Call, mode, nothing, number, number_list, numbers, text_of, words};
+use net_file::Netlist;
+use rr_graph::{Device, Mode, Problem, Terminals};
 use std::alloc::Global;
 use std::rt::Runtime;
 
@@ -51,7 +57,7 @@ fn make(
     let problem = match call.given {
         [] => of_design(alloc, session)?,
         [word] if *word == BELOW => of_parts(alloc, session.device()?, call.text)?,
-        [width, rest @ ..] => at_width(alloc, session, number(width)?, rest)?,
+        [width, rest @ ..] => at_width(alloc, session, channel_width(width)?, mode(rest)?)?,
     };
     writeln!(out, "{} nets", problem.nets())?;
     session.problem = Some(problem);
@@ -60,52 +66,70 @@ fn make(
 
 /// The problem of the session's netlist and placement on its device.
 fn of_design(alloc: Global, session: &Session) -> Result<Problem, Unanswered> {
-    let arch = session.arch()?;
-    let device = session.device()?.copy(alloc)?;
-    let netlist = net_file::parse(alloc, session.net()?, arch)?;
-    let placement = place_file::parse(alloc, session.place()?, arch, &netlist)?;
-    if !device.suits(&netlist, &placement) {
-        return Err(Unanswered::Refused("the design does not suit the device"));
-    }
-    Ok(Problem::new(alloc, device, &netlist, &placement)?)
+    let (design, device) = (session.design()?, session.device()?);
+    let netlist = net_file::parse(alloc, design.net, design.arch)?;
+    of_netlist(alloc, design, device, &netlist)
+}
+
+/// The problem of a design with this netlist on a device.
+fn of_netlist(
+    alloc: Global,
+    design: DesignTexts<'_>,
+    device: &Device,
+    netlist: &Netlist<'_>,
+) -> Result<Problem, Unanswered> {
+    let placement = place_file::parse(alloc, design.place, design.arch, netlist)?;
+    problem_of(alloc, device, netlist, &placement)
 }
 
 /// The problem of the session's netlist and placement on the device of their array.
-fn at_width(
+fn at_width(alloc: Global, session: &Session, width: u32, mode: Mode) -> Result<Problem, Unanswered>
+    requires width { (1 ≤ width) × (width ≤ 256) }
+{
+    let design = session.design()?;
+    let netlist = net_file::parse(alloc, design.net, design.arch)?;
+    of_netlist_at(alloc, design, &netlist, width, mode)
+}
+
+/// The problem of a design with this netlist on the device of its array.
+fn of_netlist_at(
     alloc: Global,
-    session: &Session,
+    design: DesignTexts<'_>,
+    netlist: &Netlist<'_>,
     width: u32,
-    rest: &[&str],
-) -> Result<Problem, Unanswered> {
-    let mode = mode(rest)?;
-    let arch = session.arch()?;
-    let netlist = net_file::parse(alloc, session.net()?, arch)?;
-    let placement = place_file::parse(alloc, session.place()?, arch, &netlist)?;
-    if width < 1 || width > 256 {
-        return Err(Unanswered::Refused("a channel has 1 to 256 tracks"));
-    }
-    Ok(Problem::from_design(alloc, arch, &netlist, &placement, width, mode)?)
+    mode: Mode,
+) -> Result<Problem, Unanswered>
+    requires width { (1 ≤ width) × (width ≤ 256) }
+    requires read { (bytes : List ℕ) × ReadsBytes design.arch.now.pins bytes netlist.now }
+{
+    let arch = design.arch;
+    let placement = place_file::parse(alloc, design.place, arch, netlist)?;
+    Ok(Problem::from_design(alloc, arch, netlist, &placement, width, mode)?)
 }
 
 /// The problem of the nets that a text tells, on a device.
 fn of_parts(alloc: Global, device: &Device, text: &[u8]) -> Result<Problem, Unanswered> {
-    let nets = net_lines(alloc, text)?;
+    let nets = net_lines(alloc, text_of(text)?)?;
     Ok(Problem::from_parts(device.copy(alloc)?, nets)?)
 }
 
 /// The nets that a text tells, one a line.
-fn net_lines(alloc: Global, text: &[u8]) -> Result<Vec<Terminals>, Unanswered> {
-    let Ok(text) = str::from_utf8(text) else {
-        return Err(Unanswered::Misread(NET_LINE));
-    };
+fn net_lines(alloc: Global, text: &str) -> Result<Vec<Terminals>, Unanswered> {
     let mut nets = Vec::new(alloc);
     for line in text.lines() {
-        let words = words(alloc, line)?;
-        if !words.is_empty() {
-            nets.push(net_line(alloc, words.as_slice())?)?;
-        }
+        add_net(alloc, &mut nets, line)?;
     }
     Ok(nets)
+}
+
+/// Adds the net of a line, if it has words.
+fn add_net(alloc: Global, nets: &mut Vec<Terminals>, line: &str) -> Result<(), Unanswered> {
+    let words = words(alloc, line)?;
+    if words.is_empty() {
+        return Ok(());
+    }
+    let net = net_line(alloc, words.as_slice())?;
+    Ok(nets.push(net)?)
 }
 
 /// The net that the words of a line tell.

@@ -4,9 +4,7 @@ use crate::answer::put;
 use crate::sources::BELOW;
 use crate::unanswered::Unanswered;
 use crate::words::{Call, nothing, number, numbers, words};
-use iteration::Outcome;
-use net_workers::Gate;
-use route_tree::Routing;
+use net_workers::{Gate, TrialEnd};
 use runs::Progress;
 use std::alloc::Global;
 use std::fmt;
@@ -16,7 +14,6 @@ use std::rt::Runtime;
 use std::sync::atomic::{AtomicBool, AtomicU32, AtomicU64, Ordering};
 use std::sync::{Mutex, Wait};
 use std::time::{Clock, Duration};
-use width_search::TrialGate;
 
 /// How the call is written.
 const PROGRESS: &str =
@@ -166,21 +163,47 @@ fn show(
     };
     let terminal = Terminal::new(rt, rt.alloc());
     let progress = Progress::new(&terminal, is_wanted);
+    show_lines(rt.alloc(), &terminal, &progress, text)?;
+    terminal.put(out)
+}
+
+/// Tells the progress what some lines say.
+fn show_lines<R: Wait>(
+    alloc: Global,
+    terminal: &Terminal<'_, R>,
+    progress: &Progress<'_, Terminal<'_, R>>,
+    text: &str,
+) -> Result<(), Unanswered> {
     for line in text.lines() {
         terminal.line.fetch_add(1, Ordering::SeqCst);
-        let words = words(rt.alloc(), line)?;
-        match words.as_slice() {
-            [name, time] if *name == "at" => terminal.set_clock(number(time)?),
-            [name, given @ ..] => step(rt.alloc(), &progress, *name, given)?,
-            [] => (),
-        }
+        show_line(alloc, terminal, progress, line)?;
     }
-    terminal.put(out)
+    Ok(())
+}
+
+/// Sets the clock, or tells the progress what a line says.
+fn show_line<R: Wait>(
+    alloc: Global,
+    terminal: &Terminal<'_, R>,
+    progress: &Progress<'_, Terminal<'_, R>>,
+    line: &str,
+) -> Result<(), Unanswered> {
+    let words = words(alloc, line)?;
+    match words.as_slice() {
+        [name, time] if *name == "at" => set_clock(terminal, *time),
+        [name, given @ ..] => step(progress, *name, given),
+        [] => Ok(()),
+    }
+}
+
+/// Sets the clock to the milliseconds that a word is.
+fn set_clock<R: Wait>(terminal: &Terminal<'_, R>, word: &str) -> Result<(), Unanswered> {
+    terminal.set_clock(number(word)?);
+    Ok(())
 }
 
 /// Tells the progress what a line says.
 fn step<T: Eprint + Clock>(
-    alloc: Global,
     progress: &Progress<'_, T>,
     name: &str,
     given: &[&str],
@@ -192,8 +215,8 @@ fn step<T: Eprint + Clock>(
             Ok(())
         }
         "tried" => {
-            let (width, outcome) = tried(alloc, given)?;
-            progress.tried(width, &outcome);
+            let (width, end) = tried(given)?;
+            progress.tried(width, end);
             Ok(())
         }
         "end" => {
@@ -229,8 +252,8 @@ fn step_of_negotiation(progress: &impl Gate, name: &str, given: &[&str]) -> Resu
     Ok(())
 }
 
-/// A width, and what its trial came to. Of a routing progress says nothing, so it has no lists.
-fn tried(alloc: Global, given: &[&str]) -> Result<(u32, Outcome), Unanswered> {
+/// A width, and what its trial came to.
+fn tried(given: &[&str]) -> Result<(u32, TrialEnd), Unanswered> {
     let [width, word, rest @ ..] = given else {
         return Err(Unanswered::Misread(PROGRESS));
     };
@@ -238,17 +261,16 @@ fn tried(alloc: Global, given: &[&str]) -> Result<(u32, Outcome), Unanswered> {
     match *word {
         "routed" => {
             let [iterations] = numbers::<1>(rest)?;
-            let lists = Vec::new(alloc);
-            Ok((width, Outcome::Success(Routing { lists }, iterations)))
+            Ok((width, TrialEnd::Routed { iterations }))
         }
         "unrouted" => {
             let [unrouted, overused, iterations] = numbers::<3>(rest)?;
-            let outcome = Outcome::NotRouted {
+            let end = TrialEnd::NotRouted {
                 unrouted,
                 overused,
                 iterations,
             };
-            Ok((width, outcome))
+            Ok((width, end))
         }
         _ => Err(Unanswered::Misread(PROGRESS)),
     }

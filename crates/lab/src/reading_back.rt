@@ -9,7 +9,7 @@ ghost use Rattle.route_check.specs.Routed.{IsRouted};
 
 use crate::answer::put;
 use crate::route_text_calls::problem_of;
-use crate::session::Session;
+use crate::session::{DesignTexts, Session};
 use crate::unanswered::Unanswered;
 use crate::words::{Call, nothing};
 use net_file::Netlist;
@@ -18,7 +18,7 @@ use route_check::check_routing;
 use route_file::laws::{one_reading, read_back};
 use route_file::{parse, write};
 use route_tree::{Routing, fits};
-use rr_graph::Problem;
+use rr_graph::{Device, Problem};
 use std::alloc::Global;
 use std::rt::Runtime;
 use std::thread::Threads;
@@ -45,11 +45,34 @@ fn is_read_back(
     rt: &(impl Runtime + Threads + Sync + AllocGlobal),
     session: &Session,
 ) -> Result<bool, Unanswered> {
-    let (alloc, arch, device) = (rt.alloc(), session.arch()?, session.device()?);
-    let netlist = net_file::parse(alloc, session.net()?, arch)?;
-    let placement = place_file::parse(alloc, session.place()?, arch, &netlist)?;
-    let problem = problem_of(alloc, device, &netlist, &placement)?;
-    is_legal_read_back(rt, &netlist, &placement, &problem, session.routing()?)
+    let (design, device) = (session.design()?, session.device()?);
+    let routing = session.routing()?;
+    let netlist = net_file::parse(rt.alloc(), design.net, design.arch)?;
+    is_read_back_on(rt, design, device, &netlist, routing)
+}
+
+/// The same of a design with this netlist.
+fn is_read_back_on(
+    rt: &(impl Runtime + Threads + Sync + AllocGlobal),
+    design: DesignTexts<'_>,
+    device: &Device,
+    netlist: &Netlist<'_>,
+    routing: &Routing,
+) -> Result<bool, Unanswered> {
+    let placement = place_file::parse(rt.alloc(), design.place, design.arch, netlist)?;
+    is_placed_read_back(rt, device, netlist, &placement, routing)
+}
+
+/// The same of a placed design.
+fn is_placed_read_back(
+    rt: &(impl Runtime + Threads + Sync + AllocGlobal),
+    device: &Device,
+    netlist: &Netlist<'_>,
+    placement: &Placement,
+    routing: &Routing,
+) -> Result<bool, Unanswered> {
+    let problem = problem_of(rt.alloc(), device, netlist, placement)?;
+    is_legal_read_back(rt, netlist, placement, &problem, routing)
 }
 
 /// The same of a problem of the design.

@@ -7,7 +7,7 @@ ghost use Rattle.route_file.specs.Design.{IsDesign};
 
 use crate::answer::put_name;
 use crate::routing_calls::keep;
-use crate::session::Session;
+use crate::session::{DesignTexts, Session};
 use crate::sinks::{ShortSink, sink};
 use crate::sources::{bytes_before_failing, source};
 use crate::unanswered::Unanswered;
@@ -78,11 +78,33 @@ pub fn problem_of(
 
 /// Reads a routing of the session's design on its device.
 fn read(alloc: Global, session: &Session, text: &[u8]) -> Result<Routing, Unanswered> {
-    let (arch, device) = (session.arch()?, session.device()?);
-    let netlist = net_file::parse(alloc, session.net()?, arch)?;
-    let placement = place_file::parse(alloc, session.place()?, arch, &netlist)?;
-    let problem = problem_of(alloc, device, &netlist, &placement)?;
-    Ok(parse(alloc, text, &netlist, &problem)?)
+    let (design, device) = (session.design()?, session.device()?);
+    let netlist = net_file::parse(alloc, design.net, design.arch)?;
+    read_placed(alloc, design, device, &netlist, text)
+}
+
+/// Reads a routing of a design with this netlist on a device.
+fn read_placed(
+    alloc: Global,
+    design: DesignTexts<'_>,
+    device: &Device,
+    netlist: &Netlist<'_>,
+    text: &[u8],
+) -> Result<Routing, Unanswered> {
+    let placement = place_file::parse(alloc, design.place, design.arch, netlist)?;
+    read_on(alloc, device, netlist, &placement, text)
+}
+
+/// Reads a routing of a placed design on a device.
+fn read_on(
+    alloc: Global,
+    device: &Device,
+    netlist: &Netlist<'_>,
+    placement: &Placement,
+    text: &[u8],
+) -> Result<Routing, Unanswered> {
+    let problem = problem_of(alloc, device, netlist, placement)?;
+    Ok(parse(alloc, text, netlist, &problem)?)
 }
 
 /// Writes the routing of the session's design on its device, and adds its text.
@@ -92,30 +114,62 @@ fn put_text(
     left: Option<usize>,
     out: &mut String,
 ) -> Result<(), Unanswered> {
-    let (arch, device, routing) = (session.arch()?, session.device()?, session.routing()?);
-    let netlist = net_file::parse(alloc, session.net()?, arch)?;
-    let placement = place_file::parse(alloc, session.place()?, arch, &netlist)?;
-    let problem = problem_of(alloc, device, &netlist, &placement)?;
+    let (design, device) = (session.design()?, session.device()?);
+    let routing = session.routing()?;
+    let netlist = net_file::parse(alloc, design.net, design.arch)?;
+    let written = written_placed(alloc, design, device, &netlist, routing, left)?;
+    put_written(&written, out)
+}
+
+/// What was written of a routing, and whether that was all of it.
+#[derive(Drop)]
+struct Written {
+    sink: ShortSink,
+    is_whole: bool,
+}
+
+/// Writes a routing of a design with this netlist on a device.
+fn written_placed(
+    alloc: Global,
+    design: DesignTexts<'_>,
+    device: &Device,
+    netlist: &Netlist<'_>,
+    routing: &Routing,
+    left: Option<usize>,
+) -> Result<Written, Unanswered> {
+    let placement = place_file::parse(alloc, design.place, design.arch, netlist)?;
+    written_on(alloc, device, netlist, &placement, routing, left)
+}
+
+/// Writes a routing of a placed design on a device.
+fn written_on(
+    alloc: Global,
+    device: &Device,
+    netlist: &Netlist<'_>,
+    placement: &Placement,
+    routing: &Routing,
+    left: Option<usize>,
+) -> Result<Written, Unanswered> {
+    let problem = problem_of(alloc, device, netlist, placement)?;
     if !fits(&problem, routing) {
         return Err(Unanswered::Refused("the routing does not fit the problem"));
     }
     let mut taken = sink(alloc, left);
-    let is_written = write(&netlist, &placement, &problem, routing, &mut taken).is_ok();
-    put_written(&taken.into_inner(), is_written, out)
+    let is_whole = write(netlist, placement, &problem, routing, &mut taken).is_ok();
+    let sink = taken.into_inner();
+    Ok(Written { sink, is_whole })
 }
 
 /// Adds what was written, or tells how much of it was before the sink failed.
-fn put_written(sink: &ShortSink, is_written: bool, out: &mut String) -> Result<(), Unanswered> {
-    if sink.lacked {
+fn put_written(written: &Written, out: &mut String) -> Result<(), Unanswered> {
+    let bytes = written.sink.bytes.as_slice();
+    if written.sink.lacked {
         return Err(Unanswered::Memory);
     }
-    if is_written {
-        return put_name(out, sink.bytes.as_slice());
+    if written.is_whole {
+        return put_name(out, bytes);
     }
-    writeln!(
-        out,
-        "fault: write: Failed, {} bytes were taken",
-        sink.bytes.len()
-    )?;
+    let count = bytes.len();
+    writeln!(out, "fault: write: Failed, {count} bytes were taken")?;
     Ok(())
 }

@@ -5,7 +5,7 @@ use crate::node_calls::pairs;
 use crate::session::Session;
 use crate::tree_calls::tree_of_words;
 use crate::unanswered::Unanswered;
-use crate::words::{Call, nothing, words};
+use crate::words::{Call, nothing, text_below, words};
 use route_check::check_routing;
 use route_tree::{Pairs, Routing, Tree, fits};
 use std::alloc::Global;
@@ -21,12 +21,11 @@ pub fn call(
 ) -> Result<(), Unanswered> {
     match call.name {
         "routing" => {
-            let routing = of_pairs(rt.alloc(), call.text)?;
+            let routing = of_pairs(rt.alloc(), text_below(call)?)?;
             keep(session, routing, out)
         }
         "routing_of_trees" => {
-            let trees = trees(rt.alloc(), call.text)?;
-            let routing = Routing::of_trees(rt.alloc(), trees.as_slice())?;
+            let routing = of_trees(rt.alloc(), text_below(call)?)?;
             keep(session, routing, out)
         }
         "fits" => {
@@ -73,33 +72,48 @@ fn tree_or_none(alloc: Global, words: &[&str]) -> Result<Option<Tree>, Unanswere
     }
 }
 
-/// The lines of the text below a call.
-fn text_below<'a>(text: &'a [u8]) -> Result<&'a str, Unanswered> {
-    str::from_utf8(text).map_err(|_| Unanswered::Misread("a text below the call"))
-}
-
 /// The routing whose lists a text tells, one a line.
-fn of_pairs(alloc: Global, text: &[u8]) -> Result<Routing, Unanswered> {
+fn of_pairs(alloc: Global, text: &str) -> Result<Routing, Unanswered> {
     let mut lists = Vec::new(alloc);
-    for line in text_below(text)?.lines() {
-        let words = words(alloc, line)?;
-        if !words.is_empty() {
-            lists.push(list_of_words(alloc, words.as_slice())?)?;
-        }
+    for line in text.lines() {
+        add_list(alloc, &mut lists, line)?;
     }
     Ok(Routing { lists })
 }
 
+/// Adds the list of a line, if it has words.
+fn add_list(alloc: Global, lists: &mut Vec<Option<Pairs>>, line: &str) -> Result<(), Unanswered> {
+    let words = words(alloc, line)?;
+    if words.is_empty() {
+        return Ok(());
+    }
+    let list = list_of_words(alloc, words.as_slice())?;
+    Ok(lists.push(list)?)
+}
+
+/// The routing whose trees a text tells, one a line.
+fn of_trees(alloc: Global, text: &str) -> Result<Routing, Unanswered> {
+    let trees = trees(alloc, text)?;
+    Ok(Routing::of_trees(alloc, trees.as_slice())?)
+}
+
 /// The trees that a text tells, one a line.
-fn trees(alloc: Global, text: &[u8]) -> Result<Vec<Option<Tree>>, Unanswered> {
+fn trees(alloc: Global, text: &str) -> Result<Vec<Option<Tree>>, Unanswered> {
     let mut trees = Vec::new(alloc);
-    for line in text_below(text)?.lines() {
-        let words = words(alloc, line)?;
-        if !words.is_empty() {
-            trees.push(tree_or_none(alloc, words.as_slice())?)?;
-        }
+    for line in text.lines() {
+        add_tree(alloc, &mut trees, line)?;
     }
     Ok(trees)
+}
+
+/// Adds the tree of a line, if it has words.
+fn add_tree(alloc: Global, trees: &mut Vec<Option<Tree>>, line: &str) -> Result<(), Unanswered> {
+    let words = words(alloc, line)?;
+    if words.is_empty() {
+        return Ok(());
+    }
+    let tree = tree_or_none(alloc, words.as_slice())?;
+    Ok(trees.push(tree)?)
 }
 
 /// Judges the routing.

@@ -1,15 +1,18 @@
 //! Calls of `runs`: what the commands of the program do, over the files that are kept.
 
+ghost use Rattle.std.specs.Prelude.{◌≤◌};
+
 use crate::answer::put_name;
 use crate::bounds::{array_side, channel_width, worker_count};
 use crate::gates::{LabGate, gate_words};
-use crate::session::{RunText, Session};
+use crate::session::{RunFiles, RunText, Session};
 use crate::sinks::{ShortSink, sink};
 use crate::sources::{Failing, failing_source};
 use crate::unanswered::Unanswered;
 use crate::words::{Call, mode};
 use crate::work_calls::mode_before;
 use net_workers::WorkFault;
+use rr_graph::Mode;
 use runs::{
     AppFault, check_run, graph_run, outcome_status, print_fault, report_status, route_run, status,
     verdict_status, width_run,
@@ -42,15 +45,9 @@ pub fn call(
     }
 }
 
-/// What a run reads a file from, where it is kept.
-fn kept<'a>(
-    file: &'a Option<RunText>,
-    missing: &'static str,
-) -> Result<Adapted<Failing<&'a [u8]>>, Unanswered> {
-    match file {
-        Some(text) => Ok(failing_source(text.bytes.as_slice(), text.failing)),
-        None => Err(Unanswered::Refused(missing)),
-    }
+/// What a run reads a file from.
+fn source_of(file: &RunText) -> Adapted<Failing<&[u8]>> {
+    failing_source(file.bytes.as_slice(), file.failing)
 }
 
 /// Runs `graph`.
@@ -65,12 +62,38 @@ fn run_graph(
     };
     let (nx, ny) = (array_side(nx)?, array_side(ny)?);
     let (width, mode) = (channel_width(width)?, mode(rest)?);
-    let mut arch = kept(&session.files.arch, NO_ARCH)?;
+    let Some(arch) = &session.files.arch else {
+        return Err(Unanswered::Refused(NO_ARCH));
+    };
     let mut printed = sink(alloc, session.files.out_room);
-    let answer = graph_run(alloc, &mut arch, nx, ny, width, mode, &mut printed);
-    let printed = printed.into_inner();
-    put_end(alloc, answer.map(|_| 0), &[&printed], out)?;
-    put_taken("out", &printed, out)
+    let answer = graph_run(
+        alloc,
+        &mut source_of(arch),
+        nx,
+        ny,
+        width,
+        mode,
+        &mut printed,
+    );
+    put_print(alloc, answer.map(|_| 0), printed.into_inner(), out)
+}
+
+/// The files of a design that a run reads.
+#[derive(Clone, Copy)]
+struct DesignFiles<'a> {
+    arch: &'a RunText,
+    net: &'a RunText,
+    place: &'a RunText,
+}
+
+/// The files of the design, where all are kept.
+fn kept_design(files: &RunFiles) -> Result<DesignFiles<'_>, Unanswered> {
+    match (&files.arch, &files.net, &files.place) {
+        (Some(arch), Some(net), Some(place)) => Ok(DesignFiles { arch, net, place }),
+        (None, _, _) => Err(Unanswered::Refused(NO_ARCH)),
+        (_, None, _) => Err(Unanswered::Refused(NO_NET)),
+        _ => Err(Unanswered::Refused(NO_PLACE)),
+    }
 }
 
 /// Runs `route`.
@@ -87,24 +110,39 @@ fn run_route(
     };
     let (width, workers) = (channel_width(width)?, worker_count(workers)?);
     let (mode, rest) = mode_before(rest);
+    let files = kept_design(&session.files)?;
     let gate = LabGate::new(rt, gate_words(rest, workers)?, 0)?;
-    let mut arch = kept(&session.files.arch, NO_ARCH)?;
-    let mut net = kept(&session.files.net, NO_NET)?;
-    let mut place = kept(&session.files.place, NO_PLACE)?;
+    route_design(rt, session, files, width, mode, workers, &gate, out)
+}
+
+/// Runs `route` over the files of a design, under a gate.
+fn route_design<R: Runtime + Threads + Wait + Sync + AllocGlobal>(
+    rt: &R,
+    session: &Session,
+    files: DesignFiles<'_>,
+    width: u32,
+    mode: Mode,
+    workers: u32,
+    gate: &LabGate<'_, R>,
+    out: &mut String,
+) -> Result<(), Unanswered>
+    requires width { (1 ≤ width) × (width ≤ 256) }
+    requires workers { (1 ≤ workers) × (workers ≤ 16) }
+{
     let mut written = sink(rt.alloc(), session.files.route_room);
     let mut printed = sink(rt.alloc(), session.files.out_room);
     let answer = route_run(
         rt,
-        &mut net,
-        &mut arch,
-        &mut place,
+        &mut source_of(files.net),
+        &mut source_of(files.arch),
+        &mut source_of(files.place),
         &mut written,
         &mut printed,
         width,
         mode,
         &session.settings(),
         workers,
-        &gate,
+        gate,
     );
     let answer = answer.map(|outcome| outcome_status(&outcome));
     put_run(
@@ -131,24 +169,39 @@ fn run_width(
     };
     let (start, workers) = (channel_width(start)?, worker_count(workers)?);
     let (mode, rest) = mode_before(rest);
+    let files = kept_design(&session.files)?;
     let gate = LabGate::new(rt, gate_words(rest, workers)?, 0)?;
-    let mut arch = kept(&session.files.arch, NO_ARCH)?;
-    let mut net = kept(&session.files.net, NO_NET)?;
-    let mut place = kept(&session.files.place, NO_PLACE)?;
+    search_design(rt, session, files, start, mode, workers, &gate, out)
+}
+
+/// Runs `width` over the files of a design, under a gate.
+fn search_design<R: Runtime + Threads + Wait + Sync + AllocGlobal>(
+    rt: &R,
+    session: &Session,
+    files: DesignFiles<'_>,
+    start: u32,
+    mode: Mode,
+    workers: u32,
+    gate: &LabGate<'_, R>,
+    out: &mut String,
+) -> Result<(), Unanswered>
+    requires start { (1 ≤ start) × (start ≤ 256) }
+    requires workers { (1 ≤ workers) × (workers ≤ 16) }
+{
     let mut written = sink(rt.alloc(), session.files.route_room);
     let mut printed = sink(rt.alloc(), session.files.out_room);
     let answer = width_run(
         rt,
-        &mut net,
-        &mut arch,
-        &mut place,
+        &mut source_of(files.net),
+        &mut source_of(files.arch),
+        &mut source_of(files.place),
         &mut written,
         &mut printed,
         start,
         mode,
         &session.settings(),
         workers,
-        &gate,
+        gate,
     );
     let answer = answer.map(|report| report_status(&report));
     put_run(
@@ -172,24 +225,48 @@ fn run_check(
         return Err(Unanswered::Misread("check_run W, or with `global` behind it"));
     };
     let (width, mode) = (channel_width(width)?, mode(rest)?);
-    let mut arch = kept(&session.files.arch, NO_ARCH)?;
-    let mut net = kept(&session.files.net, NO_NET)?;
-    let mut place = kept(&session.files.place, NO_PLACE)?;
-    let mut route = kept(&session.files.route, "there is no run_route")?;
+    let files = kept_design(&session.files)?;
+    let Some(route) = &session.files.route else {
+        return Err(Unanswered::Refused("there is no run_route"));
+    };
+    check_design(rt, session, files, route, width, mode, out)
+}
+
+/// Runs `check` over the files of a design and a routing.
+fn check_design(
+    rt: &(impl Runtime + Threads + Sync + AllocGlobal),
+    session: &Session,
+    files: DesignFiles<'_>,
+    route: &RunText,
+    width: u32,
+    mode: Mode,
+    out: &mut String,
+) -> Result<(), Unanswered>
+    requires width { (1 ≤ width) × (width ≤ 256) }
+{
     let mut printed = sink(rt.alloc(), session.files.out_room);
     let answer = check_run(
         rt,
-        &mut net,
-        &mut arch,
-        &mut place,
-        &mut route,
+        &mut source_of(files.net),
+        &mut source_of(files.arch),
+        &mut source_of(files.place),
+        &mut source_of(route),
         &mut printed,
         width,
         mode,
     );
-    let printed = printed.into_inner();
     let answer = answer.map(|verdict| verdict_status(verdict));
-    put_end(rt.alloc(), answer, &[&printed], out)?;
+    put_print(rt.alloc(), answer, printed.into_inner(), out)
+}
+
+/// Adds the end of a run that prints, and what it printed.
+fn put_print(
+    alloc: Global,
+    answer: Result<u8, AppFault>,
+    printed: ShortSink,
+    out: &mut String,
+) -> Result<(), Unanswered> {
+    put_end(alloc, answer, &[&printed], out)?;
     put_taken("out", &printed, out)
 }
 
@@ -201,9 +278,20 @@ fn put_run(
     written: ShortSink,
     out: &mut String,
 ) -> Result<(), Unanswered> {
-    put_end(alloc, answer, &[&printed, &written], out)?;
-    put_taken("out", &printed, out)?;
-    put_taken("route", &written, out)
+    put_ran(alloc, answer, &printed, &written, out)
+}
+
+/// Adds the end of a run, and what two sinks took.
+fn put_ran(
+    alloc: Global,
+    answer: Result<u8, AppFault>,
+    printed: &ShortSink,
+    written: &ShortSink,
+    out: &mut String,
+) -> Result<(), Unanswered> {
+    put_end(alloc, answer, &[printed, written], out)?;
+    put_taken("out", printed, out)?;
+    put_taken("route", written, out)
 }
 
 /// Adds the status of a run, and the line of its fault. Memory that a sink lacked is told as such, and so is a run without memory or a

@@ -2,9 +2,8 @@
 
 use crate::calls::make_call;
 use crate::session::Session;
-use crate::sources::BELOW;
 use crate::unanswered::Unanswered;
-use crate::words::{Call, words};
+use crate::words::{Call, code_of, has_text, words};
 use net_workers::WorkFault;
 use std::alloc::Global;
 use std::io::{BufRead, BufReader, Read, Result as IoResult};
@@ -54,6 +53,15 @@ impl<I: BufRead> Script<'_, I> {
 struct Below {
     text: Vec<u8>,
     line: Vec<u8>,
+}
+
+impl Below {
+    /// Of no line.
+    fn new(alloc: Global) -> IoResult<Below> {
+        let text = Vec::with_capacity(alloc, ROOM)?;
+        let line = Vec::with_capacity(alloc, ROOM)?;
+        Ok(Below { text, line })
+    }
 }
 
 /// What the last call answered, and how far it was compared.
@@ -129,18 +137,21 @@ impl<R: Runtime + Threads + Wait + Sync + AllocGlobal, I: BufRead> Run<'_, R, I>
     /// Runs the script to its end; whether all answers were as wanted.
     fn run(&mut self) -> IoResult<bool> {
         let mut line = Vec::with_capacity(self.rt.alloc(), ROOM)?;
-        let mut below = Below {
-            text: Vec::with_capacity(self.rt.alloc(), ROOM)?,
-            line: Vec::with_capacity(self.rt.alloc(), ROOM)?,
-        };
-        for _ in 0..u64::MAX {
-            if !self.script.read(&mut line)? {
-                break;
-            }
-            self.step(line.as_slice(), &mut below)?;
-        }
+        let mut below = Below::new(self.rt.alloc())?;
+        self.run_lines(&mut line, &mut below)?;
         self.settle();
         Ok(self.is_good)
+    }
+
+    /// Does what all lines say.
+    fn run_lines(&mut self, line: &mut Vec<u8>, below: &mut Below) -> IoResult<()> {
+        for _ in 0..u64::MAX {
+            if !self.script.read(line)? {
+                break;
+            }
+            self.step(line.as_slice(), below)?;
+        }
+        Ok(())
     }
 
     /// Says that something is not as wanted.
@@ -180,19 +191,31 @@ impl<R: Runtime + Threads + Wait + Sync + AllocGlobal, I: BufRead> Run<'_, R, I>
 
     /// Makes the call of a line, if it has one.
     fn call(&mut self, line: &str, below: &mut Below) -> IoResult<()> {
-        let words = match self.words_of(line)? {
-            Some(words) => words,
-            None => return Ok(()),
-        };
-        if words.is_empty() {
+        let code = code_of(line).trim();
+        if code.is_empty() {
             return Ok(());
         }
         self.settle();
-        below.text.clear();
-        if words.contains(&BELOW) {
-            self.script.read_text(below)?;
+        self.read_below(code, below)?;
+        self.call_words(code, below.text.as_slice())
+    }
+
+    /// Reads the text below a line, if one stands there.
+    fn read_below(&mut self, code: &str, below: &mut Below) -> IoResult<()> {
+        if has_text(code) {
+            self.script.read_text(below)
+        } else {
+            below.text.clear();
+            Ok(())
         }
-        self.answer_words(words.as_slice(), below.text.as_slice())
+    }
+
+    /// Makes the call that a line asks for.
+    fn call_words(&mut self, code: &str, text: &[u8]) -> IoResult<()> {
+        match self.words_of(code)? {
+            Some(words) => self.answer_words(words.as_slice(), text),
+            None => Ok(()),
+        }
     }
 
     /// The words of a line; none where memory lacked, which is told.
@@ -219,8 +242,9 @@ impl<R: Runtime + Threads + Wait + Sync + AllocGlobal, I: BufRead> Run<'_, R, I>
         self.answer(Call { name, given, text })
     }
 
-    /// Answers a call, and where it lacked memory, answers it once more.
+    /// Answers a call, and where it lacked memory, answers it once more. No event of a list stands before.
     fn answer(&mut self, call: Call<'_>) -> IoResult<()> {
+        self.session.standing = 0;
         let lacked = self.answer_once(call)?;
         if lacked && self.repeats {
             self.answer_once(call)?;

@@ -1,14 +1,14 @@
 //! Calls of `wavefront`: the search of a net.
 
-ghost use Rattle.std.specs.Prelude.{◌≡◌, IfOk};
+ghost use Rattle.std.specs.Prelude.{◌≡◌};
 ghost use Rattle.rr_graph.specs.Nodes.{node_count_of};
-ghost use Rattle.wavefront.specs.Scratches.{node_total};
 
 use crate::session::Session;
 use crate::tree_calls::put_tree;
 use crate::unanswered::Unanswered;
 use crate::words::{Call, nothing, numbers};
 use node_cost::{GREATEST_PRESENT, View};
+use route_tree::Tree;
 use rr_graph::Problem;
 use std::alloc::Global;
 use std::rt::Runtime;
@@ -49,43 +49,53 @@ struct Asked {
     bb: u32,
 }
 
-/// What a search that fits a problem works in: what is there, or a new one.
-fn scratch_for(
-    alloc: Global,
-    old: Option<Scratch>,
-    problem: &Problem,
-) -> Result<Scratch, Unanswered>
-    ensures { IfOk result (λ s. node_total s ≡ node_count_of problem.now.device) }
-{
-    if let Some(scratch) = old {
-        if scratch.fits(problem) {
-            return Ok(scratch);
-        }
-    }
-    Ok(Scratch::new(alloc, problem)?)
-}
-
-/// Searches for the tree of a net by the session's view, and keeps and tells it, or the sink that isn't reached. What one search
-/// worked in serves the next one.
+/// Searches for the tree of a net by the session's view, and keeps and tells it, or the sink that isn't reached.
 fn search(
     alloc: Global,
     session: &mut Session,
     asked: Asked,
     out: &mut String,
 ) -> Result<(), Unanswered> {
-    let old = session.scratch.take();
-    let (problem, view) = (session.problem()?, session.view()?);
-    let mut scratch = scratch_for(alloc, old, problem)?;
-    let found = search_in(alloc, problem, view, asked, &mut scratch);
-    session.scratch = Some(scratch);
-    match found? {
-        Found::Tree(tree) => {
-            put_tree(&tree, out)?;
-            session.tree = Some(tree);
+    renew_scratch(alloc, session)?;
+    match found(alloc, session, asked)? {
+        Found::Tree(tree) => keep_tree(session, tree, out),
+        Found::NoPath(sink) => {
+            writeln!(out, "no path to {sink}")?;
+            Ok(())
         }
-        Found::NoPath(sink) => writeln!(out, "no path to {sink}")?,
     }
+}
+
+/// Tells the tree that was found, and keeps it.
+fn keep_tree(session: &mut Session, tree: Tree, out: &mut String) -> Result<(), Unanswered> {
+    put_tree(&tree, out)?;
+    session.tree = Some(tree);
     Ok(())
+}
+
+/// Makes anew what searches work in, unless what the last one worked in fits the problem.
+fn renew_scratch(alloc: Global, session: &mut Session) -> Result<(), Unanswered> {
+    let problem = session.problem()?;
+    if let Some(scratch) = &session.scratch {
+        if scratch.fits(problem) {
+            return Ok(());
+        }
+    }
+    session.scratch = Some(Scratch::new(alloc, problem)?);
+    Ok(())
+}
+
+/// What the search of a net by the session's view finds.
+fn found(alloc: Global, session: &mut Session, asked: Asked) -> Result<Found, Unanswered> {
+    let Some(view) = &session.view else {
+        return Err(Unanswered::Refused("there is no view"));
+    };
+    match (&session.problem, &mut session.scratch) {
+        (Some(problem), Some(scratch)) if scratch.fits(problem) => {
+            search_in(alloc, problem, view, asked, scratch)
+        }
+        _ => Err(Unanswered::Refused("there is no problem")),
+    }
 }
 
 /// Searches for the tree of a net.
@@ -96,7 +106,7 @@ fn search_in(
     asked: Asked,
     scratch: &mut Scratch,
 ) -> Result<Found, Unanswered>
-    requires { node_total scratch.old ≡ node_count_of problem.now.device }
+    requires { scratch.old ≡ node_count_of problem.now.device }
 {
     let Asked { net, present, bb } = asked;
     if net >= problem.nets() {

@@ -80,6 +80,14 @@ pub struct Others {
     pub view: Option<View>,
 }
 
+/// The architecture and the texts of a design.
+#[derive(Clone, Copy)]
+pub struct DesignTexts<'a> {
+    pub arch: &'a Arch,
+    pub net: &'a [u8],
+    pub place: &'a [u8],
+}
+
 /// The values that calls made and later calls use. A netlist and a placement are kept as the texts
 /// that they were read from, and are read again where a call looks into them.
 #[derive(Drop)]
@@ -202,6 +210,12 @@ impl Session {
         self.book
             .as_ref()
             .ok_or(Unanswered::Refused("there is no book"))
+    }
+
+    /// The architecture, the netlist and the placement.
+    pub fn design(&self) -> Result<DesignTexts<'_>, Unanswered> {
+        let (arch, net, place) = (self.arch()?, self.net()?, self.place()?);
+        Ok(DesignTexts { arch, net, place })
     }
 
     /// The text of the netlist.

@@ -27,8 +27,10 @@ pub fn call(
 ) -> Result<(), Unanswered> {
     match call.name {
         "settings" => {
-            session.choice = chosen(session.choice, call.given)?;
-            put_choice(session.choice, out)
+            let choice = chosen(session.choice, call.given)?;
+            put_choice(choice, out)?;
+            session.choice = choice;
+            Ok(())
         }
         "present" => {
             let [iteration] = numbers::<1>(call.given)?;
@@ -76,6 +78,10 @@ fn call_counts(
         "copy_histories" => {
             nothing(call.given)?;
             copy_histories(alloc, session.histories()?, out)
+        }
+        "dump_histories" => {
+            nothing(call.given)?;
+            dump_histories(session.histories()?, out)
         }
         _ => Err(Unanswered::NoCall),
     }
@@ -293,6 +299,17 @@ fn dump_counts(counts: &Counts, out: &mut String) -> Result<(), Unanswered> {
     Ok(())
 }
 
+/// Adds a line for each node that has a history.
+fn dump_histories(histories: &Histories, out: &mut String) -> Result<(), Unanswered> {
+    for id in 0..histories.len() {
+        let history = history(histories, index_of(id))?;
+        if history > 0 {
+            writeln!(out, "{id}: {history}")?;
+        }
+    }
+    Ok(())
+}
+
 /// Whether a copy and other histories become these.
 fn copy_histories(
     alloc: Global,
@@ -300,15 +317,24 @@ fn copy_histories(
     out: &mut String,
 ) -> Result<(), Unanswered> {
     let copy = histories.copy(alloc)?;
+    let other = copied(alloc, &copy)?;
+    put(out, are_equal(histories, &other))
+}
+
+/// Others that become these histories.
+fn copied(alloc: Global, histories: &Histories) -> Result<Histories, Unanswered> {
     let mut other = Histories::new(alloc, histories.len())?;
-    if other.len() == copy.len() {
-        other.copy_from(&copy);
+    if other.len() == histories.len() {
+        other.copy_from(histories);
     }
-    for id in 0..histories.len() {
-        let id = index_of(id);
-        if history(&other, id)? != history(histories, id)? {
-            return put(out, false);
-        }
-    }
-    put(out, true)
+    Ok(other)
+}
+
+/// Whether all nodes have the same histories in both.
+fn are_equal(one: &Histories, other: &Histories) -> bool {
+    let nodes = one.len().max(other.len());
+    (0..nodes).all(|id| match (history(one, index_of(id)), history(other, index_of(id))) {
+        (Ok(one), Ok(other)) => one == other,
+        _ => false,
+    })
 }

@@ -2,13 +2,11 @@
 
 use crate::told::{Told, ToldList};
 use crate::unanswered::Unanswered;
-use iteration::Outcome;
-use net_workers::Gate;
+use net_workers::{Gate, TrialEnd};
 use std::alloc::{AllocError, Global};
 use std::sync::Wait;
 use std::sync::atomic::{AtomicU64, Ordering};
 use std::time::{Clock, Duration};
-use width_search::TrialGate;
 
 /// How many workers there are at most.
 const WORKERS: usize = 16;
@@ -123,14 +121,12 @@ impl<R: Wait + Clock> Gate for Timing<'_, R> {
             end: now.saturating_sub(self.last.load(Ordering::SeqCst)),
         });
     }
-}
 
-impl<R: Wait + Clock> TrialGate for Timing<'_, R> {
     fn tries(&self, _width: u32) {
         self.tried.store(self.now(), Ordering::SeqCst);
     }
 
-    fn tried(&self, width: u32, _outcome: &Outcome) {
+    fn tried(&self, width: u32, _end: TrialEnd) {
         let began = self.tried.load(Ordering::SeqCst);
         self.told.add(Told::Trial {
             width,

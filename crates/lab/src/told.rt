@@ -1,7 +1,7 @@
 //! What a gate is told by the driver of a negotiation, in its order.
 
 use crate::unanswered::Unanswered;
-use iteration::Outcome;
+use net_workers::TrialEnd;
 use std::alloc::Global;
 use std::fmt;
 use std::sync::atomic::{AtomicU32, Ordering};
@@ -40,13 +40,10 @@ pub enum Told {
 
 impl Told {
     /// That the trial of a width came to this.
-    pub fn tried(width: u32, outcome: &Outcome) -> Told {
-        match outcome {
-            Outcome::Success(_, iterations) => Told::Routed {
-                width,
-                iterations: *iterations,
-            },
-            Outcome::NotRouted { .. } => Told::NotRouted(width),
+    pub fn tried(width: u32, end: TrialEnd) -> Told {
+        match end {
+            TrialEnd::Routed { iterations } => Told::Routed { width, iterations },
+            TrialEnd::NotRouted { .. } => Told::NotRouted(width),
         }
     }
 }

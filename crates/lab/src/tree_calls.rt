@@ -1,15 +1,15 @@
 //! Calls of `route_tree`: the tree of a net.
 
-ghost use Rattle.std.specs.Prelude.{◌≡◌, IfOk};
+ghost use Rattle.std.specs.Prelude.{◌≡◌};
 ghost use Rattle.rr_graph.specs.Nodes.{node_count_of};
 
-use crate::answer::{put, put_maybe};
+use crate::answer::{put, put_maybe, put_named};
 use crate::session::Session;
 use crate::unanswered::Unanswered;
 use crate::words::{Call, nothing, number, number_list, numbers};
 use route_tree::{Marks, Row, Tree, check_tree};
 use rr_graph::Problem;
-use std::alloc::Global;
+use std::alloc::{AllocError, Global};
 use std::rt::Runtime;
 
 /// How a tree is written: chains of nodes, those behind the first one each behind its row.
@@ -60,21 +60,63 @@ pub fn tree_of_words(alloc: Global, given: &[&str]) -> Result<Tree, Unanswered> 
     let [source, rest @ ..] = given else {
         return Err(Unanswered::Misread(TREE));
     };
-    let mut tree = Tree::start(alloc, number(source)?)?;
-    let mut way = Vec::new(alloc);
-    let mut row = 0;
-    for word in rest {
+    let mut growing = Growing::new(alloc, number(source)?)?;
+    growing.take_words(rest)?;
+    Ok(growing.tree)
+}
+
+/// A tree that grows way by way.
+#[derive(Drop)]
+struct Growing {
+    tree: Tree,
+    /// The row to which the way at hand is to be attached.
+    row: u32,
+    way: Vec<u32>,
+}
+
+impl Growing {
+    /// One with the source alone.
+    fn new(alloc: Global, source: u32) -> Result<Growing, AllocError> {
+        let tree = Tree::start(alloc, source)?;
+        Ok(Growing {
+            tree,
+            row: 0,
+            way: Vec::new(alloc),
+        })
+    }
+
+    /// Grows by all ways that words tell.
+    fn take_words(&mut self, words: &[&str]) -> Result<(), Unanswered> {
+        for word in words {
+            self.take(*word)?;
+        }
+        self.attach_way()
+    }
+
+    /// Takes a word: the row of another way, or the next node of the one at hand.
+    fn take(&mut self, word: &str) -> Result<(), Unanswered> {
         match word.strip_suffix(':') {
-            Some(next) => {
-                attach_at(&mut tree, row, way.as_slice())?;
-                way.clear();
-                row = number(next)?;
-            }
-            None => way.push(number(word)?)?,
+            Some(row) => self.begin_way(number(row)?),
+            None => self.lengthen_way(number(word)?),
         }
     }
-    attach_at(&mut tree, row, way.as_slice())?;
-    Ok(tree)
+
+    /// Begins another way, which is to be attached to a row.
+    fn begin_way(&mut self, row: u32) -> Result<(), Unanswered> {
+        self.attach_way()?;
+        self.row = row;
+        self.way.clear();
+        Ok(())
+    }
+
+    fn lengthen_way(&mut self, node: u32) -> Result<(), Unanswered> {
+        Ok(self.way.push(node)?)
+    }
+
+    /// Attaches the way at hand.
+    fn attach_way(&mut self) -> Result<(), Unanswered> {
+        attach_at(&mut self.tree, self.row, self.way.as_slice())
+    }
 }
 
 /// Attaches a way to a row of a tree.
@@ -98,24 +140,21 @@ fn attach(
     };
     let row = number(row.strip_suffix(':').unwrap_or(*row))?;
     let way = number_list(alloc, way)?;
+    attach_way(session, row, way.as_slice(), out)
+}
+
+fn attach_way(
+    session: &mut Session,
+    row: u32,
+    way: &[u32],
+    out: &mut String,
+) -> Result<(), Unanswered> {
     let Some(tree) = &mut session.tree else {
         return Err(Unanswered::Refused("there is no tree"));
     };
-    attach_at(tree, row, way.as_slice())?;
+    attach_at(tree, row, way)?;
     writeln!(out, "{} rows", tree.rows())?;
     Ok(())
-}
-
-/// Marks that fit a problem: those that are there, or new ones.
-fn marks_for(alloc: Global, old: Option<Marks>, problem: &Problem) -> Result<Marks, Unanswered>
-    ensures { IfOk result (λ m. m ≡ node_count_of problem.now.device) }
-{
-    if let Some(marks) = old {
-        if marks.fits(problem) {
-            return Ok(marks);
-        }
-    }
-    Ok(Marks::new(alloc, problem)?)
 }
 
 /// Whether the marks of the last check fit the problem.
@@ -127,7 +166,7 @@ fn marks_fit(session: &Session) -> Result<bool, Unanswered> {
     }
 }
 
-/// Tells whether the tree routes a net of the problem. The marks of a check serve the next one.
+/// Tells whether the tree routes a net of the problem. The marks of a check serve the next one, where they fit its problem.
 fn check(
     alloc: Global,
     session: &mut Session,
@@ -135,15 +174,62 @@ fn check(
     out: &mut String,
 ) -> Result<(), Unanswered> {
     let [net] = numbers::<1>(given)?;
-    let old = session.marks.take();
-    let (tree, problem) = (session.tree()?, session.problem()?);
-    let mut marks = marks_for(alloc, old, problem)?;
-    match check_tree(problem, net, tree, &mut marks) {
-        Ok(()) => put(out, "legal")?,
-        Err(fault) => writeln!(out, "{fault:?}")?,
+    if marks_serve(session) {
+        check_again(session, net, out)
+    } else {
+        check_anew(alloc, session, net, out)
     }
+}
+
+/// Whether there are marks of a check, and they fit the problem.
+fn marks_serve(session: &Session) -> bool {
+    match (&session.problem, &session.marks) {
+        (Some(problem), Some(marks)) => marks.fits(problem),
+        _ => false,
+    }
+}
+
+/// Tells whether the tree routes a net, by the marks of the last check, which must fit.
+fn check_again(session: &mut Session, net: u32, out: &mut String) -> Result<(), Unanswered> {
+    let Some(tree) = &session.tree else {
+        return Err(Unanswered::Refused("there is no tree"));
+    };
+    match (&session.problem, &mut session.marks) {
+        (Some(problem), Some(marks)) if marks.fits(problem) => {
+            put_check(problem, net, tree, marks, out)
+        }
+        _ => Err(Unanswered::Refused("nothing was checked")),
+    }
+}
+
+/// Tells whether the tree routes a net, by new marks, which are kept when that is told.
+fn check_anew(
+    alloc: Global,
+    session: &mut Session,
+    net: u32,
+    out: &mut String,
+) -> Result<(), Unanswered> {
+    let (tree, problem) = (session.tree()?, session.problem()?);
+    let mut marks = Marks::new(alloc, problem)?;
+    put_check(problem, net, tree, &mut marks, out)?;
     session.marks = Some(marks);
     Ok(())
+}
+
+/// Adds whether a tree routes a net.
+fn put_check(
+    problem: &Problem,
+    net: u32,
+    tree: &Tree,
+    marks: &mut Marks,
+    out: &mut String,
+) -> Result<(), Unanswered>
+    requires { marks.old ≡ node_count_of problem.now.device }
+{
+    match check_tree(problem, net, tree, marks) {
+        Ok(()) => put(out, "legal"),
+        Err(fault) => put_named(out, fault),
+    }
 }
 
 /// Makes a look-up of the whole tree.

@@ -4,7 +4,7 @@ use crate::session::Session;
 use crate::settings_calls::{NO_NODE, index_of, long_number};
 use crate::unanswered::Unanswered;
 use crate::words::{Call, nothing, number, numbers};
-use node_cost::{GREATEST_HISTORY, GREATEST_OTHERS, View};
+use node_cost::{GREATEST_HISTORY, GREATEST_OTHERS, Histories, View};
 use std::alloc::Global;
 use std::rt::Runtime;
 use std::sync::Arc;
@@ -114,6 +114,15 @@ fn leave_out(view: &mut View, id: u32) -> Result<(), Unanswered> {
 /// Makes the view one of the session's counts and histories, and tells how many nodes there are.
 fn look_at(alloc: Global, session: &mut Session, out: &mut String) -> Result<(), Unanswered> {
     let histories = Arc::new(alloc, session.histories()?.copy(alloc)?)?;
+    look_with(session, &histories, out)
+}
+
+/// Makes the view one of the session's counts and of these histories.
+fn look_with(
+    session: &mut Session,
+    histories: &Arc<Histories, Global>,
+    out: &mut String,
+) -> Result<(), Unanswered> {
     let Some(counts) = &session.counts else {
         return Err(Unanswered::Refused("there are no counts"));
     };
@@ -123,7 +132,7 @@ fn look_at(alloc: Global, session: &mut Session, out: &mut String) -> Result<(),
     if view.len() != counts.len() || view.len() != histories.len() {
         return Err(Unanswered::Refused("view, counts and histories differ in their nodes"));
     }
-    view.look_at(counts, &histories);
+    view.look_at(counts, histories);
     writeln!(out, "{} nodes", view.len())?;
     Ok(())
 }

@@ -1,5 +1,6 @@
 //! The words of a line, and the values that they are.
 
+use crate::sources::BELOW;
 use crate::unanswered::Unanswered;
 use rr_graph::Mode;
 use std::alloc::Global;
@@ -12,10 +13,19 @@ pub struct Call<'a> {
     pub text: &'a [u8],
 }
 
+/// A line up to a comment.
+pub fn code_of(line: &str) -> &str {
+    line.split_once('#').map_or(line, |(code, _)| code)
+}
+
 /// The words of a line, up to a comment.
 pub fn words(alloc: Global, line: &str) -> Result<Vec<&str>, Unanswered> {
-    let code = line.split_once('#').map_or(line, |(code, _)| code);
-    Ok(code.split_whitespace().collect(alloc)?)
+    Ok(code_of(line).split_whitespace().collect(alloc)?)
+}
+
+/// Whether a word of a line says that a text stands below it.
+pub fn has_text(line: &str) -> bool {
+    code_of(line).split_whitespace().any(|word| word == BELOW)
 }
 
 /// The number that a word is.
@@ -50,6 +60,19 @@ pub fn nothing(given: &[&str]) -> Result<(), Unanswered> {
         [] => Ok(()),
         _ => Err(Unanswered::Misread("the call with no word behind it")),
     }
+}
+
+/// The lines of the text below a call to which nothing else is given.
+pub fn text_below<'a>(call: Call<'a>) -> Result<&'a str, Unanswered> {
+    match call.given {
+        [word] if *word == BELOW => text_of(call.text),
+        _ => Err(Unanswered::Misread("the call with `<<` behind it, and a text below")),
+    }
+}
+
+/// The lines of a text.
+pub fn text_of(text: &[u8]) -> Result<&str, Unanswered> {
+    str::from_utf8(text).map_err(|_| Unanswered::Misread("a text below the call"))
 }
 
 /// The one word that is given.

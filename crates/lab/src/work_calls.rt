@@ -1,24 +1,28 @@
 //! Calls of `net_workers`, `iteration` and `width_search`: iterations, negotiations and searches of widths.
 
-ghost use Rattle.std.specs.Prelude.{◌≤◌, IfOk};
-ghost use Rattle.net_workers.specs.Agreement.{IsFresh};
+ghost use Rattle.std.specs.Prelude.{◌≤◌, IfOk, List, ℕ};
+ghost use Rattle.net_file.specs.Reads.{ReadsBytes};
+ghost use Rattle.congestion_book.specs.Contents.{IsFresh};
 
 use crate::answer::put;
 use crate::bounds::{channel_width, iteration_number, worker_count};
 use crate::gates::{LabGate, gate_words};
-use crate::session::Session;
+use crate::session::{DesignTexts, Session};
 use crate::tree_calls::put_tree;
 use crate::unanswered::Unanswered;
 use crate::words::Call;
 use congestion_book::Book;
 use iteration::{Outcome, negotiate};
+use net_file::Netlist;
 use net_workers::{Entry, Report, iterate};
+use node_cost::Settings;
 use route_tree::{Pairs, Routing};
 use rr_graph::Mode;
 use std::alloc::{AllocError, Global};
 use std::rt::Runtime;
 use std::sync::Wait;
 use std::thread::Threads;
+use std::time::Clock;
 use width_search::{Trial, WidthReport, least_width};
 
 /// Makes a call, and adds its answer.
@@ -37,11 +41,9 @@ pub fn call(
 }
 
 /// A book in whose open iteration nothing was drawn.
-#[tactic(auto, using(crate::proofs::Fresh::fresh_book))]
 fn fresh_book(book: Book) -> Result<Book, Unanswered>
     ensures { IfOk result IsFresh }
 {
-    let _sound = book.problem();
     if !book.fresh() {
         return Err(Unanswered::Refused("the open iteration is begun"));
     }
@@ -74,19 +76,45 @@ fn make_iteration(
     };
     let iteration = iteration_number(iteration)?;
     let workers = worker_count(workers)?;
-    let gate = LabGate::new(
-        rt,
-        gate_words(rest, workers)?,
-        session.book()?.problem().nets(),
-    )?;
+    let words = gate_words(rest, workers)?;
+    let gate = LabGate::new(rt, words, session.book()?.problem().nets())?;
+    let is_by_net = call.name == "iterate_nets";
+    iterate_under(rt, session, iteration, workers, &gate, is_by_net, out)
+}
+
+/// Makes an iteration of the book under a gate, and tells what was done. The book is back when all is told.
+fn iterate_under<R: Runtime + Threads + Wait + Sync + AllocGlobal>(
+    rt: &R,
+    session: &mut Session,
+    iteration: u32,
+    workers: u32,
+    gate: &LabGate<'_, R>,
+    is_by_net: bool,
+    out: &mut String,
+) -> Result<(), Unanswered>
+    requires iteration { (1 ≤ iteration) × (iteration ≤ 500) }
+    requires workers { (1 ≤ workers) × (workers ≤ 16) }
+{
     let settings = session.settings();
     let book = take_fresh(session)?;
-    let (book, reports) = iterate(rt, rt.alloc(), book, &settings, iteration, workers, &gate)?;
-    let nets = book.problem().nets();
+    let (book, reports) = iterate(rt, rt.alloc(), book, &settings, iteration, workers, gate)?;
+    put_iteration(&book, reports.as_slice(), gate, is_by_net, out)?;
     session.book = Some(book);
-    match call.name {
-        "iterate" => put_reports(reports.as_slice(), out)?,
-        _ => put_nets(reports.as_slice(), nets, out)?,
+    Ok(())
+}
+
+/// Adds what was done in an iteration, and the gate's own lines.
+fn put_iteration<R: Wait + Clock + AllocGlobal>(
+    book: &Book,
+    reports: &[Report],
+    gate: &LabGate<'_, R>,
+    is_by_net: bool,
+    out: &mut String,
+) -> Result<(), Unanswered> {
+    if is_by_net {
+        put_nets(reports, book.problem().nets(), out)?;
+    } else {
+        put_reports(reports, out)?;
     }
     gate.put(out)
 }
@@ -144,16 +172,38 @@ fn negotiate_routing(
     };
     let workers = worker_count(workers)?;
     let words = gate_words(rest, workers)?;
+    let gate = LabGate::new(rt, words, session.problem()?.nets())?;
+    negotiate_under(rt, session, workers, &gate, out)
+}
+
+/// Negotiates a routing of a copy of the problem under a gate, and keeps it when all is told.
+fn negotiate_under<R: Runtime + Threads + Wait + Sync + AllocGlobal>(
+    rt: &R,
+    session: &mut Session,
+    workers: u32,
+    gate: &LabGate<'_, R>,
+    out: &mut String,
+) -> Result<(), Unanswered>
+    requires workers { (1 ≤ workers) × (workers ≤ 16) }
+{
     let settings = session.settings();
     let problem = session.problem()?.copy(rt.alloc())?;
-    let gate = LabGate::new(rt, words, problem.nets())?;
-    let outcome = negotiate(rt, rt.alloc(), problem, &settings, workers, &gate)?;
-    put_outcome(&outcome, out)?;
-    gate.put(out)?;
+    let outcome = negotiate(rt, rt.alloc(), problem, &settings, workers, gate)?;
+    put_negotiation(&outcome, gate, out)?;
     if let Outcome::Success(routing, _) = outcome {
         session.routing = Some(routing);
     }
     Ok(())
+}
+
+/// Adds what a negotiation came to, and the gate's own lines.
+fn put_negotiation<R: Wait + Clock + AllocGlobal>(
+    outcome: &Outcome,
+    gate: &LabGate<'_, R>,
+    out: &mut String,
+) -> Result<(), Unanswered> {
+    put_outcome(outcome, out)?;
+    gate.put(out)
 }
 
 /// Adds what a negotiation came to.
@@ -196,12 +246,46 @@ fn search_widths(
     let workers = worker_count(workers)?;
     let (mode, rest) = mode_before(rest);
     let gate = LabGate::new(rt, gate_words(rest, workers)?, 0)?;
-    let report = width_report(rt, session, start, mode, workers, &gate)?;
+    search_under(rt, session, start, mode, workers, &gate, out)
+}
+
+/// Searches for the least width under a gate, and keeps the routing when all is told.
+fn search_under<R: Runtime + Threads + Wait + Sync + AllocGlobal>(
+    rt: &R,
+    session: &mut Session,
+    start: u32,
+    mode: Mode,
+    workers: u32,
+    gate: &LabGate<'_, R>,
+    out: &mut String,
+) -> Result<(), Unanswered>
+    requires start { (1 ≤ start) × (start ≤ 256) }
+    requires workers { (1 ≤ workers) × (workers ≤ 16) }
+{
+    let report = width_report(rt, session, start, mode, workers, gate)?;
+    put_widths(&report, gate, out)?;
+    keep_least(rt.alloc(), session, &report)
+}
+
+/// Adds what a search of widths came to, and the gate's own lines.
+fn put_widths<R: Wait + Clock + AllocGlobal>(
+    report: &WidthReport,
+    gate: &LabGate<'_, R>,
+    out: &mut String,
+) -> Result<(), Unanswered> {
     put_trials(report.trials(), out)?;
-    let routing = put_least(rt.alloc(), &report, out)?;
-    gate.put(out)?;
-    if let Some(routing) = routing {
-        session.routing = Some(routing);
+    put_least(report, out)?;
+    gate.put(out)
+}
+
+/// Keeps a copy of the routing of the least width, if there is one.
+fn keep_least(
+    alloc: Global,
+    session: &mut Session,
+    report: &WidthReport,
+) -> Result<(), Unanswered> {
+    if let Some(least) = report.least() {
+        session.routing = Some(copy_of(alloc, &least.routing)?);
     }
     Ok(())
 }
@@ -218,20 +302,30 @@ fn width_report<R: Runtime + Threads + Wait + Sync + AllocGlobal>(
     requires start { (1 ≤ start) × (start ≤ 256) }
     requires workers { (1 ≤ workers) × (workers ≤ 16) }
 {
-    let (alloc, arch) = (rt.alloc(), session.arch()?);
-    let netlist = net_file::parse(alloc, session.net()?, arch)?;
-    let placement = place_file::parse(alloc, session.place()?, arch, &netlist)?;
+    let (design, settings) = (session.design()?, session.settings());
+    let netlist = net_file::parse(rt.alloc(), design.net, design.arch)?;
+    report_of(rt, design, &netlist, &settings, start, mode, workers, gate)
+}
+
+/// What a search of widths for a design with this netlist comes to.
+fn report_of<R: Runtime + Threads + Wait + Sync + AllocGlobal>(
+    rt: &R,
+    design: DesignTexts<'_>,
+    netlist: &Netlist<'_>,
+    settings: &Settings,
+    start: u32,
+    mode: Mode,
+    workers: u32,
+    gate: &LabGate<'_, R>,
+) -> Result<WidthReport, Unanswered>
+    requires start { (1 ≤ start) × (start ≤ 256) }
+    requires workers { (1 ≤ workers) × (workers ≤ 16) }
+    requires read { (bytes : List ℕ) × ReadsBytes design.arch.now.pins bytes netlist.now }
+{
+    let (alloc, arch) = (rt.alloc(), design.arch);
+    let placement = place_file::parse(alloc, design.place, arch, netlist)?;
     let report = least_width(
-        rt,
-        alloc,
-        arch,
-        &netlist,
-        &placement,
-        &session.settings(),
-        start,
-        mode,
-        workers,
-        gate,
+        rt, alloc, arch, netlist, &placement, settings, start, mode, workers, gate,
     )?;
     Ok(report)
 }
@@ -245,22 +339,13 @@ fn put_trials(trials: &[Trial], out: &mut String) -> Result<(), Unanswered> {
     Ok(())
 }
 
-/// Adds the least width that was routed; a copy of its routing.
-fn put_least(
-    alloc: Global,
-    report: &WidthReport,
-    out: &mut String,
-) -> Result<Option<Routing>, Unanswered> {
+/// Adds the least width that was routed, or `none`.
+fn put_least(report: &WidthReport, out: &mut String) -> Result<(), Unanswered> {
     match report.least() {
-        Some(least) => {
-            writeln!(out, "least {}", least.width)?;
-            Ok(Some(copy_of(alloc, &least.routing)?))
-        }
-        None => {
-            put(out, "none")?;
-            Ok(None)
-        }
+        Some(least) => writeln!(out, "least {}", least.width)?,
+        None => put(out, "none")?,
     }
+    Ok(())
 }
 
 /// A copy of a routing.

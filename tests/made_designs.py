@@ -1,0 +1,146 @@
+"""Designs that are made to be measured: one at the limits of a netlist, one that fills the greatest array, and a routing of nearly 2^24 bytes.
+
+The names of the first two have a hundred bytes that differ only at their ends.
+"""
+from dataclasses import dataclass
+from pathlib import Path
+from typing import Optional
+
+from bundled import SMALL
+
+SIDE, PADS, PINS = 100, 16, 4
+MOST_BLOCKS, MOST_NETS = 20_000, 65_535
+MOST_BYTES = 2**24
+# The channels of the routing have so many tracks: one for each pin of the blocks of half a row.
+WIDTH = PINS * SIDE // 2
+PERIMETER = (
+    *((0, y) for y in range(1, SIDE + 1)), *((SIDE + 1, y) for y in range(1, SIDE + 1)),
+    *((x, 0) for x in range(1, SIDE + 1)), *((x, SIDE + 1) for x in range(1, SIDE + 1)))
+
+
+@dataclass(frozen=True)
+class Design:
+    """The files of a design, as far as it has them, and the width of its routing."""
+
+    arch: Path
+    net: Path
+    place: Optional[Path] = None
+    route: Optional[Path] = None
+    width: Optional[int] = None
+
+
+def write(folder, name, text):
+    """Writes a file of a folder, and gives its path."""
+    file = Path(folder, name)
+    file.write_text(text)
+    return file
+
+
+def write_long_arch(folder):
+    """The architecture of examples/small.arch with wires of sixteen places."""
+    return write(folder, "long.arch", SMALL.read_text().replace("length: 1 ", "length: 16 "))
+
+
+def write_arch(folder, name, pads, side):
+    """An architecture of blocks with four inputs of one class on one side, and four outputs of another one on the top."""
+    pins = f"inpin class: 0 {side}\n" * PINS + "outpin class: 1 top\n" * PINS
+    return write(folder, name, f"""io_rat {pads}
+chan_width_io 1
+chan_width_x uniform 1
+chan_width_y uniform 1
+{pins}switch_block_type subset
+Fc_type fractional
+Fc_output 1
+Fc_input 1
+Fc_pad 1
+segment frequency: 1 length: 1 wire_switch: 0 opin_switch: 0 Frac_cb: 1 Frac_sb: 1 Rmetal: 0 Cmetal: 0
+switch 0 buffered: yes R: 0 Cin: 0 Cout: 0 Tdel: 0
+""")
+
+
+def long_name(letter, number):
+    """A name of a hundred bytes."""
+    return f"{letter}{number:099d}"
+
+
+def net_name(number, nets):
+    """A net's name, or `open` past the last net."""
+    return long_name("n", number) if number < nets else "open"
+
+
+def block_lines(number, nets):
+    """A logic block that drives four nets, and takes four that blocks far away drive."""
+    own = [PINS * number + pin for pin in range(PINS)]
+    driven = [net_name(net, nets) for net in own]
+    taken = [net_name((net + nets // 2) % nets, nets) if net < nets else "open" for net in own]
+    return f".clb {long_name('b', number)}\npinlist: {' '.join(taken)} {' '.join(driven)}\n"
+
+
+def make_limits(folder):
+    """The most blocks and nets that a netlist may have; no array has places for so many."""
+    arch = write_arch(folder, "limits.arch", PADS, "bottom")
+    blocks = (block_lines(number, MOST_NETS) for number in range(MOST_BLOCKS))
+    return Design(arch, write(folder, "limits.net", "".join(blocks)))
+
+
+def make_full(folder):
+    """A logic block at each place of the greatest array, and pads at each place beside it; they take the nets of the blocks."""
+    arch = write_arch(folder, "full.arch", PADS, "bottom")
+    nets, pads = PINS * SIDE * SIDE, len(PERIMETER) * PADS
+    blocks = [block_lines(number, nets) for number in range(SIDE * SIDE)]
+    blocks += [f".output {long_name('p', pad)}\npinlist: {net_name(pad, pads)}\n" for pad in range(pads)]
+    rows = [f"{long_name('b', x * SIDE + y)} {x + 1} {y + 1} 0\n" for x in range(SIDE) for y in range(SIDE)]
+    rows += [f"{long_name('p', i * PADS + s)} {x} {y} {s}\n" for i, (x, y) in enumerate(PERIMETER) for s in range(PADS)]
+    return Design(arch, write(folder, "full.net", "".join(blocks)), write_place(folder, "full", SIDE, rows))
+
+
+def write_place(folder, name, height, rows):
+    """A placement of these rows on an array that is as wide as the greatest one."""
+    header = f"Netlist file: {name}.net Architecture file: {name}.arch\nArray size: {SIDE} x {height} logic blocks\n"
+    return write(folder, f"{name}.place", header + "".join(rows))
+
+
+def row_block(x, y):
+    """A block's lines: one of the left half drives the nets that the one across takes."""
+    none = ["open"] * PINS
+    nets = [f"n{min(x, SIDE + 1 - x)}_{y}_{pin}" for pin in range(PINS)]
+    pins = none + nets if 2 * x <= SIDE else nets + none
+    return f".clb b{x}_{y}\npinlist: {' '.join(pins)}\n"
+
+
+def row_net(number, x, y, pin):
+    """A routed net's lines: along the channel above its row, on a track of its own."""
+    across, track = SIDE + 1 - x, PINS * (x - 1) + pin
+    wires = "".join(f" CHANX ({place},{y})  Track: {track}\n" for place in range(x, across + 1))
+    return (
+        f"\nNet {number} (n{x}_{y}_{pin})\n\nSOURCE ({x},{y})  Class: 1\n  OPIN ({x},{y})  Pin: {PINS + pin}\n"
+        f"{wires}  IPIN ({across},{y})  Pin: {pin}\n  SINK ({across},{y})  Class: 0\n")
+
+
+def row_nets(y):
+    """The routed nets of a row of blocks: four from each block of the left half to the one across."""
+    starts = [(x, pin) for x in range(1, SIDE // 2 + 1) for pin in range(PINS)]
+    return "".join(row_net((y - 1) * len(starts) + i, x, y, pin) for i, (x, pin) in enumerate(starts))
+
+
+def rows_of_nets():
+    """As many rows as a file holds."""
+    rows = [row_nets(1)]
+    length = 64 + len(rows[0])
+    while len(rows) < SIDE and length + len(following := row_nets(len(rows) + 1)) <= MOST_BYTES:
+        rows.append(following)
+        length += len(following)
+    return rows
+
+
+def make_large(folder):
+    """A legal routing in a file that is nearly as long as one may be."""
+    rows = rows_of_nets()
+    height = len(rows)
+    places = [(x, y) for y in range(1, height + 1) for x in range(1, SIDE + 1)]
+    return Design(
+        write_arch(folder, "large.arch", 1, "top"),
+        write(folder, "large.net", "".join(row_block(x, y) for x, y in places)),
+        write_place(folder, "large", height, [f"b{x}_{y} {x} {y} 0\n" for x, y in places]),
+        write(folder, "large.route", f"Array size: {SIDE} x {height} logic blocks.\n\nRouting:\n" + "".join(rows)),
+        WIDTH)

@@ -1,0 +1,166 @@
+"""What stands in a session of lab behind a call that lacked memory or a thread: what refusals compares with what stood before it."""
+import pathlib
+import re
+from dataclasses import dataclass
+
+from refused_calls import Run
+
+# A number that no answer has: behind it begins the answer to the next call.
+MARK = "3141592653"
+KINDS = ("arch", "net", "device", "problem", "tree", "counts", "view")
+DEVICE = ("parts", "edge_count", "has_architecture")
+ENTRIES = ("io_rat", "class_count", "fc_type", "fc_output", "fc_input", "fc_pad", "pins", "segments", "switches")
+DESIGN = ("blocks", "netlist", "site 0", "site 1", "site 2")
+VALUES = ("dump_problem", "dump_tree", "marks_fit", "dump_routing", "settings", "dump_counts", "dump_histories", "dump_view", "dump_files")
+# Of the other values, each of which takes the place of the one that was printed before.
+OTHERS = (*(f"other {kind}" for kind in KINDS), "pins", "blocks", "parts", "dump_problem", "dump_tree", "dump_counts", "dump_view")
+BOOK = ("dump_book",)
+# Of a greater device not all nodes are printed.
+MOST_WIRES = 400
+LOST = ["refused: there is no book"]
+# These hand the book to workers, and a fault lets it go.
+LETS_GO = ("iterate", "iterate_nets", "desk")
+STOPPED = re.compile(r"memory after (\d+) events")
+
+
+@dataclass(frozen=True)
+class Call:
+    """A call of a script: its lines, with those of the text below it."""
+
+    lines: tuple
+
+    @property
+    def name(self):
+        """The word that names it, or the call that it makes many times."""
+        words = self.lines[0].split()
+        return words[2] if words[0] in ("time", "repeat") else words[0]
+
+    def cut(self, count):
+        """The same list of events without those behind so many."""
+        events = [line for line in self.lines[1:-1] if line.split("#")[0].strip()]
+        return Call((self.lines[0], *events[:count], self.lines[-1]))
+
+
+def calls_of(script):
+    """The calls of a script, without comments, the answers that are wanted, and the line that has calls made again."""
+    lines = iter(script.read_bytes().decode("utf-8", "surrogateescape").split("\n"))
+    calls = []
+    for line in lines:
+        words = line.split("#")[0].split()
+        if words and words != ["again"] and not line.startswith("="):
+            below = []
+            while "<<" in words and (not below or below[-1].strip() != ">>"):
+                below.append(next(lines))
+            calls.append(Call((line, *below)))
+    return calls
+
+
+def text_of(calls, before=()):
+    """A script of calls."""
+    return "\n".join([*before, *(line for call in calls for line in call.lines), ""])
+
+
+def dumps_of(calls):
+    """The calls that print what a session has behind these."""
+    sizes = [call.lines[0].split()[1:4] for call in calls if call.lines[0].split()[0] == "device"]
+    is_great = any(len(size) == 3 and (int(size[0]) + 1) * (int(size[1]) + 1) * int(size[2]) > MOST_WIRES for size in sizes)
+    return (*ENTRIES, *DESIGN, *DEVICE, *(() if is_great else ("dump_device",)), *VALUES, *BOOK, *OTHERS)
+
+
+class States:
+    """A script, of which calls are refused memory or a thread: which of these each of its calls makes, what stands behind it, and what should."""
+
+    def __init__(self, refusals, lab, script, folder):
+        self.refusals, self.lab, self.name, self.folder = refusals, lab, script.stem, pathlib.Path(folder)
+        self.calls = calls_of(script)
+        self.dumps = dumps_of(self.calls)
+        self.wanted = {}
+        # How many calls the line `again` makes, the line of what is printed with which the answer to each call begins, and the numbers of what
+        # each asks for.
+        self.offset, self.starts, self.asked = self.count()
+
+    def run(self, name, text):
+        """A run of a script."""
+        file = self.folder / f"{self.name}.{name}.lab"
+        if not file.exists():
+            file.write_text(text, errors="surrogateescape")
+        return Run("", (self.lab, file), None, None)
+
+    def count(self):
+        """Counts what is asked for up to a mark before each call. Two marks stand at the end, so that what one asks for can be taken off."""
+        mark = f"number {MARK}"
+        marked = self.run("marked", "".join(text_of([call], (mark,)) for call in self.calls) + f"{mark}\n{mark}\n")
+        answer, counts = self.refusals.counts_at(marked, MARK)
+        lines = lines_of(answer)
+        starts = [line - place for place, line in enumerate(line for line, text in enumerate(lines) if text == MARK)]
+        own = counts[-1] - counts[-2]
+        after = [count - own * (place + 1) for place, count in enumerate(counts[:-1])]
+        _, again = self.refusals.counts_at(self.run("again", f"again\n{mark}\n"), MARK)
+        offset = again[0] - counts[0]
+        return offset, starts, [range(begin + offset + 1, end + offset + 1) for begin, end in zip(after, after[1:])]
+
+    def script_behind(self, place, calls):
+        """A script of the calls before one, and of some in its place, with all that stands then."""
+        dumps = [f"number {MARK}", *(line for dump in self.dumps for line in (dump, f"number {MARK}"))]
+        return text_of([*self.calls[:place], *calls]) + "\n".join([*dumps, ""])
+
+    def wanted_behind(self, place, stood):
+        """What should stand behind a call that was refused, of which so many events stand where it is a list of some."""
+        key = (place, stood)
+        if key not in self.wanted:
+            events = [self.calls[place].cut(stood)] if stood else []
+            answer = self.run(f"wanted.{place}.{stood}", self.script_behind(place, events)).answer({})
+            self.wanted[key] = parts_of(lines_of(answer))[1:]
+        return self.wanted[key]
+
+    def compare(self, number, place, lacks):
+        """Whether all stands as it should behind a call for which one of this number is refused; None where it didn't come to that."""
+        run = self.run(f"refused.{place}", self.script_behind(place, [self.calls[place]]))
+        answer, _ = self.refusals.answer(run, number - self.offset, False)
+        if answer is None or answer.status != 0 or answer.complained:
+            return None
+        before, *given = parts_of(lines_of(answer))
+        if len(before) != self.starts[place] + 1:
+            return None
+        stopped = STOPPED.fullmatch(before[-1])
+        if stopped or before[-1].encode() in lacks:
+            return self.are_same(self.calls[place], given, self.wanted_behind(place, int(stopped[1]) if stopped else 0))
+        return None
+
+    def are_same(self, call, given, wanted):
+        """Whether all values are as wanted, but for a book that was let go."""
+        if len(given) != len(wanted):
+            return False
+        for dump, have, want in zip(self.dumps, given, wanted):
+            is_gone = dump in BOOK and call.name in LETS_GO and have == LOST
+            if have != want and not is_gone and in_any_order(have) != in_any_order(want):
+                return False
+        return True
+
+
+def lines_of(answer):
+    """The lines that a run printed, in which nothing went wrong."""
+    if answer.status != 0 or answer.complained:
+        raise SystemExit(f"{answer}"[:600])
+    return answer.printed.decode("utf-8", "surrogateescape").split("\n")
+
+
+def parts_of(lines):
+    """What stands before the first mark, and what stands between each two."""
+    parts = [[]]
+    for line in lines[:-1]:
+        if line == MARK:
+            parts.append([])
+        else:
+            parts[-1].append(line)
+    return parts[:-1]
+
+
+def in_any_order(lines):
+    """The lines of a book, with an iteration's nets in no order and without the workers that had them, which no two runs have to share."""
+    return [order_turns(line) if line.startswith("turns ") else line for line in lines]
+
+
+def order_turns(line):
+    head, _, turns = line.partition(":")
+    return head, sorted(re.findall(r"\d+ (\d+(?: passed)?)", turns))
