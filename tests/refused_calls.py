@@ -164,20 +164,39 @@ def run_of(name, words, before=None, refusals=(b"error: memory\n",)):
     return Run(name, words, before, lambda given: given == usual or given.is_refusal(refusals, before))
 
 
-def run_by_workers(name, program, design, width, workers, before=None):
-    """A run that routes a design by several workers: any legal routing is right."""
-    words = (program, "route", *design, ROUTE, "--width", width, "--workers", workers)
+def is_legal(program, design, width, routing):
+    """Whether a program finds a routing of a design legal at a width."""
+    judged = Run("", (program, "check", *design, ROUTE, "--width", width), routing, None).answer({})
+    return judged.status == 0 and judged.printed == b"legal\n"
+
+
+def run_by_workers(name, words, program, design, width_of, before=None):
+    """A run of several workers, of which any legal routing is right, at the width that what it prints says."""
 
     def is_right(given):
         if given.is_refusal((b"error: memory\n", b"error: no thread\n"), before):
             return True
-        return given.status == 0 and re.fullmatch(rb"routed, iterations \d+\n", given.printed) and not given.complained and is_legal(given.routing)
-
-    def is_legal(routing):
-        judged = Run("", (program, "check", *design, ROUTE, "--width", width), routing, None).answer({})
-        return judged.status == 0 and judged.printed == b"legal\n"
+        width = width_of(given.printed)
+        return given.status == 0 and width is not None and not given.complained and is_legal(program, design, width, given.routing)
 
     return Run(name, words, before, is_right)
+
+
+def route_by_workers(name, program, design, width, workers, before=None):
+    """A run that routes a design by several workers."""
+    words = (program, "route", *design, ROUTE, "--width", width, "--workers", workers)
+    return run_by_workers(name, words, program, design, lambda printed: width if re.fullmatch(rb"routed, iterations \d+\n", printed) else None, before)
+
+
+def search_by_workers(name, program, design, start, workers, before=None):
+    """A run that searches for the least width of a design by several workers."""
+    words = (program, "width", *design, ROUTE, "--start", start, "--workers", workers)
+
+    def width_of(printed):
+        told = re.fullmatch(rb"(?:width \d+: (?:not )?routed\n)+least routed width: (\d+)\n", printed)
+        return told and told[1].decode()
+
+    return run_by_workers(name, words, program, design, width_of, before)
 
 
 def tests_of(crate, suffix):
