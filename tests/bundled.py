@@ -9,4 +9,5 @@ LUT4 = EXAMPLES / "lut4.arch"
 LENGTHS = EXAMPLES / "lengths.arch"
 COUNTER = (EXAMPLES / "counter.net", LUT4, EXAMPLES / "counter.place")
 ADDER = (EXAMPLES / "adder.net", LUT4, EXAMPLES / "adder.place")
+CROSSING = (EXAMPLES / "crossing/crossing.net", SMALL, EXAMPLES / "crossing/crossing.place")
 SHIFT = (EXAMPLES / "shift.net", LUT4, EXAMPLES / "shift.place")
