@@ -8,6 +8,7 @@ use crate::unanswered::Unanswered;
 use crate::words::{Call, nothing, number, numbers};
 use congestion_book::{Book, CloseFault, CommitFault, DrawFault, PassFault};
 use route_tree::Tree;
+use rr_graph::Problem;
 use std::alloc::Global;
 use std::rt::Runtime;
 
@@ -25,28 +26,55 @@ pub fn call(
         "book" => make(rt.alloc(), session, call.given, out),
         "draw" => draw(session, call.given, out),
         "commit" => commit(rt.alloc(), session, call.given, out),
-        "pass" => {
-            let [worker, net] = numbers::<2>(call.given)?;
-            put_passed(book_of(session)?.pass(worker, net), out)
-        }
-        "close" => {
-            nothing(call.given)?;
-            put_closed(book_of(session)?.close(rt.alloc()), out)
-        }
-        "book_tree" | "occupancy" | "history" | "turns" => {
-            let [index] = numbers::<1>(call.given)?;
-            look_at(session.book()?, call.name, index, out)
-        }
-        "rows_of_overuse" | "overused" | "unrouted" | "fresh" => {
-            nothing(call.given)?;
-            look_up(session.book()?, call.name, out)
-        }
-        "dump_book" => {
-            nothing(call.given)?;
-            dump(session.book()?, out)
-        }
+        "pass" => pass(session, call.given, out),
+        "close" => close(rt.alloc(), session, call.given, out),
+        _ => read(session, call, out),
+    }
+}
+
+/// Makes a call that changes nothing, and adds its answer.
+fn read(session: &Session, call: Call<'_>, out: &mut String) -> Result<(), Unanswered> {
+    match call.name {
+        "book_tree" | "occupancy" | "history" | "turns" => read_at(session, call, out),
+        "rows_of_overuse" | "overused" | "unrouted" | "fresh" => read_all(session, call, out),
+        "dump_book" => put_book(session, call.given, out),
         _ => Err(Unanswered::NoCall),
     }
+}
+
+/// Makes a look-up of a net, a node or an iteration.
+fn read_at(session: &Session, call: Call<'_>, out: &mut String) -> Result<(), Unanswered> {
+    let [index] = numbers::<1>(call.given)?;
+    look_at(session.book()?, call.name, index, out)
+}
+
+/// Makes a look-up of the whole book.
+fn read_all(session: &Session, call: Call<'_>, out: &mut String) -> Result<(), Unanswered> {
+    nothing(call.given)?;
+    look_up(session.book()?, call.name, out)
+}
+
+/// Adds all that look-ups answer.
+fn put_book(session: &Session, given: &[&str], out: &mut String) -> Result<(), Unanswered> {
+    nothing(given)?;
+    dump(session.book()?, out)
+}
+
+/// Passes a net.
+fn pass(session: &mut Session, given: &[&str], out: &mut String) -> Result<(), Unanswered> {
+    let [worker, net] = numbers::<2>(given)?;
+    put_passed(book_of(session)?.pass(worker, net), out)
+}
+
+/// Closes the open iteration.
+fn close(
+    alloc: Global,
+    session: &mut Session,
+    given: &[&str],
+    out: &mut String,
+) -> Result<(), Unanswered> {
+    nothing(given)?;
+    put_closed(book_of(session)?.close(alloc), out)
 }
 
 /// The session's book.
@@ -66,15 +94,37 @@ fn make(
 ) -> Result<(), Unanswered> {
     let acc = match given {
         [] => session.settings().acc(),
-        _ => {
-            let [acc] = numbers::<1>(given)?;
-            u16::try_from(acc).map_err(|_| Unanswered::Refused("a factor is at most 65,535"))?
-        }
+        _ => history_factor(given)?,
     };
-    let problem = session.problem()?.copy(alloc)?;
-    let book = Book::new(alloc, problem, acc)?;
-    writeln!(out, "{} nets", book.problem().nets())?;
+    let book = new_book(alloc, session.problem()?, acc)?;
+    keep(session, book, out)
+}
+
+/// By how much a history grows, as a word says.
+fn history_factor(given: &[&str]) -> Result<u16, Unanswered> {
+    let [acc] = numbers::<1>(given)?;
+    match u16::try_from(acc) {
+        Ok(acc) => Ok(acc),
+        Err(_) => Err(Unanswered::Refused("a factor is at most 65,535")),
+    }
+}
+
+/// A book of a copy of a problem.
+fn new_book(alloc: Global, problem: &Problem, acc: u16) -> Result<Book, Unanswered> {
+    let problem = problem.copy(alloc)?;
+    Ok(Book::new(alloc, problem, acc)?)
+}
+
+/// Tells of how many nets a book is, and keeps it.
+fn keep(session: &mut Session, book: Book, out: &mut String) -> Result<(), Unanswered> {
+    put_nets(out, book.problem().nets())?;
     session.book = Some(book);
+    Ok(())
+}
+
+/// Adds how many nets there are.
+fn put_nets(out: &mut String, nets: u32) -> Result<(), Unanswered> {
+    writeln!(out, "{nets} nets")?;
     Ok(())
 }
 

@@ -97,10 +97,31 @@ fn iterate_under<R: Runtime + Threads + Wait + Sync + AllocGlobal>(
 {
     let settings = session.settings();
     let book = take_fresh(session)?;
-    let (book, reports) = iterate(rt, rt.alloc(), book, &settings, iteration, workers, gate)?;
-    put_iteration(&book, reports.as_slice(), gate, is_by_net, out)?;
+    let book = iterated(
+        rt, book, &settings, iteration, workers, gate, is_by_net, out,
+    )?;
     session.book = Some(book);
     Ok(())
+}
+
+/// The book behind an iteration, of which is told what was done.
+fn iterated<R: Runtime + Threads + Wait + Sync + AllocGlobal>(
+    rt: &R,
+    book: Book,
+    settings: &Settings,
+    iteration: u32,
+    workers: u32,
+    gate: &LabGate<'_, R>,
+    is_by_net: bool,
+    out: &mut String,
+) -> Result<Book, Unanswered>
+    requires fresh { IsFresh book }
+    requires iteration { (1 ≤ iteration) × (iteration ≤ 500) }
+    requires workers { (1 ≤ workers) × (workers ≤ 16) }
+{
+    let (book, reports) = iterate(rt, rt.alloc(), book, settings, iteration, workers, gate)?;
+    put_iteration(&book, reports.as_slice(), gate, is_by_net, out)?;
+    Ok(book)
 }
 
 /// Adds what was done in an iteration, and the gate's own lines.
