@@ -38,7 +38,7 @@ use Rattle.arch_file.proofs.Faultless.{accepted, or_false, or_true, and_false, a
 abbrev pub IsPads : ℕ → Type 0
 IsPads n = (1 ≤ n) × (n ≤ 16)
 
-pub record IsKept (lines : List ArchLine) : Type 0 where
+pub record KeepLimits (lines : List ArchLine) : Type 0 where
   pub pads : All IsPads (filter_map io_rat_of lines)
   pub few_pins : length (pins_of lines) ≤ 64
   pub few_classes : All (λ p. p.class < 64) (pins_of lines)
@@ -61,7 +61,7 @@ same h xs x e = sym (filter_map-append h xs (x ∷ []) ∙ rw e (append-nil (fil
 more : {X : Type 0} (h : ArchLine → Option X) (xs : List ArchLine) (x : ArchLine) (y : X) → h x ≡ Some y → filter_map h xs ++ y ∷ [] ≡ filter_map h (xs ++ x ∷ [])
 more h xs x y e = sym (filter_map-append h xs (x ∷ []) ∙ rw e refl)
 
-kept_other : (before : List ArchLine) (x : ArchLine) → io_rat_of x ≡ None → pin_of x ≡ None → segment_of x ≡ None → IsKept before → IsKept (before ++ x ∷ [])
+kept_other : (before : List ArchLine) (x : ArchLine) → io_rat_of x ≡ None → pin_of x ≡ None → segment_of x ≡ None → KeepLimits before → KeepLimits (before ++ x ∷ [])
 kept_other before x no_pads no_pin no_segment k =
     record {
       pads = subst (All IsPads) (same io_rat_of before x no_pads) k.pads;
@@ -72,8 +72,8 @@ kept_other before x no_pads no_pin no_segment k =
       segment_lengths = subst (All (λ s. IsSegmentLength s.length)) (same segment_of before x no_segment) k.segment_lengths;
     }
 
-pub IsKept-push : (before : List ArchLine) (x : ArchLine) → IsKept before → Suits before x → IsKept (before ++ x ∷ [])
-IsKept-push before (line.IoRat n) k suits =
+pub KeepLimits-push : (before : List ArchLine) (x : ArchLine) → KeepLimits before → Suits before x → KeepLimits (before ++ x ∷ [])
+KeepLimits-push before (line.IoRat n) k suits =
     record {
       pads = subst (All IsPads) (more io_rat_of before (line.IoRat n) n refl) (All-push IsPads (filter_map io_rat_of before) n k.pads suits);
       few_pins = subst (λ ps. length ps ≤ 64) (same pin_of before (line.IoRat n) refl) k.few_pins;
@@ -82,7 +82,7 @@ IsKept-push before (line.IoRat n) k suits =
       few_segments = subst (λ ss. length ss ≤ 16) (same segment_of before (line.IoRat n) refl) k.few_segments;
       segment_lengths = subst (All (λ s. IsSegmentLength s.length)) (same segment_of before (line.IoRat n) refl) k.segment_lengths;
     }
-IsKept-push before (line.Pin p) k suits =
+KeepLimits-push before (line.Pin p) k suits =
     record {
       pads = subst (All IsPads) (same io_rat_of before (line.Pin p) refl) k.pads;
       few_pins = subst (λ ps. length ps ≤ 64) (more pin_of before (line.Pin p) p refl) (omega (arith, length-append (pins_of before) (p ∷ []), suits.1));
@@ -91,7 +91,7 @@ IsKept-push before (line.Pin p) k suits =
       few_segments = subst (λ ss. length ss ≤ 16) (same segment_of before (line.Pin p) refl) k.few_segments;
       segment_lengths = subst (All (λ s. IsSegmentLength s.length)) (same segment_of before (line.Pin p) refl) k.segment_lengths;
     }
-IsKept-push before (line.Segment s) k suits =
+KeepLimits-push before (line.Segment s) k suits =
     record {
       pads = subst (All IsPads) (same io_rat_of before (line.Segment s) refl) k.pads;
       few_pins = subst (λ ps. length ps ≤ 64) (same pin_of before (line.Segment s) refl) k.few_pins;
@@ -100,17 +100,17 @@ IsKept-push before (line.Segment s) k suits =
       few_segments = subst (λ ss. length ss ≤ 16) (more segment_of before (line.Segment s) s refl) (omega (arith, length-append (segments_of before) (s ∷ []), suits.1));
       segment_lengths = subst (All (λ t. IsSegmentLength t.length)) (more segment_of before (line.Segment s) s refl) (All-push (λ t. IsSegmentLength t.length) (segments_of before) s k.segment_lengths suits.0);
     }
-IsKept-push before line.ChanWidthIo k suits = kept_other before line.ChanWidthIo refl refl refl k
-IsKept-push before line.ChanWidthX k suits = kept_other before line.ChanWidthX refl refl refl k
-IsKept-push before line.ChanWidthY k suits = kept_other before line.ChanWidthY refl refl refl k
-IsKept-push before line.SubblocksPerClb k suits = kept_other before line.SubblocksPerClb refl refl refl k
-IsKept-push before line.SubblockLutSize k suits = kept_other before line.SubblockLutSize refl refl refl k
-IsKept-push before line.SwitchBlockType k suits = kept_other before line.SwitchBlockType refl refl refl k
-IsKept-push before (line.FcType v) k suits = kept_other before (line.FcType v) refl refl refl k
-IsKept-push before (line.FcOutput v) k suits = kept_other before (line.FcOutput v) refl refl refl k
-IsKept-push before (line.FcInput v) k suits = kept_other before (line.FcInput v) refl refl refl k
-IsKept-push before (line.FcPad v) k suits = kept_other before (line.FcPad v) refl refl refl k
-IsKept-push before (line.Switch v) k suits = kept_other before (line.Switch v) refl refl refl k
+KeepLimits-push before line.ChanWidthIo k suits = kept_other before line.ChanWidthIo refl refl refl k
+KeepLimits-push before line.ChanWidthX k suits = kept_other before line.ChanWidthX refl refl refl k
+KeepLimits-push before line.ChanWidthY k suits = kept_other before line.ChanWidthY refl refl refl k
+KeepLimits-push before line.SubblocksPerClb k suits = kept_other before line.SubblocksPerClb refl refl refl k
+KeepLimits-push before line.SubblockLutSize k suits = kept_other before line.SubblockLutSize refl refl refl k
+KeepLimits-push before line.SwitchBlockType k suits = kept_other before line.SwitchBlockType refl refl refl k
+KeepLimits-push before (line.FcType v) k suits = kept_other before (line.FcType v) refl refl refl k
+KeepLimits-push before (line.FcOutput v) k suits = kept_other before (line.FcOutput v) refl refl refl k
+KeepLimits-push before (line.FcInput v) k suits = kept_other before (line.FcInput v) refl refl refl k
+KeepLimits-push before (line.FcPad v) k suits = kept_other before (line.FcPad v) refl refl refl k
+KeepLimits-push before (line.Switch v) k suits = kept_other before (line.Switch v) refl refl refl k
 
 -- ---- each line
 
@@ -276,21 +276,21 @@ judge_suits before words x e = judged_suits before words (keyword_at words) x e
 -- ---- all lines
 
 step_kept : (b : Bool) (j : Result ArchLine LineFault) (n : ℕ) (before : List ArchLine) (ls : List Line) (es : List ArchLine)
-    → ((front : List ArchLine) → IsKept front → entries_from front ls ≡ Ok es → IsKept es)
+    → ((front : List ArchLine) → KeepLimits front → entries_from front ls ≡ Ok es → KeepLimits es)
     → ((x : ArchLine) → j ≡ Ok x → Suits before x)
-    → IsKept before
-    → cond b (entries_from before ls) (at_number n j >>= λ x. entries_from (before ++ x ∷ []) ls) ≡ Ok es → IsKept es
+    → KeepLimits before
+    → cond b (entries_from before ls) (at_number n j >>= λ x. entries_from (before ++ x ∷ []) ls) ≡ Ok es → KeepLimits es
 step_kept true j n before ls es rest suits k e = rest before k e
-step_kept false (Ok x) n before ls es rest suits k e = rest (before ++ x ∷ []) (IsKept-push before x k (suits x refl)) e
+step_kept false (Ok x) n before ls es rest suits k e = rest (before ++ x ∷ []) (KeepLimits-push before x k (suits x refl)) e
 step_kept false (Err f) n before ls es rest suits k e = absurd cc
 
-kept_from : (before : List ArchLine) (ls : List Line) (es : List ArchLine) → IsKept before → entries_from before ls ≡ Ok es → IsKept es
+kept_from : (before : List ArchLine) (ls : List Line) (es : List ArchLine) → KeepLimits before → entries_from before ls ≡ Ok es → KeepLimits es
 unfolding entries_from
-kept_from before [] es k e = let is : before ≡ es = cc in subst IsKept is k
+kept_from before [] es k e = let is : before ≡ es = cc in subst KeepLimits is k
 kept_from before (l ∷ ls) es k e =
     step_kept (is_passed l.words) (judge before l.words) l.number before ls es (λ front kept h. kept_from front ls es kept h) (λ x j. judge_suits before l.words x j) k e
 
-none_kept : IsKept []
+none_kept : KeepLimits []
 none_kept = record { pads = All-nil IsPads; few_pins = omega arith; few_classes = All-nil (λ p. p.class < 64); one_direction = All-nil (λ p. direction_in [] p.class ≡ Some p.direction); few_segments = omega arith; segment_lengths = All-nil (λ s. IsSegmentLength s.length) }
 
 -- ---- a whole architecture

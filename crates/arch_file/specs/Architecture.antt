@@ -23,9 +23,25 @@ pub record Architecture : Type 0 where
   pub segments : List Segment
   pub switches : List Switch
 
+-- the most pads at a place of the perimeter (this project's profile, like the next three)
+abbrev pub most_pads : ℕ
+most_pads = 16
+
+-- the most pins of a block, and classes of them
+abbrev pub most_pins : ℕ
+most_pins = 64
+
+-- the most types of wire
+abbrev pub most_segments : ℕ
+most_segments = 16
+
+-- the most blocks that a wire passes where it doesn't pass all
+abbrev pub longest_wire : ℕ
+longest_wire = 16
+
 -- a wire passes 1 to 16 logic blocks, or all of them
 abbrev pub IsSegmentLength : SegmentLength → Type 0
-IsSegmentLength (Places n) = (1 ≤ n) × (n ≤ 16)
+IsSegmentLength (Places n) = (1 ≤ n) × (n ≤ longest_wire)
 IsSegmentLength Longline = Unit {0}
 
 -- how many classes of pins there are: they run from 0 without gaps
@@ -43,12 +59,12 @@ class_direction a class = option_map (λ p. p.direction) (find (λ p. p.class ==
 -- the limits that every architecture keeps (this project's profile)
 pub record IsWithinLimits (a : Architecture) : Type 0 where
   pub some_pads : 1 ≤ a.io_rat
-  pub few_pads : a.io_rat ≤ 16
+  pub few_pads : a.io_rat ≤ most_pads
   pub some_pins : 1 ≤ length a.pins
-  pub few_pins : length a.pins ≤ 64
-  pub few_classes : All (λ p. p.class < 64) a.pins
+  pub few_pins : length a.pins ≤ most_pins
+  pub few_classes : All (λ p. p.class < most_pins) a.pins
   -- no class has pins of both directions
   pub one_direction : All (λ p. class_direction a p.class ≡ Some p.direction) a.pins
   pub some_segments : 1 ≤ length a.segments
-  pub few_segments : length a.segments ≤ 16
+  pub few_segments : length a.segments ≤ most_segments
   pub segment_lengths : All (λ s. IsSegmentLength s.length) a.segments

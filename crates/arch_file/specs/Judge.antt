@@ -18,7 +18,7 @@ use Rattle.arch_file.specs.SwitchLine.{switch_line}
 use Rattle.arch_file.specs.Values.{io_rat_line, chan_width_io_line, channel_line, number_line, fixed_line, switch_block_type_line, fc_type_line}
 use Rattle.arch_file.specs.Word.{fixed_at}
 
--- a line that begins with such a word is passed over unread
+-- a line that begins with a keyword of timing, `T_`, `C_` or `R_`, is passed over unread
 abbrev pub is_passed : List (List ℕ) → Bool
 is_passed words = option_map_or is_unread (slice_get words 0) false
 

@@ -1,5 +1,4 @@
 pub mod Architecture
-pub mod Fields
 pub mod Keyword
 pub mod Lines
 pub mod Faults
@@ -14,3 +13,4 @@ pub mod Reading
 pub mod Reads
 pub mod Same
 pub mod SameLaws
+pub mod kept

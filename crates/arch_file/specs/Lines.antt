@@ -1,4 +1,4 @@
--- What accepted lines say, and what each of them gives.
+-- An accepted line's keyword, and the entry that it gives.
 use Rattle.std.specs.Prelude.{ℕ, Bool, true, false, List, Option, Some, None}
 use Rattle.std.specs.List.{filter_map}
 use Rattle.arch_file.specs.declared.keyword.Keyword.{Keyword}

@@ -14,6 +14,7 @@ use Rattle.arch_file.specs.Faults.{first_fault}
 use Rattle.arch_file.specs.Keyword.{is_text}
 use Rattle.arch_file.specs.Lines.{same_direction, pins_of}
 use Rattle.arch_file.specs.Word.{has, is_at, number_at}
+use Rattle.arch_file.specs.Architecture.{most_pins}
 
 -- a pin of the lines before has this class and the other direction
 unfoldable pub mixes : List ArchLine → Direction → ℕ → Bool
@@ -63,5 +64,5 @@ pin_line before direction words =
     first_fault (is_bad_class before direction words)
     (not (is_at words 1 (codes "class:")) || lacks_sides direction words)
     false
-    (nat_lt 63 (unwrap_or (number_at words 2) 0) || nat_le 64 (length (pins_of before)))
+    (nat_le most_pins (unwrap_or (number_at words 2) 0) || nat_le most_pins (length (pins_of before)))
     (line.Pin (pin_in direction words))

@@ -22,7 +22,7 @@ use Rattle.arch_file.specs.Same.{same_sides, same_pin, same_fc_type, same_length
 module _ {K : Type 0} (E : K → K → Bool) where
   -- each value passes with itself, and two that pass are one
   pub decides_from_tests : ((a : K) → E a a ≡ true) → ((a b : K) → E a b ≡ true → a ≡ b) → (a b : K) → Decides (E a b) (a ≡ b)
-  decides_from_tests same told a b = (told a b, λ e. subst (λ c. E a c ≡ true) e (same a))
+  decides_from_tests same reported a b = (reported a b, λ e. subst (λ c. E a c ≡ true) e (same a))
 
   -- a test that decides whether two are one is an equivalence
   pub equivalence_from_decides : ((a b : K) → Decides (E a b) (a ≡ b)) → IsEquivalence E
@@ -34,43 +34,43 @@ module _ {K : Type 0} (E : K → K → Bool) where
       }
 
 pub direction_decides : (a b : Direction) → Decides (same_direction a b) (a ≡ b)
-direction_decides = decides_from_tests same_direction same told
+direction_decides = decides_from_tests same_direction same reported
   where
     same : (a : Direction) → same_direction a a ≡ true
     same Input = refl
     same Output = refl
 
-    told : (a b : Direction) → same_direction a b ≡ true → a ≡ b
-    told Input Input e = refl
-    told Input Output e = absurd (false≢true e)
-    told Output Input e = absurd (false≢true e)
-    told Output Output e = refl
+    reported : (a b : Direction) → same_direction a b ≡ true → a ≡ b
+    reported Input Input e = refl
+    reported Input Output e = absurd (false≢true e)
+    reported Output Input e = absurd (false≢true e)
+    reported Output Output e = refl
 
 pub fc_type_decides : (a b : FcType) → Decides (same_fc_type a b) (a ≡ b)
-fc_type_decides = decides_from_tests same_fc_type same told
+fc_type_decides = decides_from_tests same_fc_type same reported
   where
     same : (a : FcType) → same_fc_type a a ≡ true
     same Absolute = refl
     same Fractional = refl
 
-    told : (a b : FcType) → same_fc_type a b ≡ true → a ≡ b
-    told Absolute Absolute e = refl
-    told Absolute Fractional e = absurd (false≢true e)
-    told Fractional Absolute e = absurd (false≢true e)
-    told Fractional Fractional e = refl
+    reported : (a b : FcType) → same_fc_type a b ≡ true → a ≡ b
+    reported Absolute Absolute e = refl
+    reported Absolute Fractional e = absurd (false≢true e)
+    reported Fractional Absolute e = absurd (false≢true e)
+    reported Fractional Fractional e = refl
 
 pub length_decides : (a b : SegmentLength) → Decides (same_length a b) (a ≡ b)
-length_decides = decides_from_tests same_length same told
+length_decides = decides_from_tests same_length same reported
   where
     same : (a : SegmentLength) → same_length a a ≡ true
     same (Places n) = (unsigned_Decides n n).1 refl
     same Longline = refl
 
-    told : (a b : SegmentLength) → same_length a b ≡ true → a ≡ b
-    told (Places m) (Places n) e = ap Places ((unsigned_Decides m n).0 e)
-    told (Places m) Longline e = absurd (false≢true e)
-    told Longline (Places n) e = absurd (false≢true e)
-    told Longline Longline e = refl
+    reported : (a b : SegmentLength) → same_length a b ≡ true → a ≡ b
+    reported (Places m) (Places n) e = ap Places ((unsigned_Decides m n).0 e)
+    reported (Places m) Longline e = absurd (false≢true e)
+    reported Longline (Places n) e = absurd (false≢true e)
+    reported Longline Longline e = refl
 
 pub sides_decides : (a b : Sides) → Decides (same_sides a b) (a ≡ b)
 sides_decides a b =

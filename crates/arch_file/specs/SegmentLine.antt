@@ -13,6 +13,7 @@ use Rattle.arch_file.specs.Keyword.{is_text}
 use Rattle.arch_file.specs.Lines.{segments_of}
 use Rattle.vpr_text.specs.Numbers.{number_of, fixed_of, is_decimal}
 use Rattle.arch_file.specs.Pairs.{pairs_of, has_key, is_value, number_for, fixed_for}
+use Rattle.arch_file.specs.Architecture.{most_segments, longest_wire}
 
 -- a word is neither `longline` nor a number of logic blocks
 abbrev pub is_wrong_length : List ℕ → Bool
@@ -62,7 +63,7 @@ unfoldable pub length_in : List (List ℕ) → SegmentLength
 length_in pairs = if is_value pairs (codes "length:") (codes "longline") then Longline else Places (number_for pairs (codes "length:"))
 
 abbrev pub is_too_long : SegmentLength → Bool
-is_too_long (Places n) = nat_lt 16 n
+is_too_long (Places n) = nat_lt longest_wire n
 is_too_long Longline = false
 
 -- wires of more than 16 logic blocks, and blocks that connect to a part of the tracks
@@ -86,5 +87,5 @@ segment_line before words =
     first_fault (has_wrong_value (drop 1 words))
     (not (has_segment_keys (drop 1 words)))
     (is_unsupported (drop 1 words))
-    (nat_le 16 (length (segments_of before)))
+    (nat_le most_segments (length (segments_of before)))
     (line.Segment (segment_in (drop 1 words)))

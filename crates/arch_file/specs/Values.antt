@@ -8,6 +8,7 @@ use Rattle.arch_file.specs.declared.line.ArchLine.TheVariants as line
 use Rattle.arch_file.specs.declared.parts.FcType.TheVariants.{Absolute, Fractional}
 use Rattle.arch_file.specs.Faults.{first_fault}
 use Rattle.arch_file.specs.Word.{has, is_at, number_at, fixed_at}
+use Rattle.arch_file.specs.Architecture.{most_pads}
 
 -- the number of pads, or 0 where there is none
 abbrev pub pads_in : List (List ℕ) → ℕ
@@ -15,7 +16,7 @@ pads_in words = unwrap_or (number_at words 1) 0
 
 -- `io_rat n`: pads at each place of the perimeter, 1 to 16
 unfoldable pub io_rat_line : List (List ℕ) → Result ArchLine LineFault
-io_rat_line words = first_fault (has words 1 && pads_in words == 0) (not (length words == 2)) false (nat_lt 16 (pads_in words)) (line.IoRat (pads_in words))
+io_rat_line words = first_fault (has words 1 && pads_in words == 0) (not (length words == 2)) false (nat_lt most_pads (pads_in words)) (line.IoRat (pads_in words))
 
 -- the word at this place is the number 1
 abbrev pub is_one : List (List ℕ) → ℕ → Bool

@@ -25,7 +25,7 @@ impl Model for Arch {
 
     ghost Value = { Architecture };
 
-    ghost use Rattle.arch_file.specs.Fields.{architecture_of};
+    ghost use Rattle.arch_file.specs.kept.Fields.{architecture_of};
 
     ghost view = { architecture_of };
 

@@ -17,10 +17,10 @@ use Rattle.rr_graph.proofs.Ranges.{below_next, length_below, get_below}
 use Rattle.rr_graph.proofs.Order.{node_count_below}
 use Rattle.route_tree.specs.declared.tree.Row.{Row}
 use Rattle.route_tree.specs.Rows.{no_row}
-use Rattle.route_tree.specs.Marked as tree
+use Rattle.route_tree.specs.kept.Marked as tree
 use Rattle.route_tree.specs.Usage.{room_of}
 use Rattle.congestion_book.specs.Turns.{one_if}
-use Rattle.congestion_book.specs.Usage.{is_over, overused_by, times_in, AddsEach, TakesEach}
+use Rattle.congestion_book.specs.kept.Usage.{is_over, overused_by, times_in, AddsEach, TakesEach}
 
 -- a list that has the value of f at each place below n
 pub listed_below : (f : ℕ → ℕ) (n : ℕ) (xs : List ℕ) → length xs ≡ n → ((a : ℕ) → a < n → get_or xs a 0 ≡ f a) → xs ≡ map f (numbers_below n)

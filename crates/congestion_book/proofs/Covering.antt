@@ -8,16 +8,15 @@ use Rattle.rr_graph.specs.Fabric.{Fabric}
 use Rattle.route_tree.specs.declared.tree.Row.{Row}
 use Rattle.route_tree.specs.Paths.{Pair, ends_of}
 use Rattle.route_tree.specs.Rows.{node_in, pair_of, pairs_of, IsTree}
-use Rattle.route_tree.specs.Legality.{IsListed, is_listed, is_listed_behind}
+use Rattle.route_tree.specs.Legality.{IsListed, is_listed, is_listed_after}
 use Rattle.route_tree.specs.Faults.{IsRoute}
-use Rattle.route_tree.specs.Marked.{nodes_of}
+use Rattle.route_tree.specs.kept.Marked.{nodes_of}
 use Rattle.route_tree.specs.Usage.{covers, use_by}
 use Rattle.route_tree.proofs.LegalLists.{counts_covered, covers_nodes, leaves_source}
 use Rattle.route_tree.proofs.Trees.{covers_rows}
 use Rattle.route_tree.proofs.Members.{one_passes}
-use Rattle.congestion_book.specs.Usage.{times_in}
-use Rattle.congestion_book.specs.Usage.{AddsEach, TakesEach}
-use Rattle.congestion_book.specs.Recorded.{GainsNet, LosesNet}
+use Rattle.congestion_book.specs.kept.Usage.{times_in, AddsEach, TakesEach}
+use Rattle.congestion_book.specs.kept.Counts.{GainsNet, LosesNet}
 
 ends_are : (f : Row → Pair) → ((r : Row) → (f r).1 ≡ r.node) → (rows : List Row) → nodes_of rows ≡ ends_of (map f rows)
 ends_are f same [] = refl
@@ -32,7 +31,7 @@ nodes_are (r ∷ rs) t = ap (λ ns. r.node ∷ ns) (ends_are (pair_of (r ∷ rs)
 -- the first pair of a list in order begins at the source
 first_begins : (f : Fabric) (n : Net) (p : Pair) (ps : List Pair) → IsListed f n (p ∷ ps) → p.0 ≡ n.source
 unfolding is_listed
-first_begins f n p ps listed = eqb-true p.0 n.source (and_parts (p.0 == n.source) (is_listed_behind f n.source (p.1 ∷ []) ps) listed).0
+first_begins f n p ps listed = eqb-true p.0 n.source (and_parts (p.0 == n.source) (is_listed_after f n.source (p.1 ∷ []) ps) listed).0
 
 -- the first row of a tree that routes a net has its source
 starts_at : (f : Fabric) (n : Net) (rows : List Row) (pairs : List Pair) → IsTree rows → pairs_of rows ≡ pairs → 1 ≤ length pairs → IsListed f n pairs → node_in rows 0 ≡ n.source

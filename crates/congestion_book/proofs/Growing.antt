@@ -5,7 +5,8 @@ use Rattle.std.proofs.lemmas.Bool.{cases_lt, eq-eqb}
 use Rattle.std.proofs.lemmas.List.{get_or_past}
 use Rattle.std.proofs.lemmas.List.Sums.{sum_by-append, sum_by-cons, sum_by-le, sum_by_more, sum_by_more_le}
 use Rattle.std.proofs.lemmas.Nat.{mul-le}
-use Rattle.congestion_book.specs.Histories.{Amount, amount_in, history_of, histories_of, AreHistories, GrowsByRow}
+use Rattle.congestion_book.specs.Histories.{Amount, amount_in, history_of, histories_of}
+use Rattle.congestion_book.specs.kept.HistoryTables.{AreHistories, GrowsByRow}
 use Rattle.congestion_book.proofs.Counting.{zeros, listed_below}
 
 -- what an entry adds to the amount of node a

@@ -11,13 +11,14 @@ use Rattle.rr_graph.specs.Problems.{RoutingProblem, net_in, IsProblem}
 use Rattle.route_tree.specs.declared.tree.Row.{Row}
 use Rattle.route_tree.specs.Paths.{Pair}
 use Rattle.route_tree.specs.Faults.{IsRoute}
-use Rattle.route_tree.specs.Usage.{use_by, use_of}
+use Rattle.route_tree.specs.Usage.{use_by, use_of, Lists, list_in}
 use Rattle.route_tree.specs.TreeLists.{list_of_tree, lists_of_trees}
 use Rattle.route_tree.proofs.Uses.{use_replaced, own_within, few_uses, unused}
 use Rattle.congestion_book.proofs.Counting.{zeros, none_overused, listed_below}
 use Rattle.congestion_book.specs.Turns.{one_if}
-use Rattle.congestion_book.specs.Usage.{overused_by}
-use Rattle.congestion_book.specs.Recorded.{Lists, list_in, occupancies_of, unrouted_in, RoutesOrNone, ChangesNet, AreRecorded}
+use Rattle.congestion_book.specs.kept.Usage.{overused_by}
+use Rattle.congestion_book.specs.Recorded.{occupancies_of, unrouted_in}
+use Rattle.congestion_book.specs.kept.Counts.{RoutesOrNone, ChangesNet, AreRecorded}
 
 -- counts that are exact are the occupancies by the lists
 pub occupied_by : (p : RoutingProblem) (lists : Lists) (counts : List ℕ) (overused unrouted : ℕ) → AreRecorded p lists counts overused unrouted →

@@ -2,21 +2,20 @@
 use Rattle.std.proofs.Common.{◌≡◌, inl, inr, ℕ, ◌+◌, ◌-◌, ◌<◌, ◌≤◌, ◌==◌, zero, suc, Bool, true, false, cond, nat_lt, List, [], ◌∷◌, ◌++◌, length, map, get_or, refl, sym, ap, ◌∙◌, arith, add-one, add-zero, All, subst}
 use Rattle.std.specs.List.{filter}
 use Rattle.std.proofs.lemmas.List.{map-append, append-nil}
-use Rattle.std.proofs.lemmas.List.Elements.{filter-append}
+use Rattle.std.proofs.lemmas.List.Elements.{filter-append, All-append, All-cons, All-nil, All-head, All-tail}
 use Rattle.std.proofs.lemmas.List.Sums.{sum_by-cons, sum_by-append}
 use Rattle.std.proofs.lemmas.Bool.{cases_eq, eq-eqb, ne_eqb}
 use Rattle.std.proofs.lemmas.Bool.Decides.{nat_tests}
 use Rattle.std.specs.Prelude.{if◌then◌else◌, count_by}
-use Rattle.std.proofs.lemmas.List.Elements.{All-append, All-cons, All-nil, All-head, All-tail}
-use Rattle.route_tree.specs.Usage.{use_of, overuse_of, room_of}
+use Rattle.route_tree.specs.Usage.{use_of, overuse_of, room_of, Lists}
 use Rattle.route_tree.proofs.Uses.{overuse_counted, few_uses}
 use Rattle.rr_graph.specs.Nodes.{node_at, node_count_of}
 use Rattle.rr_graph.specs.Problems.{RoutingProblem, IsProblem}
-use Rattle.congestion_book.specs.Recorded.{Lists, overused_in}
+use Rattle.congestion_book.specs.Recorded.{overused_in}
 use Rattle.rr_graph.specs.Fabric.{Fabric, numbers_below}
 use Rattle.rr_graph.proofs.Ranges.{below_next}
 use Rattle.congestion_book.specs.Histories.{Amount, AscendFrom, IsRow, amount_in, row_of}
-use Rattle.congestion_book.specs.Usage.{excess_of, row_by, entry_of, is_over, overused_by}
+use Rattle.congestion_book.specs.kept.Usage.{excess_of, row_by, entry_of, is_over, overused_by}
 use Rattle.congestion_book.proofs.Counting.{same_counts}
 
 -- the entries of the first n nodes

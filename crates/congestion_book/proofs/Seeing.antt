@@ -1,38 +1,35 @@
 -- What a net sees of the others.
 use Rattle.std.proofs.Common.{◌≡◌, inl, inr, ℕ, ◌+◌, ◌-◌, ◌<◌, ◌≤◌, ◌==◌, List, [], ◌∷◌, length, get_or, set, Option, Some, refl, sym, ap, ◌∙◌, arith, length-set, get_or-set_other}
-use Rattle.std.specs.Prelude.{take}
+use Rattle.std.specs.Prelude.{take, map}
 use Rattle.std.proofs.lemmas.Bool.{cases_eq, eq-eqb, ne_eqb}
 use Rattle.std.proofs.lemmas.Grind.{get_or-set_at}
 use Rattle.std.proofs.lemmas.List.Sums.{sum_by-cons}
-use Rattle.node_cost.specs.Views.{Seen, others_in, history_in}
+use Rattle.node_cost.specs.Views.{NodeView, others_in, history_in, NetView}
 use Rattle.node_cost.proofs.Views.{length_seen, others_at, history_at}
 use Rattle.std.specs.List.{zip}
 use Rattle.rr_graph.specs.Problems.{RoutingProblem}
 use Rattle.route_tree.specs.Paths.{Pair}
 use Rattle.route_tree.specs.Faults.{IsRoute}
-use Rattle.route_tree.specs.Rows.{pairs_of, IsTree}
+use Rattle.route_tree.specs.Rows.{pairs_of, IsTree, no_row}
 use Rattle.route_tree.specs.declared.tree.Row.{Row}
-use Rattle.route_tree.specs.Rows.{no_row}
-use Rattle.route_tree.specs.Marked.{nodes_of}
+use Rattle.route_tree.specs.kept.Marked.{nodes_of}
 use Rattle.congestion_book.specs.Turns.{one_if}
-use Rattle.congestion_book.specs.Usage.{times_in}
-use Rattle.congestion_book.specs.Views.{LeavesOut, LeavesNet, SeesOthers}
+use Rattle.congestion_book.specs.kept.Usage.{times_in}
+use Rattle.congestion_book.specs.kept.Views.{LeavesOut, LeavesNet, SeesOthers}
 use Rattle.congestion_book.proofs.Covering.{use_is}
-use Rattle.std.specs.Prelude.{map}
 use Rattle.std.proofs.lemmas.List.{same_lists, get_or_default}
 use Rattle.rr_graph.specs.Fabric.{numbers_below}
 use Rattle.rr_graph.proofs.Ranges.{length_below, get_below}
-use Rattle.route_tree.specs.Usage.{use_by_others}
+use Rattle.route_tree.specs.Usage.{use_by_others, list_in}
 use Rattle.route_tree.proofs.Uses.{others_and_own}
-use Rattle.congestion_book.specs.Recorded.{list_in}
 use Rattle.congestion_book.specs.Histories.{history_of}
 use Rattle.congestion_book.specs.Contents.{Content, IsSound, net_count, node_total, view_of}
 use Rattle.congestion_book.proofs.Counting.{next, times_next, times_within}
 
-pub leaves_one : (old new : List Seen) (id : ℕ) → id < length old → 1 ≤ others_in old id →
+pub leaves_one : (old new : NetView) (id : ℕ) → id < length old → 1 ≤ others_in old id →
     new ≡ set old id (others_in old id - 1, history_in old id) → LeavesOut (id ∷ []) old new
 leaves_one old new id low used is =
-    let seen : Seen = (others_in old id - 1, history_in old id) in
+    let seen : NodeView = (others_in old id - 1, history_in old id) in
     record {
       size = ap length is ∙ length-set old id seen;
       others = λ a.
@@ -40,30 +37,30 @@ leaves_one old new id low used is =
           let same : others_in new a ≡ others_in (set old id seen) a = ap (λ v. others_in v a) is in
           elim (cases_eq a id) [
             | inl e ↦
-                let at : others_in (set old id seen) a ≡ others_in old id - 1 = ap (λ (s : Seen). s.0) (get_or-set_at old id a seen (0, 0) e low) in
+                let at : others_in (set old id seen) a ≡ others_in old id - 1 = ap (λ (s : NodeView). s.0) (get_or-set_at old id a seen (0, 0) e low) in
                 let before : others_in old a ≡ others_in old id = ap (others_in old) e in
                 let one : one_if (id == a) ≡ 1 = ap one_if (eq-eqb id a (sym e)) in
                 omega (arith, last, same, at, before, one, used)
             | inr apart ↦
-                let kept : others_in (set old id seen) a ≡ others_in old a = ap (λ (s : Seen). s.0) (get_or-set_other old id a seen (0, 0) apart) in
+                let kept : others_in (set old id seen) a ≡ others_in old a = ap (λ (s : NodeView). s.0) (get_or-set_other old id a seen (0, 0) apart) in
                 let none : one_if (id == a) ≡ 0 = ap one_if (ne_eqb id a (λ e. apart (sym e))) in
                 omega (arith, last, same, kept, none)
           ];
       histories = λ a. ap (λ v. history_in v a) is ∙ elim (cases_eq a id) [
-        | inl e ↦ ap (λ (s : Seen). s.1) (get_or-set_at old id a seen (0, 0) e low) ∙ ap (history_in old) (sym e)
-        | inr apart ↦ ap (λ (s : Seen). s.1) (get_or-set_other old id a seen (0, 0) apart)
+        | inl e ↦ ap (λ (s : NodeView). s.1) (get_or-set_at old id a seen (0, 0) e low) ∙ ap (history_in old) (sym e)
+        | inr apart ↦ ap (λ (s : NodeView). s.1) (get_or-set_other old id a seen (0, 0) apart)
       ];
     }
 
 -- the next node of a tree is used by a net
-pub used_next : (old now : List Seen) (rows : List Row) (k : ℕ) → k < length rows → LeavesOut (nodes_of (take k rows)) old now →
+pub used_next : (old now : NetView) (rows : List Row) (k : ℕ) → k < length rows → LeavesOut (nodes_of (take k rows)) old now →
     ((a : ℕ) → times_in (nodes_of rows) a ≤ others_in old a) → 1 ≤ others_in now (get_or rows k no_row).node
 used_next old now rows k low so_far used =
     let a = next rows k low in
     let here : one_if (a == a) ≡ 1 = ap one_if (eq-eqb a a refl) in
     omega (arith, here, so_far.others a, used a, times_next rows k low a, times_within (k + 1) rows a)
 
-pub leaves_net : (p : RoutingProblem) (i : ℕ) (rows : List Row) (tree : IsTree rows) (route : IsRoute p i (pairs_of rows)) (old new : List Seen) →
+pub leaves_net : (p : RoutingProblem) (i : ℕ) (rows : List Row) (tree : IsTree rows) (route : IsRoute p i (pairs_of rows)) (old new : NetView) →
     LeavesOut (nodes_of rows) old new → LeavesNet p i (Some (pairs_of rows)) old new
 leaves_net p i rows tree route old new leaves = record {
   size = leaves.size;
@@ -72,7 +69,7 @@ leaves_net p i rows tree route old new leaves = record {
 }
 
 -- what a view shows of counts and histories, when the net is left out
-pub sees_others : (p : RoutingProblem) (i : ℕ) (list : Option (List Pair)) (counts histories : List ℕ) (shown view : List Seen) →
+pub sees_others : (p : RoutingProblem) (i : ℕ) (list : Option (List Pair)) (counts histories : List ℕ) (shown view : NetView) →
     length histories ≡ length counts → shown ≡ zip counts histories → LeavesNet p i list shown view → SeesOthers p i list counts histories view
 sees_others p i list counts histories shown view same is leaves = record {
   size = leaves.size ∙ (ap length is ∙ length_seen counts histories same);
@@ -85,8 +82,8 @@ used_there counts histories a same = others_at counts histories a same
 
 -- ---- the view of a sound book
 module _ (c : Content) (sound : IsSound c) (i : ℕ) (low : i < net_count c)
-    (view : List Seen) (sees : SeesOthers c.problem i (list_in c.lists i) c.occupancies c.histories view) where
-  abbrev shown : ℕ → Seen
+    (view : NetView) (sees : SeesOthers c.problem i (list_in c.lists i) c.occupancies c.histories view) where
+  abbrev shown : ℕ → NodeView
   shown a = (use_by_others c.problem.nets c.lists i a, history_of c.acc c.rows a)
 
   seen_at : (a : ℕ) → a < node_total c → get_or view a (0, 0) ≡ shown a

@@ -10,23 +10,25 @@ use Rattle.std.proofs.lemmas.Bool.Decides.{nat_tests}
 use Rattle.rr_graph.specs.Nodes.{node_count_of}
 use Rattle.route_tree.specs.TreeLists.{lists_of_trees}
 use Rattle.congestion_book.specs.declared.turn.Turn.{Turn}
-use Rattle.congestion_book.specs.Turns.{TurnTable, AreInOrder, NameEachOnce, IsFirstWaiting, no_turns, table_closed, turns_at, one_if}
-use Rattle.congestion_book.specs.Recorded.{AreRecorded}
-use Rattle.congestion_book.specs.Histories.{Amount, HistoryTable, AreHistories, IsRow, histories_of, row_of}
+use Rattle.congestion_book.specs.Turns.{TurnTable, AreInOrder, NameEachOnce, IsFirstWaiting, turns_at, one_if}
+use Rattle.congestion_book.specs.kept.TurnTables.{first_table, table_closed}
+use Rattle.congestion_book.specs.kept.Counts.{AreRecorded}
+use Rattle.congestion_book.specs.Histories.{Amount, IsRow, histories_of, row_of}
+use Rattle.congestion_book.specs.kept.HistoryTables.{HistoryTable, AreHistories}
 use Rattle.congestion_book.specs.Contents.{Content, IsSound, IsFresh, opening, table_in}
 use Rattle.congestion_book.specs.Steps.{after_close}
 use Rattle.congestion_book.specs.declared.book.Book.TheInside.{Inside}
 use Rattle.std.specs.Arc.{arc_value}
 use Rattle.congestion_book.specs.declared.book.NextIteration.{NextIteration}
-use Rattle.congestion_book.specs.Closing.{IsNext}
-use Rattle.congestion_book.specs.Fields.{content_of, IsKept}
+use Rattle.congestion_book.specs.kept.Closing.{IsNext}
+use Rattle.congestion_book.specs.kept.Fields.{content_of, IsBookInside}
 use Rattle.congestion_book.proofs.Turning.{none_held, close_in_order}
 use Rattle.congestion_book.proofs.Recording.{none_listed}
 use Rattle.congestion_book.proofs.Counting.{zeros}
 use Rattle.congestion_book.proofs.Growing.{none_yet, histories_are}
 use Rattle.congestion_book.proofs.Rows.{row_formed}
 
-pub none_in_order : (nets : ℕ) → AreInOrder (no_turns nets)
+pub none_in_order : (nets : ℕ) → AreInOrder (first_table nets)
 none_in_order nets = record {
   drawn = omega arith;
   once = λ i. rw (none_held nets i) (grind (arith, nat_tests));
@@ -68,7 +70,7 @@ pub fresh_turns : (c : Content) → IsSound c → IsFresh c → c.turns ≡ []
 fresh_turns c sound none = no_turn c.turns (λ i. undrawn (table_in c) i sound.order none)
 
 -- what is counted of the recorded trees
-pub recorded : (b : Inside) → IsKept b →
+pub recorded : (b : Inside) → IsBookInside b →
     AreRecorded b.problem (lists_of_trees b.routes.trees.items) b.routes.usage.counts b.routes.usage.overused b.routes.unrouted
 recorded b kept = record {
   one_each = kept.sound.one_each;
@@ -83,7 +85,7 @@ recorded b kept = record {
 pub kept_by : (b : Inside) → AreRecorded b.problem (lists_of_trees b.routes.trees.items) b.routes.usage.counts b.routes.usage.overused b.routes.unrouted →
     length b.history.histories ≡ node_count_of b.problem.device → AreHistories b.history.acc b.history.rows b.history.histories →
     length b.turns.holders ≡ length b.problem.nets → AreInOrder b.turns → length b.history.rows ≡ length b.turns.earlier → length b.history.rows ≤ 500 →
-    All (IsRow (node_count_of b.problem.device) (length b.problem.nets)) b.history.rows → b.marks ≡ node_count_of b.problem.device → IsKept b
+    All (IsRow (node_count_of b.problem.device) (length b.problem.nets)) b.history.rows → b.marks ≡ node_count_of b.problem.device → IsBookInside b
 kept_by b rec size exact held order rows few formed marks = record {
   sound = record {
     one_each = rec.one_each;
@@ -106,7 +108,7 @@ kept_by b rec size exact held order rows few formed marks = record {
 pub new_kept : (b : Inside) (acc nodes nets : ℕ) →
     AreRecorded b.problem (lists_of_trees b.routes.trees.items) b.routes.usage.counts b.routes.usage.overused b.routes.unrouted →
     nodes ≡ node_count_of b.problem.device → nets ≡ length b.problem.nets →
-    b.history ≡ record { acc = acc; rows = []; histories = replicate nodes 0 } → b.turns ≡ no_turns nets → b.marks ≡ node_count_of b.problem.device → IsKept b
+    b.history ≡ record { acc = acc; rows = []; histories = replicate nodes 0 } → b.turns ≡ first_table nets → b.marks ≡ node_count_of b.problem.device → IsBookInside b
 new_kept b acc nodes nets rec is_nodes is_nets history turns marks =
     let rows : length b.history.rows ≡ 0 = ap (λ (h : HistoryTable). length h.rows) history in
     let earlier : length b.turns.earlier ≡ 0 = ap (λ (t : TurnTable). length t.earlier) turns in
@@ -122,14 +124,14 @@ new_kept b acc nodes nets rec is_nodes is_nets history turns marks =
     (All-nil (IsRow (node_count_of b.problem.device) (length b.problem.nets))))
     marks
 
-pub done_there : (b : Inside) → IsKept b → IsFirstWaiting b.turns.turns (length b.problem.nets) None → IsFirstWaiting b.turns.turns (length b.turns.holders) None
+pub done_there : (b : Inside) → IsBookInside b → IsFirstWaiting b.turns.turns (length b.problem.nets) None → IsFirstWaiting b.turns.turns (length b.turns.holders) None
 done_there b kept done = subst (λ n. IsFirstWaiting b.turns.turns n None) (sym kept.sound.held) done
 
 -- the book after a close
-pub closed_kept : (b : Inside) (n : NextIteration) (h : HistoryTable) (t : TurnTable) → IsKept b → IsNext (content_of b) n →
+pub closed_kept : (b : Inside) (n : NextIteration) (h : HistoryTable) (t : TurnTable) → IsBookInside b → IsNext (content_of b) n →
     IsFirstWaiting b.turns.turns (length b.turns.holders) None → length b.history.rows < 500 →
     h ≡ record { acc = b.history.acc; rows = b.history.rows ++ n.row ∷ []; histories = arc_value n.histories } → t ≡ table_closed b.turns →
-    IsKept (record { problem = b.problem; routes = b.routes; history = h; turns = t; marks = b.marks })
+    IsBookInside (record { problem = b.problem; routes = b.routes; history = h; turns = t; marks = b.marks })
 closed_kept b n h t kept next done few history turns =
     let IsFormed = λ (row : List Amount). IsRow (node_count_of b.problem.device) (length b.problem.nets) row in
     let grown : HistoryTable = record { acc = b.history.acc; rows = b.history.rows ++ n.row ∷ []; histories = arc_value n.histories } in
@@ -148,7 +150,7 @@ closed_kept b n h t kept next done few history turns =
     kept.marks
 
 -- what a close makes of the content
-pub closed_is : (b : Inside) (n : NextIteration) (h : HistoryTable) (t : TurnTable) → IsKept b → IsNext (content_of b) n →
+pub closed_is : (b : Inside) (n : NextIteration) (h : HistoryTable) (t : TurnTable) → IsBookInside b → IsNext (content_of b) n →
     h ≡ record { acc = b.history.acc; rows = b.history.rows ++ n.row ∷ []; histories = arc_value n.histories } → t ≡ table_closed b.turns →
     content_of (record { problem = b.problem; routes = b.routes; history = h; turns = t; marks = b.marks }) ≡ after_close (content_of b)
 closed_is b n h t kept next history turns =

@@ -2,23 +2,25 @@
 use Rattle.std.proofs.Common.{◌≡◌, ℕ, ◌<◌, ◌≤◌, length, Option, Some, None, Bool, true, false, nat_le, if◌then◌else◌, Ok, refl, ap, subst, arith}
 use Rattle.rr_graph.specs.Nodes.{node_count_of}
 use Rattle.route_tree.specs.TreeLists.{lists_of_trees}
-use Rattle.congestion_book.specs.Turns.{TurnTable, GivesNet, IsFirstWaiting}
-use Rattle.congestion_book.specs.Recorded.{list_in}
-use Rattle.congestion_book.specs.Views.{SeesOthers}
+use Rattle.congestion_book.specs.Turns.{TurnTable, IsFirstWaiting}
+use Rattle.congestion_book.specs.kept.TurnTables.{GivesNet}
+use Rattle.route_tree.specs.Usage.{list_in}
+use Rattle.congestion_book.specs.kept.Views.{SeesOthers}
 use Rattle.congestion_book.specs.Contents.{Content}
-use Rattle.congestion_book.specs.Steps.{Seen, Draws}
-use Rattle.congestion_book.specs.Closing.{TellsClosing}
+use Rattle.congestion_book.specs.Steps.{Draws}
+use Rattle.node_cost.specs.Views.{NetView}
+use Rattle.congestion_book.specs.kept.Closing.{TellsClosing}
 use Rattle.congestion_book.specs.declared.faults.CloseFault.TheVariants.{Unfinished, Full}
 use Rattle.std.proofs.lemmas.Bool.Decides.{nat_tests}
 use Rattle.congestion_book.specs.declared.book.Book.TheInside.{Inside}
-use Rattle.congestion_book.specs.Fields.{content_of, IsKept}
+use Rattle.congestion_book.specs.kept.Fields.{content_of, IsBookInside}
 use Rattle.congestion_book.proofs.Seeing.{view_is}
 
 -- the content with other turns
 abbrev pub with_turns : Inside → TurnTable → Content
 with_turns b t = content_of (record { problem = b.problem; routes = b.routes; history = b.history; turns = t; marks = b.marks })
 
-pub draws_net : (b : Inside) (kept : IsKept b) (seen view : Seen) (worker net : ℕ) (t : TurnTable) → length seen ≡ node_count_of b.problem.device →
+pub draws_net : (b : Inside) (kept : IsBookInside b) (seen view : NetView) (worker net : ℕ) (t : TurnTable) → length seen ≡ node_count_of b.problem.device →
     GivesNet b.turns worker (Some net) t →
     SeesOthers b.problem net (list_in (lists_of_trees b.routes.trees.items) net) b.routes.usage.counts b.history.histories view →
     Draws (content_of b) seen worker (Ok (Some net)) (with_turns b t) view
@@ -32,7 +34,7 @@ draws_net b kept seen view worker net t size gives sees =
     )
 
 -- ---- a close
-module _ (b : Inside) (kept : IsKept b) where
+module _ (b : Inside) (kept : IsBookInside b) where
   waiting : (first : Option ℕ) → IsFirstWaiting b.turns.turns (length b.turns.holders) first → IsFirstWaiting b.turns.turns (length b.problem.nets) first
   waiting first w = subst (λ n. IsFirstWaiting b.turns.turns n first) kept.sound.held w
 

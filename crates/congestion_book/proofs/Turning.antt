@@ -9,8 +9,9 @@ use Rattle.std.proofs.lemmas.List.Elements.{All-append, All-cons, All-nil}
 use Rattle.std.specs.Prelude.{count_by, replicate}
 use Rattle.congestion_book.specs.declared.turn.Turn.{Turn}
 use Rattle.congestion_book.specs.declared.turns.Turns.TheInside.{Inside}
-use Rattle.congestion_book.specs.Fields.{table_of, AreTurns}
-use Rattle.congestion_book.specs.Turns.{TurnTable, AreInOrder, IsFirstWaiting, NameEachOnce, holder_in, turns_at, one_if, table_drawn, table_turned, table_closed, turn_of}
+use Rattle.congestion_book.specs.kept.Fields.{table_of, AreTurns}
+use Rattle.congestion_book.specs.Turns.{TurnTable, AreInOrder, IsFirstWaiting, NameEachOnce, holder_in, turns_at, one_if, turn_of}
+use Rattle.congestion_book.specs.kept.TurnTables.{table_drawn, table_turned, table_closed}
 
 -- how many are held after one entry changes
 pub count-set : (xs : List (Option ℕ)) (i : ℕ) (y : Option ℕ) → i < length xs →

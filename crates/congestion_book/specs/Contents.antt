@@ -3,10 +3,12 @@ use Rattle.std.specs.Prelude.{◌≡◌, ℕ, ◌-◌, ◌<◌, ◌≤◌, List,
 use Rattle.rr_graph.specs.Fabric.{numbers_below}
 use Rattle.rr_graph.specs.Nodes.{node_count_of}
 use Rattle.rr_graph.specs.Problems.{RoutingProblem}
-use Rattle.route_tree.specs.Usage.{use_of, use_by_others}
+use Rattle.route_tree.specs.Usage.{use_of, use_by_others, Lists}
+use Rattle.node_cost.specs.Options.{most_iterations}
+use Rattle.node_cost.specs.Views.{NetView}
 use Rattle.congestion_book.specs.declared.turn.Turn.{Turn}
 use Rattle.congestion_book.specs.Turns.{TurnTable, AreInOrder}
-use Rattle.congestion_book.specs.Recorded.{Lists, AreRoutes}
+use Rattle.congestion_book.specs.Recorded.{AreRoutes}
 use Rattle.congestion_book.specs.Histories.{Amount, IsRow, history_of}
 
 pub record Content : Type 0 where
@@ -54,14 +56,14 @@ pub record IsSound (c : Content) : Type 0 where
   pub order : AreInOrder (table_in c)
   -- there is a row for each closed iteration, and at most 500
   pub rows : length c.rows ≡ length c.earlier
-  pub few : length c.rows ≤ 500
+  pub few : length c.rows ≤ most_iterations
   pub formed : All (IsRow (node_total c) (net_count c)) c.rows
 
 -- nothing was drawn in the open iteration
 abbrev pub IsFresh : Content → Type 0
 IsFresh c = c.drawn ≡ 0
 
--- a book of which nothing is known yet
+-- a new book: no lists, no rows, nothing drawn
 abbrev pub opening : RoutingProblem → (acc : ℕ) → Content
 opening p acc = record {
   problem = p;
@@ -77,7 +79,7 @@ opening p acc = record {
 }
 
 -- What net i sees of the others: of each node how many other nets use it, and its history.
-unfoldable pub view_of : Content → ℕ → List (ℕ × ℕ)
+unfoldable pub view_of : Content → ℕ → NetView
 view_of c i = map (λ a. (use_by_others c.problem.nets c.lists i a, history_of c.acc c.rows a)) (numbers_below (node_total c))
 
 -- the turns of iteration k, counted from 1; the open one is the last

@@ -1,10 +1,7 @@
 pub mod Turns
-pub mod Usage
 pub mod Recorded
 pub mod Histories
-pub mod Views
 pub mod Contents
 pub mod Steps
-pub mod Fields
-pub mod Closing
 pub mod Runs
+pub mod kept

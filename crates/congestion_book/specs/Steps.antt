@@ -2,6 +2,8 @@
 use Rattle.std.specs.Prelude.{◌≡◌, ◌≢◌, ℕ, ◌+◌, ◌<◌, ◌≤◌, List, [], ◌∷◌, ◌++◌, length, set, replicate, Option, Some, None, is_none, Result, Ok, Err}
 use Rattle.route_tree.specs.Paths.{Pair}
 use Rattle.route_tree.specs.Faults.{IsRoute, IsFirstFault}
+use Rattle.node_cost.specs.Options.{most_iterations}
+use Rattle.node_cost.specs.Views.{NetView}
 use Rattle.congestion_book.specs.declared.faults.DrawFault.{DrawFault}
 use Rattle.congestion_book.specs.declared.faults.DrawFault.TheVariants.{ViewSize}
 use Rattle.congestion_book.specs.declared.faults.CommitFault.{CommitFault}
@@ -15,15 +17,11 @@ use Rattle.congestion_book.specs.Histories.{row_of, histories_of}
 use Rattle.congestion_book.specs.Recorded.{occupancies_of}
 use Rattle.congestion_book.specs.Contents.{Content, net_count, node_total, view_of}
 
--- of each node how many other nets use it, and its history
-abbrev pub Seen : Type 0
-Seen = List (ℕ × ℕ)
-
 -- the worker holds the least net that was not drawn
 abbrev pub after_draw : Content → (worker : ℕ) → Content
 after_draw c worker = record c { drawn = c.drawn + 1; holders = set c.holders c.drawn (Some worker) }
 
--- the net has this list, or none, its nodes are used so, nobody holds it, and the turn is noted
+-- the net has this list, or none, occupancies are those of the new lists, nobody holds it, and the turn is noted
 abbrev pub after_turn : Content → (worker net : ℕ) → Option (List Pair) → Content
 after_turn c worker net list =
     record c {
@@ -46,7 +44,7 @@ after_close c =
     }
 
 -- A draw gives the least net that was not drawn, and its view; none where all were drawn. A view of another size is refused first.
-abbrev pub Draws : Content → Seen → (worker : ℕ) → Result (Option ℕ) DrawFault → Content → Seen → Type 0
+abbrev pub Draws : Content → NetView → (worker : ℕ) → Result (Option ℕ) DrawFault → Content → NetView → Type 0
 Draws old seen worker (Err ViewSize) new sees = (length seen ≢ node_total old) × (new ≡ old) × (sees ≡ seen)
 Draws old seen worker (Ok None) new sees = (length seen ≡ node_total old) × (old.drawn ≡ net_count old) × (new ≡ old) × (sees ≡ seen)
 Draws old seen worker (Ok (Some net)) new sees =
@@ -56,7 +54,7 @@ Draws old seen worker (Ok (Some net)) new sees =
 abbrev pub MayCommit : Content → (worker net : ℕ) → List Pair → Type 0
 MayCommit c worker net pairs = (holder_in c.holders net ≡ Some worker) × IsRoute c.problem net pairs
 
--- A commit needs the worker's hold on the net, and then pairs that route it; else the first fault is told, and nothing changes.
+-- A commit needs the worker's hold on the net, and then pairs that route it; else the first fault is reported, and nothing changes.
 abbrev pub Commits : Content → (worker net : ℕ) → List Pair → Result (Unit {0}) CommitFault → Content → Type 0
 Commits old worker net pairs (Ok done) new =
     (holder_in old.holders net ≡ Some worker) × IsRoute old.problem net pairs × (new ≡ after_turn old worker net (Some pairs))
@@ -71,10 +69,10 @@ Passes old worker net (Err pass.NotHeld) new = (holder_in old.holders net ≢ So
 
 -- A close needs a turn at each net, then fewer than 500 rows, then memory.
 abbrev pub Closes : Content → Result (Unit {0}) CloseFault → Content → Type 0
-Closes old (Ok done) new = IsFirstWaiting old.turns (net_count old) None × (length old.rows < 500) × (new ≡ after_close old)
+Closes old (Ok done) new = IsFirstWaiting old.turns (net_count old) None × (length old.rows < most_iterations) × (new ≡ after_close old)
 Closes old (Err (Unfinished net)) new = IsFirstWaiting old.turns (net_count old) (Some net) × (new ≡ old)
-Closes old (Err Full) new = IsFirstWaiting old.turns (net_count old) None × (500 ≤ length old.rows) × (new ≡ old)
-Closes old (Err Memory) new = IsFirstWaiting old.turns (net_count old) None × (length old.rows < 500) × (new ≡ old)
+Closes old (Err Full) new = IsFirstWaiting old.turns (net_count old) None × (most_iterations ≤ length old.rows) × (new ≡ old)
+Closes old (Err Memory) new = IsFirstWaiting old.turns (net_count old) None × (length old.rows < most_iterations) × (new ≡ old)
 
 -- the answer of a commit without the tree that comes back
 abbrev pub fault_alone : {A B T : Type 0} → Result A (B × T) → Result A B

@@ -1,5 +1,5 @@
 -- Who holds which net, and who had its turn at it.
-use Rattle.std.specs.Prelude.{◌≡◌, ℕ, ◌+◌, ◌<◌, ◌≤◌, ◌==◌, nat_lt, Bool, if◌then◌else◌, List, [], ◌∷◌, ◌++◌, length, get_or, set, replicate, Option, Some, None, is_some, count_by, All}
+use Rattle.std.specs.Prelude.{◌≡◌, ℕ, ◌+◌, ◌<◌, ◌≤◌, ◌==◌, nat_lt, Bool, if◌then◌else◌, List, length, get_or, Option, Some, None, is_some, count_by, All}
 use Rattle.congestion_book.specs.declared.turn.Turn.{Turn}
 
 -- the worker that holds net i
@@ -31,32 +31,8 @@ pub record AreInOrder (t : TurnTable) : Type 0 where
   pub once : (i : ℕ) → one_if (is_some (holder_in t.holders i)) + turns_at t.turns i ≡ one_if (nat_lt i t.drawn)
   pub closed : All (NameEachOnce (length t.holders)) t.earlier
 
-abbrev pub no_turns : (nets : ℕ) → TurnTable
-no_turns nets = record { drawn = 0; holders = replicate nets None; turns = []; earlier = [] }
-
-abbrev pub table_drawn : TurnTable → (worker : ℕ) → TurnTable
-table_drawn t worker = record t { drawn = t.drawn + 1; holders = set t.holders t.drawn (Some worker) }
-
 abbrev pub turn_of : (worker net : ℕ) → (passed : Bool) → Turn
 turn_of worker net passed = record { worker = worker; net = net; passed = passed }
-
-abbrev pub table_turned : TurnTable → (worker net : ℕ) → (passed : Bool) → TurnTable
-table_turned t worker net passed =
-    record t { holders = set t.holders net None; turns = t.turns ++ turn_of worker net passed ∷ [] }
-
-abbrev pub table_closed : TurnTable → TurnTable
-table_closed t =
-    record {
-      drawn = 0;
-      holders = replicate (length t.holders) None;
-      turns = [];
-      earlier = t.earlier ++ t.turns ∷ [];
-    }
-
--- The worker gets the least net that was not drawn, or none where all were.
-abbrev pub GivesNet : TurnTable → (worker : ℕ) → Option ℕ → TurnTable → Type 0
-GivesNet old worker None new = (old.drawn ≡ length old.holders) × (new ≡ old)
-GivesNet old worker (Some i) new = (i ≡ old.drawn) × (i < length old.holders) × (new ≡ table_drawn old worker)
 
 -- each net had its turn, or this is the least one that had none
 abbrev pub IsFirstWaiting : List Turn → (nets : ℕ) → Option ℕ → Type 0

@@ -3,11 +3,12 @@
 ghost use Rattle.std.specs.Prelude.{◌≡◌, ◌==◌, ◌<◌, ◌≤◌, ◌↔◌, if◌then◌else◌, nat_le, length, Some, None, IsOk, IfOk, IfErr};
 ghost use Rattle.route_tree.specs.Rows.{pairs_of};
 ghost use Rattle.route_tree.specs.TreeLists.{list_of_tree};
+ghost use Rattle.node_cost.specs.Options.{most_iterations};
 ghost use Rattle.congestion_book.specs.Turns.{holder_in, IsFirstWaiting};
-ghost use Rattle.congestion_book.specs.Recorded.{RoutesOrNone};
+ghost use Rattle.congestion_book.specs.kept.Counts.{RoutesOrNone};
 ghost use Rattle.congestion_book.specs.Contents.{opening, net_count};
 ghost use Rattle.congestion_book.specs.Steps.{Draws, MayCommit, Commits, Passes, Closes, fault_alone, after_turn, after_close};
-ghost use Rattle.congestion_book.specs.Closing.{TellsClosing, IsNext};
+ghost use Rattle.congestion_book.specs.kept.Closing.{TellsClosing, IsNext};
 
 use crate::faults::{CloseFault, CommitFault, DrawFault, PassFault};
 use crate::history::{History, OveruseRow};
@@ -37,11 +38,11 @@ impl Model for Book {
 
     ghost Value = { Content };
 
-    ghost use Rattle.congestion_book.specs.Fields.{content_of, IsKept};
+    ghost use Rattle.congestion_book.specs.kept.Fields.{content_of, IsBookInside};
 
     ghost view = { content_of };
 
-    ghost invariant = { IsKept };
+    ghost invariant = { IsBookInside };
 }
 
 /// What the next iteration needs: the row of the open one, the histories with it, and room for the turns.
@@ -167,7 +168,7 @@ impl Book {
 
     /// What the next iteration needs.
     fn make_next(&self, alloc: Global) -> Result<NextIteration, AllocError>
-        requires { length self.now.rows < 500 }
+        requires { length self.now.rows < most_iterations }
         ensures { IfOk result (IsNext self.now) }
     {
         let row = self.routes.row(alloc, &self.problem)?;
@@ -183,7 +184,7 @@ impl Book {
     /// Opens the next iteration.
     fn open_next(&mut self, next: NextIteration)
         requires done { IsFirstWaiting self.old.turns (net_count self.old) None }
-        requires few { length self.old.rows < 500 }
+        requires few { length self.old.rows < most_iterations }
         requires next { IsNext self.old next }
         ensures { self.new ≡ after_close self.old }
     {

@@ -2,7 +2,9 @@
 
 ghost use Rattle.std.specs.Prelude.{◌≡◌, ◌<◌, ◌≤◌, ◌+◌, ◌*◌, ◌^◌, ◌++◌, ◌∷◌, [], ℕ, All, length, get_or, replicate, map, IfOk};
 ghost use Rattle.std.specs.Arc.{arc_value};
-ghost use Rattle.congestion_book.specs.Histories.{HistoryTable, AreHistories, GrowsByRow, amount_in};
+ghost use Rattle.node_cost.specs.Options.{most_iterations};
+ghost use Rattle.congestion_book.specs.Histories.{amount_in};
+ghost use Rattle.congestion_book.specs.kept.HistoryTables.{HistoryTable, AreHistories, GrowsByRow};
 
 use crate::turns::MOST_ITERATIONS;
 use node_cost::Histories;
@@ -34,11 +36,11 @@ pub(crate) struct History {
 }
 
 impl Model for History {
-    ghost use Rattle.congestion_book.specs.Histories.{HistoryTable};
+    ghost use Rattle.congestion_book.specs.kept.HistoryTables.{HistoryTable};
 
     ghost Value = { HistoryTable };
 
-    ghost use Rattle.congestion_book.specs.Fields.{history_table, IsHistory};
+    ghost use Rattle.congestion_book.specs.kept.Fields.{history_table, IsHistory};
 
     ghost view = { history_table };
 
@@ -88,7 +90,7 @@ impl History {
         alloc: Global,
         row: &[(u32, u32)],
     ) -> Result<Arc<Histories, Global>, AllocError>
-        requires few { length self.now.rows < 500 }
+        requires few { length self.now.rows < most_iterations }
         requires there { All (λ e. e.0 < length self.now.histories) row.now }
         requires bounded { (a : ℕ) → amount_in row.now a ≤ 65535 }
         ensures size { IfOk result (λ h. length (arc_value h) ≡ length self.now.histories) }
@@ -102,7 +104,7 @@ impl History {
 
     /// Has one more row, and the histories that follow.
     pub(crate) fn append(&mut self, row: OveruseRow, histories: Arc<Histories, Global>)
-        requires few { length self.old.rows < 500 }
+        requires few { length self.old.rows < most_iterations }
         requires bounded { (a : ℕ) → amount_in row a ≤ 65535 }
         requires size { length (arc_value histories) ≡ length self.old.histories }
         requires exact { AreHistories self.old.acc (self.old.rows ++ row ∷ [])
@@ -128,7 +130,7 @@ impl History {
     /// The rows, the earliest first.
     pub(crate) fn rows(&self) -> &[OveruseRow]
         ensures rows { result.now ≡ self.now.rows }
-        ensures few { length self.now.rows ≤ 500 }
+        ensures few { length self.now.rows ≤ most_iterations }
     {
         &self.rows
     }

@@ -3,8 +3,9 @@
 ghost use Rattle.std.specs.Prelude.{◌≡◌, ◌↔◌, ◌+◌, ◌^◌, ◌<◌, ◌≤◌, true, length, get_or, Some, None, MatchOption};
 ghost use Rattle.route_tree.specs.Rows.{pairs_of};
 ghost use Rattle.route_tree.specs.Faults.{IsRoute};
-ghost use Rattle.route_tree.specs.Usage.{use_of};
-ghost use Rattle.congestion_book.specs.Recorded.{list_in, unrouted_in, overused_in};
+ghost use Rattle.route_tree.specs.Usage.{use_of, list_in};
+ghost use Rattle.node_cost.specs.Options.{most_iterations};
+ghost use Rattle.congestion_book.specs.Recorded.{unrouted_in, overused_in};
 ghost use Rattle.congestion_book.specs.Histories.{history_of};
 ghost use Rattle.congestion_book.specs.Contents.{IsSound, IsFresh, node_total, turns_of};
 
@@ -58,7 +59,7 @@ impl Book {
     /// The rows of the closed iterations, the earliest first: of each its overused nodes, ascending, with by how many nets.
     pub fn rows(&self) -> &[OveruseRow]
         ensures exact { result.now ≡ self.now.rows }
-        ensures few { length self.now.rows ≤ 500 }
+        ensures few { length self.now.rows ≤ most_iterations }
     {
         self.history.rows()
     }

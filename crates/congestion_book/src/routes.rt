@@ -3,17 +3,18 @@
 ghost use Rattle.std.specs.Prelude.{◌≡◌, ◌<◌, ◌≤◌, ◌+◌, ℕ, All, length, get_or, set, replicate, Some, None, is_none, IfOk};
 ghost use Rattle.std.specs.Arc.{arc_value};
 ghost use Rattle.congestion_book.specs.Histories.{amount_in, row_of};
-ghost use Rattle.congestion_book.specs.Views.{SeesOthers};
+ghost use Rattle.congestion_book.specs.kept.Views.{SeesOthers};
 ghost use Rattle.rr_graph.specs.Nodes.{node_count_of};
 ghost use Rattle.rr_graph.specs.Problems.{net_in};
 ghost use Rattle.route_tree.specs.Faults.{IsRoute};
 ghost use Rattle.route_tree.specs.Rows.{pairs_of, IsTree};
-ghost use Rattle.route_tree.specs.Usage.{use_by};
+ghost use Rattle.route_tree.specs.Usage.{use_by, list_in};
 ghost use Rattle.route_tree.specs.TreeLists.{list_of_tree};
-ghost use Rattle.congestion_book.specs.Fields.{AreExact, lists_kept};
+ghost use Rattle.congestion_book.specs.kept.Fields.{AreExact, lists_kept};
 ghost use Rattle.congestion_book.specs.Turns.{one_if};
-ghost use Rattle.congestion_book.specs.Usage.{overused_by};
-ghost use Rattle.congestion_book.specs.Recorded.{list_in, occupancies_of, RoutesOrNone, HasRoom, HasRoomInPlace, IsCounted, GainsNet, LosesNet, ChangesNet};
+ghost use Rattle.congestion_book.specs.kept.Usage.{overused_by};
+ghost use Rattle.congestion_book.specs.Recorded.{occupancies_of};
+ghost use Rattle.congestion_book.specs.kept.Counts.{RoutesOrNone, HasRoom, HasRoomInPlace, IsCounted, GainsNet, LosesNet, ChangesNet};
 
 use crate::history::OveruseRow;
 use crate::showing::show;

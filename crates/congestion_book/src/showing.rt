@@ -5,14 +5,14 @@ ghost use Rattle.std.specs.Arc.{arc_value};
 ghost use Rattle.rr_graph.specs.Nodes.{node_count_of};
 ghost use Rattle.rr_graph.specs.Problems.{net_in};
 ghost use Rattle.node_cost.specs.Views.{others_in};
-ghost use Rattle.route_tree.specs.Marked.{nodes_of};
+ghost use Rattle.route_tree.specs.kept.Marked.{nodes_of};
 ghost use Rattle.route_tree.specs.Faults.{IsRoute};
 ghost use Rattle.route_tree.specs.Rows.{pairs_of, IsTree};
 ghost use Rattle.route_tree.specs.TreeLists.{list_of_tree};
 ghost use Rattle.route_tree.specs.Usage.{use_by};
-ghost use Rattle.congestion_book.specs.Recorded.{RoutesOrNone, IsCounted};
-ghost use Rattle.congestion_book.specs.Usage.{times_in};
-ghost use Rattle.congestion_book.specs.Views.{IsShown, LeavesOut, LeavesNet, SeesOthers};
+ghost use Rattle.congestion_book.specs.kept.Counts.{RoutesOrNone, IsCounted};
+ghost use Rattle.congestion_book.specs.kept.Usage.{times_in};
+ghost use Rattle.congestion_book.specs.kept.Views.{IsShown, LeavesOut, LeavesNet, SeesOthers};
 
 use node_cost::{Counts, Histories, View};
 use route_tree::{Row, Tree};

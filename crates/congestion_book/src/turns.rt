@@ -1,7 +1,9 @@
 //! Who holds which net, and who had its turn at it.
 
 ghost use Rattle.std.specs.Prelude.{◌≡◌, ◌<◌, ◌≤◌, ◌↔◌, ◌==◌, [], length, get_or, replicate, Some, None, is_some, true, IfOk, vec_capacity};
-ghost use Rattle.congestion_book.specs.Turns.{TurnTable, AreInOrder, holder_in, no_turns, table_turned, table_closed, GivesNet, IsFirstWaiting};
+ghost use Rattle.node_cost.specs.Options.{most_iterations};
+ghost use Rattle.congestion_book.specs.Turns.{TurnTable, AreInOrder, holder_in, IsFirstWaiting};
+ghost use Rattle.congestion_book.specs.kept.TurnTables.{first_table, table_turned, table_closed, GivesNet};
 
 use crate::turn::Turn;
 use std::alloc::{AllocError, Global};
@@ -40,7 +42,7 @@ impl Model for Turns {
 
     ghost Value = { TurnTable };
 
-    ghost use Rattle.congestion_book.specs.Fields.{table_of, AreTurns};
+    ghost use Rattle.congestion_book.specs.kept.Fields.{table_of, AreTurns};
 
     ghost view = { table_of };
 
@@ -58,7 +60,7 @@ impl Turns {
     /// No turns at so many nets.
     pub(crate) fn new(alloc: Global, nets: u32) -> Result<Turns, AllocError>
         requires { nets ≤ 65535 }
-        ensures { IfOk result (λ t. t ≡ no_turns nets) }
+        ensures { IfOk result (λ t. t ≡ first_table nets) }
     {
         let holders = vec![in alloc; None; nets as usize]?;
         let made = Vec::with_capacity(alloc, nets as usize)?;
@@ -129,7 +131,7 @@ impl Turns {
     /// Opens the next iteration, where each net had its turn in this one.
     pub(crate) fn open_next(&mut self, made: Vec<Turn>)
         requires done { IsFirstWaiting self.old.turns (length self.old.holders) None }
-        requires few { length self.old.earlier < 500 }
+        requires few { length self.old.earlier < most_iterations }
         requires none { made.items ≡ [] }
         requires room { length self.old.holders ≤ vec_capacity made }
         ensures { self.new ≡ table_closed self.old }

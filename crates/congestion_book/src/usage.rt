@@ -3,10 +3,10 @@
 ghost use Rattle.std.specs.Prelude.{◌≡◌, ◌≤◌, ◌<◌, ◌+◌, ◌-◌, ◌==◌, ◌++◌, ℕ, All, OnOk, length, get_or, set, replicate, IfOk};
 ghost use Rattle.rr_graph.specs.Fabric.{IsFabric};
 ghost use Rattle.rr_graph.specs.Nodes.{node_at, node_count_of};
-ghost use Rattle.route_tree.specs.Marked.{nodes_of};
+ghost use Rattle.route_tree.specs.kept.Marked.{nodes_of};
 ghost use Rattle.route_tree.specs.Usage.{room_of};
 ghost use Rattle.congestion_book.specs.Turns.{one_if};
-ghost use Rattle.congestion_book.specs.Usage.{overused_by, excess_of, row_by, entry_of, times_in, AddsEach, TakesEach};
+ghost use Rattle.congestion_book.specs.kept.Usage.{overused_by, excess_of, row_by, entry_of, times_in, AddsEach, TakesEach};
 
 use node_cost::Counts;
 use route_tree::Row;

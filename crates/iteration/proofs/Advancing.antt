@@ -5,17 +5,17 @@ use Rattle.rr_graph.specs.Problems.{RoutingProblem}
 use Rattle.node_cost.specs.Options.{RouterOptions, present_of}
 use Rattle.congestion_book.specs.declared.turn.Turn.{Turn}
 use Rattle.congestion_book.specs.Turns.{NameEachOnce, IsFirstWaiting}
-use Rattle.congestion_book.specs.Recorded.{list_in}
+use Rattle.route_tree.specs.Usage.{list_in, Lists}
 use Rattle.congestion_book.specs.Histories.{row_of}
 use Rattle.congestion_book.specs.Contents.{Content, IsSound, IsFresh, opening}
 use Rattle.congestion_book.proofs.Soundness.{opening_sound}
 use Rattle.net_workers.specs.Searches.{IsStuckNet}
 use Rattle.net_workers.proofs.Reports.{stuck_net}
-use Rattle.route_check.specs.Routed.{Lists, IsRouted}
+use Rattle.route_check.specs.Routed.{IsRouted}
 use Rattle.iteration.specs.declared.outcome.Outcome.{Outcome}
 use Rattle.iteration.specs.declared.outcome.Outcome.TheVariants.{Success, NotRouted}
-use Rattle.iteration.specs.Progress.{Standing, IsIteration, Follows, IsReached, begun, followed, goes_on, unrouted_of, overused_of}
-use Rattle.iteration.specs.Outcomes.{Tells, Ends, IsBookAfter, IsOutcome}
+use Rattle.iteration.specs.Progress.{NegotiationState, IsIteration, IsNextState, IsReached, begun, followed, goes_on, unrouted_of, overused_of}
+use Rattle.iteration.specs.Outcomes.{IsOutcomeOf, EndsNegotiation, IsBookAfter, IsOutcome}
 use Rattle.iteration.proofs.Successes.{routed_by}
 
 pub fresh_opening : (c : Content) (p : RoutingProblem) (acc : ℕ) → c ≡ opening p acc → IsFresh c
@@ -49,7 +49,7 @@ module _ (o : RouterOptions) (crew : ℕ) (old new : Content) (made : IsIteratio
   pub rows_after : length new.rows ≡ length old.rows + 1
   rows_after = ap length row_after ∙ length-append old.rows (row_of old.problem new.lists ∷ [])
 
-  -- what has no tree behind it is stuck in it
+  -- what has no tree after it is stuck in it
   stuck_after : (i : ℕ) → i < length old.problem.nets → list_in new.lists i ≡ None → IsStuckNet old (present_of o (length old.rows + 1)) o.bb i
   stuck_after i low none =
       let nets : length made.between.problem.nets ≡ length old.problem.nets = ap (λ (q : RoutingProblem). length q.nets) made.agrees.within.problem in
@@ -58,7 +58,7 @@ module _ (o : RouterOptions) (crew : ℕ) (old new : Content) (made : IsIteratio
 
 -- ---- where a negotiation may stand
 module _ (p : RoutingProblem) (o : RouterOptions) (workers : ℕ) where
-  pub book_reached : (s : Standing) → IsReached p o workers s → IsBookAfter p o (length s.book.rows) s.book
+  pub book_reached : (s : NegotiationState) → IsReached p o workers s → IsBookAfter p o (length s.book.rows) s.book
   book_reached _ begun = record { problem = refl; acc = refl; rows = refl }
   book_reached _ (followed old new reached on follows) =
       let before = book_reached old reached in
@@ -68,31 +68,31 @@ module _ (p : RoutingProblem) (o : RouterOptions) (workers : ℕ) where
         rows = refl;
       }
 
-  sound_reached : (s : Standing) → IsReached p o workers s → IsSound s.book
+  sound_reached : (s : NegotiationState) → IsReached p o workers s → IsSound s.book
   sound_reached _ begun = opening_sound p o.acc
   sound_reached _ (followed old new reached on follows) = follows.made.sound
 
   few_more : (rows u v : ℕ) → (rows == 0 || ((u == 0) && nat_lt 0 v && nat_lt rows o.iterations)) ≡ true → 1 ≤ o.iterations → rows < o.iterations
   few_more rows u v on some = grind (arith, nat_tests)
 
-  pub few_rows : (s : Standing) → 1 ≤ o.iterations → goes_on o s.book ≡ true → length s.book.rows < o.iterations
+  pub few_rows : (s : NegotiationState) → 1 ≤ o.iterations → goes_on o s.book ≡ true → length s.book.rows < o.iterations
   few_rows s some on = few_more (length s.book.rows) (unrouted_of s.book) (overused_of s.book) on some
 
   early_end : (rows u v : ℕ) → (rows == 0 || ((u == 0) && nat_lt 0 v && nat_lt rows o.iterations)) ≡ false → 1 ≤ u + v → rows < o.iterations → 1 ≤ u
   early_end rows u v ended some low = grind (arith, nat_tests)
 
   -- the last iteration of a negotiation that ended
-  record LastOf (s : Standing) : Type 0 where
-    before : Standing
+  record LastOf (s : NegotiationState) : Type 0 where
+    before : NegotiationState
     reached : IsReached p o workers before
     on : goes_on o before.book ≡ true
-    follows : Follows o workers before s
+    follows : IsNextState o workers before s
 
-  last_of : (s : Standing) → IsReached p o workers s → goes_on o s.book ≡ false → LastOf s
+  last_of : (s : NegotiationState) → IsReached p o workers s → goes_on o s.book ≡ false → LastOf s
   last_of _ begun ended = cc
   last_of _ (followed old new reached on follows) ended = record { before = old; reached = reached; on = on; follows = follows }
 
-  module _ (some : 1 ≤ o.iterations) (s : Standing) (reached : IsReached p o workers s) (ended : goes_on o s.book ≡ false) where
+  module _ (some : 1 ≤ o.iterations) (s : NegotiationState) (reached : IsReached p o workers s) (ended : goes_on o s.book ≡ false) where
     last : LastOf s
     last = last_of s reached ended
 
@@ -102,45 +102,45 @@ module _ (p : RoutingProblem) (o : RouterOptions) (workers : ℕ) where
     within : length s.book.rows ≤ o.iterations
     within = omega (arith, more_rows, few_rows last.before some last.on)
 
-    routes : (lists : Lists) (k : ℕ) → Tells s.book (Success lists k) → IsOutcome p o (Success lists k)
-    routes lists k told =
-        let routed = routed_by s.book last.follows.made.sound told.2 told.3 in
+    routes : (lists : Lists) (k : ℕ) → IsOutcomeOf s.book (Success lists k) → IsOutcome p o (Success lists k)
+    routes lists k reported =
+        let routed = routed_by s.book last.follows.made.sound reported.2 reported.3 in
         let is = book_reached s reached in (
-          subst (λ ls. IsRouted p ls) (sym told.0) (subst (λ q. IsRouted q s.book.lists) is.problem routed),
-          omega (arith, told.1, more_rows),
-          omega (arith, told.1, within),
+          subst (λ ls. IsRouted p ls) (sym reported.0) (subst (λ q. IsRouted q s.book.lists) is.problem routed),
+          omega (arith, reported.1, more_rows),
+          omega (arith, reported.1, within),
         )
 
-    leaves : (u v k : ℕ) → Tells s.book (NotRouted u v k) → IsOutcome p o (NotRouted u v k)
-    leaves u v k told =
+    leaves : (u v k : ℕ) → IsOutcomeOf s.book (NotRouted u v k) → IsOutcome p o (NotRouted u v k)
+    leaves u v k reported =
         let is = book_reached s reached in
         let was = book_reached last.before last.reached in
-        let now : length last.before.book.rows + 1 ≡ k = omega (arith, told.2, more_rows) in
+        let now : length last.before.book.rows + 1 ≡ k = omega (arith, reported.2, more_rows) in
         let nets : length last.before.book.problem.nets ≡ length p.nets = ap (λ (q : RoutingProblem). length q.nets) was.problem in
         record {
-          some = told.3;
+          some = reported.3;
           least = omega (arith, now);
-          most = omega (arith, told.2, within);
-          early = λ low. omega (arith, told.0, early_end (length s.book.rows) (unrouted_of s.book) (overused_of s.book) ended (omega (arith, told.0, told.1, told.3)) (omega (arith, low, told.2)));
+          most = omega (arith, reported.2, within);
+          early = λ low. omega (arith, reported.0, early_end (length s.book.rows) (unrouted_of s.book) (overused_of s.book) ended (omega (arith, reported.0, reported.1, reported.3)) (omega (arith, low, reported.2)));
           before = last.before.book;
           book = s.book;
           begins = record { problem = was.problem; acc = was.acc; rows = omega (arith, now) };
-          ends = record { problem = is.problem; acc = is.acc; rows = sym told.2 };
+          ends = record { problem = is.problem; acc = is.acc; rows = sym reported.2 };
           sound_before = sound_reached last.before last.reached;
           sound = last.follows.made.sound;
           row =
               row_after o last.before.crew last.before.book s.book last.follows.made
               ∙ ap (λ (q : RoutingProblem). last.before.book.rows ++ row_of q s.book.lists ∷ []) was.problem;
-          without = sym told.0;
-          over = sym told.1;
+          without = sym reported.0;
+          over = sym reported.1;
           stuck = λ i low none.
               subst (λ n. IsStuckNet last.before.book (present_of o n) o.bb i) now
               (stuck_after o last.before.crew last.before.book s.book last.follows.made i (omega (arith, low, nets)) none);
         }
 
-    tells_outcome : (out : Outcome) → Tells s.book out → IsOutcome p o out
-    tells_outcome (Success lists k) told = routes lists k told
-    tells_outcome (NotRouted u v k) told = leaves u v k told
+    tells_outcome : (out : Outcome) → IsOutcomeOf s.book out → IsOutcome p o out
+    tells_outcome (Success lists k) reported = routes lists k reported
+    tells_outcome (NotRouted u v k) reported = leaves u v k reported
 
-  pub outcome_of : (out : Outcome) → 1 ≤ o.iterations → Ends p o workers out → IsOutcome p o out
-  outcome_of out some ends = tells_outcome some ends.last ends.reached ends.ended out ends.told
+  pub outcome_of : (out : Outcome) → 1 ≤ o.iterations → EndsNegotiation p o workers out → IsOutcome p o out
+  outcome_of out some ends = tells_outcome some ends.last ends.reached ends.ended out ends.reported

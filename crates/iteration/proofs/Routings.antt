@@ -3,7 +3,7 @@ use Rattle.std.proofs.Common.{◌≡◌, ℕ, ◌+◌, ◌<◌, ◌≤◌, ◌++
 use Rattle.std.proofs.lemmas.List.{take_more, take_all, map-append}
 use Rattle.route_tree.specs.declared.tree.Row.{Row}
 use Rattle.route_tree.specs.TreeLists.{list_of_tree, lists_of_trees}
-use Rattle.congestion_book.specs.Recorded.{Lists, list_in}
+use Rattle.route_tree.specs.Usage.{Lists, list_in}
 
 pub trees_more : (lists : Lists) (trees : List (Option (List Row))) (i : ℕ) (t : Option (List Row)) → i < length lists →
     list_of_tree t ≡ list_in lists i → lists_of_trees trees ≡ take i lists → lists_of_trees (trees ++ t ∷ []) ≡ take (i + 1) lists

@@ -7,10 +7,10 @@ use Rattle.std.proofs.lemmas.List.FromFn.{length-range_with_len, get_or-range_wi
 use Rattle.std.proofs.lemmas.List.Sums.{get_or-le-sum_by}
 use Rattle.rr_graph.specs.Fabric.{numbers_below}
 use Rattle.route_tree.specs.Paths.{Pair}
-use Rattle.route_tree.specs.Usage.{use_of, overuse_of}
+use Rattle.route_tree.specs.Usage.{use_of, overuse_of, list_in}
 use Rattle.route_check.specs.Routed.{IsNetRouted, IsRouted}
 use Rattle.congestion_book.specs.Turns.{one_if}
-use Rattle.congestion_book.specs.Recorded.{list_in, unrouted_in, overused_in}
+use Rattle.congestion_book.specs.Recorded.{unrouted_in, overused_in}
 use Rattle.congestion_book.specs.Contents.{Content, IsSound, node_total}
 use Rattle.iteration.specs.Progress.{unrouted_of, overused_of}
 

@@ -3,27 +3,27 @@ use Rattle.std.specs.Prelude.{◌≡◌, ℕ, ◌+◌, ◌-◌, ◌<◌, ◌≤�
 use Rattle.rr_graph.specs.Problems.{RoutingProblem}
 use Rattle.node_cost.specs.Options.{RouterOptions, present_of}
 use Rattle.route_check.specs.Routed.{IsRouted}
-use Rattle.congestion_book.specs.Recorded.{list_in}
+use Rattle.route_tree.specs.Usage.{list_in}
 use Rattle.congestion_book.specs.Histories.{row_of}
 use Rattle.congestion_book.specs.Contents.{Content, IsSound}
 use Rattle.net_workers.specs.Searches.{IsStuckNet}
 use Rattle.iteration.specs.declared.outcome.Outcome.{Outcome}
 use Rattle.iteration.specs.declared.outcome.Outcome.TheVariants.{Success, NotRouted}
-use Rattle.iteration.specs.Progress.{Standing, IsReached, goes_on, unrouted_of, overused_of}
+use Rattle.iteration.specs.Progress.{NegotiationState, IsReached, goes_on, unrouted_of, overused_of}
 
 -- The outcome tells what a book holds: its trees, where each net has one and no node is overused; else how many nets have none and how
 -- many nodes are overused. It tells of as many iterations as the book has rows.
-abbrev pub Tells : Content → Outcome → Type 0
-Tells c (Success lists iterations) = (lists ≡ c.lists) × (iterations ≡ length c.rows) × (unrouted_of c ≡ 0) × (overused_of c ≡ 0)
-Tells c (NotRouted unrouted overused iterations) =
+abbrev pub IsOutcomeOf : Content → Outcome → Type 0
+IsOutcomeOf c (Success lists iterations) = (lists ≡ c.lists) × (iterations ≡ length c.rows) × (unrouted_of c ≡ 0) × (overused_of c ≡ 0)
+IsOutcomeOf c (NotRouted unrouted overused iterations) =
     (unrouted ≡ unrouted_of c) × (overused ≡ overused_of c) × (iterations ≡ length c.rows) × (1 ≤ unrouted + overused)
 
--- the outcome tells of the first standing of a negotiation from which it doesn't go on
-pub record Ends (p : RoutingProblem) (o : RouterOptions) (workers : ℕ) (outcome : Outcome) : Type 0 where
-  pub last : Standing
+-- the outcome is that of the first state of a negotiation from which it doesn't go on
+pub record EndsNegotiation (p : RoutingProblem) (o : RouterOptions) (workers : ℕ) (outcome : Outcome) : Type 0 where
+  pub last : NegotiationState
   pub reached : IsReached p o workers last
   pub ended : goes_on o last.book ≡ false
-  pub told : Tells last.book outcome
+  pub reported : IsOutcomeOf last.book outcome
 
 -- a book of this problem, with these options, after so many iterations
 pub record IsBookAfter (p : RoutingProblem) (o : RouterOptions) (iterations : ℕ) (c : Content) : Type 0 where
@@ -50,7 +50,7 @@ pub record IsLeft (p : RoutingProblem) (o : RouterOptions) (unrouted overused it
   pub over : overused_of book ≡ overused
   pub stuck : (i : ℕ) → i < length p.nets → list_in book.lists i ≡ None → IsStuckNet before (present_of o iterations) o.bb i
 
--- A success is a routing of the problem: one legal list for each net, and no node overused. What else is left is told.
+-- A success is a routing of the problem: one legal list for each net, and no node overused. What else is left is reported.
 abbrev pub IsOutcome : RoutingProblem → RouterOptions → Outcome → Type 0
 IsOutcome p o (Success lists iterations) = IsRouted p lists × (1 ≤ iterations) × (iterations ≤ o.iterations)
 IsOutcome p o (NotRouted unrouted overused iterations) = IsLeft p o unrouted overused iterations

@@ -1,6 +1,7 @@
 //! An iteration, from its first draw to its close.
 
 ghost use Rattle.std.specs.Prelude.{◌≡◌, ◌+◌, ◌<◌, ◌≤◌, length, None, IfOk, IfErr, OnOk};
+ghost use Rattle.node_cost.specs.Options.{most_iterations, most_workers};
 ghost use Rattle.congestion_book.specs.Turns.{IsFirstWaiting};
 ghost use Rattle.congestion_book.specs.Contents.{IsFresh, net_count};
 ghost use Rattle.congestion_book.specs.Steps.{after_close};
@@ -17,7 +18,7 @@ use std::thread::Threads;
 /// Closes the open iteration, in which each net had its turn.
 fn close(alloc: Global, book: &mut Book) -> Result<(), WorkFault>
     requires done { IsFirstWaiting book.old.turns (net_count book.old) None }
-    requires few { length book.old.rows < 500 }
+    requires few { length book.old.rows < most_iterations }
     ensures closed { OnOk result (book.new ≡ after_close book.old) }
     ensures memory { IfErr result (λ fault. fault ≡ Memory) }
 {
@@ -28,7 +29,7 @@ fn close(alloc: Global, book: &mut Book) -> Result<(), WorkFault>
     }
 }
 
-/// Makes the next iteration of a book by so many workers and closes it. The gate is told before and after.
+/// Makes the next iteration of a book by so many workers and closes it. The gate is reported before and after.
 pub(crate) fn make_iteration<R: Threads + Wait + Sync, G: Gate + Sync>(
     rt: &R,
     alloc: Global,
@@ -38,8 +39,8 @@ pub(crate) fn make_iteration<R: Threads + Wait + Sync, G: Gate + Sync>(
     gate: &G,
 ) -> Result<Book, WorkFault>
     requires fresh { IsFresh book }
-    requires few { length book.rows < 500 }
-    requires crew { (1 ≤ crew) × (crew ≤ 16) }
+    requires few { length book.rows < most_iterations }
+    requires crew { (1 ≤ crew) × (crew ≤ most_workers) }
     ensures { IfOk result (IsIteration settings.now crew book) }
 {
     let iteration = book.rows().len() as u32 + 1;

@@ -3,12 +3,12 @@
 ghost use Rattle.std.specs.Prelude.{◌≡◌, ◌≤◌};
 ghost use Rattle.iteration.specs.Crews.{largest_crew, hardly_fell, is_for_one, next_crew};
 
-/// For how many nets there is one worker, behind the first iteration.
+/// For how many nets there is one worker, after the first iteration.
 const NETS_A_WORKER: u32 = 60;
 
 /// An iteration that was made.
 #[derive(Clone, Copy)]
-pub(crate) struct Made {
+pub(crate) struct EndedIteration {
     /// Its number, counted from 1.
     pub(crate) iteration: u32,
     /// How many workers made it.
@@ -19,7 +19,7 @@ pub(crate) struct Made {
     pub(crate) overused: u32,
 }
 
-/// How many workers make an iteration behind the first, where it isn't left to one.
+/// How many workers make an iteration after the first, where it isn't left to one.
 pub(crate) fn largest_crew(workers: u32, nets: u32) -> u32
     requires { 1 ≤ workers }
     ensures exact { result ≡ largest_crew workers nets }
@@ -39,8 +39,8 @@ fn hardly_fell(before: Option<u32>, overused: u32) -> bool
     }
 }
 
-/// Whether one worker is to make the iteration behind this one.
-fn is_for_one(limit: u32, largest: u32, made: Made) -> bool
+/// Whether one worker is to make the iteration after this one.
+fn is_for_one(limit: u32, largest: u32, made: EndedIteration) -> bool
     ensures { result ≡ is_for_one limit largest made }
 {
     2 * u64::from(limit) <= 3 * u64::from(made.iteration)
@@ -48,8 +48,8 @@ fn is_for_one(limit: u32, largest: u32, made: Made) -> bool
         || (1 < made.crew && hardly_fell(made.before, made.overused))
 }
 
-/// How many workers make the iteration behind this one.
-pub(crate) fn next_crew(limit: u32, largest: u32, made: Made) -> u32
+/// How many workers make the iteration after this one.
+pub(crate) fn next_crew(limit: u32, largest: u32, made: EndedIteration) -> u32
     requires { 1 ≤ largest }
     ensures exact { result ≡ next_crew limit largest made }
     ensures some { 1 ≤ result }

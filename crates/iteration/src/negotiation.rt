@@ -1,12 +1,13 @@
 //! A negotiation, iteration by iteration.
 
 ghost use Rattle.std.specs.Prelude.{◌≡◌, ◌<◌, ◌≤◌, false, length, IfOk, IfErr};
+ghost use Rattle.node_cost.specs.Options.{most_workers};
 ghost use Rattle.net_workers.specs.declared.fault.WorkFault.TheVariants.{Memory};
-ghost use Rattle.iteration.specs.Progress.{Follows, IsReached, beginning, goes_on, unrouted_of, overused_of};
-ghost use Rattle.iteration.specs.Outcomes.{Tells, Ends, IsOutcome};
+ghost use Rattle.iteration.specs.Progress.{IsNextState, IsReached, beginning, goes_on, unrouted_of, overused_of};
+ghost use Rattle.iteration.specs.Outcomes.{IsOutcomeOf, EndsNegotiation, IsOutcome};
 
 use crate::closing::make_iteration;
-use crate::crew::{Made, largest_crew, next_crew};
+use crate::crew::{EndedIteration, largest_crew, next_crew};
 use crate::outcome::Outcome;
 use crate::routing::routing_of;
 use congestion_book::Book;
@@ -32,13 +33,13 @@ struct Negotiation {
 impl Model for Negotiation {
     ghost use Rattle.std.specs.Prelude.{◌≤◌};
     ghost use Rattle.congestion_book.specs.Contents.{IsFresh};
-    ghost use Rattle.iteration.specs.Progress.{Standing};
+    ghost use Rattle.iteration.specs.Progress.{NegotiationState};
 
-    ghost Value = { Standing };
+    ghost Value = { NegotiationState };
 
     ghost view = { λ n. record { book = n.book; crew = n.crew; overused = n.overused } };
 
-    ghost invariant = { λ n. IsFresh n.book × (1 ≤ n.crew) × (n.crew ≤ 16) };
+    ghost invariant = { λ n. IsFresh n.book × (1 ≤ n.crew) × (n.crew ≤ most_workers) };
 }
 
 impl Negotiation {
@@ -50,7 +51,7 @@ impl Negotiation {
         settings: &Settings,
         workers: u32,
     ) -> Result<Negotiation, AllocError>
-        requires { (1 ≤ workers) × (workers ≤ 16) }
+        requires { (1 ≤ workers) × (workers ≤ most_workers) }
         ensures { IfOk result (λ n. n ≡ beginning problem settings.now workers) }
     {
         Ok(Negotiation {
@@ -79,9 +80,9 @@ impl Negotiation {
         workers: u32,
         gate: &G,
     ) -> Result<Negotiation, WorkFault>
-        requires workers { (1 ≤ workers) × (workers ≤ 16) }
+        requires workers { (1 ≤ workers) × (workers ≤ most_workers) }
         requires few { length self.book.rows < settings.now.iterations }
-        ensures { IfOk result (Follows settings.now workers self) }
+        ensures { IfOk result (IsNextState settings.now workers self) }
     {
         let Negotiation {
             book,
@@ -92,7 +93,7 @@ impl Negotiation {
         let limit = settings.iterations();
         let book = make_iteration(rt, alloc, book, settings, crew, gate)?;
         let overused = book.overused();
-        let made = Made {
+        let made = EndedIteration {
             iteration,
             crew,
             before,
@@ -114,7 +115,7 @@ impl Negotiation {
         problem: &Problem,
     ) -> Result<Outcome, WorkFault>
         requires { problem.now ≡ self.now.book.problem }
-        ensures told { IfOk result (Tells self.now.book) }
+        ensures reported { IfOk result (IsOutcomeOf self.now.book) }
         ensures memory { IfErr result (λ fault. fault ≡ Memory) }
     {
         let unrouted = self.book.unrouted();
@@ -161,7 +162,7 @@ fn run<R: Threads + Wait + Sync, G: Gate + Sync>(
     workers: u32,
     gate: &G,
 ) -> Result<Negotiation, WorkFault>
-    requires { (1 ≤ workers) × (workers ≤ 16) }
+    requires { (1 ≤ workers) × (workers ≤ most_workers) }
     ensures reached { IfOk result (IsReached problem settings.now workers) }
     ensures ended { IfOk result (λ n. goes_on settings.now n.book ≡ false) }
     ensures limit { 1 ≤ settings.now.iterations }
@@ -184,9 +185,9 @@ fn outcome_of<R: Threads + Wait + Sync, G: Gate + Sync>(
     workers: u32,
     gate: &G,
 ) -> Result<Outcome, WorkFault>
-    requires workers { (1 ≤ workers) × (workers ≤ 16) }
+    requires workers { (1 ≤ workers) × (workers ≤ most_workers) }
     requires own { own.now ≡ problem }
-    ensures run { IfOk result (Ends problem settings.now workers) }
+    ensures run { IfOk result (EndsNegotiation problem settings.now workers) }
     ensures limit { 1 ≤ settings.now.iterations }
 {
     let negotiation = run(rt, alloc, problem, settings, workers, gate)?;
@@ -196,8 +197,8 @@ fn outcome_of<R: Threads + Wait + Sync, G: Gate + Sync>(
 
 /// Negotiates a routing of the problem. Iteration by iteration each net is routed anew by so many workers (the first iteration by all of
 /// them, the others by as many as `next_crew` says), on one congestion book, and the iteration is closed: nodes that stay overused cost
-/// more from then on. It ends where each net has a tree and no node is overused; else behind the iteration in which a net found no path,
-/// and behind the last one that the settings allow. The gate is told before each iteration and after its close.
+/// more from then on. It ends where each net has a tree and no node is overused; else after the iteration in which a net found no path,
+/// and after the last one that the settings allow. The gate is reported before each iteration and after its close.
 ///
 /// `NoThread`, `Memory` and `Astray` as `iterate` answers them; `Memory` also where a copy, a close or the last check found none. The call
 /// waits for the workers.
@@ -209,11 +210,11 @@ pub fn negotiate<R: Threads + Wait + Sync, G: Gate + Sync>(
     workers: u32,
     gate: &G,
 ) -> Result<Outcome, WorkFault>
-    requires workers { (1 ≤ workers) × (workers ≤ 16) }
-    // A success routes the problem; else what is left of it is told.
+    requires workers { (1 ≤ workers) × (workers ≤ most_workers) }
+    // A success routes the problem; else what is left of it is reported.
     ensures outcome { IfOk result (IsOutcome problem settings.now) }
     // It is where iterations by these rules first end.
-    ensures run { IfOk result (Ends problem settings.now workers) }
+    ensures run { IfOk result (EndsNegotiation problem settings.now workers) }
 {
     let own = problem.copy(alloc)?;
     let outcome = outcome_of(rt, alloc, &own, problem, settings, workers, gate)?;

@@ -2,7 +2,7 @@
 
 ghost use Rattle.std.specs.Prelude.{◌≡◌, ◌<◌, length, IfOk};
 ghost use Rattle.route_tree.specs.TreeLists.{list_of_tree};
-ghost use Rattle.congestion_book.specs.Recorded.{list_in};
+ghost use Rattle.route_tree.specs.Usage.{list_in};
 ghost use Rattle.congestion_book.specs.Contents.{net_count};
 
 use congestion_book::Book;

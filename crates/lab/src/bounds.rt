@@ -1,13 +1,16 @@
 //! Numbers within the bounds that the libraries want.
 
 ghost use Rattle.std.specs.Prelude.{◌≤◌, IfOk};
+ghost use Rattle.place_file.specs.Placement.{longest_side};
+ghost use Rattle.rr_graph.specs.Fabric.{most_tracks};
+ghost use Rattle.node_cost.specs.Options.{most_iterations, most_workers};
 
 use crate::unanswered::Unanswered;
 use crate::words::number;
 
 /// How many workers there are.
 pub fn worker_count(word: &str) -> Result<u32, Unanswered>
-    ensures { IfOk result (λ n. (1 ≤ n) × (n ≤ 16)) }
+    ensures { IfOk result (λ n. (1 ≤ n) × (n ≤ most_workers)) }
 {
     let count = number(word)?;
     if count < 1 || count > 16 {
@@ -18,7 +21,7 @@ pub fn worker_count(word: &str) -> Result<u32, Unanswered>
 
 /// The number of an iteration.
 pub fn iteration_number(word: &str) -> Result<u32, Unanswered>
-    ensures { IfOk result (λ n. (1 ≤ n) × (n ≤ 500)) }
+    ensures { IfOk result (λ n. (1 ≤ n) × (n ≤ most_iterations)) }
 {
     let iteration = number(word)?;
     if iteration < 1 || iteration > 500 {
@@ -29,7 +32,7 @@ pub fn iteration_number(word: &str) -> Result<u32, Unanswered>
 
 /// The width of channels.
 pub fn channel_width(word: &str) -> Result<u32, Unanswered>
-    ensures { IfOk result (λ n. (1 ≤ n) × (n ≤ 256)) }
+    ensures { IfOk result (λ n. (1 ≤ n) × (n ≤ most_tracks)) }
 {
     let width = number(word)?;
     if width < 1 || width > 256 {
@@ -40,7 +43,7 @@ pub fn channel_width(word: &str) -> Result<u32, Unanswered>
 
 /// How many columns, or rows, an array has.
 pub fn array_side(word: &str) -> Result<u32, Unanswered>
-    ensures { IfOk result (λ n. (1 ≤ n) × (n ≤ 100)) }
+    ensures { IfOk result (λ n. (1 ≤ n) × (n ≤ longest_side)) }
 {
     let side = number(word)?;
     if side < 1 || side > 100 {

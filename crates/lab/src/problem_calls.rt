@@ -2,6 +2,7 @@
 
 ghost use Rattle.std.specs.Prelude.{◌≤◌, List, ℕ};
 ghost use Rattle.net_file.specs.Reads.{ReadsBytes};
+ghost use Rattle.rr_graph.specs.Fabric.{most_tracks};
 
 use crate::answer::{put, put_numbers};
 use crate::bounds::channel_width;
@@ -84,7 +85,7 @@ fn of_netlist(
 
 /// The problem of the session's netlist and placement on the device of their array.
 fn at_width(alloc: Global, session: &Session, width: u32, mode: Mode) -> Result<Problem, Unanswered>
-    requires width { (1 ≤ width) × (width ≤ 256) }
+    requires width { (1 ≤ width) × (width ≤ most_tracks) }
 {
     let design = session.design()?;
     let netlist = net_file::parse(alloc, design.net, design.arch)?;
@@ -99,7 +100,7 @@ fn of_netlist_at(
     width: u32,
     mode: Mode,
 ) -> Result<Problem, Unanswered>
-    requires width { (1 ≤ width) × (width ≤ 256) }
+    requires width { (1 ≤ width) × (width ≤ most_tracks) }
     requires read { (bytes : List ℕ) × ReadsBytes design.arch.now.pins bytes netlist.now }
 {
     let arch = design.arch;

@@ -1,6 +1,8 @@
 //! Calls of `runs`: what the commands of the program do, over the files that are kept.
 
 ghost use Rattle.std.specs.Prelude.{◌≤◌};
+ghost use Rattle.rr_graph.specs.Fabric.{most_tracks};
+ghost use Rattle.node_cost.specs.Options.{most_workers};
 
 use crate::answer::put_name;
 use crate::bounds::{array_side, channel_width, worker_count};
@@ -126,8 +128,8 @@ fn route_design<R: Runtime + Threads + Wait + Sync + AllocGlobal>(
     gate: &LabGate<'_, R>,
     out: &mut String,
 ) -> Result<(), Unanswered>
-    requires width { (1 ≤ width) × (width ≤ 256) }
-    requires workers { (1 ≤ workers) × (workers ≤ 16) }
+    requires width { (1 ≤ width) × (width ≤ most_tracks) }
+    requires workers { (1 ≤ workers) × (workers ≤ most_workers) }
 {
     let mut written = sink(rt.alloc(), session.files.route_room);
     let mut printed = sink(rt.alloc(), session.files.out_room);
@@ -185,8 +187,8 @@ fn search_design<R: Runtime + Threads + Wait + Sync + AllocGlobal>(
     gate: &LabGate<'_, R>,
     out: &mut String,
 ) -> Result<(), Unanswered>
-    requires start { (1 ≤ start) × (start ≤ 256) }
-    requires workers { (1 ≤ workers) × (workers ≤ 16) }
+    requires start { (1 ≤ start) × (start ≤ most_tracks) }
+    requires workers { (1 ≤ workers) × (workers ≤ most_workers) }
 {
     let mut written = sink(rt.alloc(), session.files.route_room);
     let mut printed = sink(rt.alloc(), session.files.out_room);
@@ -242,7 +244,7 @@ fn check_design(
     mode: Mode,
     out: &mut String,
 ) -> Result<(), Unanswered>
-    requires width { (1 ≤ width) × (width ≤ 256) }
+    requires width { (1 ≤ width) × (width ≤ most_tracks) }
 {
     let mut printed = sink(rt.alloc(), session.files.out_room);
     let answer = check_run(

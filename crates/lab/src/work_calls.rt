@@ -2,6 +2,8 @@
 
 ghost use Rattle.std.specs.Prelude.{◌≤◌, IfOk, List, ℕ};
 ghost use Rattle.net_file.specs.Reads.{ReadsBytes};
+ghost use Rattle.rr_graph.specs.Fabric.{most_tracks};
+ghost use Rattle.node_cost.specs.Options.{most_iterations, most_workers};
 ghost use Rattle.congestion_book.specs.Contents.{IsFresh};
 
 use crate::answer::put;
@@ -92,8 +94,8 @@ fn iterate_under<R: Runtime + Threads + Wait + Sync + AllocGlobal>(
     is_by_net: bool,
     out: &mut String,
 ) -> Result<(), Unanswered>
-    requires iteration { (1 ≤ iteration) × (iteration ≤ 500) }
-    requires workers { (1 ≤ workers) × (workers ≤ 16) }
+    requires iteration { (1 ≤ iteration) × (iteration ≤ most_iterations) }
+    requires workers { (1 ≤ workers) × (workers ≤ most_workers) }
 {
     let settings = session.settings();
     let book = take_fresh(session)?;
@@ -116,8 +118,8 @@ fn iterated<R: Runtime + Threads + Wait + Sync + AllocGlobal>(
     out: &mut String,
 ) -> Result<Book, Unanswered>
     requires fresh { IsFresh book }
-    requires iteration { (1 ≤ iteration) × (iteration ≤ 500) }
-    requires workers { (1 ≤ workers) × (workers ≤ 16) }
+    requires iteration { (1 ≤ iteration) × (iteration ≤ most_iterations) }
+    requires workers { (1 ≤ workers) × (workers ≤ most_workers) }
 {
     let (book, reports) = iterate(rt, rt.alloc(), book, settings, iteration, workers, gate)?;
     put_iteration(&book, reports.as_slice(), gate, is_by_net, out)?;
@@ -205,7 +207,7 @@ fn negotiate_under<R: Runtime + Threads + Wait + Sync + AllocGlobal>(
     gate: &LabGate<'_, R>,
     out: &mut String,
 ) -> Result<(), Unanswered>
-    requires workers { (1 ≤ workers) × (workers ≤ 16) }
+    requires workers { (1 ≤ workers) × (workers ≤ most_workers) }
 {
     let settings = session.settings();
     let problem = session.problem()?.copy(rt.alloc())?;
@@ -280,8 +282,8 @@ fn search_under<R: Runtime + Threads + Wait + Sync + AllocGlobal>(
     gate: &LabGate<'_, R>,
     out: &mut String,
 ) -> Result<(), Unanswered>
-    requires start { (1 ≤ start) × (start ≤ 256) }
-    requires workers { (1 ≤ workers) × (workers ≤ 16) }
+    requires start { (1 ≤ start) × (start ≤ most_tracks) }
+    requires workers { (1 ≤ workers) × (workers ≤ most_workers) }
 {
     let report = width_report(rt, session, start, mode, workers, gate)?;
     put_widths(&report, gate, out)?;
@@ -320,8 +322,8 @@ fn width_report<R: Runtime + Threads + Wait + Sync + AllocGlobal>(
     workers: u32,
     gate: &LabGate<'_, R>,
 ) -> Result<WidthReport, Unanswered>
-    requires start { (1 ≤ start) × (start ≤ 256) }
-    requires workers { (1 ≤ workers) × (workers ≤ 16) }
+    requires start { (1 ≤ start) × (start ≤ most_tracks) }
+    requires workers { (1 ≤ workers) × (workers ≤ most_workers) }
 {
     let (design, settings) = (session.design()?, session.settings());
     let netlist = net_file::parse(rt.alloc(), design.net, design.arch)?;
@@ -339,8 +341,8 @@ fn report_of<R: Runtime + Threads + Wait + Sync + AllocGlobal>(
     workers: u32,
     gate: &LabGate<'_, R>,
 ) -> Result<WidthReport, Unanswered>
-    requires start { (1 ≤ start) × (start ≤ 256) }
-    requires workers { (1 ≤ workers) × (workers ≤ 16) }
+    requires start { (1 ≤ start) × (start ≤ most_tracks) }
+    requires workers { (1 ≤ workers) × (workers ≤ most_workers) }
     requires read { (bytes : List ℕ) × ReadsBytes design.arch.now.pins bytes netlist.now }
 {
     let (alloc, arch) = (rt.alloc(), design.arch);

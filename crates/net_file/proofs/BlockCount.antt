@@ -11,7 +11,7 @@ use Rattle.std.proofs.lemmas.Slice.Eq.{bytes_eq-Decides}
 use Rattle.vpr_text.specs.Words.{Line, no_line, words_at}
 use Rattle.arch_file.specs.Keyword.{is_text}
 use Rattle.net_file.specs.declared.parts.BlockKind.{BlockKind}
-use Rattle.net_file.specs.Judge.{first_fault, stands, is_bad_line, is_bad_count, is_double, are_too_many, fault_behind}
+use Rattle.net_file.specs.Judge.{first_fault, stands, is_bad_line, is_bad_count, is_double, are_too_many, fault_of_next}
 use Rattle.net_file.specs.Lines.{kind_of, kind_at, is_element, is_pinlist, name_in, block_name_on, block_names, opened, latest}
 use Rattle.net_file.specs.Names.{is_among, with_name, with_names}
 use Rattle.net_file.specs.Blocks.{pinlists}
@@ -53,7 +53,7 @@ first_false false b h = refl
 abbrev waiting : Option BlockKind → ℕ
 waiting o = cond (is_some o) 1 0
 
--- of a line behind others: p, whether it is a pinlist, e, whether it is an element; o, whether an element waits before it
+-- of a line after others: p, whether it is a pinlist, e, whether it is an element; o, whether an element waits before it
 step : (p e o : Bool) (count blocks more : ℕ) → (p ≡ true → e ≡ false) → (p ≡ true → o ≡ true) → (p ≡ false → o ≡ false) → more ≡ cond e (blocks + 1) blocks
     → count + cond o 1 0 ≤ blocks → (count + cond p 1 0) + cond e 1 0 ≤ more
 step true true o count blocks more a b c m h = absurd (ff (a refl))
@@ -115,8 +115,8 @@ pub opened_by : (before : List Line) (l : Line) → opened (before ++ l ∷ []) 
 unfolding opened
 opened_by before l = fold-append (λ _ k. kind_at k.words) None before (l ∷ [])
 
-have_more : (pins : ℕ) (before : List Line) (l : Line) → fault_behind pins before l ≡ None → HaveBlocks before → HaveBlocks (before ++ l ∷ []) × (length (block_names (before ++ l ∷ [])) ≤ 20000)
-unfolding fault_behind is_bad_line are_too_many block_names
+have_more : (pins : ℕ) (before : List Line) (l : Line) → fault_of_next pins before l ≡ None → HaveBlocks before → HaveBlocks (before ++ l ∷ []) × (length (block_names (before ++ l ∷ [])) ≤ 20000)
+unfolding fault_of_next is_bad_line are_too_many block_names
 have_more pins before l h blocks =
     let fine = no_faults (is_bad_line (opened before) (latest before) l.words) (is_bad_count pins (opened before) l.words) (is_double (block_names before) l.words) _ h in
     let place = of_bad_line (is_some (opened before)) (is_pinlist l.words) (stands (latest before) l.words) fine.0 (stands_not (latest before) l.words) in

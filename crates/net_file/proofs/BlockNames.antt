@@ -6,7 +6,7 @@ use Rattle.std.proofs.Math.Seq.{get_or-append_seam}
 use Rattle.std.proofs.lemmas.List.{append-nil, append_assoc}
 use Rattle.vpr_text.specs.Words.{Line, no_line, words_at}
 use Rattle.net_file.specs.Blocks.{block_of, block_at, blocks_of, pinlists}
-use Rattle.net_file.specs.Judge.{stands, is_bad_line, is_bad_count, is_double, fault_behind}
+use Rattle.net_file.specs.Judge.{stands, is_bad_line, is_bad_count, is_double, fault_of_next}
 use Rattle.net_file.specs.Lines.{is_element, is_pinlist, name_in, block_name_on, block_names, opened, latest}
 use Rattle.net_file.specs.Names.{is_among, with_name, with_names}
 use Rattle.net_file.specs.Reads.{AreAccepted}
@@ -64,8 +64,8 @@ front : (xs : List (List ℕ)) (p : Bool) (name : List ℕ) (names : List (List 
 front xs true name names = append_assoc xs (name ∷ []) names
 front xs false name names = ap (λ ys. ys ++ names) (append-nil xs)
 
-places : (pins : ℕ) (before : List Line) (l : Line) → fault_behind pins before l ≡ None → (is_some (opened before) ≡ is_pinlist l.words) × (is_double (block_names before) l.words ≡ false)
-unfolding fault_behind is_bad_line
+places : (pins : ℕ) (before : List Line) (l : Line) → fault_of_next pins before l ≡ None → (is_some (opened before) ≡ is_pinlist l.words) × (is_double (block_names before) l.words ≡ false)
+unfolding fault_of_next is_bad_line
 places pins before l h =
     let fine = no_early (is_bad_line (opened before) (latest before) l.words) (is_bad_count pins (opened before) l.words) (is_double (block_names before) l.words) _ h in
     let place = of_bad_line (is_some (opened before)) (is_pinlist l.words) (stands (latest before) l.words) fine.0 (stands_not (latest before) l.words) in

@@ -5,7 +5,8 @@ use Rattle.std.specs.List.{range_with_len}
 use Rattle.std.proofs.lemmas.List.{ext_get_or}
 use Rattle.std.proofs.lemmas.List.Elements.{All-from_recursion, All-map, All-weaker}
 use Rattle.std.proofs.lemmas.List.FromFn.{get_or-map-range_with_len, length-map-range_with_len}
-use Rattle.vpr_text.specs.Text.{IsWord, HaveWords}
+use Rattle.vpr_text.specs.Text.{IsWord}
+use Rattle.vpr_text.specs.kept.Split.{HaveWords}
 use Rattle.vpr_text.specs.Words.{Line, words_at}
 use Rattle.arch_file.specs.declared.parts.Direction.{Direction}
 use Rattle.arch_file.specs.declared.parts.Pin.{Pin}
@@ -25,7 +26,7 @@ use Rattle.net_file.specs.Netlist.{Netlist, Block}
 use Rattle.net_file.specs.Reading.{unless_faulty, line_fault_from, net_from, nets_of, rows_of}
 use Rattle.net_file.specs.Reading as reading
 use Rattle.net_file.specs.Reads.{ReadsNet}
-use Rattle.net_file.specs.Seen.{seen_of}
+use Rattle.net_file.specs.kept.LinesSeen.{seen_of}
 use Rattle.net_file.specs.WholeFile.{fault_at, whole_fault}
 use Rattle.net_file.proofs.BlockNames.{map_made, block_names_are}
 use Rattle.net_file.proofs.Distinct.{distinct_differ, number_below}

@@ -9,7 +9,7 @@ use Rattle.std.proofs.lemmas.Grind.{flat_map-append}
 use Rattle.net_file.proofs.Ranges.{below_next}
 use Rattle.net_file.specs.declared.connection.Connection.{Connection}
 use Rattle.net_file.specs.Connections.{on_net, by_net}
-use Rattle.net_file.specs.Rows.{IsFiled, Files, FilesAll}
+use Rattle.net_file.specs.kept.Rows.{IsFiled, Files, FilesAll}
 
 -- ---- rows without connections
 

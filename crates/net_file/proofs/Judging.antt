@@ -7,11 +7,11 @@ use Rattle.vpr_text.specs.Words.{Line}
 use Rattle.net_file.specs.declared.fault.LineFault.{LineFault}
 use Rattle.net_file.specs.declared.fault.LineFault.TheVariants.{TooMany}
 use Rattle.net_file.specs.declared.seen.Seen.{Seen}
-use Rattle.net_file.specs.Judge.{first_fault, is_bad_line, is_bad_count, is_double, are_too_many, fault_behind}
+use Rattle.net_file.specs.Judge.{first_fault, is_bad_line, is_bad_count, is_double, are_too_many, fault_of_next}
 use Rattle.net_file.specs.Lines.{kind_at, is_element, block_name_on, net_names_on, global_names_on, block_names, net_names, global_names}
 use Rattle.net_file.specs.Lines as lines
 use Rattle.net_file.specs.Names.{with_name, with_names, distinct}
-use Rattle.net_file.specs.Seen.{IsSeen, Notes, Judges, fault_after, latest_after}
+use Rattle.net_file.specs.kept.LinesSeen.{IsSeen, Notes, Judges, fault_after, latest_after}
 
 pub nothing_seen : (s : Seen) → s.opened ≡ None → s.latest ≡ None → s.blocks ≡ [] → s.nets ≡ [] → s.globals ≡ [] → IsSeen [] s
 unfolding lines.opened lines.latest block_names net_names global_names
@@ -71,7 +71,7 @@ seen_more before l old new seen notes =
       globals = notes.globals ∙ ap (λ names. with_names names (global_names_on l.words)) seen.globals ∙ sym (words_more global_names_on before l);
     }
 
-pub fault_is : (pins : ℕ) (before : List Line) (l : Line) (seen : Seen) → IsSeen before seen → fault_after pins seen l.words ≡ fault_behind pins before l
-unfolding fault_after fault_behind block_names net_names
+pub fault_is : (pins : ℕ) (before : List Line) (l : Line) (seen : Seen) → IsSeen before seen → fault_after pins seen l.words ≡ fault_of_next pins before l
+unfolding fault_after fault_of_next block_names net_names
 fault_is pins before l seen is =
     rw (is.opened, is.latest, is.blocks, is.nets, words_more block_name_on before l, words_more net_names_on before l) refl

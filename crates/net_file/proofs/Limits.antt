@@ -1,12 +1,11 @@
 -- What accepted lines keep: the limits of nets and blocks.
 use Rattle.std.proofs.Common.{◌≡◌, ℕ, ◌≤◌, Bool, true, false, ◌||◌, List, [], ◌∷◌, ◌++◌, length, None, refl, sym, subst, arith}
 use Rattle.std.proofs.lemmas.Bool.{ltb-false}
-use Rattle.std.proofs.lemmas.List.{append-nil, append_assoc}
+use Rattle.std.proofs.lemmas.List.{append-nil, append_assoc, length-map}
 use Rattle.vpr_text.specs.Words.{Line}
-use Rattle.net_file.specs.Judge.{first_fault, is_bad_line, is_bad_count, is_double, are_too_many, fault_behind}
+use Rattle.net_file.specs.Judge.{first_fault, is_bad_line, is_bad_count, is_double, are_too_many, fault_of_next}
 use Rattle.net_file.specs.Lines.{block_names, net_names, opened, latest}
 use Rattle.net_file.specs.Reads.{AreAccepted}
-use Rattle.std.proofs.lemmas.List.{length-map}
 use Rattle.std.proofs.lemmas.List.FromFn.{length-map-range_with_len}
 use Rattle.net_file.specs.declared.connection.Connection.{Connection}
 use Rattle.net_file.specs.Blocks.{block_at, blocks_of, pinlists}
@@ -25,16 +24,16 @@ second_false true b h = absurd cc
 second_false false b h = h
 
 -- a line without a fault leaves no more nets than there may be
-few_behind : (pins : ℕ) (before : List Line) (l : Line) → fault_behind pins before l ≡ None → length (net_names (before ++ l ∷ [])) ≤ 65535
-unfolding fault_behind are_too_many
-few_behind pins before l h =
+few_after : (pins : ℕ) (before : List Line) (l : Line) → fault_of_next pins before l ≡ None → length (net_names (before ++ l ∷ [])) ≤ 65535
+unfolding fault_of_next are_too_many
+few_after pins before l h =
     let fits = none_too_many (is_bad_line (opened before) (latest before) l.words) (is_bad_count pins (opened before) l.words) (is_double (block_names before) l.words) _ h in
     ltb-false 65535 (length (net_names (before ++ l ∷ []))) (second_false _ _ fits)
 
 few_nets_from : (pins : ℕ) (before ls : List Line) → length (net_names before) ≤ 65535 → AreAccepted pins before ls → length (net_names (before ++ ls)) ≤ 65535
 few_nets_from pins before [] few h = subst (λ front. length (net_names front) ≤ 65535) (sym (append-nil before)) few
 few_nets_from pins before (l ∷ ls) few h =
-    subst (λ front. length (net_names front) ≤ 65535) (append_assoc before (l ∷ []) ls) (few_nets_from pins (before ++ l ∷ []) ls (few_behind pins before l h.0) h.1)
+    subst (λ front. length (net_names front) ≤ 65535) (append_assoc before (l ∷ []) ls) (few_nets_from pins (before ++ l ∷ []) ls (few_after pins before l h.0) h.1)
 
 none_first : length (net_names []) ≤ 65535
 unfolding net_names

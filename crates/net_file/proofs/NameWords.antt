@@ -6,10 +6,11 @@ use Rattle.std.specs.List.{AllByRecursion}
 use Rattle.std.proofs.lemmas.Bool.{eqb-true}
 use Rattle.std.proofs.lemmas.List.Elements.{recursion_from_All}
 use Rattle.std.proofs.lemmas.Slice.Eq.{bytes_eq-Decides}
-use Rattle.vpr_text.specs.Text.{IsWord, HaveWords}
+use Rattle.vpr_text.specs.Text.{IsWord}
+use Rattle.vpr_text.specs.kept.Split.{HaveWords}
 use Rattle.vpr_text.specs.Words.{Line}
 use Rattle.arch_file.specs.Keyword.{is_text}
-use Rattle.net_file.specs.Judge.{is_logic_block, stands, is_bad_line, is_bad_count, is_double, fault_behind}
+use Rattle.net_file.specs.Judge.{is_logic_block, stands, is_bad_line, is_bad_count, is_double, fault_of_next}
 use Rattle.net_file.specs.Lines.{kind_of, is_element, is_pinlist, is_global, is_subblock, is_open, name_in, block_name_on, net_names_on, block_names, net_names, opened, latest}
 use Rattle.net_file.specs.Reads.{AreAccepted}
 use Rattle.net_file.proofs.BlockCount.{no_element, of_bad_line, stands_not}
@@ -55,8 +56,8 @@ both_words false false false true filled inside h x y = refl
 both_words true false false false filled inside h x y = absurd cc
 both_words false false false false filled inside h x y = absurd cc
 
-element_words : (pins : ℕ) (before : List Line) (l : Line) → fault_behind pins before l ≡ None → is_element l.words ≡ true → length l.words ≡ 2
-unfolding fault_behind is_bad_line
+element_words : (pins : ℕ) (before : List Line) (l : Line) → fault_of_next pins before l ≡ None → is_element l.words ≡ true → length l.words ≡ 2
+unfolding fault_of_next is_bad_line
 element_words pins before l h e =
     let words = l.words in
     let fine = no_early (is_bad_line (opened before) (latest before) words) (is_bad_count pins (opened before) words) (is_double _ words) _ h in

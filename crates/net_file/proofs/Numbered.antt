@@ -10,7 +10,7 @@ use Rattle.std.specs.Str.{bytes_eq}
 use Rattle.std.proofs.lemmas.List.{map-append, length-map}
 use Rattle.std.proofs.lemmas.Map.Text.{btree_map_updates_str}
 use Rattle.std.proofs.lemmas.Slice.Eq.{bytes_eq-Decides}
-use Rattle.net_file.specs.Kept.{names_in, AreNumbered}
+use Rattle.net_file.specs.kept.NameNumbers.{names_in, AreNumbered}
 use Rattle.net_file.specs.Names.{number_among, is_among, with_name}
 
 -- ---- when two names are one

@@ -11,7 +11,7 @@ use Rattle.arch_file.specs.declared.parts.Pin.{Pin}
 use Rattle.net_file.specs.declared.fault.LineFault.{LineFault}
 use Rattle.net_file.specs.declared.fault.NetFault.{NetFault}
 use Rattle.net_file.specs.declared.parts.BlockKind.{BlockKind}
-use Rattle.net_file.specs.Judge.{fault_behind}
+use Rattle.net_file.specs.Judge.{fault_of_next}
 use Rattle.net_file.specs.Lines.{net_names, global_names, opened}
 use Rattle.net_file.specs.Netlist.{Netlist}
 use Rattle.net_file.specs.Reading.{◌>>=◌, Gives, or_else, line_fault_from, unless_faulty, rows_of, completed, reading, text_of, netlist_of}
@@ -33,7 +33,7 @@ pub accepted : (pins : ℕ) (before ls : List Line) → line_fault_from pins bef
 unfolding line_fault_from
 accepted pins before [] e = (tt, ap opened (append-nil before) ∙ no_element (opened before) _ e)
 accepted pins before (l ∷ ls) e =
-    let both = none_of_both (fault_behind pins before l) l.number (line_fault_from pins (before ++ l ∷ []) ls) e in
+    let both = none_of_both (fault_of_next pins before l) l.number (line_fault_from pins (before ++ l ∷ []) ls) e in
     let rest = accepted pins (before ++ l ∷ []) ls both.1 in
     ((both.0, rest.0), ap opened (sym (append_assoc before (l ∷ []) ls)) ∙ rest.1)
 

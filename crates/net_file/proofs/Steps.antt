@@ -9,17 +9,17 @@ use Rattle.net_file.specs.declared.fault.LineFault.TheVariants.{BadLine, PinCoun
 use Rattle.net_file.specs.declared.fault.NetFault.{NetFault}
 use Rattle.net_file.specs.declared.fault.NetFault.TheVariants as net
 use Rattle.net_file.specs.declared.seen.Seen.{Seen}
-use Rattle.net_file.specs.Judge.{fault_behind}
+use Rattle.net_file.specs.Judge.{fault_of_next}
 use Rattle.net_file.specs.Lines as lines
 use Rattle.net_file.specs.Reading.{at_line, or_else, line_fault_from, Fails}
-use Rattle.net_file.specs.Seen.{IsSeen, Judges, seen_of}
+use Rattle.net_file.specs.kept.LinesSeen.{IsSeen, Judges, seen_of}
 use Rattle.net_file.proofs.Judging.{fault_is, seen_more}
 use Rattle.net_file.proofs.Ranges.{take_next}
 
 module _ (pins : ℕ) (ls : List Line) where
   -- the fault of line i, and the first from line i on
   abbrev fault_of : ℕ → Option LineFault
-  fault_of i = fault_behind pins (take i ls) (get_or ls i no_line)
+  fault_of i = fault_of_next pins (take i ls) (get_or ls i no_line)
 
   abbrev first_from : ℕ → Option NetFault
   first_from i = line_fault_from pins (take i ls) (drop i ls)

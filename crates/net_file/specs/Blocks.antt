@@ -1,4 +1,4 @@
--- The blocks that accepted lines describe, each by an element and the pinlist behind it (VPR and T-VPack manual 4.30).
+-- The blocks that accepted lines describe, each by an element and the pinlist after it (VPR and T-VPack manual 4.30).
 use Rattle.std.specs.Prelude.{ℕ, ◌-◌, if◌then◌else◌, List, length, drop, map, filter, Option, None, unwrap_or}
 use Rattle.std.specs.List.{range_with_len}
 use Rattle.vpr_text.specs.Words.{Line, words_at, number_at}

@@ -28,7 +28,7 @@ stands block words =
     || (is_global words && nat_le 2 (length words))
     || (is_subblock words && option_map_or is_logic_block block false)
 
--- the line can't stand behind those before it: behind an element its pinlist stands, and nothing else
+-- the line can't stand after those before it: after an element its pinlist stands, and nothing else
 unfoldable pub is_bad_line : Option BlockKind → Option BlockKind → List (List ℕ) → Bool
 is_bad_line element block words = if is_some element then not (is_pinlist words) else not (stands block words)
 
@@ -53,9 +53,9 @@ first_fault bad_line bad_count double too_many =
     else (if too_many then Some TooMany
     else None)))
 
--- the fault of a line behind those before it
-unfoldable pub fault_behind : ℕ → List Line → Line → Option LineFault
-fault_behind pins before line =
+-- the fault of a line after those before it
+unfoldable pub fault_of_next : ℕ → List Line → Line → Option LineFault
+fault_of_next pins before line =
     first_fault (is_bad_line (opened before) (latest before) line.words)
     (is_bad_count pins (opened before) line.words)
     (is_double (block_names before) line.words)

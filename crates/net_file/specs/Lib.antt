@@ -1,15 +1,12 @@
 pub mod Names
-pub mod Kept
 pub mod Netlist
-pub mod Fields
 pub mod Lines
 pub mod Judge
-pub mod Seen
 pub mod Blocks
 pub mod Connections
-pub mod Rows
 pub mod WholeFile
 pub mod Reading
 pub mod Reads
 pub mod Routed
 pub mod Facts
+pub mod kept

@@ -62,10 +62,10 @@ net_names lines = distinct (flat_map (λ l. net_names_on l.words) lines)
 unfoldable pub global_names : List Line → List (List ℕ)
 global_names lines = distinct (flat_map (λ l. global_names_on l.words) lines)
 
--- the element that waits for its pinlist after these lines: that of the last one
+-- the kind of the block whose element waits for its pinlist after these lines: that of the last one
 unfoldable pub opened : List Line → Option BlockKind
 opened lines = fold (λ _ l. kind_at l.words) None lines
 
--- the block that lines speak of last
+-- the kind of the last block that the lines begin
 unfoldable pub latest : List Line → Option BlockKind
 latest lines = fold (λ kind l. if is_element l.words then kind_at l.words else kind) None lines

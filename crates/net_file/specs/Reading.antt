@@ -14,7 +14,7 @@ use Rattle.net_file.specs.declared.fault.NetFault.TheVariants as net
 use Rattle.net_file.specs.declared.parts.Terminal.{Terminal}
 use Rattle.net_file.specs.Blocks.{numbers_below, blocks_of, pinlist_numbers}
 use Rattle.net_file.specs.Connections.{connections, by_net, is_sink}
-use Rattle.net_file.specs.Judge.{fault_behind}
+use Rattle.net_file.specs.Judge.{fault_of_next}
 use Rattle.net_file.specs.Lines.{net_names, global_names, opened}
 use Rattle.net_file.specs.Netlist.{Netlist, Block, Net}
 use Rattle.net_file.specs.WholeFile.{is_global_net, whole_fault}
@@ -30,10 +30,10 @@ abbrev pub or_else : Option LineFault → ℕ → Option NetFault → Option Net
 or_else (Some fault) n rest = Some (at_line fault n)
 or_else None n rest = rest
 
--- the fault of the first faulty line, behind those before it; at the end no element waits for its pinlist
+-- the fault of the first faulty line, after those before it; at the end no element waits for its pinlist
 unfoldable pub line_fault_from : ℕ → List Line → List Line → Option NetFault
 line_fault_from pins before [] = if is_some (opened before) then Some (net.BadLine 0) else None
-line_fault_from pins before (l ∷ ls) = or_else (fault_behind pins before l) l.number (line_fault_from pins (before ++ l ∷ []) ls)
+line_fault_from pins before (l ∷ ls) = or_else (fault_of_next pins before l) l.number (line_fault_from pins (before ++ l ∷ []) ls)
 
 -- what drives the net with these connections, and what takes its signal
 abbrev pub driver_of : List Connection → Terminal

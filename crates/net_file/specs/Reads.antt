@@ -4,16 +4,16 @@ use Rattle.vpr_text.specs.Words.{Line}
 use Rattle.vpr_text.specs.Text.{lines_of}
 use Rattle.arch_file.specs.declared.parts.Pin.{Pin}
 use Rattle.net_file.specs.Blocks.{blocks_of}
-use Rattle.net_file.specs.Judge.{fault_behind}
+use Rattle.net_file.specs.Judge.{fault_of_next}
 use Rattle.net_file.specs.Lines.{net_names, global_names, opened}
 use Rattle.net_file.specs.Netlist.{Netlist}
 use Rattle.net_file.specs.Reading.{rows_of, nets_of}
 use Rattle.net_file.specs.WholeFile.{fault_at}
 
--- behind those before it each of the lines is without a fault
+-- after those before it each of the lines is without a fault
 abbrev pub AreAccepted : ℕ → List Line → List Line → Type 0
 AreAccepted pins before [] = Unit {0}
-AreAccepted pins before (l ∷ ls) = (fault_behind pins before l ≡ None) × AreAccepted pins (before ++ l ∷ []) ls
+AreAccepted pins before (l ∷ ls) = (fault_of_next pins before l ≡ None) × AreAccepted pins (before ++ l ∷ []) ls
 
 -- no line is faulty, each element has its pinlist, no net is faulty, and the netlist has exactly the blocks and nets of the lines
 pub record ReadsNet (pins : List Pin) (lines : List Line) (netlist : Netlist) : Type 0 where

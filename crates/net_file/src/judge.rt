@@ -3,7 +3,7 @@
 ghost use Rattle.std.specs.Prelude.{◌≡◌, IfOk, false};
 ghost use Rattle.std.specs.Option.{option_map_or};
 ghost use Rattle.net_file.specs.Judge.{pin_count, is_logic_block, stands, is_bad_line, is_bad_count, is_double, are_too_many, first_fault};
-ghost use Rattle.net_file.specs.Seen.{Judges};
+ghost use Rattle.net_file.specs.kept.LinesSeen.{Judges};
 
 use crate::fault::LineFault;
 use crate::names::Names;
@@ -58,7 +58,7 @@ fn stands(block: Option<BlockKind>, words: &Words) -> bool
         || (words.is_subblock() && has_subblocks(block))
 }
 
-/// Whether the line can't stand behind those before it.
+/// Whether the line can't stand after those before it.
 #[tactic(auto, unfolding(crate::specs::Judge::is_bad_line))]
 fn is_bad_line(element: Option<BlockKind>, block: Option<BlockKind>, words: &Words) -> bool
     ensures { result ≡ is_bad_line element block words.now }

@@ -17,7 +17,7 @@ pub(crate) struct Names<'a> {
 
 impl<'a> Model for Names<'a> {
     ghost use Rattle.std.specs.Prelude.{ℕ, List};
-    ghost use Rattle.net_file.specs.Kept.{names_in, AreNumbered};
+    ghost use Rattle.net_file.specs.kept.NameNumbers.{names_in, AreNumbered};
 
     ghost Value = { List (List ℕ) };
 

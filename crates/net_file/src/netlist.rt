@@ -21,7 +21,7 @@ pub struct Netlist<'a> {
 
 impl<'a> Model for Netlist<'a> {
     ghost use Rattle.net_file.specs.Netlist as netlist;
-    ghost use Rattle.net_file.specs.Fields.{netlist_in, IsIndexed};
+    ghost use Rattle.net_file.specs.kept.Fields.{netlist_in, IsIndexed};
 
     ghost Value = { netlist.Netlist };
 

@@ -1,12 +1,12 @@
 //! The reader of a netlist file.
 
 ghost use Rattle.std.specs.Prelude.{◌≡◌, [], IfOk, Ok, None, length};
-ghost use Rattle.vpr_text.specs.Text.{HaveWords};
+ghost use Rattle.vpr_text.specs.kept.Split.{HaveWords};
 ghost use Rattle.net_file.specs.Blocks.{blocks_of, pinlist_numbers};
 ghost use Rattle.net_file.specs.Facts.{names_of_blocks, IsNetlist};
 ghost use Rattle.net_file.specs.Netlist as netlist;
 ghost use Rattle.net_file.specs.Reads.{ReadsBytes};
-ghost use Rattle.net_file.specs.Seen.{seen_of};
+ghost use Rattle.net_file.specs.kept.LinesSeen.{seen_of};
 ghost use Rattle.net_file.specs.Reading.{Gives, unless_faulty, line_fault_from, nets_of, completed, rows_of, reading, netlist_of};
 ghost use Rattle.net_file.specs.WholeFile.{whole_fault};
 

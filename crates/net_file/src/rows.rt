@@ -2,7 +2,7 @@
 
 ghost use Rattle.std.specs.Prelude.{◌≡◌, ℕ, ◌<◌, [], ◌∷◌, ◌++◌, IfOk, OnOk, length, slice_index_or};
 ghost use Rattle.net_file.specs.Connections.{connections_at, connections, by_net};
-ghost use Rattle.net_file.specs.Rows.{Files, FilesAll};
+ghost use Rattle.net_file.specs.kept.Rows.{Files, FilesAll};
 
 use crate::block::Block;
 use crate::connection::{Connection, connections_of};

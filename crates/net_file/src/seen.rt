@@ -3,7 +3,7 @@
 ghost use Rattle.std.specs.Prelude.{◌≡◌, ◌++◌, ◌∷◌, [], OnOk, not, filter};
 ghost use Rattle.net_file.specs.Lines.{is_open, net_names_on, global_names_on, block_name_on};
 ghost use Rattle.net_file.specs.Names.{with_names};
-ghost use Rattle.net_file.specs.Seen.{IsSeen, latest_after, Notes};
+ghost use Rattle.net_file.specs.kept.LinesSeen.{IsSeen, latest_after, Notes};
 
 use crate::names::Names;
 use crate::parts::BlockKind;
@@ -84,7 +84,7 @@ fn note_globals<'a>(names: &mut Names<'a>, words: &Words<'_, 'a>) -> Result<(), 
     Ok(())
 }
 
-/// The kind of the last block, behind this line.
+/// The kind of the last block, after this line.
 fn latest_after(latest: Option<BlockKind>, words: &Words) -> Option<BlockKind>
     ensures { result ≡ latest_after latest words.now }
 {

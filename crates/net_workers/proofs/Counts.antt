@@ -9,7 +9,8 @@ use Rattle.congestion_book.specs.declared.turn.Turn.{Turn}
 use Rattle.congestion_book.specs.Turns.{AreInOrder, NameEachOnce, holder_in, one_if}
 use Rattle.congestion_book.specs.Contents.{Content, IsSound, net_count, table_in}
 use Rattle.net_workers.specs.declared.report.Entry.{Entry}
-use Rattle.net_workers.specs.Agreement.{Begins, Tells, told_turn}
+use Rattle.net_workers.specs.Agreement.{IsReportOf, reported_turn}
+use Rattle.net_workers.specs.kept.ReportsSoFar.{Begins}
 
 one_step : (x n : ℕ) → one_if (nat_lt x (n + 1)) ≡ one_if (nat_lt x n) + one_if (x == n)
 one_step x n = grind (arith, nat_tests)
@@ -145,7 +146,7 @@ module _ (c : Content) (rs : List (List Entry)) (known : All (λ t. t.worker < l
   -- a report that begins with the worker's turns has no fewer entries
   begun : (w n : ℕ) (es : List Entry) → Begins c c.turns w n es → of_worker w ≡ n
   begun w n es b =
-      sym (length-filter (λ t. t.worker == w) c.turns) ∙ ap length b.told ∙ length-map (take n es) (told_turn w) ∙ length-take-le n es b.within
+      sym (length-filter (λ t. t.worker == w) c.turns) ∙ ap length b.reported ∙ length-map (take n es) (reported_turn w) ∙ length-take-le n es b.within
 
   few_turns : (w : ℕ) → w < length rs → of_worker w ≤ entries w
   few_turns w low = let b = begins w low in omega (arith, begun w b.0 (get_or rs w []) b.1, b.1.within)
@@ -165,10 +166,10 @@ module _ (c : Content) (rs : List (List Entry)) (known : All (λ t. t.worker < l
       each_full (λ t. t.worker) c.turns entries (length rs) few_turns (length rs) (omega arith) (omega (arith, all, whole, sum, count)) w low
 
   -- each report that begins well is whole
-  pub all_tell : (w : ℕ) → w < length rs → Tells c w (get_or rs w [])
+  pub all_tell : (w : ℕ) → w < length rs → IsReportOf c w (get_or rs w [])
   all_tell w low =
       let b = begins w low in
       let es = get_or rs w [] in
       let same = all_whole w low in
       let all : take b.0 es ≡ es = take_all b.0 es (omega (arith, begun w b.0 es b.1, same)) in
-      record { turns = rw all at b.1.told; recorded = rw all at b.1.recorded }
+      record { turns = rw all at b.1.reported; recorded = rw all at b.1.recorded }

@@ -4,17 +4,17 @@ use Rattle.std.proofs.lemmas.Bool.{cases_eq, eq-eqb}
 use Rattle.std.proofs.lemmas.List.Sums.{sum_by-append, sum_by-cons}
 use Rattle.rr_graph.specs.Problems.{RoutingProblem}
 use Rattle.route_tree.specs.Paths.{Pair}
-use Rattle.node_cost.specs.Views.{Seen}
+use Rattle.node_cost.specs.Views.{NetView}
 use Rattle.congestion_book.specs.declared.turn.Turn.{Turn}
 use Rattle.congestion_book.specs.declared.faults.DrawFault.{DrawFault}
 use Rattle.congestion_book.specs.Turns.{one_if, turns_at, turn_of}
-use Rattle.congestion_book.specs.Recorded.{list_in}
+use Rattle.route_tree.specs.Usage.{list_in}
 use Rattle.congestion_book.specs.Contents.{Content, IsSound, net_count}
 use Rattle.congestion_book.specs.Steps.{Draws, after_turn}
-use Rattle.net_workers.specs.Evenness.{IsOfIteration}
+use Rattle.net_workers.specs.Parts.{IsOfIteration}
 use Rattle.net_workers.specs.Searches.{ShowsNet}
 
-pub shows_net : (opening old new : Content) (seen view : List Seen) (worker : ℕ) (answer : Result (Option ℕ) DrawFault) → IsSound old → IsOfIteration opening old →
+pub shows_net : (opening old new : Content) (seen view : NetView) (worker : ℕ) (answer : Result (Option ℕ) DrawFault) → IsSound old → IsOfIteration opening old →
     Draws old seen worker answer new view → ShowsNet opening answer view
 shows_net opening old new seen view worker (Err fault) sound within draws = tt
 shows_net opening old new seen view worker (Ok None) sound within draws = tt

@@ -2,7 +2,7 @@
 use Rattle.std.proofs.Common.{◌≡◌, ◌<◌, ◌≤◌, ◌+◌, ℕ, List, ◌∷◌, Option, Some, Result, Ok, Err, length, get_or, drop, sym, ap, ◌∙◌}
 use Rattle.std.proofs.lemmas.List.{at_drop_more, at_drop_all}
 use Rattle.net_workers.specs.declared.fault.WorkFault.{WorkFault}
-use Rattle.net_workers.specs.Faults.{first_of, first_met}
+use Rattle.net_workers.specs.kept.Faults.{first_of, first_met}
 
 pub met_more : {A : Type 0} (met next : Option WorkFault) (results : List (Result A WorkFault)) (i : ℕ) (x y : Result A WorkFault)
     → i < length results → x ≡ get_or results i x → x ≡ y → ((rest : List (Result A WorkFault)) → first_met met (y ∷ rest) ≡ first_met next rest)

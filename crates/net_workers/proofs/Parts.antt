@@ -2,7 +2,7 @@
 use Rattle.std.proofs.Common.{inl, inr, ℕ, ◌+◌, List, [], ◌∷◌, ◌++◌, arith, length-append}
 use Rattle.std.proofs.lemmas.Bool.{cases_lt}
 use Rattle.std.proofs.lemmas.Grind.{common_steps}
-use Rattle.net_workers.specs.Evenness.{Part, AreParts, no_turns}
+use Rattle.net_workers.specs.Parts.{Part, AreParts, no_turns}
 
 pub parts_more : (ps : List Part) (n : ℕ) → AreParts ps n → AreParts (ps ++ no_turns n ∷ []) (n + 1)
 parts_more ps n parts = record {

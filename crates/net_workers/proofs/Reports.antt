@@ -10,10 +10,10 @@ use Rattle.route_tree.specs.TreeLists.{list_of_tree}
 use Rattle.wavefront.specs.Growth.{space_of}
 use Rattle.congestion_book.specs.declared.turn.Turn.{Turn}
 use Rattle.congestion_book.specs.Turns.{one_if, turns_at}
-use Rattle.congestion_book.specs.Recorded.{list_in}
+use Rattle.route_tree.specs.Usage.{list_in}
 use Rattle.congestion_book.specs.Contents.{Content, net_count}
 use Rattle.net_workers.specs.declared.report.Entry.{Entry}
-use Rattle.net_workers.specs.Agreement.{Agrees, IsRecorded, told_turn}
+use Rattle.net_workers.specs.Agreement.{Agrees, IsRecorded, reported_turn}
 use Rattle.net_workers.specs.Searches.{IsFoundIn, IsFound, IsStuckNet}
 
 module _ (i : ℕ) where
@@ -49,13 +49,13 @@ module _ (i : ℕ) where
       ]
 
   -- a report with a turn at the net has an entry for it
-  has_entry : (P : Entry → Type 0) (w : ℕ) (es : List Entry) → All P es → 1 ≤ turns_at (map (told_turn w) es) i → (e : Entry) × (e.net ≡ i) × P e
+  has_entry : (P : Entry → Type 0) (w : ℕ) (es : List Entry) → All P es → 1 ≤ turns_at (map (reported_turn w) es) i → (e : Entry) × (e.net ≡ i) × P e
   has_entry P w [] all some = absurd (omega (arith, some))
   has_entry P w (e ∷ es) all some = elim (cases_eq e.net i) [
     | inl is ↦ (e, is, All-head P e es all)
     | inr apart ↦
         let none : one_if (e.net == i) ≡ 0 = ap one_if (ne_eqb e.net i apart) in
-        has_entry P w es (All-tail P e es all) (omega (arith, none, some, next (told_turn w e) (map (told_turn w) es)))
+        has_entry P w es (All-tail P e es all) (omega (arith, none, some, next (reported_turn w e) (map (reported_turn w) es)))
   ]
 
 no_tree : (tree : Option (List Row)) → list_of_tree tree ≡ None → tree ≡ None
@@ -68,19 +68,19 @@ stuck_entry c present bb e found none = (found.0, found.1, subst (IsFoundIn (spa
 
 module _ (old new : Content) (present bb workers : ℕ) (reports : List (List Entry)) (agrees : Agrees old new present bb workers reports) where
   -- what is true of each entry
-  abbrev IsTold : Entry → Type 0
-  IsTold e = IsRecorded new e × IsFound old present bb e
+  abbrev IsReported : Entry → Type 0
+  IsReported e = IsRecorded new e × IsFound old present bb e
 
-  pub entry_of : (i : ℕ) → i < net_count new → (e : Entry) × (e.net ≡ i) × IsTold e
+  pub entry_of : (i : ℕ) → i < net_count new → (e : Entry) × (e.net ≡ i) × IsReported e
   entry_of i low =
       let one = agrees.once i in
       let some : 1 ≤ turns_at new.turns i = grind (arith, nat_tests, one) in
       let turn = has_turn i workers new.turns agrees.known some in
       let w = turn.0 in
-      let told = agrees.told w turn.1 in
+      let reported = agrees.reported w turn.1 in
       let found = agrees.found w [] (omega (arith, turn.1, agrees.count)) in
-      let count : turns_at (filter (λ t. t.worker == w) new.turns) i ≡ turns_at (map (told_turn w) (get_or reports w [])) i = ap (λ ts. turns_at ts i) told.turns in
-      has_entry i IsTold w (get_or reports w []) (λ k d l. (told.recorded k d l, found k d l)) (omega (arith, turn.2, count))
+      let count : turns_at (filter (λ t. t.worker == w) new.turns) i ≡ turns_at (map (reported_turn w) (get_or reports w [])) i = ap (λ ts. turns_at ts i) reported.turns in
+      has_entry i IsReported w (get_or reports w []) (λ k d l. (reported.recorded k d l, found k d l)) (omega (arith, turn.2, count))
 
   -- a net that was passed is stuck
   pub stuck_net : (i : ℕ) → i < net_count new → list_in new.lists i ≡ None → IsStuckNet old present bb i

@@ -1,4 +1,4 @@
-pub mod Evenness
+pub mod Parts
 pub mod Searches
 pub mod Agreement
-pub mod Faults
+pub mod kept

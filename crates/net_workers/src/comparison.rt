@@ -3,7 +3,8 @@
 ghost use Rattle.std.specs.Prelude.{◌≡◌, ℕ, ◌<◌, ◌^◌, [], length, get_or, None, IsTrue};
 ghost use Rattle.congestion_book.specs.Turns.{NameEachOnce, holder_in};
 ghost use Rattle.congestion_book.specs.Contents.{net_count};
-ghost use Rattle.net_workers.specs.Agreement.{Begins, IsRecorded, told_turn};
+ghost use Rattle.net_workers.specs.Agreement.{IsRecorded, reported_turn};
+ghost use Rattle.net_workers.specs.kept.ReportsSoFar.{Begins};
 
 use crate::desk::open_turns;
 use crate::report::{Entry, Report};
@@ -29,16 +30,16 @@ fn is_recorded(book: &Book, entry: &Entry) -> bool
 }
 
 /// Whether the entry of a worker tells of the turn, and the book records its tree.
-fn is_told(book: &Book, worker: u32, turn: &Turn, entry: &Entry) -> bool
-    ensures turn { IsTrue result → turn.now ≡ told_turn worker entry.now }
+fn is_reported(book: &Book, worker: u32, turn: &Turn, entry: &Entry) -> bool
+    ensures turn { IsTrue result → turn.now ≡ reported_turn worker entry.now }
     ensures recorded { IsTrue result → IsRecorded book.now entry.now }
 {
-    let told = Turn {
+    let reported = Turn {
         worker,
         net: entry.net,
         passed: entry.tree.is_none(),
     };
-    *turn == told && is_recorded(book, entry)
+    *turn == reported && is_recorded(book, entry)
 }
 
 /// Whether the worker's turns are the first entries of its report, in order, and the book records their trees.
@@ -51,7 +52,7 @@ fn begins(book: &Book, worker: u32, report: &Report) -> bool
         if turn.worker != worker {
             continue;
         }
-        if next == entries.len() || !is_told(book, worker, turn, &entries[next]) {
+        if next == entries.len() || !is_reported(book, worker, turn, &entries[next]) {
             return false;
         }
         next += 1;

@@ -6,7 +6,7 @@ ghost use Rattle.route_tree.specs.Faults.{IsRoute};
 ghost use Rattle.congestion_book.specs.Turns.{holder_in};
 ghost use Rattle.congestion_book.specs.Contents.{IsSound, IsFresh};
 ghost use Rattle.congestion_book.specs.Steps.{Draws, Commits, Passes, fault_alone};
-ghost use Rattle.net_workers.specs.Evenness.{AreParts, IsOfIteration, one_more};
+ghost use Rattle.net_workers.specs.Parts.{AreParts, IsOfIteration, one_more};
 ghost use Rattle.net_workers.specs.Searches.{ShowsNet};
 
 use crate::share::{Round, Share};
@@ -31,7 +31,7 @@ pub struct Desk<L: Round> {
 impl<L: Round> Model for Desk<L> {
     ghost use Rattle.std.specs.Prelude.{◌≡◌};
     ghost use Rattle.congestion_book.specs.Contents.{Content};
-    ghost use Rattle.net_workers.specs.Evenness.{IsEven};
+    ghost use Rattle.net_workers.specs.kept.Evenness.{IsEven};
 
     ghost Value = { Content };
 

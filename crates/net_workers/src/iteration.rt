@@ -1,11 +1,11 @@
 //! An iteration of several workers on one book.
 
 ghost use Rattle.std.specs.Prelude.{◌≡◌, ◌<◌, ◌≤◌, length, vec_len, sum_by, All, None, Err, IfOk, IfSome};
-ghost use Rattle.node_cost.specs.Options.{present_of};
+ghost use Rattle.node_cost.specs.Options.{present_of, most_iterations, most_workers};
 ghost use Rattle.congestion_book.specs.Contents.{IsSound, IsFresh};
 ghost use Rattle.net_workers.specs.Agreement.{Agrees};
-ghost use Rattle.net_workers.specs.Evenness.{AreParts, IsOfIteration};
-ghost use Rattle.net_workers.specs.Faults.{first_of, first_met};
+ghost use Rattle.net_workers.specs.Parts.{AreParts, IsOfIteration};
+ghost use Rattle.net_workers.specs.kept.Faults.{first_of, first_met};
 ghost use Rattle.net_workers.specs.Searches.{AreFound};
 
 use crate::comparison::{all_begin, is_done};
@@ -130,7 +130,7 @@ fn settle<L: Round>(
 /// The book and the reports, where they agree.
 fn compare<L: Round>(book: Book, reports: Vec<Report>) -> Result<(Book, Vec<Report>), WorkFault>
     requires count { vec_len reports ≡ L.workers }
-    requires few { L.workers ≤ 16 }
+    requires few { L.workers ≤ most_workers }
     requires found { All (AreFound L.opening L.present L.bb) reports.items }
     requires turns { sum_by length reports.items ≡ length book.turns }
     requires known { All (λ t. t.worker < L.workers) book.turns }
@@ -156,7 +156,7 @@ fn work_at<L: Round + Send + Sync, R: Threads + Wait + Sync, G: Gate + Sync>(
     gate: &G,
 ) -> Result<(Book, Vec<Report>), WorkFault>
     requires shares { AreParts shares.items L.workers }
-    requires workers { (L.parts ≡ L.workers) × (L.workers ≤ 16) }
+    requires workers { (L.parts ≡ L.workers) × (L.workers ≤ most_workers) }
     requires problem { problem.now ≡ L.opening.problem }
     requires options { (options.present ≡ L.present) × (options.bb ≡ L.bb) }
     ensures sound { IfOk result (λ r. IsSound r.0) }
@@ -183,7 +183,7 @@ fn iterate_as<L: Round + Send + Sync, R: Threads + Wait + Sync, G: Gate + Sync>(
     gate: &G,
 ) -> Result<(Book, Vec<Report>), WorkFault>
     requires fresh { IsFresh book }
-    requires few { workers ≤ 16 }
+    requires few { workers ≤ most_workers }
     requires workers { workers ≡ L.workers }
     requires book { book ≡ L.opening }
     requires options { (options.present ≡ L.present) × (options.bb ≡ L.bb) }
@@ -191,7 +191,8 @@ fn iterate_as<L: Round + Send + Sync, R: Threads + Wait + Sync, G: Gate + Sync>(
     requires parts { blank.parts ≡ L.parts }
     requires one_each { blank.parts ≡ workers }
     ensures sound { IfOk result (λ r. IsSound r.0) }
-    ensures agrees { IfOk result (λ r. Agrees book r.0 options.present options.bb workers r.1.items) }
+    ensures agrees { IfOk result (λ r.
+        Agrees book r.0 options.present options.bb workers r.1.items) }
 {
     let (problem, desk, shares) = open::<L>(alloc, book, workers, blank)?;
     work_at(rt, alloc, desk, &problem, options, shares, gate)
@@ -213,8 +214,8 @@ pub fn iterate<R: Threads + Wait + Sync, G: Gate + Sync>(
     gate: &G,
 ) -> Result<(Book, Vec<Report>), WorkFault>
     requires fresh { IsFresh book }
-    requires iteration { (1 ≤ iteration) × (iteration ≤ 500) }
-    requires workers { (1 ≤ workers) × (workers ≤ 16) }
+    requires iteration { (1 ≤ iteration) × (iteration ≤ most_iterations) }
+    requires workers { (1 ≤ workers) × (workers ≤ most_workers) }
     ensures sound { IfOk result (λ r. IsSound r.0) }
     ensures agrees { IfOk result (λ r. Agrees book r.0 (present_of settings.now iteration)
         settings.now.bb workers r.1.items) }

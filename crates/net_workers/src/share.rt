@@ -2,7 +2,7 @@
 
 ghost use Rattle.std.specs.Prelude.{◌≡◌, ◌+◌, ◌≤◌, ◌<◌, ℕ, [], length};
 ghost use Rattle.congestion_book.specs.Contents.{Content};
-ghost use Rattle.net_workers.specs.Evenness.{no_book, no_turns, one_more};
+ghost use Rattle.net_workers.specs.Parts.{no_book, no_turns, one_more};
 
 use std::marker::{Brand, Model};
 use std::sync::ledger;
@@ -40,7 +40,7 @@ pub struct Share<L: Round> {
 
 impl<L: Round> Model for Share<L> {
     ghost use Rattle.std.specs.Prelude.{◌≡◌, ◌<◌};
-    ghost use Rattle.net_workers.specs.Evenness.{Part};
+    ghost use Rattle.net_workers.specs.Parts.{Part};
 
     ghost Value = { Part };
 

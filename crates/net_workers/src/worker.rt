@@ -2,9 +2,9 @@
 
 ghost use Rattle.std.specs.Prelude.{◌≡◌, ◌<◌, ◌≤◌, length, vec_len, OnOk, OnErr, IfOk};
 ghost use Rattle.rr_graph.specs.Nodes.{node_count_of};
-ghost use Rattle.node_cost.specs.Options.{greatest_present, present_of};
+ghost use Rattle.node_cost.specs.Options.{greatest_present, present_of, most_iterations};
 ghost use Rattle.wavefront.specs.Growth.{space_of};
-ghost use Rattle.net_workers.specs.Evenness.{one_more};
+ghost use Rattle.net_workers.specs.Parts.{one_more};
 ghost use Rattle.net_workers.specs.Searches.{AreFound, IsFoundIn};
 
 use crate::desk::Desk;
@@ -33,7 +33,7 @@ pub(crate) struct SearchOptions {
 impl SearchOptions {
     /// Those of an iteration, counted from 1.
     pub(crate) fn of(settings: &Settings, iteration: u32) -> SearchOptions
-        requires { (1 ≤ iteration) × (iteration ≤ 500) }
+        requires { (1 ≤ iteration) × (iteration ≤ most_iterations) }
         ensures present { result.present ≡ present_of settings.now iteration }
         ensures bb { result.bb ≡ settings.now.bb }
     {

@@ -6,8 +6,8 @@ use Rattle.std.proofs.lemmas.Bool.Decides.{nat_tests}
 use Rattle.std.proofs.lemmas.List.{ext_get_or, get_or_past, get_or-set_same, get_or-set_other, length-set, length-replicate}
 use Rattle.std.proofs.lemmas.List.Elements.{All-replicate}
 use Rattle.std.proofs.lemmas.List.FromFn.{length-map-range_with_len, get_or-map-range_with_len}
-use Rattle.node_cost.specs.Words.{number_at, IsPut}
-use Rattle.node_cost.specs.Packed.{narrow_of, count_of, counts_of, IsMarked, PutsNarrow, AgreesBelow, CopiesPart, CopiesBlock, IsPacked}
+use Rattle.node_cost.specs.kept.Words.{number_at, IsPut}
+use Rattle.node_cost.specs.kept.Packed.{narrow_of, count_of, counts_of, IsMarked, PutsNarrow, AgreesBelow, CopiesPart, CopiesBlock, IsPacked}
 
 pub length_counts : (words wide : List ℕ) → length (counts_of words wide) ≡ length wide
 unfolding counts_of
@@ -43,17 +43,17 @@ counts_put words wide new_words new id n l e here elsewhere =
     ])
 
 -- a number that four bits hold, and one that the table has
-narrow_told : (bits wide n : ℕ) → bits ≡ n → n < 15 → (if eqb bits 15 then wide else bits) ≡ n
-narrow_told bits wide n e l = grind (arith, nat_tests)
+narrow_reported : (bits wide n : ℕ) → bits ≡ n → n < 15 → (if eqb bits 15 then wide else bits) ≡ n
+narrow_reported bits wide n e l = grind (arith, nat_tests)
 
-wide_told : (bits wide : ℕ) → bits ≡ 15 → (if eqb bits 15 then wide else bits) ≡ wide
-wide_told bits wide e = grind (arith, nat_tests)
+wide_reported : (bits wide : ℕ) → bits ≡ 15 → (if eqb bits 15 then wide else bits) ≡ wide
+wide_reported bits wide e = grind (arith, nat_tests)
 
 pub narrow_put : (words new wide : List ℕ) (id count : ℕ) → id < length wide → count < 15 → PutsNarrow id count words new →
     counts_of new wide ≡ set (counts_of words wide) id count
 unfolding count_of
 narrow_put words new wide id n l few put =
-    counts_put words wide new wide id n l refl (narrow_told (narrow_of new id) (get_or wide id 0) n put.here few)
+    counts_put words wide new wide id n l refl (narrow_reported (narrow_of new id) (get_or wide id 0) n put.here few)
     (λ k apart. ap (λ b. if eqb b 15 then get_or wide k 0 else b) (put.elsewhere k apart))
 
 pub wide_put : (words new wide : List ℕ) (id count : ℕ) → id < length wide → PutsNarrow id 15 words new →
@@ -61,7 +61,7 @@ pub wide_put : (words new wide : List ℕ) (id count : ℕ) → id < length wide
 unfolding count_of
 wide_put words new wide id n l put =
     counts_put words wide new (set wide id n) id n l (length-set wide id n)
-    (wide_told (narrow_of new id) (get_or (set wide id n) id 0) put.here ∙ get_or-set_same wide id n 0 l)
+    (wide_reported (narrow_of new id) (get_or (set wide id n) id 0) put.here ∙ get_or-set_same wide id n 0 l)
     (λ k apart. ap (λ b. if eqb b 15 then get_or (set wide id n) k 0 else b) (put.elsewhere k apart)
     ∙ ap (λ w. if eqb (narrow_of words k) 15 then w else narrow_of words k) (get_or-set_other wide id k n 0 apart))
 
@@ -94,7 +94,7 @@ unfolding count_of narrow_of
 none_counted m n =
     ext_get_or 0 (counts_of (replicate m 0) (replicate n 0)) (replicate n 0) (length_counts (replicate m 0) (replicate n 0))
     (λ i l. count_is (replicate m 0) (replicate n 0) i (omega (arith, length_counts (replicate m 0) (replicate n 0)))
-    ∙ (narrow_told _ (get_or (replicate n 0) i 0) 0 (ap (λ w. number_at w (i % 16)) (zero_everywhere m (i / 16) 0 refl) ∙ nothing_at (i % 16)) (omega arith)
+    ∙ (narrow_reported _ (get_or (replicate n 0) i 0) 0 (ap (λ w. number_at w (i % 16)) (zero_everywhere m (i / 16) 0 refl) ∙ nothing_at (i % 16)) (omega arith)
     ∙ sym (zero_everywhere n i 0 refl)))
 
 pub none_packed : (words wide : List ℕ) (marks : List Bool) (nodes : ℕ) → words ≡ replicate (nodes / 16 + 1) 0 → wide ≡ replicate nodes 0 →

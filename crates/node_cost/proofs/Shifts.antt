@@ -3,7 +3,7 @@ use Rattle.std.proofs.Common.{◌≡◌, ◌≢◌, ℕ, zero, suc, ◌+◌, ◌
 use Rattle.std.proofs.lemmas.Nat.{shr-shr, pow-add, shl_whole, and_mask}
 use Rattle.std.proofs.Math.Nat.{mul_left_comm, pow-succ'}
 use Rattle.std.specs.Int.Bits.{bit_and}
-use Rattle.node_cost.specs.Words.{number_at, IsPut}
+use Rattle.node_cost.specs.kept.Words.{number_at, IsPut}
 
 -- the next place is four bits further
 shift_next : (place : ℕ) → 4 * suc place ≡ 4 + 4 * place

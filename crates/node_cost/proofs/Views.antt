@@ -1,7 +1,7 @@
 -- Views as pairs of two lists: how many nets use each node, and the histories.
 use Rattle.std.proofs.Common.{◌≡◌, ℕ, zero, suc, List, [], ◌∷◌, length, get_or, set, replicate, refl, ap, arith}
 use Rattle.std.specs.List.{zip}
-use Rattle.node_cost.specs.Views.{Seen, others_in, history_in}
+use Rattle.node_cost.specs.Views.{others_in, history_in, NetView}
 
 pub length_seen : (others histories : List ℕ) → length histories ≡ length others → length (zip others histories) ≡ length others
 length_seen [] hs e = refl
@@ -24,7 +24,7 @@ history_at (o ∷ os) (h ∷ hs) (suc a) e = history_at os hs a (omega (arith, e
 -- a view in which nothing is used and nothing has a history
 pub none_seen : (nodes : ℕ) → zip {K = ℕ} {X = ℕ} (replicate nodes 0) (replicate nodes 0) ≡ replicate nodes (0, 0)
 none_seen zero = refl
-none_seen (suc n) = ap (λ (seen : List Seen). (0, 0) ∷ seen) (none_seen n)
+none_seen (suc n) = ap (λ (seen : NetView). (0, 0) ∷ seen) (none_seen n)
 
 pub seen_set : (others histories : List ℕ) (a count history : ℕ) →
     zip (set others a count) (set histories a history) ≡ set (zip others histories) a (count, history)

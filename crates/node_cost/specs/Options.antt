@@ -3,12 +3,13 @@
 use Rattle.std.specs.Prelude.{ℕ, ◌-◌, ◌*◌, ◌/◌, ◌≤◌, zero, suc, Bool, ◌&&◌, nat_le, not, min, if◌then◌else◌, Result, Ok, Err}
 use Rattle.node_cost.specs.declared.settings.Range.{Range}
 use Rattle.node_cost.specs.declared.settings.Range.TheVariants.{First, Init, Mult, Acc, Bb, Iterations}
+use Rattle.node_cost.specs.Costs.{unit_factor}
 
 pub record RouterOptions : Type 0 where
   -- the present-congestion factor of the first iteration, and of the second
   pub first : ℕ
   pub init : ℕ
-  -- by how many sixteenths it grows from then on
+  -- by how many sixteenths it is multiplied from then on: 16 keeps it
   pub mult : ℕ
   -- how much a history grows for each net of overuse
   pub acc : ℕ
@@ -17,12 +18,24 @@ pub record RouterOptions : Type 0 where
   -- the most iterations
   pub iterations : ℕ
 
+-- the greatest present-congestion factor: 2^20, in sixteenths
 abbrev pub greatest_present : ℕ
 greatest_present = 1048576
 
+-- the greatest multiplier
+abbrev pub most_mult : ℕ
+most_mult = 256
+
+-- the most iterations of a negotiation, and the most workers of one (this project's profile)
+abbrev pub most_iterations : ℕ
+most_iterations = 500
+
+abbrev pub most_workers : ℕ
+most_workers = 16
+
 -- the factor of the next iteration
 abbrev pub next_present : (mult present : ℕ) → ℕ
-next_present mult present = min greatest_present (present * mult / 16)
+next_present mult present = min greatest_present (present * mult / unit_factor)
 
 -- the factor n iterations later
 abbrev pub present_after : (mult : ℕ) → ℕ → (present : ℕ) → ℕ
@@ -41,10 +54,10 @@ unfoldable pub options_within : RouterOptions → Result RouterOptions Range
 options_within o =
     if not (is_within 0 greatest_present o.first) then Err First
     else (if not (is_within 0 greatest_present o.init) then Err Init
-    else (if not (is_within 16 256 o.mult) then Err Mult
+    else (if not (is_within unit_factor most_mult o.mult) then Err Mult
     else (if not (is_within 0 65535 o.acc) then Err Acc
     else (if not (is_within 1 255 o.bb) then Err Bb
-    else (if not (is_within 1 500 o.iterations) then Err Iterations else Ok o)))))
+    else (if not (is_within 1 most_iterations o.iterations) then Err Iterations else Ok o)))))
 
 abbrev pub standard_options : RouterOptions
 standard_options = record { first = 8; init = 8; mult = 32; acc = 20; bb = 3; iterations = 30 }
@@ -53,10 +66,10 @@ standard_options = record { first = 8; init = 8; mult = 32; acc = 20; bb = 3; it
 pub record AreWithinLimits (o : RouterOptions) : Type 0 where
   pub first : o.first ≤ greatest_present
   pub init : o.init ≤ greatest_present
-  pub mult_least : 16 ≤ o.mult
-  pub mult : o.mult ≤ 256
+  pub mult_least : unit_factor ≤ o.mult
+  pub mult : o.mult ≤ most_mult
   pub acc : o.acc ≤ 65535
   pub bb_least : 1 ≤ o.bb
   pub bb : o.bb ≤ 255
   pub iterations_least : 1 ≤ o.iterations
-  pub iterations : o.iterations ≤ 500
+  pub iterations : o.iterations ≤ most_iterations

@@ -2,11 +2,15 @@
 use Rattle.std.specs.Prelude.{ℕ, List, get_or}
 
 -- how many other nets use the node, and its history
-abbrev pub Seen : Type 0
-Seen = ℕ × ℕ
+abbrev pub NodeView : Type 0
+NodeView = ℕ × ℕ
 
-abbrev pub others_in : List Seen → ℕ → ℕ
+-- what a net sees of all nodes
+abbrev pub NetView : Type 0
+NetView = List NodeView
+
+abbrev pub others_in : NetView → ℕ → ℕ
 others_in view a = (get_or view a (0, 0)).0
 
-abbrev pub history_in : List Seen → ℕ → ℕ
+abbrev pub history_in : NetView → ℕ → ℕ
 history_in view a = (get_or view a (0, 0)).1

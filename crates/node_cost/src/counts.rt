@@ -19,7 +19,7 @@ pub struct Counts {
 
 impl Model for Counts {
     ghost use Rattle.std.specs.Prelude.{List, ℕ};
-    ghost use Rattle.node_cost.specs.Packed.{counts_of, IsPacked};
+    ghost use Rattle.node_cost.specs.kept.Packed.{counts_of, IsPacked};
 
     ghost Value = { List ℕ };
 

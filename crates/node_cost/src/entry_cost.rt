@@ -1,7 +1,7 @@
 //! What it costs to enter a node.
 
 ghost use Rattle.std.specs.Prelude.{◌≡◌, ◌≤◌, ◌<◌, ◌+◌, ◌-◌, ◌*◌, ◌^◌};
-ghost use Rattle.node_cost.specs.Costs.{cost_of};
+ghost use Rattle.node_cost.specs.Costs.{cost_of, unit_factor};
 
 /// The most nets that use a node beside the one that is routed: a problem has at most as many nets.
 pub const GREATEST_OTHERS: u32 = 65535;
@@ -18,7 +18,7 @@ fn congestion_factor(capacity: u32, others: u32, present: u32) -> u64
     requires capacity { 1 ≤ capacity }
     requires others { others ≤ GREATEST_OTHERS }
     requires present { present ≤ GREATEST_PRESENT }
-    ensures exact { result ≡ 16 + present * (others + 1 - capacity) }
+    ensures exact { result ≡ unit_factor + present * (others + 1 - capacity) }
     ensures bounded { result ≤ 2 ^ 37 }
 {
     let excess = (others + 1).saturating_sub(capacity);

@@ -1,12 +1,12 @@
 //! How many nets use each node, packed: four bits a node, and a table of the numbers that don't fit.
 
 ghost use Rattle.std.specs.Prelude.{◌≡◌, ◌<◌, ◌≤◌, ◌+◌, ◌*◌, ◌/◌, ℕ, true, false, length, get_or, set};
-ghost use Rattle.node_cost.specs.Packed.{narrow_of, count_of, counts_of, IsMarked, PutsNarrow, CopiesPart, CopiesBlock};
+ghost use Rattle.node_cost.specs.kept.Packed.{narrow_of, count_of, counts_of, IsMarked, PutsNarrow, CopiesPart, CopiesBlock};
 
 use crate::words::{number_at, put_number};
 
 /// The four bits of a node.
-#[tactic(auto, unfolding(crate::specs::Packed::narrow_of))]
+#[tactic(auto, unfolding(crate::specs::kept::Packed::narrow_of))]
 fn narrow(words: &[u64], id: u32) -> u64
     requires { id < 16 * length words.now }
     ensures exact { result ≡ narrow_of words.now id }
@@ -26,7 +26,7 @@ fn put_narrow(words: &mut [u64], id: u32, number: u64)
 }
 
 /// How many nets use a node.
-#[tactic(auto, unfolding(crate::specs::Packed::count_of))]
+#[tactic(auto, unfolding(crate::specs::kept::Packed::count_of))]
 pub(crate) fn count(words: &[u64], wide: &[u16], id: u32) -> u32
     requires there { id < length wide.now }
     requires each { length words.now ≡ length wide.now / 16 + 1 }

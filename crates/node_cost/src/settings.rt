@@ -1,7 +1,7 @@
 //! What a user chooses of the negotiation.
 
 ghost use Rattle.std.specs.Prelude.{◌≡◌, ◌≤◌};
-ghost use Rattle.node_cost.specs.Options.{AreWithinLimits, options_within, standard_options, present_of, present_after, next_present};
+ghost use Rattle.node_cost.specs.Options.{AreWithinLimits, options_within, standard_options, present_of, present_after, next_present, most_iterations, most_mult};
 
 use crate::entry_cost::GREATEST_PRESENT;
 use std::marker::Model;
@@ -46,7 +46,7 @@ impl Model for Settings {
 
     ghost Value = { RouterOptions };
 
-    ghost use Rattle.node_cost.specs.Fields.{options_of};
+    ghost use Rattle.node_cost.specs.kept.Fields.{options_of};
 
     ghost view = { options_of };
 
@@ -166,7 +166,7 @@ impl Settings {
     #[tactic(auto, unfolding(crate::specs::Options::present_of))]
     pub fn present(&self, iteration: u32) -> u32
         requires least { 1 ≤ iteration }
-        requires greatest { iteration ≤ 500 }
+        requires greatest { iteration ≤ most_iterations }
         ensures exact { result ≡ present_of self.now iteration }
         ensures bounded { result ≤ GREATEST_PRESENT }
     {
@@ -176,7 +176,7 @@ impl Settings {
         self.present_after(iteration - 2)
     }
 
-    /// The factor so many iterations behind the second.
+    /// The factor so many iterations after the second.
     fn present_after(&self, iterations: u32) -> u32
         ensures exact { result ≡ present_after self.now.mult iterations self.now.init }
         ensures bounded { result ≤ GREATEST_PRESENT }
@@ -191,7 +191,7 @@ impl Settings {
 
 /// The present-congestion factor of the next iteration.
 fn next_present(mult: u32, present: u32) -> u32
-    requires mult { mult ≤ 256 }
+    requires mult { mult ≤ most_mult }
     requires present { present ≤ GREATEST_PRESENT }
     ensures exact { result ≡ next_present mult present }
     ensures bounded { result ≤ GREATEST_PRESENT }

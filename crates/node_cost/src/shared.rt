@@ -22,7 +22,7 @@ impl Model for SharedHistories {
 
     ghost Value = { List ℕ };
 
-    ghost use Rattle.node_cost.specs.Fields.{histories_of};
+    ghost use Rattle.node_cost.specs.kept.Fields.{histories_of};
 
     ghost view = { histories_of };
 

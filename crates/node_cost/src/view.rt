@@ -26,7 +26,7 @@ impl Model for View {
 
     ghost Value = { List (ℕ × ℕ) };
 
-    ghost use Rattle.node_cost.specs.Fields.{seen_by};
+    ghost use Rattle.node_cost.specs.kept.Fields.{seen_by};
 
     ghost view = { seen_by };
 

@@ -1,7 +1,7 @@
 //! Words of 16 numbers below 16.
 
 ghost use Rattle.std.specs.Prelude.{◌≡◌, ◌<◌};
-ghost use Rattle.node_cost.specs.Words.{number_at, IsPut};
+ghost use Rattle.node_cost.specs.kept.Words.{number_at, IsPut};
 
 /// The number at a place of a word.
 #[tactic(auto, using(crate::proofs::Shifts::number_masked, crate::proofs::Shifts::number_below))]

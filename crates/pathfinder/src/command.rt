@@ -1,6 +1,8 @@
 //! The words of the command line.
 
 ghost use Rattle.std.specs.Prelude.{◌≤◌, IfSome};
+ghost use Rattle.rr_graph.specs.Fabric.{longest_side, most_tracks};
+ghost use Rattle.node_cost.specs.Options.{most_workers};
 
 use clap::{Arg, ArgAction, ArgMatches, Command, value_parser};
 use node_cost::Settings;
@@ -277,8 +279,8 @@ fn settings(matches: &ArgMatches<'_>) -> Option<Settings> {
 
 /// The words of the `route` command; None where one is out of its range.
 pub fn route_words<'a>(matches: &ArgMatches<'a>) -> Option<RouteWords<'a>>
-    ensures tracks { IfSome result (λ r. (1 ≤ r.width) × (r.width ≤ 256)) }
-    ensures workers { IfSome result (λ r. (1 ≤ r.workers) × (r.workers ≤ 16)) }
+    ensures tracks { IfSome result (λ r. (1 ≤ r.width) × (r.width ≤ most_tracks)) }
+    ensures workers { IfSome result (λ r. (1 ≤ r.workers) × (r.workers ≤ most_workers)) }
 {
     Some(RouteWords {
         net: matches.get_str("NET")?,
@@ -294,8 +296,8 @@ pub fn route_words<'a>(matches: &ArgMatches<'a>) -> Option<RouteWords<'a>>
 
 /// The words of the `width` command; None where one is out of its range.
 pub fn width_words<'a>(matches: &ArgMatches<'a>) -> Option<WidthWords<'a>>
-    ensures start { IfSome result (λ w. (1 ≤ w.start) × (w.start ≤ 256)) }
-    ensures workers { IfSome result (λ w. (1 ≤ w.workers) × (w.workers ≤ 16)) }
+    ensures start { IfSome result (λ w. (1 ≤ w.start) × (w.start ≤ most_tracks)) }
+    ensures workers { IfSome result (λ w. (1 ≤ w.workers) × (w.workers ≤ most_workers)) }
 {
     Some(WidthWords {
         net: matches.get_str("NET")?,
@@ -311,7 +313,7 @@ pub fn width_words<'a>(matches: &ArgMatches<'a>) -> Option<WidthWords<'a>>
 
 /// The words of the `check` command; None where one is out of its range.
 pub fn check_words<'a>(matches: &ArgMatches<'a>) -> Option<CheckWords<'a>>
-    ensures { IfSome result (λ c. (1 ≤ c.width) × (c.width ≤ 256)) }
+    ensures { IfSome result (λ c. (1 ≤ c.width) × (c.width ≤ most_tracks)) }
 {
     Some(CheckWords {
         net: matches.get_str("NET")?,
@@ -325,9 +327,9 @@ pub fn check_words<'a>(matches: &ArgMatches<'a>) -> Option<CheckWords<'a>>
 
 /// The words of the `graph` command; None where one is out of its range.
 pub fn graph_words<'a>(matches: &ArgMatches<'a>) -> Option<GraphWords<'a>>
-    ensures columns { IfSome result (λ g. (1 ≤ g.nx) × (g.nx ≤ 100)) }
-    ensures rows { IfSome result (λ g. (1 ≤ g.ny) × (g.ny ≤ 100)) }
-    ensures tracks { IfSome result (λ g. (1 ≤ g.width) × (g.width ≤ 256)) }
+    ensures columns { IfSome result (λ g. (1 ≤ g.nx) × (g.nx ≤ longest_side)) }
+    ensures rows { IfSome result (λ g. (1 ≤ g.ny) × (g.ny ≤ longest_side)) }
+    ensures tracks { IfSome result (λ g. (1 ≤ g.width) × (g.width ≤ most_tracks)) }
 {
     Some(GraphWords {
         arch: matches.get_str("ARCH")?,

@@ -5,6 +5,8 @@ mod command;
 mod files;
 
 ghost use Rattle.std.specs.Prelude.{◌≤◌};
+ghost use Rattle.rr_graph.specs.Fabric.{longest_side, most_tracks};
+ghost use Rattle.node_cost.specs.Options.{most_workers};
 
 use clap::error::ErrorKind;
 use clap::{ArgMatches, Error as ClapError};
@@ -166,8 +168,8 @@ fn route<R: Runtime + Threads + Wait + Sync + AllocGlobal>(
     given: RouteWords<'_>,
     progress: &Progress<'_, R>,
 ) -> Result<Outcome, AppFault>
-    requires tracks { (1 ≤ given.width) × (given.width ≤ 256) }
-    requires workers { (1 ≤ given.workers) × (given.workers ≤ 16) }
+    requires tracks { (1 ≤ given.width) × (given.width ≤ most_tracks) }
+    requires workers { (1 ≤ given.workers) × (given.workers ≤ most_workers) }
 {
     let mut arch = open(rt, given.arch, InputFile::Arch)?;
     let mut net = open(rt, given.net, InputFile::Net)?;
@@ -196,8 +198,8 @@ fn width<R: Runtime + Threads + Wait + Sync + AllocGlobal>(
     given: WidthWords<'_>,
     progress: &Progress<'_, R>,
 ) -> Result<WidthReport, AppFault>
-    requires start { (1 ≤ given.start) × (given.start ≤ 256) }
-    requires workers { (1 ≤ given.workers) × (given.workers ≤ 16) }
+    requires start { (1 ≤ given.start) × (given.start ≤ most_tracks) }
+    requires workers { (1 ≤ given.workers) × (given.workers ≤ most_workers) }
 {
     let mut arch = open(rt, given.arch, InputFile::Arch)?;
     let mut net = open(rt, given.net, InputFile::Net)?;
@@ -225,7 +227,7 @@ fn check(
     rt: &(impl Runtime + Threads + Sync + AllocGlobal),
     given: CheckWords<'_>,
 ) -> Result<Option<RouteFault>, AppFault>
-    requires { (1 ≤ given.width) × (given.width ≤ 256) }
+    requires { (1 ≤ given.width) × (given.width ≤ most_tracks) }
 {
     let mut arch = open(rt, given.arch, InputFile::Arch)?;
     let mut net = open(rt, given.net, InputFile::Net)?;
@@ -240,9 +242,9 @@ fn check(
 
 /// The `graph` command.
 fn graph(rt: &(impl Runtime + AllocGlobal), given: GraphWords<'_>) -> Result<(), AppFault>
-    requires columns { (1 ≤ given.nx) × (given.nx ≤ 100) }
-    requires rows { (1 ≤ given.ny) × (given.ny ≤ 100) }
-    requires tracks { (1 ≤ given.width) × (given.width ≤ 256) }
+    requires columns { (1 ≤ given.nx) × (given.nx ≤ longest_side) }
+    requires rows { (1 ≤ given.ny) × (given.ny ≤ longest_side) }
+    requires tracks { (1 ≤ given.width) × (given.width ≤ most_tracks) }
 {
     let mode = mode_of(given.global);
     let mut out = Adapted::new(io::writer(rt));

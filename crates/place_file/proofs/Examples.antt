@@ -47,7 +47,7 @@ sites_of_blocks = (refl, refl, refl)
 abbrev first_row : Line
 first_row = row 3 (codes "a") (codes "0") (codes "1") (codes "0")
 
--- behind a's row: b on a's site, a again, a name that is none, c on the perimeter, a word too many
+-- after a's row: b on a's site, a again, a name that is none, c on the perimeter, a word too many
 pub second_rows : (rows_fault_from one_block blocks [] (first_row ∷ row 4 (codes "b") (codes "0") (codes "1") (codes "1") ∷ []) ≡ None)
     × (rows_fault_from one_block blocks [] (first_row ∷ row 4 (codes "b") (codes "0") (codes "1") (codes "0") ∷ []) ≡ Some (Occupied 4))
     × (rows_fault_from one_block blocks [] (first_row ∷ row 4 (codes "a") (codes "0") (codes "1") (codes "1") ∷ []) ≡ Some (PlacedTwice 4))

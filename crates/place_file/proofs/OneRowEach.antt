@@ -44,7 +44,7 @@ same_tests a b c d f g = by_tests (eqb a b) (eqb c d) (λ e. eq-eqb c d (f (eqb-
     by_tests false true f g = g refl
     by_tests false false f g = refl
 
--- the site that is told by row r is known behind row r, and not before
+-- the site that is reported by row r is known after row r, and not before
 next_site : (r k : ℕ) (site : Option Site) (t : Site) → (r ≡ k → site ≡ Some t) → option_or (cond (ltb r k) site None) (cond (eqb r k) (Some t) None) ≡ cond (ltb r (k + 1)) site None
 next_site r k site t h =
     elim (cases_lt r k) [
@@ -72,7 +72,7 @@ module _ (blocks : List Block) (p : Placement) (rows : List Line) (h : AreRows b
       same_tests (block_on blocks (words_at rows i)) b (row_of b within) i (is_row_of b within i lt)
       (λ e. on_is blocks (words_at rows i) b (subst (λ k. block_named blocks (words_at rows k) ≡ Some b) e (h.each_block b within).1.name))
 
-  -- behind k rows the blocks have sites whose rows are among these
+  -- after k rows the blocks have sites whose rows are among these
   sited : (b : ℕ) (within : b < length blocks) (k : ℕ) → k ≤ length rows → site_in blocks (take k rows) b ≡ cond (ltb (row_of b within) k) (slice_get p.sites b) None
   unfolding site_in
   sited b within zero le = ap (λ known. cond known (slice_get p.sites b) None) (sym (le-ltb (row_of b within) 0 (omega arith)))
@@ -88,18 +88,18 @@ module _ (blocks : List Block) (p : Placement) (rows : List Line) (h : AreRows b
       ∙ ap (λ n. cond (ltb (row_of b within) n) (slice_get p.sites b) None) (add-one k)
 
   module _ (io_rat : ℕ) (placed : IsPlaced io_rat blocks p) where
-    -- a block behind whose row these rows end stands elsewhere
+    -- a block after whose row these rows end stands elsewhere
     elsewhere : (k : ℕ) (s : Site) (b : ℕ) → IsRowOf blocks p rows b k → slice_get p.sites b ≡ Some s → (c : ℕ) (within : c < length blocks) (known : Bool) → ltb (row_of c within) k ≡ known
         → (site : Option Site) → slice_get p.sites c ≡ site → is_on s (cond known site None) ≡ false
-    elsewhere k s b row here c within false e site told = refl
-    elsewhere k s b row here c within true e None told = refl
-    elsewhere k s b row here c within true e (Some t) told = not_same (same_site s t) refl
+    elsewhere k s b row here c within false e site reported = refl
+    elsewhere k s b row here c within true e None reported = refl
+    elsewhere k s b row here c within true e (Some t) reported = not_same (same_site s t) refl
       where
         not_same : (one : Bool) → same_site s t ≡ one → one ≡ false
         not_same false f = refl
         not_same true f =
             let same : s ≡ t = one_site s t f in
-            let block : c ≡ b = placed.apart c b s (told ∙ ap Some (sym same)) here in
+            let block : c ≡ b = placed.apart c b s (reported ∙ ap Some (sym same)) here in
             let late : row_of c within ≡ k = h.once c (row_of c within) k (h.each_block c within).1 (subst (λ d. IsRowOf blocks p rows d k) (sym block) row) in
             absurd (omega (arith, late, ltb-true (row_of c within) k e))
 
@@ -183,10 +183,10 @@ module _ (array : Array) (blocks : List Block) (rows : List Line) (none : rows_f
   one_more : (k b : ℕ) → k < length rows → site_in blocks (take (suc k) rows) b ≡ option_or (site_in blocks (take k rows) b) (cond (eqb (block_at k) b) (Some (site_on (words_at rows k))) None)
   one_more k b lt = ap (λ n. site_in blocks (take n rows) b) (sym (add-one k)) ∙ ap (λ front. site_in blocks front b) (take_next rows k no_line lt) ∙ site_more blocks (take k rows) (get_or rows k no_line) b
 
-  -- a row's block has its site behind it
-  told : (k i : ℕ) → i < k → k ≤ length rows → site_in blocks (take k rows) (block_at i) ≡ Some (site_on (words_at rows i))
-  told zero i lt le = absurd (omega (arith, lt))
-  told (suc k) i lt le =
+  -- a row's block has its site after it
+  reported : (k i : ℕ) → i < k → k ≤ length rows → site_in blocks (take k rows) (block_at i) ≡ Some (site_on (words_at rows i))
+  reported zero i lt le = absurd (omega (arith, lt))
+  reported (suc k) i lt le =
       let here : k < length rows = omega (arith, le) in
       let below : i ≤ k = omega (arith, lt) in
       elim (eq-or-lt_of_le below) [
@@ -194,7 +194,7 @@ module _ (array : Array) (blocks : List Block) (rows : List Line) (none : rows_f
             let first : site_in blocks (take k rows) (block_at i) ≡ None =
             ap (λ n. site_in blocks (take k rows) (block_at n)) last ∙ sym (site_here blocks (take k rows) (block_at k) (block_below k here)) ∙ (good k here).once in
             one_more k (block_at i) here ∙ rw (first, eq-eqb (block_at k) (block_at i) (ap block_at (sym last))) (ap (λ n. Some (site_on (words_at rows n))) (sym last)))
-        | inr less ↦ one_more k (block_at i) here ∙ rw (told k i less (omega (arith, le))) refl
+        | inr less ↦ one_more k (block_at i) here ∙ rw (reported k i less (omega (arith, le))) refl
       ]
 
   -- a block that has a site has a row that tells it
@@ -211,7 +211,7 @@ module _ (array : Array) (blocks : List Block) (rows : List Line) (none : rows_f
   named_once : (i j : ℕ) → i < j → j < length rows → block_at i ≡ block_at j → ⊥
   named_once i j less lt e =
       let free = sym (site_here blocks (take j rows) (block_at j) (block_below j lt)) ∙ (good j lt).once in
-      none_some (site_on (words_at rows i)) (sym free ∙ ap (site_in blocks (take j rows)) (sym e) ∙ told j i less (omega (arith, lt)))
+      none_some (site_on (words_at rows i)) (sym free ∙ ap (site_in blocks (take j rows)) (sym e) ∙ reported j i less (omega (arith, lt)))
 
   pub rows_are : (p : Placement) → sites_in blocks rows ≡ map Some p.sites → length p.sites ≡ length blocks → AreRows blocks p rows
   rows_are p give count =
@@ -220,7 +220,7 @@ module _ (array : Array) (blocks : List Block) (rows : List Line) (none : rows_f
         there = lt;
         form = (good i lt).form;
         name = named_is (block_named blocks (words_at rows i)) (good i lt).known;
-        site = site (block_at i) (block_below i lt) ∙ told (length rows) i lt (omega arith);
+        site = site (block_at i) (block_below i lt) ∙ reported (length rows) i lt (omega arith);
       } in
       record {
         each_row = λ i lt. (block_at i, row i lt);

@@ -12,7 +12,7 @@ use Rattle.net_file.specs.Netlist.{Block}
 use Rattle.net_file.proofs.Distinct.{number_below}
 use Rattle.place_file.specs.declared.site.Array.{Array}
 use Rattle.place_file.specs.declared.site.Site.{Site}
-use Rattle.place_file.specs.Kept.{IsFit, IsTable, is_in_table, entry_of, table_size}
+use Rattle.place_file.specs.kept.OccupiedSites.{IsFit, IsTable, is_in_table, entry_of, table_size}
 use Rattle.place_file.specs.Placement.{is_site}
 use Rattle.place_file.specs.Sites.{same_site, is_on, is_occupied}
 

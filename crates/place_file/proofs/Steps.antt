@@ -17,7 +17,7 @@ use Rattle.place_file.specs.declared.fault.PlaceFault.TheVariants as place
 use Rattle.place_file.specs.declared.site.Array.{Array}
 use Rattle.place_file.specs.declared.site.Site.{Site}
 use Rattle.place_file.specs.Judge.{is_size, first_fault, row_fault, rows_fault_from, header_fault}
-use Rattle.place_file.specs.Kept.{IsFit}
+use Rattle.place_file.specs.kept.OccupiedSites.{IsFit}
 use Rattle.place_file.specs.Lines.{is_title, is_size_line, array_on, is_row, block_named, block_on, site_on}
 use Rattle.place_file.specs.Placement.{is_site, kind_at}
 use Rattle.place_file.specs.Reading.{Fails}
@@ -50,7 +50,7 @@ none_from_not : {X : Type 0} (r : Option X) → is_some r ≡ false → r ≡ No
 none_from_not None e = refl
 none_from_not (Some x) e = absurd cc
 
--- what is known of a row without a fault, behind these sites
+-- what is known of a row without a fault, after these sites
 pub record IsGood (array : Array) (blocks : List Block) (sites : List (Option Site)) (words : List (List ℕ)) : Type 0 where
   pub form : is_row words ≡ true
   pub known : is_some (block_named blocks words) ≡ true
@@ -240,7 +240,7 @@ header_fit io_rat lines few e =
     let size = (header_good io_rat lines e).size in
     record { pads = few; some_columns = grind (arith, nat_tests, size); columns = grind (arith, nat_tests, size); some_rows = grind (arith, nat_tests, size); rows = grind (arith, nat_tests, size) }
 
--- ---- the rows behind the first two lines
+-- ---- the rows after the first two lines
 
 pub no_rows : (blocks : List Block) (sites : List (Option Site)) (n : ℕ) → n ≡ length blocks → sites ≡ map (λ _. None) (range_with_len 0 n) → sites ≡ sites_in blocks []
 unfolding sites_in site_in

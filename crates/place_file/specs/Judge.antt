@@ -9,12 +9,12 @@ use Rattle.place_file.specs.declared.fault.PlaceFault.TheVariants.{BadLine, Arra
 use Rattle.place_file.specs.declared.site.Array.{Array}
 use Rattle.place_file.specs.declared.site.Site.{Site}
 use Rattle.place_file.specs.Lines.{is_title, is_size_line, array_on, is_row, block_named, block_on, site_on}
-use Rattle.place_file.specs.Placement.{is_inside, is_site, kind_at}
+use Rattle.place_file.specs.Placement.{is_inside, is_site, kind_at, longest_side}
 use Rattle.place_file.specs.Sites.{sites_in, site_at, is_occupied}
 
 -- 1 to 100 columns and rows of logic blocks
 abbrev pub is_size : Array → Bool
-is_size a = is_inside 100 a.nx && is_inside 100 a.ny
+is_size a = is_inside longest_side a.nx && is_inside longest_side a.ny
 
 -- the fault of the two lines that a placement begins with; io_rat pads stand at a place
 unfoldable pub header_fault : ℕ → List Line → Option PlaceFault
@@ -44,7 +44,7 @@ row_fault array blocks sites n words =
     (not (is_site array (kind_at blocks (block_on blocks words)) (site_on words)))
     (is_occupied sites (site_on words))
 
--- the fault of the first faulty row, behind those before it
+-- the fault of the first faulty row, after those before it
 unfoldable pub rows_fault_from : Array → List Block → List Line → List Line → Option PlaceFault
 rows_fault_from array blocks before [] = None
 rows_fault_from array blocks before (l ∷ ls) =

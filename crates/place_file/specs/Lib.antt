@@ -4,5 +4,4 @@ pub mod Sites
 pub mod Judge
 pub mod Reading
 pub mod Reads
-pub mod Kept
-pub mod Fields
+pub mod kept

@@ -55,6 +55,7 @@ site_on words = record { x = number_on words 1; y = number_on words 2; subblk = 
 abbrev pub block_named : List Block → List (List ℕ) → Option ℕ
 block_named blocks words = number_among (names_of_blocks blocks) (name_on words)
 
+-- the number of the block named; 0 where there is none, which a row without a fault doesn't have
 abbrev pub block_on : List Block → List (List ℕ) → ℕ
 block_on blocks words = unwrap_or (block_named blocks words) 0
 

@@ -13,12 +13,16 @@ pub record Placement : Type 0 where
   pub ny : ℕ
   pub sites : List Site
 
+-- the most columns, and the most rows, of logic blocks (this project's profile)
+abbrev pub longest_side : ℕ
+longest_side = 100
+
 -- the limits that every placement keeps (this project's profile)
 pub record IsWithinLimits (p : Placement) : Type 0 where
   pub some_columns : 1 ≤ p.nx
-  pub few_columns : p.nx ≤ 100
+  pub few_columns : p.nx ≤ longest_side
   pub some_rows : 1 ≤ p.ny
-  pub few_rows : p.ny ≤ 100
+  pub few_rows : p.ny ≤ longest_side
 
 abbrev pub is_inside : ℕ → ℕ → Bool
 is_inside n v = nat_le 1 v && nat_le v n

@@ -2,7 +2,7 @@
 
 ghost use Rattle.std.specs.Prelude.{◌≡◌, None, Some, length, slice_set};
 ghost use Rattle.place_file.specs.Judge.{row_fault};
-ghost use Rattle.place_file.specs.Kept.{IsFit};
+ghost use Rattle.place_file.specs.kept.OccupiedSites.{IsFit};
 ghost use Rattle.place_file.specs.Lines.{is_row, site_on, block_on};
 ghost use Rattle.place_file.specs.Placement.{kind_at};
 

@@ -19,7 +19,7 @@ impl Model for Placement {
 
     ghost Value = { placement.Placement };
 
-    ghost use Rattle.place_file.specs.Fields.{placement_in};
+    ghost use Rattle.place_file.specs.kept.Fields.{placement_in};
 
     ghost view = { placement_in };
 

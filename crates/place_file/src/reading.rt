@@ -1,6 +1,7 @@
 //! The reader of a placement file.
 
 ghost use Rattle.std.specs.Prelude.{◌≡◌, ◌≤◌, IfOk, Ok};
+ghost use Rattle.arch_file.specs.Architecture.{most_pads};
 ghost use Rattle.place_file.specs.Placement as placement;
 ghost use Rattle.place_file.specs.Placement.{IsPlaced};
 ghost use Rattle.place_file.specs.Reading.{Gives, reading, placement_of};
@@ -23,7 +24,7 @@ fn read(
     netlist: &Netlist,
     lines: &Lines,
 ) -> Result<Placement, PlaceFault>
-    requires { io_rat ≤ 16 }
+    requires { io_rat ≤ most_pads }
     ensures { Gives (λ p. p) result (reading io_rat netlist.now.blocks lines.now) }
 {
     if let Some(fault) = header_fault(io_rat, lines) {
@@ -40,7 +41,7 @@ fn placement_in(
     io_rat: u32,
     netlist: &Netlist,
 ) -> Result<Placement, PlaceFault>
-    requires { io_rat ≤ 16 }
+    requires { io_rat ≤ most_pads }
     ensures { Gives (λ p. p) result (placement_of io_rat netlist.now.blocks source.now) }
 {
     match lines(alloc, source) {

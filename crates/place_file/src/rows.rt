@@ -2,7 +2,7 @@
 
 ghost use Rattle.std.specs.Prelude.{◌≡◌, ◌≤◌, [], Ok, length};
 ghost use Rattle.place_file.specs.Judge.{rows_fault_from};
-ghost use Rattle.place_file.specs.Kept.{IsFit};
+ghost use Rattle.place_file.specs.kept.OccupiedSites.{IsFit};
 ghost use Rattle.place_file.specs.Lines.{rows_of};
 ghost use Rattle.place_file.specs.Reading.{Gives, unless_faulty, completed, placing};
 ghost use Rattle.place_file.specs.Sites.{sites_in};

@@ -30,7 +30,7 @@ fn is_inside(n: u32, v: u32) -> bool
     1 <= v && v <= n
 }
 
-/// Whether `v` is just before or just behind 1 to `n`.
+/// Whether `v` is just before or just after 1 to `n`.
 fn is_beside(n: u32, v: u32) -> bool
     ensures { result ≡ is_beside n v }
 {

@@ -2,7 +2,7 @@
 
 ghost use Rattle.std.specs.Prelude.{◌≡◌, ◌<◌, ◌&&◌, IfOk, None, Some, length, map, slice_set, true};
 ghost use Rattle.std.specs.List.{filter_map, range_with_len};
-ghost use Rattle.place_file.specs.Kept.{is_in_table, entry_of, table_size};
+ghost use Rattle.place_file.specs.kept.OccupiedSites.{is_in_table, entry_of, table_size};
 ghost use Rattle.place_file.specs.Reading.{first_missing};
 ghost use Rattle.place_file.specs.Sites.{same_site, is_occupied, site_at};
 
@@ -40,7 +40,7 @@ pub(crate) struct Sites {
 impl Model for Sites {
     ghost use Rattle.std.specs.Prelude.{List, Option};
     ghost use Rattle.place_file.specs.declared.site.Site.{Site};
-    ghost use Rattle.place_file.specs.Kept.{IsTable};
+    ghost use Rattle.place_file.specs.kept.OccupiedSites.{IsTable};
 
     ghost Value = { List (Option Site) };
 

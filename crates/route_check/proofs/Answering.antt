@@ -1,6 +1,5 @@
 -- The answer for a routing from the answers for its nets and its nodes.
-use Rattle.std.proofs.Common.{◌≡◌, ℕ, ◌-◌, ◌<◌, ◌⊎◌, zero, suc, List, [], ◌∷◌, length, get_or, map, Option, Some, None, Result, Ok, Err}
-use Rattle.std.proofs.Common.{IfOk, inl, inr, refl, sym, ap, ap₂, ◌∙◌, subst, arith}
+use Rattle.std.proofs.Common.{◌≡◌, ℕ, ◌-◌, ◌<◌, ◌⊎◌, zero, suc, List, [], ◌∷◌, length, get_or, map, Option, Some, None, Result, Ok, Err, IfOk, inl, inr, refl, sym, ap, ap₂, ◌∙◌, subst, arith}
 use Rattle.std.specs.Prelude.{MatchResult}
 use Rattle.std.specs.List.{AllZip, range_with_len}
 use Rattle.std.specs.declared.alloc.AllocError.{AllocError}
@@ -8,14 +7,14 @@ use Rattle.std.proofs.lemmas.List.{get_or-map, length-map, take_all}
 use Rattle.std.proofs.lemmas.List.FromFn.{get_or-range_with_len, length-range_with_len}
 use Rattle.rr_graph.specs.Problems.{RoutingProblem}
 use Rattle.rr_graph.specs.Nodes.{node_at}
-use Rattle.route_tree.specs.Usage.{overuse_of, use_of, room_of}
+use Rattle.route_tree.specs.Usage.{overuse_of, use_of, room_of, Lists}
 use Rattle.route_check.specs.declared.fault.RouteFault.{RouteFault}
 use Rattle.route_check.specs.declared.fault.RouteFault.TheVariants.{Length, Unrouted, Tree, Overused}
-use Rattle.route_check.specs.Routed.{Lists, IsNetRouted}
+use Rattle.route_check.specs.Routed.{IsNetRouted}
 use Rattle.route_check.specs.Faults.{HasRouteFault, stage_of, place_of, IsFirstRouteFault}
-use Rattle.route_check.specs.Nets.{JudgesNet}
-use Rattle.route_check.specs.Counted.{AreUses, excess_of}
-use Rattle.route_check.specs.Answers.{AreJudged, IsFirstOf, TellsExcess, JudgesRouting}
+use Rattle.route_check.specs.kept.Nets.{JudgesNet}
+use Rattle.route_check.specs.kept.Counted.{AreUses, excess_of}
+use Rattle.route_check.specs.kept.Answers.{AreJudged, IsFirstOf, TellsExcess, JudgesRouting}
 use Rattle.route_check.proofs.RoutingFaults.{net_sound}
 
 zipped_at : {A B : Type 0} (R : A → B → Type 0) (xs : List A) (ys : List B) (i : ℕ) (d : A) (e : B) → AllZip R xs ys → i < length xs →

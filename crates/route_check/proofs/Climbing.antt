@@ -11,9 +11,9 @@ use Rattle.route_tree.specs.Legality.{is_among, LeadsToSink, IsJoined}
 use Rattle.route_tree.specs.Faults.{reaches_twice}
 use Rattle.route_tree.proofs.Members.{contains_among, end_of, pair_among}
 use Rattle.route_tree.proofs.Ways.{step_on, last_step}
-use Rattle.route_check.specs.Ends.{begin_in, end_in}
-use Rattle.route_check.specs.Judged.{net_of, Dangles}
-use Rattle.route_check.specs.Walks.{IsMet, HasMetParent, IsOnWay, AreWalked, IsWalkedFrom}
+use Rattle.route_check.specs.kept.Ends.{begin_in, end_in}
+use Rattle.route_check.specs.kept.Judged.{net_of, Dangles}
+use Rattle.route_check.specs.kept.Walks.{IsMet, HasMetParent, IsOnWay, AreWalked, IsWalkedFrom}
 use Rattle.route_check.proofs.Once.{not_source, same_row}
 
 -- pair k was met by this walk, which is at this row now
@@ -68,9 +68,9 @@ module _ (source : ℕ) (sinks : List ℕ) (pairs : List Pair) (once : reaches_t
       | inr other ↦ (let same = earlier k other in let l = before.earlier k in omega (arith, same, l))
     ]
 
-    behind_kept : (k : ℕ) → (source ≡ begin_in pairs k) ⊎ HasMetParent pairs old k → (source ≡ begin_in pairs k) ⊎ HasMetParent pairs new k
-    behind_kept k (inl e) = inl e
-    behind_kept k (inr p) = inr (p.0, p.1, p.2, kept p.0 p.3)
+    after_kept : (k : ℕ) → (source ≡ begin_in pairs k) ⊎ HasMetParent pairs old k → (source ≡ begin_in pairs k) ⊎ HasMetParent pairs new k
+    after_kept k (inl e) = inl e
+    after_kept k (inr p) = inr (p.0, p.1, p.2, kept p.0 p.3)
 
     pub finished : ((k : ℕ) → k < length pairs → get_or new k 0 ≡ walk → IsOnWay source sinks pairs new k) → start < length pairs → IsMet new start →
         IsWalkedFrom source sinks pairs walk (end_in pairs start) old new
@@ -82,7 +82,7 @@ module _ (source : ℕ) (sinks : List ℕ) (pairs : List Pair) (once : reaches_t
           | inl e ↦ mine k l e
           | inr other ↦ (
               let way = before.met k l (λ none. there (earlier k other ∙ none)) in
-              record { reached = way.reached; leads = way.leads; behind = behind_kept k way.behind })
+              record { reached = way.reached; leads = way.leads; behind = after_kept k way.behind })
         ];
       };
       left = λ k l same. subst (IsMet new) (same_row source pairs once start k first l (sym same)) met;

@@ -1,11 +1,8 @@
 -- Counting the nodes of nets.
-use Rattle.std.proofs.Common.{◌≡◌, ℕ, ◌+◌, ◌<◌, ◌≤◌, ◌==◌, zero, suc, Bool, true, false, cond, List, []}
-use Rattle.std.proofs.Common.{◌∷◌, ◌++◌, length, get_or, set, Option, Some, None}
-use Rattle.std.proofs.Common.{inl, inr, refl, sym, ap, ap₂, ◌∙◌, subst, arith, add-one, add_assoc, drop}
+use Rattle.std.proofs.Common.{◌≡◌, ℕ, ◌+◌, ◌<◌, ◌≤◌, ◌==◌, zero, suc, Bool, true, false, cond, List, [], ◌∷◌, ◌++◌, length, get_or, set, Option, Some, None, inl, inr, refl, sym, ap, ap₂, ◌∙◌, subst, arith, add-one, add_assoc, drop}
 use Rattle.std.specs.Prelude.{take, count_by}
 use Rattle.std.proofs.lemmas.Bool.{cases_eq, eq-eqb, ne_eqb}
-use Rattle.std.proofs.lemmas.List.{get_or-set_same, get_or-set_other, length-set, length-map, length-take-le, take_more}
-use Rattle.std.proofs.lemmas.List.{take_all, get_or_default, take-append-drop, map-append}
+use Rattle.std.proofs.lemmas.List.{get_or-set_same, get_or-set_other, length-set, length-map, length-take-le, take_more, take_all, get_or_default, take-append-drop, map-append}
 use Rattle.std.proofs.lemmas.Option.{slice_get_cases}
 use Rattle.std.proofs.lemmas.List.Elements.{All-cons, Contains-get_or}
 use Rattle.std.proofs.lemmas.List.Sums.{sum_by-append, sum_by-cons}
@@ -14,14 +11,14 @@ use Rattle.rr_graph.specs.Nodes.{nodes_of, node_count_of}
 use Rattle.rr_graph.proofs.Capacities.{some_capacity}
 use Rattle.rr_graph.specs.Problems.{Net, RoutingProblem, net_in, IsProblem}
 use Rattle.route_tree.specs.Paths.{Pair, ends_of}
-use Rattle.route_tree.specs.Usage.{covers, use_by, use_of, room_of}
+use Rattle.route_tree.specs.Usage.{covers, use_by, use_of, room_of, Lists, list_in}
 use Rattle.route_tree.specs.Faults.{IsRoute}
 use Rattle.route_tree.proofs.Uses.{few_uses}
 use Rattle.route_tree.proofs.LegalLists.{counts_covered, covers_nodes, covers_source, covers_end}
 use Rattle.route_tree.proofs.Members.{end_at}
-use Rattle.route_check.specs.Routed.{Lists, list_in, IsNetRouted}
-use Rattle.route_check.specs.Ends.{end_in}
-use Rattle.route_check.specs.Counted.{Counts, HasRoom, AreUses, excess_of}
+use Rattle.route_check.specs.Routed.{IsNetRouted}
+use Rattle.route_check.specs.kept.Ends.{end_in}
+use Rattle.route_check.specs.kept.Counted.{Counts, HasRoom, AreUses, excess_of}
 
 one_more : (a b : ℕ) (t : Bool) → (b == a) ≡ t → count_by (λ x. x == a) (b ∷ []) ≡ cond t 1 0
 one_more a b t e = sum_by-cons (λ x. cond (x == a) 1 0) b [] ∙ ap (λ t. cond t 1 0 + 0) e ∙ closed t

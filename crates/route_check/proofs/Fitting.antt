@@ -7,7 +7,8 @@ use Rattle.std.proofs.lemmas.List.Sums.{list_all-from_AllPass}
 use Rattle.rr_graph.specs.Problems.{RoutingProblem, net_in}
 use Rattle.route_tree.specs.Fits.{are_nodes, fits_problem}
 use Rattle.route_tree.proofs.LegalLists.{names_nodes}
-use Rattle.route_check.specs.Routed.{Lists, IsNetRouted, IsRouted}
+use Rattle.route_check.specs.Routed.{IsNetRouted, IsRouted}
+use Rattle.route_tree.specs.Usage.{Lists}
 
 -- the list of a net that is routed names nodes
 names_routed : (p : RoutingProblem) (lists : Lists) (i : ℕ) → IsNetRouted p lists i → are_nodes p.device (get_or lists i None) ≡ true

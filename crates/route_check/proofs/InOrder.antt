@@ -5,14 +5,14 @@ use Rattle.std.proofs.lemmas.Bool.{and_parts, eqb-true, eq-eqb, not-false, or_ca
 use Rattle.rr_graph.specs.Fabric.{Fabric}
 use Rattle.rr_graph.specs.Problems.{is_sink}
 use Rattle.route_tree.specs.Paths.{Pair}
-use Rattle.route_tree.specs.Legality.{is_among, IsJoined, may_begin, is_listed_behind, is_listed}
+use Rattle.route_tree.specs.Legality.{is_among, IsJoined, may_begin, is_listed_after, is_listed}
 use Rattle.route_tree.specs.Faults.{has_foreign_sink}
-use Rattle.route_tree.specs.Ladder.{has_dead_end}
+use Rattle.route_tree.specs.kept.Ladder.{has_dead_end}
 use Rattle.route_tree.proofs.Joined.{all_joined}
 use Rattle.route_tree.proofs.Listings.{listed_hang}
-use Rattle.route_check.specs.Ends.{end_in}
-use Rattle.route_check.specs.Judged.{net_of}
-use Rattle.route_check.specs.Listed.{ends_in_sink}
+use Rattle.route_check.specs.kept.Ends.{end_in}
+use Rattle.route_check.specs.kept.Judged.{net_of}
+use Rattle.route_check.specs.kept.Listed.{ends_in_sink}
 
 no_stub : (a b : Bool) → (a || b) ≡ true → (rest : Bool) → rest ≡ false → (not (a || b) || rest) ≡ false
 no_stub a b e rest none = ap₂ (λ x y. not x || y) e none
@@ -34,7 +34,7 @@ module _ (f : Fabric) (sinks : List ℕ) where
   ]
 
   no_dead_end : (source : ℕ) (earlier : List ℕ) (pairs : List Pair) (last : ℕ) → last + 1 ≡ length pairs →
-      is_listed_behind f source earlier pairs ≡ true → has_foreign_sink f sinks pairs ≡ false → is_sink f (end_in pairs last) ≡ true →
+      is_listed_after f source earlier pairs ≡ true → has_foreign_sink f sinks pairs ≡ false → is_sink f (end_in pairs last) ≡ true →
       has_dead_end sinks pairs ≡ false
   no_dead_end source earlier [] last at listed own sink = refl
   no_dead_end source earlier (p ∷ []) zero at listed own sink =
@@ -43,7 +43,7 @@ module _ (f : Fabric) (sinks : List ℕ) where
   no_dead_end source earlier (p ∷ []) (suc last) at listed own sink = absurd (omega (arith, at))
   no_dead_end source earlier (p ∷ q ∷ ps) zero at listed own sink = absurd (omega (arith, at))
   no_dead_end source earlier (p ∷ q ∷ ps) (suc last) at listed own sink =
-      let rest = is_listed_behind f source (q.1 ∷ p.1 ∷ earlier) ps in
+      let rest = is_listed_after f source (q.1 ∷ p.1 ∷ earlier) ps in
       let later = (and_parts (may_begin f source earlier p.0) (may_begin f source (p.1 ∷ earlier) q.0 && rest) listed).1 in
       let begins = (and_parts (may_begin f source (p.1 ∷ earlier) q.0) rest later).0 in
       let parts = or_parts (is_sink f p.1 && not (is_among sinks p.1)) (has_foreign_sink f sinks (q ∷ ps)) own in

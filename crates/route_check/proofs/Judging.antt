@@ -8,14 +8,13 @@ use Rattle.std.proofs.lemmas.List.Elements.{All-get_or, All-weaker}
 use Rattle.rr_graph.specs.Fabric.{Fabric}
 use Rattle.rr_graph.specs.Problems.{Net, RoutingProblem, IsNet, IsProblem, no_net, net_in}
 use Rattle.route_tree.specs.declared.fault.TreeFault.{TreeFault}
-use Rattle.route_tree.specs.declared.fault.TreeFault.TheVariants.{NoNet, WrongSource, NoSwitch, NodeTwice, SecondOutput, ForeignSink}
-use Rattle.route_tree.specs.declared.fault.TreeFault.TheVariants.{Dangling, MissingSink, Order}
+use Rattle.route_tree.specs.declared.fault.TreeFault.TheVariants.{NoNet, WrongSource, NoSwitch, NodeTwice, SecondOutput, ForeignSink, Dangling, MissingSink, Order}
 use Rattle.route_tree.specs.Paths.{Pair}
 use Rattle.route_tree.specs.Legality.{IsJoined, is_listed}
 use Rattle.route_tree.specs.Faults.{begins_elsewhere, lacks_switch, reaches_twice, leaves_twice, has_foreign_sink, misses_sink, rank_of, HasFault, IsRoute}
 use Rattle.route_tree.proofs.Clauses.{all_edges, one_leaves, exact_sinks}
 use Rattle.route_tree.proofs.FirstTests.{all_faults, first_found, none_found}
-use Rattle.route_check.specs.Judged.{Judges, net_of, Dangles, TellsDangling, early_fault_of, late_fault_of, IsToldLate, IsToldBy}
+use Rattle.route_check.specs.kept.Judged.{Judges, net_of, Dangles, TellsDangling, early_fault_of, late_fault_of, IsReportedLate, IsReportedBy}
 
 -- ---- chains of tests
 failed : (b : Bool) (x : TreeFault) (rest : Option TreeFault) → (if b then Some x else rest) ≡ None → (b ≡ false) × (rest ≡ None)
@@ -205,21 +204,21 @@ module _ (p : RoutingProblem) (i : ℕ) (there : i < length p.nets) (pairs : Lis
 
   -- the answer by the tests is the answer
   judged_by : IsProblem p → (answer seen : Option TreeFault) → early_fault_of p.device n.source n.sinks pairs ≡ seen →
-      MatchOption seen (IsToldLate p.device n.source n.sinks pairs answer) (λ fault. answer ≡ Some fault) → Judges p i pairs answer
-  judged_by keeps answer (Some fault) e told =
+      MatchOption seen (IsReportedLate p.device n.source n.sinks pairs answer) (λ fault. answer ≡ Some fault) → Judges p i pairs answer
+  judged_by keeps answer (Some fault) e reported =
       let found = sym (by_tests p.device n.source n.sinks pairs false) ∙ ap (λ x. or_else x (late_fault_of false p.device n.source n.sinks pairs)) e in
-      subst (Judges p i pairs) (sym told) (early fault found (early_low p.device n.source n.sinks pairs fault e))
-  judged_by keeps answer None e told =
-      let found = sym (by_tests p.device n.source n.sinks pairs told.0) ∙ ap (λ x. or_else x (late_fault_of told.0 p.device n.source n.sinks pairs)) e
-      ∙ sym told.2 in
-      late told.0 told.1 keeps answer found
+      subst (Judges p i pairs) (sym reported) (early fault found (early_low p.device n.source n.sinks pairs fault e))
+  judged_by keeps answer None e reported =
+      let found = sym (by_tests p.device n.source n.sinks pairs reported.0) ∙ ap (λ x. or_else x (late_fault_of reported.0 p.device n.source n.sinks pairs)) e
+      ∙ sym reported.2 in
+      late reported.0 reported.1 keeps answer found
 
   pub judged : IsProblem p → (f : Fabric) (source : ℕ) (sinks : List ℕ) → f ≡ p.device → source ≡ n.source → sinks ≡ n.sinks → (answer : Option TreeFault) →
-      IsToldBy f source sinks pairs answer → Judges p i pairs answer
-  judged keeps f source sinks a b c answer told =
+      IsReportedBy f source sinks pairs answer → Judges p i pairs answer
+  judged keeps f source sinks a b c answer reported =
       judged_by keeps answer (early_fault_of p.device n.source n.sinks pairs) refl
-      (subst (λ g. IsToldBy g n.source n.sinks pairs answer) a (subst (λ s. IsToldBy f s n.sinks pairs answer) b
-      (subst (λ s. IsToldBy f source s pairs answer) c told)))
+      (subst (λ g. IsReportedBy g n.source n.sinks pairs answer) a (subst (λ s. IsReportedBy f s n.sinks pairs answer) b
+      (subst (λ s. IsReportedBy f source s pairs answer) c reported)))
 
   pub sinks_ascend : IsProblem p → (sinks : List ℕ) → sinks ≡ n.sinks → IsStrictlyIncreasing sinks
   sinks_ascend keeps sinks e =

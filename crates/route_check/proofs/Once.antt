@@ -1,6 +1,5 @@
 -- Pairs of which no two end in one node, and none in the source; what look-ups of their ends and of sinks say.
-use Rattle.std.proofs.Common.{◌≡◌, ◌≢◌, ℕ, ◌<◌, ◌≤◌, ◌==◌, true, false, List, length, get_or, Option, Some, Result, Ok}
-use Rattle.std.proofs.Common.{Err, inl, inr, sym, ap, ◌∙◌, subst, arith}
+use Rattle.std.proofs.Common.{◌≡◌, ◌≢◌, ℕ, ◌<◌, ◌≤◌, ◌==◌, true, false, List, length, get_or, Option, Some, Result, Ok, Err, inl, inr, sym, ap, ◌∙◌, subst, arith}
 use Rattle.std.specs.Prelude.{Contains, MatchResult, is_ok}
 use Rattle.std.specs.Ordering.{nat_cmp}
 use Rattle.std.specs.List.Sorted.{IsBinarySearchResult, IsStrictlyIncreasing}
@@ -14,7 +13,7 @@ use Rattle.route_tree.specs.Paths.{Pair, ends_of}
 use Rattle.route_tree.specs.Legality.{is_among, has_twice}
 use Rattle.route_tree.specs.Faults.{reaches_twice}
 use Rattle.route_tree.proofs.Members.{among_contains, contains_among, end_among, end_at, once_each}
-use Rattle.route_check.specs.Ends.{end_in, IsRowOf}
+use Rattle.route_check.specs.kept.Ends.{end_in, IsRowOf}
 
 module _ (source : ℕ) (pairs : List Pair) (once : reaches_twice source pairs ≡ false) where
   pub not_source : (k : ℕ) → k < length pairs → end_in pairs k ≢ source

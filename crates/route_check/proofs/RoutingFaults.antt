@@ -3,20 +3,18 @@ use Rattle.std.proofs.Common.{◌≡◌, ℕ, ◌↔◌, List, Option, Some, Non
 use Rattle.std.proofs.lemmas.Bool.{both_ways, cases_order}
 use Rattle.rr_graph.specs.Problems.{RoutingProblem, net_in}
 use Rattle.route_tree.specs.declared.fault.TreeFault.{TreeFault}
-use Rattle.route_tree.specs.declared.fault.TreeFault.TheVariants.{NoNet, WrongSource, NoSwitch, NodeTwice, SecondOutput, ForeignSink}
-use Rattle.route_tree.specs.declared.fault.TreeFault.TheVariants.{Dangling, MissingSink, Order}
+use Rattle.route_tree.specs.declared.fault.TreeFault.TheVariants.{NoNet, WrongSource, NoSwitch, NodeTwice, SecondOutput, ForeignSink, Dangling, MissingSink, Order}
 use Rattle.route_tree.specs.Paths.{Pair}
 use Rattle.route_tree.specs.Legality.{is_listed}
-use Rattle.route_tree.specs.Faults.{begins_elsewhere, lacks_switch, reaches_twice, leaves_twice, has_foreign_sink, misses_sink}
-use Rattle.route_tree.specs.Faults.{rank_of, HasFault, IsFirstFault, IsRoute}
-use Rattle.route_tree.specs.Usage.{overuse_of}
+use Rattle.route_tree.specs.Faults.{begins_elsewhere, lacks_switch, reaches_twice, leaves_twice, has_foreign_sink, misses_sink, rank_of, HasFault, IsFirstFault, IsRoute}
+use Rattle.route_tree.specs.Usage.{overuse_of, Lists, list_in}
 use Rattle.route_tree.proofs.Clauses.{no_lack, not_twice, begins_there, none_foreign, none_missed}
 use Rattle.route_tree.proofs.FirstTests.{same_rank}
 use Rattle.route_check.specs.declared.fault.RouteFault.{RouteFault}
 use Rattle.route_check.specs.declared.fault.RouteFault.TheVariants.{Length, Unrouted, Tree, Overused}
-use Rattle.route_check.specs.Routed.{Lists, list_in, IsNetRouted, IsRouted}
+use Rattle.route_check.specs.Routed.{IsNetRouted, IsRouted}
 use Rattle.route_check.specs.Faults.{HasRouteFault, stage_of, place_of, IsFirstRouteFault}
-use Rattle.route_check.specs.Answers.{JudgesRouting}
+use Rattle.route_check.specs.kept.Answers.{JudgesRouting}
 
 no_list : {xs : List Pair} → None ≡ Some xs → ⊥
 no_list e = cc
@@ -107,11 +105,11 @@ module _ (p : RoutingProblem) where
     fault_of_some : {x y : RouteFault} → Some x ≡ Some y → x ≡ y
     fault_of_some e = cc
 
-    pub told_routed : (answer : Option RouteFault) → JudgesRouting p lists answer → (answer ≡ None) ↔ IsRouted p lists
-    told_routed None is = (λ e. is, λ r. refl)
-    told_routed (Some fault) is = (λ e. absurd (no_fault (sym e)), λ r. absurd (sound r fault is.there))
+    pub reported_routed : (answer : Option RouteFault) → JudgesRouting p lists answer → (answer ≡ None) ↔ IsRouted p lists
+    reported_routed None is = (λ e. is, λ r. refl)
+    reported_routed (Some fault) is = (λ e. absurd (no_fault (sym e)), λ r. absurd (sound r fault is.there))
 
-    pub told_first : (answer : Option RouteFault) (fault : RouteFault) → JudgesRouting p lists answer → (answer ≡ Some fault) ↔ IsFirstRouteFault p lists fault
-    told_first None fault is = (λ e. absurd (no_fault e), λ first. absurd (sound is fault first.there))
-    told_first (Some x) fault is =
+    pub reported_first : (answer : Option RouteFault) (fault : RouteFault) → JudgesRouting p lists answer → (answer ≡ Some fault) ↔ IsFirstRouteFault p lists fault
+    reported_first None fault is = (λ e. absurd (no_fault e), λ first. absurd (sound is fault first.there))
+    reported_first (Some x) fault is =
         (λ e. subst (IsFirstRouteFault p lists) (fault_of_some e) is, λ first. ap Some (same_fault x fault is first))

@@ -1,6 +1,5 @@
 -- Walks from each of the sinks: what none of them met is on no way to a sink.
-use Rattle.std.proofs.Common.{◌≡◌, ℕ, ◌+◌, ◌<◌, ◌≤◌, ◌⊎◌, ◌==◌, zero, Bool, true, false, List, length, get_or, replicate, All}
-use Rattle.std.proofs.Common.{inl, inr, refl, sym, ap, ◌∙◌, subst, arith}
+use Rattle.std.proofs.Common.{◌≡◌, ℕ, ◌+◌, ◌<◌, ◌≤◌, ◌⊎◌, ◌==◌, zero, Bool, true, false, List, length, get_or, replicate, All, inl, inr, refl, sym, ap, ◌∙◌, subst, arith}
 use Rattle.std.specs.Prelude.{Contains}
 use Rattle.std.specs.List.{list_any}
 use Rattle.std.proofs.lemmas.Bool.{both_ways, cases_lt, eq-eqb, eqb-true}
@@ -12,9 +11,9 @@ use Rattle.route_tree.specs.Paths.Path.{here, along}
 use Rattle.route_tree.specs.Legality.{is_among, IsJoined}
 use Rattle.route_tree.specs.Faults.{reaches_twice}
 use Rattle.route_tree.proofs.Members.{contains_among, end_among, some_place}
-use Rattle.route_check.specs.Ends.{begin_in, end_in}
-use Rattle.route_check.specs.Judged.{net_of, Dangles, TellsDangling}
-use Rattle.route_check.specs.Walks.{IsMet, HasMetParent, AreWalked, IsLeft, IsWalkedFrom, AreAllWalked}
+use Rattle.route_check.specs.kept.Ends.{begin_in, end_in}
+use Rattle.route_check.specs.kept.Judged.{net_of, Dangles, TellsDangling}
+use Rattle.route_check.specs.kept.Walks.{IsMet, HasMetParent, AreWalked, AreAllMet, IsWalkedFrom, AreAllWalked}
 use Rattle.route_check.proofs.Once.{not_source, same_row}
 
 -- noughts, and what is read past their end
@@ -47,12 +46,12 @@ module _ (source : ℕ) (sinks : List ℕ) (pairs : List Pair) where
 
   -- ---- one more walk
   abbrev pub AreLeft : ℕ → List ℕ → Type 0
-  AreLeft i walks = (j : ℕ) → j < i → IsLeft pairs walks (get_or sinks j 0)
+  AreLeft i walks = (j : ℕ) → j < i → AreAllMet pairs walks (get_or sinks j 0)
 
   pub left_next : (i : ℕ) (old new : List ℕ) → AreLeft i old → IsWalkedFrom source sinks pairs (i + 1) (get_or sinks i 0) old new → AreLeft (i + 1) new
   left_next i old new left from j l = elim (cases_lt j i) [
     | inl before ↦ λ k m same. from.kept k (left j before k m same)
-    | inr behind ↦ (let at : i ≡ j = omega (arith, l, behind) in subst (λ i. IsLeft pairs new (get_or sinks i 0)) at from.left)
+    | inr behind ↦ (let at : i ≡ j = omega (arith, l, behind) in subst (λ i. AreAllMet pairs new (get_or sinks i 0)) at from.left)
   ]
 
   pub all_walked : (i : ℕ) (walks : List ℕ) → length sinks ≤ i → AreWalked source sinks pairs (i + 1) walks → AreLeft i walks →
@@ -60,7 +59,7 @@ module _ (source : ℕ) (sinks : List ℕ) (pairs : List Pair) where
   all_walked i walks all walked left = record {
     each = walked.each;
     met = walked.met;
-    left = λ s there. let at = at_from_Contains sinks s there in let l = at.1 in subst (IsLeft pairs walks) (at.2 0) (left at.0 (omega (arith, all, l)));
+    left = λ s there. let at = at_from_Contains sinks s there in let l = at.1 in subst (AreAllMet pairs walks) (at.2 0) (left at.0 (omega (arith, all, l)));
   }
 
   -- ---- after all walks
@@ -70,7 +69,7 @@ module _ (source : ℕ) (sinks : List ℕ) (pairs : List Pair) where
     parent_met i a k begin l same (inl root) = absurd (not_source source pairs once k l (same ∙ sym begin ∙ sym root))
     parent_met i a k begin l same (inr p) = subst (IsMet walks) (same_row source pairs once p.0 k p.1 l (p.2 ∙ begin ∙ sym same)) p.3
 
-    left_back : (a b : ℕ) → Path pairs a b → IsLeft pairs walks b → IsLeft pairs walks a
+    left_back : (a b : ℕ) → Path pairs a b → AreAllMet pairs walks b → AreAllMet pairs walks a
     left_back a b (here _) left = left
     left_back a b (along _ c _ h way) left = λ k l same.
         let found = at_from_Contains pairs (a, c) h in
@@ -88,13 +87,13 @@ module _ (source : ℕ) (sinks : List ℕ) (pairs : List Pair) where
         All-from_get_or (IsJoined (net_of source sinks) pairs) pairs (0, 0)
         (λ k l. let way = walked.met k l (met k l) in record { from_source = way.reached; to_sink = way.leads })
 
-    pub told : (t : Bool) → list_any (λ w. w == 0) walks ≡ t → TellsDangling t source sinks pairs
-    told true e =
+    pub reported : (t : Bool) → list_any (λ w. w == 0) walks ≡ t → TellsDangling t source sinks pairs
+    reported true e =
         let found = some_place (λ w. w == 0) walks 0 e in
         let size = walked.each in
         let l = found.1 in
         unmet found.0 (omega (arith, size, l)) (eqb-true (get_or walks found.0 0) 0 found.2)
-    told false e =
+    reported false e =
         all_met (λ k l none.
         let size = walked.each in
         both_ways (list_any (λ w. w == 0) walks) e (list_any_at (λ w. w == 0) walks k 0 (omega (arith, size, l)) (eq-eqb (get_or walks k 0) 0 none)))

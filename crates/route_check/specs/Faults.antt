@@ -4,10 +4,9 @@ use Rattle.rr_graph.specs.Problems.{RoutingProblem}
 use Rattle.route_tree.specs.declared.fault.TreeFault.{TreeFault}
 use Rattle.route_tree.specs.Paths.{Pair}
 use Rattle.route_tree.specs.Faults.{IsFirstFault}
-use Rattle.route_tree.specs.Usage.{overuse_of}
+use Rattle.route_tree.specs.Usage.{overuse_of, Lists, list_in}
 use Rattle.route_check.specs.declared.fault.RouteFault.{RouteFault}
 use Rattle.route_check.specs.declared.fault.RouteFault.TheVariants.{Length, Unrouted, Tree, Overused}
-use Rattle.route_check.specs.Routed.{Lists, list_in}
 
 -- net i has a list, whose first fault is this one
 abbrev pub HasTreeFault : RoutingProblem → Lists → ℕ → TreeFault → Type 0
@@ -34,7 +33,7 @@ place_of (Unrouted net) = net
 place_of (Tree net fault) = net
 place_of (Overused node by) = node
 
--- nets ascend, and so do nodes
+-- by stage, and then by the number of the net or node
 abbrev pub IsBefore : RouteFault → RouteFault → Type 0
 IsBefore a b = (stage_of a < stage_of b) ⊎ ((stage_of a ≡ stage_of b) × (place_of a < place_of b))
 

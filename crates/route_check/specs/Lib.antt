@@ -1,9 +1,3 @@
 pub mod Routed
 pub mod Faults
-pub mod Judged
-pub mod Ends
-pub mod Walks
-pub mod Listed
-pub mod Nets
-pub mod Counted
-pub mod Answers
+pub mod kept

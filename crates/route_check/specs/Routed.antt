@@ -1,17 +1,9 @@
 -- When a routing routes a problem (Betz, Rose and Marquardt 1999; McMurchie and Ebeling 1995, "a feasible solution").
-use Rattle.std.specs.Prelude.{◌≡◌, ℕ, ◌<◌, List, length, get_or, Option, Some, None}
+use Rattle.std.specs.Prelude.{◌≡◌, ℕ, ◌<◌, List, length, Some}
 use Rattle.rr_graph.specs.Problems.{RoutingProblem}
 use Rattle.route_tree.specs.Paths.{Pair}
 use Rattle.route_tree.specs.Faults.{IsRoute}
-use Rattle.route_tree.specs.Usage.{overuse_of}
-
--- for each net of a problem a list of pairs, or none
-abbrev pub Lists : Type 0
-Lists = List (Option (List Pair))
-
--- the list of net i; none past the last entry
-abbrev pub list_in : Lists → ℕ → Option (List Pair)
-list_in lists i = get_or lists i None
+use Rattle.route_tree.specs.Usage.{overuse_of, Lists, list_in}
 
 -- net i has a list, which routes it
 abbrev pub IsNetRouted : RoutingProblem → Lists → ℕ → Type 0

@@ -4,8 +4,8 @@ ghost use Rattle.std.specs.Prelude.{◌≡◌, ◌≢◌, ◌↔◌, ◌<◌, �
 ghost use Rattle.route_check.specs.declared.fault.RouteFault.TheVariants.{Length};
 ghost use Rattle.route_check.specs.Routed.{IsRouted};
 ghost use Rattle.route_check.specs.Faults.{IsFirstRouteFault};
-ghost use Rattle.route_check.specs.Nets.{JudgesNet};
-ghost use Rattle.route_check.specs.Answers.{AreJudged, IsFirstOf, JudgesRouting};
+ghost use Rattle.route_check.specs.kept.Nets.{JudgesNet};
+ghost use Rattle.route_check.specs.kept.Answers.{AreJudged, IsFirstOf, JudgesRouting};
 
 use crate::fault::RouteFault;
 use crate::judge::net_fault;
@@ -61,7 +61,7 @@ fn lists_fault(
     problem: &Problem,
     lists: &[Option<Pairs>],
 ) -> Result<Option<RouteFault>, AllocError>
-    ensures told { IfOk result (JudgesRouting problem.now lists.now) }
+    ensures reported { IfOk result (JudgesRouting problem.now lists.now) }
     ensures length { length lists.now ≢ length problem.now.nets → result ≡ Ok (Some Length) }
 {
     if lists.len() != problem.nets() as usize {
@@ -89,7 +89,7 @@ pub fn check_routing(
     ensures routed { IfOk result (λ o. (o ≡ None) ↔ IsRouted problem.now routing.now) }
     ensures first { (fault : RouteFault)
         → IfOk result (λ o. (o ≡ Some fault) ↔ IsFirstRouteFault problem.now routing.now fault) }
-    // Another number of entries than of nets is told whatever memory there is.
+    // Another number of entries than of nets is reported whatever memory there is.
     ensures length { length routing.now ≢ length problem.now.nets → result ≡ Ok (Some Length) }
 {
     lists_fault(rt, alloc, problem, &routing.lists)

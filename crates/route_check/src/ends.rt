@@ -4,7 +4,7 @@ ghost use Rattle.std.specs.Prelude.{◌≡◌, ◌<◌, ◌==◌, IfOk, length, 
 ghost use Rattle.std.specs.List.Sorted.{IsNonDecreasingBy};
 ghost use Rattle.rr_graph.specs.Fabric.{numbers_below};
 ghost use Rattle.route_tree.specs.Faults.{reaches_twice};
-ghost use Rattle.route_check.specs.Ends.{AreEnds, IsRowOf, IsPlaceOf, begin_in, end_at, is_repeated};
+ghost use Rattle.route_check.specs.kept.Ends.{AreEnds, IsRowOf, IsPlaceOf, begin_in, end_at, is_repeated};
 
 use std::alloc::{AllocError, Global};
 

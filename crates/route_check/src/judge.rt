@@ -1,8 +1,8 @@
 //! The judging of one net of a routing.
 
 ghost use Rattle.std.specs.Prelude.{◌≡◌, ◌<◌, IfOk, length};
-ghost use Rattle.route_check.specs.Judged.{Judges};
-ghost use Rattle.route_check.specs.Nets.{JudgesNet};
+ghost use Rattle.route_check.specs.kept.Judged.{Judges};
+ghost use Rattle.route_check.specs.kept.Nets.{JudgesNet};
 
 use crate::fault::RouteFault;
 use crate::ladder::list_fault;

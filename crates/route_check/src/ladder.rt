@@ -1,4 +1,4 @@
-//! The tests of a net's list, one behind the other.
+//! The tests of a net's list, one after the other.
 
 ghost use Rattle.std.specs.Prelude.{◌≡◌, ◌==◌, ◌&&◌, not, false, None, length, get_or, ◌<◌, IfOk, count_by};
 ghost use Rattle.std.specs.List.{list_any};
@@ -8,8 +8,8 @@ ghost use Rattle.rr_graph.specs.Problems.{is_sink};
 ghost use Rattle.route_tree.specs.Paths.{ends_of};
 ghost use Rattle.route_tree.specs.Legality.{is_among, is_listed};
 ghost use Rattle.route_tree.specs.Faults.{begins_elsewhere, lacks_switch, reaches_twice, leaves_twice, has_foreign_sink, misses_sink};
-ghost use Rattle.route_check.specs.Ends.{AreEnds, no_end};
-ghost use Rattle.route_check.specs.Judged.{net_of, is_foreign, early_fault_of, late_fault_of, TellsDangling, IsToldBy};
+ghost use Rattle.route_check.specs.kept.Ends.{AreEnds, no_end};
+ghost use Rattle.route_check.specs.kept.Judged.{net_of, is_foreign, early_fault_of, late_fault_of, TellsDangling, IsReportedBy};
 
 use crate::ends::{End, reaches_twice, row_at, sorted_ends};
 use crate::order::is_listed;
@@ -119,7 +119,7 @@ fn misses_sink(sinks: &[u32], pairs: &[(u32, u32)], ends: &[End]) -> bool
 }
 
 /// The first fault of those that are seen pair by pair.
-#[tactic(auto, unfolding(crate::specs::Judged::early_fault_of))]
+#[tactic(auto, unfolding(crate::specs::kept::Judged::early_fault_of))]
 fn early_fault(
     device: &Device,
     source: u32,
@@ -150,7 +150,7 @@ fn early_fault(
 }
 
 /// The first fault of the others, where it is known whether a pair dangles, and whether the pairs are in order.
-#[tactic(auto, unfolding(crate::specs::Judged::late_fault_of))]
+#[tactic(auto, unfolding(crate::specs::kept::Judged::late_fault_of))]
 fn late_fault(
     dangles: bool,
     listed: bool,
@@ -187,15 +187,15 @@ pub(crate) fn list_fault(
     pairs: &[(u32, u32)],
 ) -> Result<Option<TreeFault>, AllocError>
     requires { IsStrictlyIncreasing sinks.now }
-    ensures { IfOk result (IsToldBy device.now source sinks.now pairs.now) }
+    ensures { IfOk result (IsReportedBy device.now source sinks.now pairs.now) }
 {
     let ends = sorted_ends(alloc, pairs)?;
     match early_fault(device, source, sinks, pairs, &ends) {
         Some(fault) => Ok(Some(fault)),
         None => {
             let listed = is_listed(device, source, sinks, pairs, &ends);
-            let told = dangles(alloc, listed, device, source, sinks, pairs, &ends)?;
-            Ok(late_fault(told, listed, device, source, sinks, pairs, &ends))
+            let reported = dangles(alloc, listed, device, source, sinks, pairs, &ends)?;
+            Ok(late_fault(reported, listed, device, source, sinks, pairs, &ends))
         }
     }
 }

@@ -3,15 +3,15 @@
 ghost use Rattle.std.specs.Prelude.{◌≡◌, ◌<◌, ◌≤◌, ◌∷◌, false, length};
 ghost use Rattle.route_tree.specs.Faults.{reaches_twice};
 ghost use Rattle.route_tree.specs.Legality.{is_among, is_listed, may_begin};
-ghost use Rattle.route_check.specs.Ends.{AreEnds, begin_in};
-ghost use Rattle.route_check.specs.Judged.{net_of};
-ghost use Rattle.route_check.specs.Listed.{earlier_ends, ends_in_sink};
+ghost use Rattle.route_check.specs.kept.Ends.{AreEnds, begin_in};
+ghost use Rattle.route_check.specs.kept.Judged.{net_of};
+ghost use Rattle.route_check.specs.kept.Listed.{earlier_ends, ends_in_sink};
 
 use crate::ends::{End, row_of};
 use rr_graph::Device;
 
 /// Whether a pair begins at the source or where an earlier one ends.
-fn begins_behind(source: u32, pairs: &[(u32, u32)], ends: &[End], row: usize) -> bool
+fn begins_after(source: u32, pairs: &[(u32, u32)], ends: &[End], row: usize) -> bool
     requires ends { AreEnds pairs.now ends.now }
     requires once { reaches_twice source pairs.now ≡ false }
     requires there { row < length pairs.now }
@@ -27,7 +27,7 @@ fn begins_behind(source: u32, pairs: &[(u32, u32)], ends: &[End], row: usize) ->
     }
 }
 
-/// Whether a pair may begin where it does, behind those before it.
+/// Whether a pair may begin where it does, after those before it.
 fn may_begin(device: &Device, source: u32, pairs: &[(u32, u32)], ends: &[End], row: usize) -> bool
     requires ends { AreEnds pairs.now ends.now }
     requires once { reaches_twice source pairs.now ≡ false }
@@ -39,7 +39,7 @@ fn may_begin(device: &Device, source: u32, pairs: &[(u32, u32)], ends: &[End], r
         return begin == source;
     }
     let end = pairs[row - 1].1;
-    end == begin || (device.is_sink(end) && begins_behind(source, pairs, ends, row))
+    end == begin || (device.is_sink(end) && begins_after(source, pairs, ends, row))
 }
 
 /// Whether the pairs are in order.

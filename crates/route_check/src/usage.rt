@@ -6,9 +6,10 @@ ghost use Rattle.rr_graph.specs.Problems.{IsProblem};
 ghost use Rattle.rr_graph.specs.Nodes.{node_count_of};
 ghost use Rattle.route_tree.specs.Paths.{ends_of};
 ghost use Rattle.route_tree.specs.Faults.{IsRoute};
-ghost use Rattle.route_check.specs.Routed.{IsNetRouted, list_in};
-ghost use Rattle.route_check.specs.Counted.{Counts, HasRoom, AreUses, excess_of};
-ghost use Rattle.route_check.specs.Answers.{TellsExcess, JudgesRouting};
+ghost use Rattle.route_check.specs.Routed.{IsNetRouted};
+ghost use Rattle.route_tree.specs.Usage.{list_in};
+ghost use Rattle.route_check.specs.kept.Counted.{Counts, HasRoom, AreUses, excess_of};
+ghost use Rattle.route_check.specs.kept.Answers.{TellsExcess, JudgesRouting};
 
 use crate::fault::RouteFault;
 use route_tree::Pairs;

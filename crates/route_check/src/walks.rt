@@ -5,9 +5,9 @@ ghost use Rattle.std.specs.Bool.{MatchBool};
 ghost use Rattle.std.specs.List.{list_any};
 ghost use Rattle.route_tree.specs.Legality.{is_listed};
 ghost use Rattle.route_tree.specs.Faults.{reaches_twice, has_foreign_sink};
-ghost use Rattle.route_check.specs.Ends.{AreEnds, end_in};
-ghost use Rattle.route_check.specs.Judged.{net_of, Dangles, TellsDangling};
-ghost use Rattle.route_check.specs.Walks.{AreWalked, IsWalkedFrom, AreAllWalked};
+ghost use Rattle.route_check.specs.kept.Ends.{AreEnds, end_in};
+ghost use Rattle.route_check.specs.kept.Judged.{net_of, Dangles, TellsDangling};
+ghost use Rattle.route_check.specs.kept.Walks.{AreWalked, IsWalkedFrom, AreAllWalked};
 
 use crate::ends::{End, parent_of, row_of};
 use crate::order::ends_in_sink;
@@ -95,7 +95,7 @@ fn is_one_unmet(walks: &[usize]) -> bool
 }
 
 /// Whether a pair is on no way from the source to a sink. No pair was met before.
-#[tactic(auto, using(crate::proofs::Walked::told))]
+#[tactic(auto, using(crate::proofs::Walked::reported))]
 fn has_unmet(
     source: u32,
     sinks: &[u32],
@@ -124,7 +124,7 @@ fn is_unmet(
 ) -> Result<bool, AllocError>
     requires ends { AreEnds pairs.now ends.now }
     requires once { reaches_twice source pairs.now ≡ false }
-    ensures { IfOk result (λ told. TellsDangling told source sinks.now pairs.now) }
+    ensures { IfOk result (λ reported. TellsDangling reported source sinks.now pairs.now) }
 {
     let mut walks = vec![in alloc; 0; pairs.len()]?;
     Ok(has_unmet(source, sinks, pairs, ends, &mut walks))
@@ -146,7 +146,7 @@ pub(crate) fn dangles(
     requires own { has_foreign_sink device.now sinks.now pairs.now ≡ false }
     requires some { 1 ≤ length pairs.now }
     requires listed { listed ≡ is_listed device.now (net_of source sinks.now) pairs.now }
-    ensures { IfOk result (λ told. TellsDangling told source sinks.now pairs.now) }
+    ensures { IfOk result (λ reported. TellsDangling reported source sinks.now pairs.now) }
 {
     if listed && ends_in_sink(device, pairs) {
         return Ok(false);

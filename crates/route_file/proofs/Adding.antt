@@ -16,9 +16,9 @@ use Rattle.route_file.specs.declared.seen.Seen.{Seen}
 use Rattle.route_file.specs.Judge.{is_detached, judge}
 use Rattle.route_file.specs.NetLine.{is_net_line, is_global_at, net_on}
 use Rattle.route_file.specs.NodeLine.{node_on}
-use Rattle.route_file.specs.Seen.{IsSeen, NotesNet, NotesNode, Notes, no_owner, routed_list, pair_behind, list_more}
-use Rattle.route_file.specs.Sections.{is_net, is_line_of, had_line, latest, lines_behind, nodes_in, list_along, list_in}
-use Rattle.route_file.proofs.Growing.{any_push, behind_more, behind_none_more, latest_more, had_more, section_net, section_other, section_here, nodes_same, nodes_none, nodes_more, last_push, among_push, list_push}
+use Rattle.route_file.specs.kept.LinesSeen.{IsSeen, NotesNet, NotesNode, Notes, no_owner, routed_list, pair_after, list_more}
+use Rattle.route_file.specs.Sections.{is_net, is_line_of, had_line, latest, lines_after, nodes_in, list_along, list_of_net}
+use Rattle.route_file.proofs.Growing.{any_push, after_more, after_none_more, latest_more, had_more, section_net, section_other, section_here, nodes_same, nodes_none, nodes_more, last_push, among_push, list_push}
 use Rattle.route_file.proofs.Judged.{net_within, net_is, section_is}
 
 or_false : (b : Bool) → (b || false) ≡ b
@@ -31,11 +31,11 @@ clash b t f = absurd (both_ways b f t)
 apart : (n m : ℕ) → eqb n m ≡ false → m ≢ n
 apart n m e h = eqb-false n m e (sym h)
 
-list_same : (netlist : Netlist) (f : Fabric) (one other : List Line) (n : ℕ) → nodes_in netlist f one n ≡ nodes_in netlist f other n → list_in netlist f one n ≡ list_in netlist f other n
-unfolding list_in
+list_same : (netlist : Netlist) (f : Fabric) (one other : List Line) (n : ℕ) → nodes_in netlist f one n ≡ nodes_in netlist f other n → list_of_net netlist f one n ≡ list_of_net netlist f other n
+unfolding list_of_net
 list_same netlist f one other n e = ap (list_along f) e
 
-routed_same : (netlist : Netlist) (f : Fabric) (one other : List Line) (n : ℕ) (t : Bool) → (t ≡ true → nodes_in netlist f one n ≡ nodes_in netlist f other n) → cond t (list_in netlist f one n) None ≡ cond t (list_in netlist f other n) None
+routed_same : (netlist : Netlist) (f : Fabric) (one other : List Line) (n : ℕ) (t : Bool) → (t ≡ true → nodes_in netlist f one n ≡ nodes_in netlist f other n) → cond t (list_of_net netlist f one n) None ≡ cond t (list_of_net netlist f other n) None
 routed_same netlist f one other n true h = list_same netlist f one other n (h refl)
 routed_same netlist f one other n false h = refl
 
@@ -73,14 +73,14 @@ module _ (netlist : Netlist) (f : Fabric) (before : List Line) (l : Line) where
       ap (λ k. get_or (set had k true) m false) one ∙ get_or-set_same had m true false lt ∙ sym (or_right b true refl)
   mark_by had n m false b e lt old = get_or-set_other had n m true false (apart n m e) ∙ old ∙ sym (or_false b)
 
-  ended_by : (n m : ℕ) (t u : Bool) → IsNew n → had_line netlist before m ≡ t → eqb n m ≡ u → (t || u) ≡ true → list_any is_net_line (lines_behind (is_line_of netlist m) now) ≡ not u
+  ended_by : (n m : ℕ) (t u : Bool) → IsNew n → had_line netlist before m ≡ t → eqb n m ≡ u → (t || u) ≡ true → list_any is_net_line (lines_after (is_line_of netlist m) now) ≡ not u
   unfolding had_line
   ended_by n m true true h had one e =
       clash (had_line netlist before m) had (ap (had_line netlist before) (sym (eqb-true n m one)) ∙ h.new)
   ended_by n m true false h had one e =
       let own = is_line_of netlist m in
-      ap (list_any is_net_line) (behind_more own before l had) ∙ any_push is_net_line (lines_behind own before) l ∙ or_right (list_any is_net_line (lines_behind own before)) (is_net_line l) h.is_net
-  ended_by n m false true h had one e = ap (list_any is_net_line) (behind_none_more (is_line_of netlist m) before l had)
+      ap (list_any is_net_line) (after_more own before l had) ∙ any_push is_net_line (lines_after own before) l ∙ or_right (list_any is_net_line (lines_after own before)) (is_net_line l) h.is_net
+  ended_by n m false true h had one e = ap (list_any is_net_line) (after_none_more (is_line_of netlist m) before l had)
   ended_by n m false false h had one e = absurd cc
 
   net_added : (old new : Seen) (n : ℕ) → IsSeen netlist f before old → IsNew n → NotesNet old new n → IsSeen netlist f now new
@@ -115,15 +115,15 @@ module _ (netlist : Netlist) (f : Fabric) (before : List Line) (l : Line) where
   had_kept : is_net_line l ≡ false → (m : ℕ) → had_line netlist now m ≡ had_line netlist before m
   had_kept is m = had_more netlist before l m ∙ ap (λ t. had_line netlist before m || cond t (is_net m (net_on netlist l.words)) false) is ∙ or_false (had_line netlist before m)
 
-  ended_kept : is_net_line l ≡ false → (m : ℕ) → had_line netlist before m ≡ true → list_any is_net_line (lines_behind (is_line_of netlist m) before) ≡ not (is_net m (latest netlist before))
-      → list_any is_net_line (lines_behind (is_line_of netlist m) now) ≡ not (is_net m (latest netlist now))
+  ended_kept : is_net_line l ≡ false → (m : ℕ) → had_line netlist before m ≡ true → list_any is_net_line (lines_after (is_line_of netlist m) before) ≡ not (is_net m (latest netlist before))
+      → list_any is_net_line (lines_after (is_line_of netlist m) now) ≡ not (is_net m (latest netlist now))
   unfolding had_line
   ended_kept is m had ended =
       let own = is_line_of netlist m in
-      ap (list_any is_net_line) (behind_more own before l had)
-      ∙ any_push is_net_line (lines_behind own before) l
-      ∙ ap (λ t. list_any is_net_line (lines_behind own before) || t) is
-      ∙ or_false (list_any is_net_line (lines_behind own before))
+      ap (list_any is_net_line) (after_more own before l had)
+      ∙ any_push is_net_line (lines_after own before) l
+      ∙ ap (λ t. list_any is_net_line (lines_after own before) || t) is
+      ∙ or_false (list_any is_net_line (lines_after own before))
       ∙ ended
       ∙ sym (ap (λ o. not (is_net m o)) (latest_kept is))
 
@@ -135,7 +135,7 @@ module _ (netlist : Netlist) (f : Fabric) (before : List Line) (l : Line) where
   nodes_here : (old : Seen) (n a : ℕ) → IsSeen netlist f before old → is_net_line l ≡ false → latest netlist before ≡ Some n → node_on f l.words ≡ Some a → nodes_in netlist f now n ≡ nodes_in netlist f before n ++ a ∷ []
   nodes_here old n a seen is e node =
       let had = (seen.opened n e).1 in
-      let open_still : list_any is_net_line (lines_behind (is_line_of netlist n) before) ≡ false = seen.ended n had ∙ ap (λ o. not (is_net n o)) e ∙ ap not (eq-eqb n n refl) in
+      let open_still : list_any is_net_line (lines_after (is_line_of netlist n) before) ≡ false = seen.ended n had ∙ ap (λ o. not (is_net n o)) e ∙ ap not (eq-eqb n n refl) in
       nodes_more netlist f before l n a (section_here netlist before l n is had open_still) node
 
   is_other : (n m : ℕ) → latest netlist before ≡ Some n → m ≢ n → is_net m (latest netlist before) ≡ false
@@ -180,8 +180,8 @@ module _ (netlist : Netlist) (f : Fabric) (before : List Line) (l : Line) where
   nodes_by old n m a false seen h e = nodes_apart old m seen (is_other n m h.at (apart n m e))
 
   list_by : (old : Seen) (lists : List (Option (List Pair))) (n m a : ℕ) (t : Bool) → IsSeen netlist f before old → IsPlaced n a → eqb n m ≡ t → m < length netlist.nets
-      → lists ≡ set old.lists.items n (list_more (get_or old.lists.items n None) (pair_behind f old.last a)) → get_or lists m None ≡ routed_list netlist f now m
-  unfolding list_in
+      → lists ≡ set old.lists.items n (list_more (get_or old.lists.items n None) (pair_after f old.last a)) → get_or lists m None ≡ routed_list netlist f now m
+  unfolding list_of_net
   list_by old lists n m a true seen h e lt new =
       let one : n ≡ m = eqb-true n m e in
       let here : n < length old.lists.items = omega (arith, one, lt, seen.lists_count) in
@@ -190,16 +190,16 @@ module _ (netlist : Netlist) (f : Fabric) (before : List Line) (l : Line) where
       subst (λ k. get_or lists k None ≡ routed_list netlist f now k) one
       (
       ap (λ xs. get_or xs n None) new
-      ∙ get_or-set_same old.lists.items n (list_more (get_or old.lists.items n None) (pair_behind f old.last a)) None here
-      ∙ ap (λ list. list_more list (pair_behind f old.last a)) was
-      ∙ ap (λ last. list_more (list_along f nodes) (pair_behind f last a)) (seen.last n h.at h.routed)
+      ∙ get_or-set_same old.lists.items n (list_more (get_or old.lists.items n None) (pair_after f old.last a)) None here
+      ∙ ap (λ list. list_more list (pair_after f old.last a)) was
+      ∙ ap (λ last. list_more (list_along f nodes) (pair_after f last a)) (seen.last n h.at h.routed)
       ∙ sym (list_push f nodes a)
       ∙ sym (ap (list_along f) (nodes_here old n a seen h.is h.at h.node))
       ∙ sym (ap (λ t. cond t (list_along f (nodes_in netlist f now n)) None) h.routed))
   list_by old lists n m a false seen h e lt new =
       let other = nodes_apart old m seen (is_other n m h.at (apart n m e)) in
       ap (λ xs. get_or xs m None) new
-      ∙ get_or-set_other old.lists.items n m (list_more (get_or old.lists.items n None) (pair_behind f old.last a)) None (apart n m e)
+      ∙ get_or-set_other old.lists.items n m (list_more (get_or old.lists.items n None) (pair_after f old.last a)) None (apart n m e)
       ∙ seen.lists m lt
       ∙ routed_same netlist f before now m (is_routed_at netlist m) (λ t. sym other)
 
@@ -248,7 +248,7 @@ module _ (netlist : Netlist) (f : Fabric) (before : List Line) (l : Line) where
             ∙ ap (λ k. last_or None (nodes_in netlist f now k)) (one m e);
         had_count = ap length notes.had ∙ seen.had_count;
         had = λ m lt. ap (λ xs. get_or xs m false) notes.had ∙ seen.had m lt ∙ sym (had_kept h.is m);
-        lists_count = ap length lists ∙ length-set old.lists.items n (list_more (get_or old.lists.items n None) (pair_behind f old.last a)) ∙ seen.lists_count;
+        lists_count = ap length lists ∙ length-set old.lists.items n (list_more (get_or old.lists.items n None) (pair_after f old.last a)) ∙ seen.lists_count;
         lists = λ m lt. list_by old new.lists.items n m a (eqb n m) seen h refl lt lists;
         owners_count = ap length owners ∙ length-set old.owners.items a n ∙ seen.owners_count;
         owned = λ m b lt routed e. owned_by old new.owners.items n m a b (eqb a b) seen h refl lt routed owners e;

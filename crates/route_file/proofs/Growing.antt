@@ -15,8 +15,8 @@ use Rattle.route_tree.specs.Legality.{is_among}
 use Rattle.route_tree.specs.Paths.{Pair}
 use Rattle.route_file.specs.NetLine.{is_net_line, net_on}
 use Rattle.route_file.specs.NodeLine.{node_on}
-use Rattle.route_file.specs.Seen.{pair_behind, list_more}
-use Rattle.route_file.specs.Sections.{is_line_of, had_line, latest, lines_behind, lines_before, section_of, nodes_in, neighbours, pairs_along, list_along}
+use Rattle.route_file.specs.kept.LinesSeen.{pair_after, list_more}
+use Rattle.route_file.specs.Sections.{is_line_of, had_line, latest, lines_after, lines_before, section_of, nodes_in, neighbours, pairs_along, list_along}
 
 or_false : (b : Bool) → (b || false) ≡ b
 or_false true = refl
@@ -25,32 +25,32 @@ or_false false = refl
 pub any_push : {X : Type 0} (p : X → Bool) (xs : List X) (x : X) → list_any p (xs ++ x ∷ []) ≡ (list_any p xs || p x)
 any_push p xs x = list_any-append p xs (x ∷ []) ∙ ap (λ t. list_any p xs || t) (or_false (p x))
 
--- ---- the lines behind one that passes, and before one
+-- ---- the lines after one that passes, and before one
 
-behind_by : (p : Line → Bool) (t : Bool) (xs : List Line) (l : Line) → (t || list_any p xs) ≡ true → (list_any p xs ≡ true → lines_behind p (xs ++ l ∷ []) ≡ lines_behind p xs ++ l ∷ [])
-    → cond t (xs ++ l ∷ []) (lines_behind p (xs ++ l ∷ [])) ≡ cond t xs (lines_behind p xs) ++ l ∷ []
-behind_by p true xs l e h = refl
-behind_by p false xs l e h = h e
+after_by : (p : Line → Bool) (t : Bool) (xs : List Line) (l : Line) → (t || list_any p xs) ≡ true → (list_any p xs ≡ true → lines_after p (xs ++ l ∷ []) ≡ lines_after p xs ++ l ∷ [])
+    → cond t (xs ++ l ∷ []) (lines_after p (xs ++ l ∷ [])) ≡ cond t xs (lines_after p xs) ++ l ∷ []
+after_by p true xs l e h = refl
+after_by p false xs l e h = h e
 
-pub behind_more : (p : Line → Bool) (xs : List Line) (l : Line) → list_any p xs ≡ true → lines_behind p (xs ++ l ∷ []) ≡ lines_behind p xs ++ l ∷ []
-behind_more p [] l e = absurd cc
-behind_more p (x ∷ xs) l e = behind_by p (p x) xs l e (behind_more p xs l)
+pub after_more : (p : Line → Bool) (xs : List Line) (l : Line) → list_any p xs ≡ true → lines_after p (xs ++ l ∷ []) ≡ lines_after p xs ++ l ∷ []
+after_more p [] l e = absurd cc
+after_more p (x ∷ xs) l e = after_by p (p x) xs l e (after_more p xs l)
 
 none_by : (p : Line → Bool) (t : Bool) (ys zs : List Line) (b : Bool) → (t || b) ≡ false → (b ≡ false → zs ≡ []) → cond t ys zs ≡ []
 none_by p true ys zs b e h = absurd cc
 none_by p false ys zs b e h = h e
 
-pub behind_none : (p : Line → Bool) (xs : List Line) → list_any p xs ≡ false → lines_behind p xs ≡ []
-behind_none p [] e = refl
-behind_none p (x ∷ xs) e = none_by p (p x) xs (lines_behind p xs) (list_any p xs) e (behind_none p xs)
+pub after_none : (p : Line → Bool) (xs : List Line) → list_any p xs ≡ false → lines_after p xs ≡ []
+after_none p [] e = refl
+after_none p (x ∷ xs) e = none_by p (p x) xs (lines_after p xs) (list_any p xs) e (after_none p xs)
 
 nothing : (b : Bool) → cond b [] [] ≡ (let none : List Line = [] in none)
 nothing true = refl
 nothing false = refl
 
-pub behind_none_more : (p : Line → Bool) (xs : List Line) (l : Line) → list_any p xs ≡ false → lines_behind p (xs ++ l ∷ []) ≡ []
-behind_none_more p [] l e = nothing (p l)
-behind_none_more p (x ∷ xs) l e = none_by p (p x) (xs ++ l ∷ []) (lines_behind p (xs ++ l ∷ [])) (list_any p xs) e (behind_none_more p xs l)
+pub after_none_more : (p : Line → Bool) (xs : List Line) (l : Line) → list_any p xs ≡ false → lines_after p (xs ++ l ∷ []) ≡ []
+after_none_more p [] l e = nothing (p l)
+after_none_more p (x ∷ xs) l e = none_by p (p x) (xs ++ l ∷ []) (lines_after p (xs ++ l ∷ [])) (list_any p xs) e (after_none_more p xs l)
 
 onto : (b : Bool) (x : Line) (ys zs : List Line) → x ∷ cond b ys zs ≡ cond b (x ∷ ys) (x ∷ zs)
 onto true x ys zs = refl
@@ -82,43 +82,43 @@ net_by : (netlist : Netlist) (before : List Line) (l : Line) (n : ℕ) (t : Bool
 unfolding section_of had_line
 net_by netlist before l n true had is =
     let own = is_line_of netlist n in
-    let rest = lines_behind own before in
-    ap (lines_before is_net_line) (behind_more own before l had)
+    let rest = lines_after own before in
+    ap (lines_before is_net_line) (after_more own before l had)
     ∙ before_more is_net_line rest l
     ∙ ap (λ t. cond t (lines_before is_net_line rest) (lines_before is_net_line rest ++ l ∷ [])) (or_right (list_any is_net_line rest) (is_net_line l) is)
 net_by netlist before l n false had is =
     let own = is_line_of netlist n in
-    ap (lines_before is_net_line) (behind_none_more own before l had) ∙ sym (ap (lines_before is_net_line) (behind_none own before had))
+    ap (lines_before is_net_line) (after_none_more own before l had) ∙ sym (ap (lines_before is_net_line) (after_none own before had))
 
 pub section_net : (netlist : Netlist) (before : List Line) (l : Line) (n : ℕ) → is_net_line l ≡ true → section_of netlist (before ++ l ∷ []) n ≡ section_of netlist before n
 section_net netlist before l n is = net_by netlist before l n (had_line netlist before n) refl is
 
--- a line behind another net's line belongs to another section
-other_by : (netlist : Netlist) (before : List Line) (l : Line) (n : ℕ) (t : Bool) → had_line netlist before n ≡ t → (t ≡ true → list_any is_net_line (lines_behind (is_line_of netlist n) before) ≡ true)
+-- a line after another net's line belongs to another section
+other_by : (netlist : Netlist) (before : List Line) (l : Line) (n : ℕ) (t : Bool) → had_line netlist before n ≡ t → (t ≡ true → list_any is_net_line (lines_after (is_line_of netlist n) before) ≡ true)
     → section_of netlist (before ++ l ∷ []) n ≡ section_of netlist before n
 unfolding section_of had_line
 other_by netlist before l n true had h =
     let own = is_line_of netlist n in
-    let rest = lines_behind own before in
-    ap (lines_before is_net_line) (behind_more own before l had)
+    let rest = lines_after own before in
+    ap (lines_before is_net_line) (after_more own before l had)
     ∙ before_more is_net_line rest l
     ∙ ap (λ t. cond t (lines_before is_net_line rest) (lines_before is_net_line rest ++ l ∷ [])) (or_left (list_any is_net_line rest) (is_net_line l) (h refl))
 other_by netlist before l n false had h =
     let own = is_line_of netlist n in
-    ap (lines_before is_net_line) (behind_none_more own before l had) ∙ sym (ap (lines_before is_net_line) (behind_none own before had))
+    ap (lines_before is_net_line) (after_none_more own before l had) ∙ sym (ap (lines_before is_net_line) (after_none own before had))
 
-pub section_other : (netlist : Netlist) (before : List Line) (l : Line) (n : ℕ) → (had_line netlist before n ≡ true → list_any is_net_line (lines_behind (is_line_of netlist n) before) ≡ true)
+pub section_other : (netlist : Netlist) (before : List Line) (l : Line) (n : ℕ) → (had_line netlist before n ≡ true → list_any is_net_line (lines_after (is_line_of netlist n) before) ≡ true)
     → section_of netlist (before ++ l ∷ []) n ≡ section_of netlist before n
 section_other netlist before l n h = other_by netlist before l n (had_line netlist before n) refl h
 
--- a line behind the net's own line, with no other net's between, belongs to its section
-pub section_here : (netlist : Netlist) (before : List Line) (l : Line) (n : ℕ) → is_net_line l ≡ false → had_line netlist before n ≡ true → list_any is_net_line (lines_behind (is_line_of netlist n) before) ≡ false
+-- a line after the net's own line, with no other net's between, belongs to its section
+pub section_here : (netlist : Netlist) (before : List Line) (l : Line) (n : ℕ) → is_net_line l ≡ false → had_line netlist before n ≡ true → list_any is_net_line (lines_after (is_line_of netlist n) before) ≡ false
     → section_of netlist (before ++ l ∷ []) n ≡ section_of netlist before n ++ l ∷ []
 unfolding section_of had_line
 section_here netlist before l n is had none =
     let own = is_line_of netlist n in
-    let rest = lines_behind own before in
-    ap (lines_before is_net_line) (behind_more own before l had)
+    let rest = lines_after own before in
+    ap (lines_before is_net_line) (after_more own before l had)
     ∙ before_more is_net_line rest l
     ∙ ap (λ t. cond (t || is_net_line l) (lines_before is_net_line rest) (lines_before is_net_line rest ++ l ∷ [])) none
     ∙ ap (λ t. cond t (lines_before is_net_line rest) (lines_before is_net_line rest ++ l ∷ [])) is
@@ -131,7 +131,7 @@ nodes_same netlist f one other n e = ap (filter_map (λ l. node_on f l.words)) e
 
 pub nodes_none : (netlist : Netlist) (f : Fabric) (before : List Line) (n : ℕ) → had_line netlist before n ≡ false → nodes_in netlist f before n ≡ []
 unfolding nodes_in section_of had_line
-nodes_none netlist f before n none = ap (λ ls. filter_map (λ l. node_on f l.words) (lines_before is_net_line ls)) (behind_none (is_line_of netlist n) before none)
+nodes_none netlist f before n none = ap (λ ls. filter_map (λ l. node_on f l.words) (lines_before is_net_line ls)) (after_none (is_line_of netlist n) before none)
 
 pub nodes_more : (netlist : Netlist) (f : Fabric) (before : List Line) (l : Line) (n a : ℕ) → section_of netlist (before ++ l ∷ []) n ≡ section_of netlist before n ++ l ∷ [] → node_on f l.words ≡ Some a
     → nodes_in netlist f (before ++ l ∷ []) n ≡ nodes_in netlist f before n ++ a ∷ []
@@ -166,7 +166,7 @@ pair_by : (p : Pair) (t : Bool) → cond (not t) (p ∷ []) [] ≡ option_to_lis
 pair_by p true = refl
 pair_by p false = refl
 
-pub list_push : (f : Fabric) (nodes : List ℕ) (a : ℕ) → list_along f (nodes ++ a ∷ []) ≡ list_more (list_along f nodes) (pair_behind f (last_or None nodes) a)
+pub list_push : (f : Fabric) (nodes : List ℕ) (a : ℕ) → list_along f (nodes ++ a ∷ []) ≡ list_more (list_along f nodes) (pair_after f (last_or None nodes) a)
 unfolding pairs_along
 list_push f [] a = refl
 list_push f (b ∷ bs) a =
@@ -176,4 +176,4 @@ list_push f (b ∷ bs) a =
     (
     ap (filter start) (neighbours_push b bs a)
     ∙ filter-append start (neighbours (b ∷ bs)) ((last_from b bs, a) ∷ [])
-    ∙ ap (λ ps. old ++ ps) (pair_by (last_from b bs, a) (is_sink f (last_from b bs)) ∙ sym (ap (λ l. option_to_list (pair_behind f l a)) (last_is b bs))))
+    ∙ ap (λ ps. old ++ ps) (pair_by (last_from b bs, a) (is_sink f (last_from b bs)) ∙ sym (ap (λ l. option_to_list (pair_after f l a)) (last_is b bs))))

@@ -23,11 +23,11 @@ use Rattle.route_file.specs.declared.fault.RouteFileFault.{RouteFileFault}
 use Rattle.route_file.specs.declared.fault.RouteFileFault.TheVariants as route
 use Rattle.route_file.specs.declared.node_line.NodeText.{NodeText}
 use Rattle.route_file.specs.declared.seen.Seen.{Seen}
-use Rattle.route_file.specs.Judge.{named_entry, net_entry, block_entry, placed_entry, told_entry, node_entry, section_entry, is_detached, judge}
+use Rattle.route_file.specs.Judge.{named_entry, net_entry, block_entry, placed_entry, reported_entry, node_entry, section_entry, is_detached, judge}
 use Rattle.route_file.specs.NetLine.{is_net_line, is_plain_form, is_global_form, is_global_at, if_global, name_on, net_on, same_answer}
-use Rattle.route_file.specs.NodeLine.{text_of, is_told, node_told, node_on}
+use Rattle.route_file.specs.NodeLine.{text_of, is_reported, node_reported, node_on}
 use Rattle.route_file.specs.NodeWords.{node_words}
-use Rattle.route_file.specs.Seen.{IsSeen, is_off, no_owner, entry_after}
+use Rattle.route_file.specs.kept.LinesSeen.{IsSeen, is_off, no_owner, entry_after}
 use Rattle.route_file.specs.Sections.{had_line, latest, nodes_in}
 use Rattle.route_file.proofs.Named.{within}
 
@@ -42,9 +42,9 @@ net_within netlist words n e =
 abbrev no_node : Node
 no_node = record { kind = Source; x = 0; y = 0; number = 0 }
 
-pub node_within : (f : Fabric) (text : NodeText) (a : ℕ) → node_told f text ≡ Some a → a < node_count_of f
-unfolding node_told
-node_within f text a e = (position-Some (is_told f text) (nodes_of f) a no_node e).0
+pub node_within : (f : Fabric) (text : NodeText) (a : ℕ) → node_reported f text ≡ Some a → a < node_count_of f
+unfolding node_reported
+node_within f text a e = (position-Some (is_reported f text) (nodes_of f) a no_node e).0
 
 -- ---- what is kept tells what the lines tell
 
@@ -61,14 +61,14 @@ placed_same : (off other : ℕ → Bool) (line : ℕ) (o : Option ℕ) → ((a :
 placed_same off other line None h = refl
 placed_same off other line (Some a) h = ap (λ t. cond t (Err (route.Detached line)) (Ok (NodeLine a))) (h a)
 
-told_same : (f : Fabric) (off other : ℕ → Bool) (line : ℕ) (o : Option NodeText) → ((a : ℕ) → off a ≡ other a) → told_entry f off line o ≡ told_entry f other line o
-told_same f off other line None h = refl
-told_same f off other line (Some text) h = placed_same off other line (node_told f text) h
+reported_same : (f : Fabric) (off other : ℕ → Bool) (line : ℕ) (o : Option NodeText) → ((a : ℕ) → off a ≡ other a) → reported_entry f off line o ≡ reported_entry f other line o
+reported_same f off other line None h = refl
+reported_same f off other line (Some text) h = placed_same off other line (node_reported f text) h
 
 routed_same : (f : Fabric) (off other : ℕ → Bool) (line : ℕ) (words : List (List ℕ)) (t : Bool) → (t ≡ true → (a : ℕ) → off a ≡ other a)
     → cond t (node_entry f off line words) (Err (route.BadLine line)) ≡ cond t (node_entry f other line words) (Err (route.BadLine line))
 unfolding node_entry
-routed_same f off other line words true h = told_same f off other line (text_of (node_words words)) (h refl)
+routed_same f off other line words true h = reported_same f off other line (text_of (node_words words)) (h refl)
 routed_same f off other line words false h = refl
 
 section_same : (netlist : Netlist) (f : Fabric) (off other : ℕ → ℕ → Bool) (line : ℕ) (words : List (List ℕ)) (net : Option ℕ) → ((n : ℕ) → net ≡ Some n → is_routed_at netlist n ≡ true → (a : ℕ) → off n a ≡ other n a)
@@ -137,13 +137,13 @@ placed_is : {P : Type 0} (off : ℕ → Bool) (line : ℕ) (o : Option ℕ) (e :
 placed_is off line None e h g = absurd cc
 placed_is off line (Some a) e h g = off_is (off a) line a e h (λ is. g a refl is)
 
-told_is : {P : Type 0} (f : Fabric) (off : ℕ → Bool) (line : ℕ) (o : Option NodeText) (e : Entry) → told_entry f off line o ≡ Ok e → ((a : ℕ) → option_and_then (node_told f) o ≡ Some a → a < node_count_of f → e ≡ NodeLine a → P) → P
-told_is f off line None e h g = absurd cc
-told_is f off line (Some text) e h g = placed_is off line (node_told f text) e h (λ a at is. g a at (node_within f text a at) is)
+reported_is : {P : Type 0} (f : Fabric) (off : ℕ → Bool) (line : ℕ) (o : Option NodeText) (e : Entry) → reported_entry f off line o ≡ Ok e → ((a : ℕ) → option_and_then (node_reported f) o ≡ Some a → a < node_count_of f → e ≡ NodeLine a → P) → P
+reported_is f off line None e h g = absurd cc
+reported_is f off line (Some text) e h g = placed_is off line (node_reported f text) e h (λ a at is. g a at (node_within f text a at) is)
 
 node_is : {P : Type 0} (f : Fabric) (off : ℕ → Bool) (line : ℕ) (words : List (List ℕ)) (e : Entry) → node_entry f off line words ≡ Ok e → ((a : ℕ) → node_on f words ≡ Some a → a < node_count_of f → e ≡ NodeLine a → P) → P
 unfolding node_entry node_on
-node_is f off line words e h g = told_is f off line (text_of (node_words words)) e h g
+node_is f off line words e h g = reported_is f off line (text_of (node_words words)) e h g
 
 routed_is : {P : Type 0} (f : Fabric) (off : ℕ → Bool) (line : ℕ) (words : List (List ℕ)) (t : Bool) (e : Entry) → cond t (node_entry f off line words) (Err (route.BadLine line)) ≡ Ok e
     → ((a : ℕ) → t ≡ true → node_on f words ≡ Some a → a < node_count_of f → e ≡ NodeLine a → P) → P

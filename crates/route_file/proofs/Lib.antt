@@ -1,6 +1,6 @@
 pub mod Drops
 pub mod Pieces
-pub mod Told
+pub mod Reported
 pub mod Named
 pub mod Start
 pub mod Taken
@@ -21,7 +21,7 @@ pub mod PrintedPairs
 pub mod ReadNumbers
 pub mod ReadNodes
 pub mod ReadNodeText
-pub mod ReadTold
+pub mod ReadReported
 pub mod ReadNets
 pub mod ReadSections
 pub mod ReadWalk
@@ -31,6 +31,6 @@ pub mod ReadRouted
 pub mod ReadLists
 pub mod ReadClear
 pub mod ReadBack
-pub mod RoutesTold
+pub mod RoutesReported
 mod Examples
 pub mod ReadExamples

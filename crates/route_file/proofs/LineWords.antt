@@ -99,7 +99,7 @@ net_words number name h k =
     ∙ more (codes "Net") (word_then (decimal number) named (plain_number number h)
     ∙ more (decimal number) (word_last named (bracketed name (codes ")") k refl)))
 
--- what stands behind the name of a global net
+-- what stands after the name of a global net
 abbrev rest_of_global : List ℕ
 rest_of_global = codes "global net connecting:"
 

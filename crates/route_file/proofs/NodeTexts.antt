@@ -11,7 +11,7 @@ use Rattle.rr_graph.specs.Fabric.{Fabric}
 use Rattle.rr_graph.specs.Nodes.{node_at, label_of, span_of}
 use Rattle.route_tree.specs.Paths.{Pair}
 use Rattle.route_file.specs.TextLine.{NodeLine, line_text}
-use Rattle.route_file.specs.PrintedNodes.{nodes_for, nodes_behind}
+use Rattle.route_file.specs.PrintedNodes.{nodes_for, nodes_after}
 use Rattle.route_file.specs.Text.{node_lines, lines_of_node}
 use Rattle.route_file.proofs.Sending.{drop_next}
 
@@ -32,11 +32,11 @@ two_nodes f a b =
 
 -- the nodes of the pairs from place i on
 pub pairs_next : (f : Fabric) (before : Option ℕ) (pairs : List Pair) (i : ℕ) (d : Pair) → i < length pairs
-    → nodes_text f (nodes_behind f before (drop i pairs))
-    ≡ nodes_text f (nodes_for f before (get_or pairs i d)) ++ nodes_text f (nodes_behind f (Some (get_or pairs i d).1) (drop (i + 1) pairs))
+    → nodes_text f (nodes_after f before (drop i pairs))
+    ≡ nodes_text f (nodes_for f before (get_or pairs i d)) ++ nodes_text f (nodes_after f (Some (get_or pairs i d).1) (drop (i + 1) pairs))
 pairs_next f before pairs i d within =
-    ap (λ (ps : List Pair). nodes_text f (nodes_behind f before ps)) (drop_next pairs i d within)
-    ∙ nodes_text-append f (nodes_for f before (get_or pairs i d)) (nodes_behind f (Some (get_or pairs i d).1) (drop (i + 1) pairs))
+    ap (λ (ps : List Pair). nodes_text f (nodes_after f before ps)) (drop_next pairs i d within)
+    ∙ nodes_text-append f (nodes_for f before (get_or pairs i d)) (nodes_after f (Some (get_or pairs i d).1) (drop (i + 1) pairs))
 
 some_is : {A B : Type 0} (g : A → B) (o : Option A) (a : A) (b : B) → Some a ≡ o → Some b ≡ option_map g o → b ≡ g a
 some_is {A} {B} g o a b e f =

@@ -9,7 +9,7 @@ use Rattle.std.proofs.lemmas.Option.{none-some}
 use Rattle.std.proofs.lemmas.List.Quantifiers.{position-Some}
 use Rattle.std.proofs.lemmas.Iterator.Adapters.{position_from-zero}
 use Rattle.vpr_text.specs.Words.{is_filled}
-use Rattle.route_file.specs.Kept.{IsCut}
+use Rattle.route_file.specs.kept.NodeTexts.{IsCut}
 use Rattle.route_file.specs.NodeWords.{is_mark, pieces_of}
 
 module _ (p : ℕ → Bool) where
@@ -27,7 +27,7 @@ module _ (p : ℕ → Bool) where
   skip_all (suc s) [] le h = absurd (omega (arith, le))
   skip_all (suc s) (b ∷ bs) le h = skip b bs (h 0 (omega arith)) ∙ skip_all s bs (omega (arith, le)) (λ k lt. h (suc k) (omega (arith, lt)))
 
-  -- a word up to its first mark, and the parts behind it
+  -- a word up to its first mark, and the parts after it
   record IsSplit (word : List ℕ) (n : ℕ) : Type 0 where
     tail : List (List ℕ)
     parts : slice_split p word ≡ take n word ∷ tail

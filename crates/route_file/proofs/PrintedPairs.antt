@@ -7,8 +7,8 @@ use Rattle.std.proofs.lemmas.Bool.{false≢true, eqb-true, eq-eqb}
 use Rattle.rr_graph.specs.Fabric.{Fabric}
 use Rattle.rr_graph.specs.Problems.{is_sink}
 use Rattle.route_tree.specs.Paths.{Pair}
-use Rattle.route_tree.specs.Legality.{is_among, may_begin, is_listed_behind}
-use Rattle.route_file.specs.PrintedNodes.{nodes_for, nodes_behind, printed_nodes}
+use Rattle.route_tree.specs.Legality.{is_among, may_begin, is_listed_after}
+use Rattle.route_file.specs.PrintedNodes.{nodes_for, nodes_after, printed_nodes}
 use Rattle.route_file.specs.Sections.{neighbours, pairs_along}
 use Rattle.route_file.specs.Judge.{is_detached}
 use Rattle.route_file.proofs.PlainWords.{both_true}
@@ -23,7 +23,7 @@ keeps f p = not (is_sink f p.0)
 abbrev kept : Fabric → List ℕ → List Pair
 kept f nodes = filter (keeps f) (neighbours nodes)
 
--- each node may stand behind those before it
+-- each node may stand after those before it
 abbrev pub AreAttached : Fabric → (before nodes : List ℕ) → Type 0
 AreAttached f before [] = Unit {0}
 AreAttached f before (a ∷ nodes) = (is_detached f before a ≡ false) × AreAttached f (before ++ a ∷ []) nodes
@@ -71,28 +71,28 @@ both_nodes : (f : Fabric) (e : ℕ) (p : Pair) → is_sink f e ≡ true → node
 both_nodes f e p se =
     ap (λ s. cond (eqb p.0 e && not s) (p.1 ∷ []) (p.0 ∷ p.1 ∷ [])) se ∙ ap (λ t. cond t (p.1 ∷ []) (p.0 ∷ p.1 ∷ [])) (and_false (eqb p.0 e))
 
-one_more : (f : Fabric) (e : ℕ) (p : Pair) (ps : List Pair) → is_sink f p.0 ≡ false → Joint f e p → kept f (p.1 ∷ nodes_behind f (Some p.1) ps) ≡ ps → kept f (e ∷ nodes_behind f (Some e) (p ∷ ps)) ≡ p ∷ ps
+one_more : (f : Fabric) (e : ℕ) (p : Pair) (ps : List Pair) → is_sink f p.0 ≡ false → Joint f e p → kept f (p.1 ∷ nodes_after f (Some p.1) ps) ≡ ps → kept f (e ∷ nodes_after f (Some e) (p ∷ ps)) ≡ p ∷ ps
 one_more f e p ps leaves (goes same te se) h =
-    let rest = nodes_behind f (Some p.1) ps in
+    let rest = nodes_after f (Some p.1) ps in
     ap (λ (ns : List ℕ). kept f (e ∷ (ns ++ rest))) (second_alone f e p te se)
     ∙ (kept_pair f e p.1 rest se ∙ (ap (λ (a : ℕ). (a, p.1) ∷ kept f (p.1 ∷ rest)) (sym same) ∙ ap (λ (qs : List Pair). p ∷ qs) h))
 one_more f e p ps leaves (joins se) h =
-    let rest = nodes_behind f (Some p.1) ps in
+    let rest = nodes_after f (Some p.1) ps in
     ap (λ (ns : List ℕ). kept f (e ∷ (ns ++ rest))) (both_nodes f e p se)
     ∙ (dropped_pair f e p.0 (p.1 ∷ rest) se ∙ (kept_pair f p.0 p.1 rest leaves ∙ ap (λ (qs : List Pair). p ∷ qs) h))
 
-pub pairs_behind : (f : Fabric) (source e : ℕ) (es : List ℕ) (pairs : List Pair) → LeaveSinks f pairs → is_listed_behind f source (e ∷ es) pairs ≡ true → kept f (e ∷ nodes_behind f (Some e) pairs) ≡ pairs
-pairs_behind f source e es [] leaves listed = refl
-pairs_behind f source e es (p ∷ ps) leaves listed =
-    let h = both_true (may_begin f source (e ∷ es) p.0) (is_listed_behind f source (p.1 ∷ e ∷ es) ps) listed in
-    one_more f e p ps leaves.0 (joint f source e es p h.0) (pairs_behind f source p.1 (e ∷ es) ps leaves.1 h.1)
+pub pairs_after : (f : Fabric) (source e : ℕ) (es : List ℕ) (pairs : List Pair) → LeaveSinks f pairs → is_listed_after f source (e ∷ es) pairs ≡ true → kept f (e ∷ nodes_after f (Some e) pairs) ≡ pairs
+pairs_after f source e es [] leaves listed = refl
+pairs_after f source e es (p ∷ ps) leaves listed =
+    let h = both_true (may_begin f source (e ∷ es) p.0) (is_listed_after f source (p.1 ∷ e ∷ es) ps) listed in
+    one_more f e p ps leaves.0 (joint f source e es p h.0) (pairs_after f source p.1 (e ∷ es) ps leaves.1 h.1)
 
 -- the nodes that are named for a list that is in order, and leaves no sink, are read as the list
-pub pairs_read : (f : Fabric) (source : ℕ) (p : Pair) (ps : List Pair) → LeaveSinks f (p ∷ ps) → is_listed_behind f source [] (p ∷ ps) ≡ true → pairs_along f (printed_nodes f (p ∷ ps)) ≡ p ∷ ps
+pub pairs_read : (f : Fabric) (source : ℕ) (p : Pair) (ps : List Pair) → LeaveSinks f (p ∷ ps) → is_listed_after f source [] (p ∷ ps) ≡ true → pairs_along f (printed_nodes f (p ∷ ps)) ≡ p ∷ ps
 unfolding pairs_along
 pairs_read f source p ps leaves listed =
-    let h = both_true (may_begin f source [] p.0) (is_listed_behind f source (p.1 ∷ []) ps) listed in
-    kept_pair f p.0 p.1 (nodes_behind f (Some p.1) ps) leaves.0 ∙ ap (λ (qs : List Pair). p ∷ qs) (pairs_behind f source p.1 [] ps leaves.1 h.1)
+    let h = both_true (may_begin f source [] p.0) (is_listed_after f source (p.1 ∷ []) ps) listed in
+    kept_pair f p.0 p.1 (nodes_after f (Some p.1) ps) leaves.0 ∙ ap (λ (qs : List Pair). p ∷ qs) (pairs_after f source p.1 [] ps leaves.1 h.1)
 
 -- ---- no node is detached
 
@@ -136,7 +136,7 @@ unfolding is_detached
 tied f before a among =
     ap (λ t. option_map_or (is_sink f) (last_or None before) false && not t) among ∙ and_false (option_map_or (is_sink f) (last_or None before) false)
 
--- behind nodes that end with `e` and have the source and all ends so far, the nodes of a pair are attached
+-- after nodes that end with `e` and have the source and all ends so far, the nodes of a pair are attached
 attached_by : (f : Fabric) (e : ℕ) (p : Pair) (before later : List ℕ) → is_sink f p.0 ≡ false → last_or None before ≡ Some e → is_among before p.0 ≡ true → Joint f e p
     → AreAttached f (before ++ p.1 ∷ []) later → AreAttached f ((before ++ p.0 ∷ []) ++ p.1 ∷ []) later → AreAttached f before (nodes_for f (Some e) p ++ later)
 attached_by f e p before later leaves last among (goes same te se) h k =
@@ -158,22 +158,22 @@ begins_among f source e es p before h covers = covers p.0 (among_by (eqb source 
 covers_again : (before : List ℕ) (c : ℕ) (xs : List ℕ) → Covers before xs → Covers (before ++ c ∷ []) xs
 covers_again before c xs h a e = still_among before c a (h a e)
 
-attached_behind : (f : Fabric) (source e : ℕ) (es : List ℕ) (pairs : List Pair) (before : List ℕ) → LeaveSinks f pairs → is_listed_behind f source (e ∷ es) pairs ≡ true
-    → last_or None before ≡ Some e → Covers before (source ∷ e ∷ es) → AreAttached f before (nodes_behind f (Some e) pairs)
-attached_behind f source e es [] before leaves listed last covers = tt
-attached_behind f source e es (p ∷ ps) before leaves listed last covers =
-    let h = both_true (may_begin f source (e ∷ es) p.0) (is_listed_behind f source (p.1 ∷ e ∷ es) ps) listed in
-    let later = nodes_behind f (Some p.1) ps in
+attached_after : (f : Fabric) (source e : ℕ) (es : List ℕ) (pairs : List Pair) (before : List ℕ) → LeaveSinks f pairs → is_listed_after f source (e ∷ es) pairs ≡ true
+    → last_or None before ≡ Some e → Covers before (source ∷ e ∷ es) → AreAttached f before (nodes_after f (Some e) pairs)
+attached_after f source e es [] before leaves listed last covers = tt
+attached_after f source e es (p ∷ ps) before leaves listed last covers =
+    let h = both_true (may_begin f source (e ∷ es) p.0) (is_listed_after f source (p.1 ∷ e ∷ es) ps) listed in
+    let later = nodes_after f (Some p.1) ps in
     attached_by f e p before later leaves.0 last (begins_among f source e es p before h.0 covers) (joint f source e es p h.0)
-    (attached_behind f source p.1 (e ∷ es) ps (before ++ p.1 ∷ []) leaves.1 h.1 (last_append None before p.1) (covers_next before source p.1 (e ∷ es) covers))
-    (attached_behind f source p.1 (e ∷ es) ps ((before ++ p.0 ∷ []) ++ p.1 ∷ []) leaves.1 h.1 (last_append None (before ++ p.0 ∷ []) p.1)
+    (attached_after f source p.1 (e ∷ es) ps (before ++ p.1 ∷ []) leaves.1 h.1 (last_append None before p.1) (covers_next before source p.1 (e ∷ es) covers))
+    (attached_after f source p.1 (e ∷ es) ps ((before ++ p.0 ∷ []) ++ p.1 ∷ []) leaves.1 h.1 (last_append None (before ++ p.0 ∷ []) p.1)
     (covers_next (before ++ p.0 ∷ []) source p.1 (e ∷ es) (covers_again before p.0 (source ∷ e ∷ es) covers)))
 
--- the nodes that are named for a list in order are those of a section: behind a sink stands a node that stood there before
-pub nodes_attached : (f : Fabric) (source : ℕ) (p : Pair) (ps : List Pair) → LeaveSinks f (p ∷ ps) → is_listed_behind f source [] (p ∷ ps) ≡ true → AreAttached f [] (printed_nodes f (p ∷ ps))
+-- the nodes that are named for a list in order are those of a section: after a sink stands a node that stood there before
+pub nodes_attached : (f : Fabric) (source : ℕ) (p : Pair) (ps : List Pair) → LeaveSinks f (p ∷ ps) → is_listed_after f source [] (p ∷ ps) ≡ true → AreAttached f [] (printed_nodes f (p ∷ ps))
 unfolding is_detached
 nodes_attached f source p ps leaves listed =
-    let h = both_true (may_begin f source [] p.0) (is_listed_behind f source (p.1 ∷ []) ps) listed in
+    let h = both_true (may_begin f source [] p.0) (is_listed_after f source (p.1 ∷ []) ps) listed in
     let begins : p.0 ≡ source = eqb-true p.0 source h.0 in
     let covers : Covers (p.0 ∷ p.1 ∷ []) (source ∷ p.1 ∷ []) = subst (λ (s : ℕ). Covers (p.0 ∷ p.1 ∷ []) (s ∷ p.1 ∷ [])) begins (λ a e. e) in
-    (refl, (free f (p.0 ∷ []) p.0 p.1 refl leaves.0, attached_behind f source p.1 [] ps (p.0 ∷ p.1 ∷ []) leaves.1 h.1 refl covers))
+    (refl, (free f (p.0 ∷ []) p.0 p.1 refl leaves.0, attached_after f source p.1 [] ps (p.0 ∷ p.1 ∷ []) leaves.1 h.1 refl covers))

@@ -22,7 +22,7 @@ use Rattle.route_file.specs.TextLine.{TextLine}
 use Rattle.route_file.specs.Text.{routed_before, list_of, net_lines, text_lines, text_of}
 use Rattle.route_file.specs.Design.{IsDesign}
 use Rattle.route_file.specs.ReadBack.{TellsWhole}
-use Rattle.route_file.specs.Sections.{had_line, list_in}
+use Rattle.route_file.specs.Sections.{had_line, list_of_net}
 use Rattle.route_file.specs.Reads.{ReadsRoute, ReadsBytes}
 use Rattle.route_file.proofs.PlainWords.{both_true}
 use Rattle.route_file.proofs.TextWords.{AreClear, numbered, lines_of_text}
@@ -69,14 +69,14 @@ module _ (netlist : Netlist) (placement : Placement) (p : RoutingProblem) (lists
       list_readable p.device fabric (net_in p.nets i) (list_of netlist lists n) nodes (whole i below)
 
   -- each net of the problem has its list
-  has_lists : (all : List Line) → AreDone netlist p.device (list_of netlist lists) all (length netlist.nets) → (i : ℕ) → i < length p.nets → slice_index_or lists i None ≡ list_in netlist p.device all (net_in p.nets i).number
+  has_lists : (all : List Line) → AreDone netlist p.device (list_of netlist lists) all (length netlist.nets) → (i : ℕ) → i < length p.nets → slice_index_or lists i None ≡ list_of_net netlist p.device all (net_in p.nets i).number
   unfolding routed_before routed_numbers
   has_lists all done i lt =
       let place = passing_at (is_routed_at netlist) (length netlist.nets) i (subst (λ k. i < k) (sym count_nets) lt) in
       let m = get_or (passing (is_routed_at netlist) (length netlist.nets)) i 0 in
       let number : m ≡ (net_in p.nets i).number = ap (λ (ns : List ℕ). get_or ns i 0) (sym numbers) ∙ get_or-map (λ (n : Net). n.number) p.nets i problems.no_net 0 lt in
-      let list : list_in netlist p.device all m ≡ slice_index_or lists i None = done.lists m place.below place.passes ∙ ap (λ (k : ℕ). slice_index_or lists k None) place.before in
-      sym list ∙ ap (list_in netlist p.device all) number
+      let list : list_of_net netlist p.device all m ≡ slice_index_or lists i None = done.lists m place.below place.passes ∙ ap (λ (k : ℕ). slice_index_or lists k None) place.before in
+      sym list ∙ ap (list_of_net netlist p.device all) number
 
   begun : AreDone netlist p.device (list_of netlist lists) [] 0
   unfolding had_line
@@ -85,10 +85,10 @@ module _ (netlist : Netlist) (placement : Placement) (p : RoutingProblem) (lists
   abbrev nets_lines : List TextLine
   nets_lines = flat_map (net_lines netlist placement p.device lists) (range_with_len 0 (length netlist.nets))
 
-  walked : Reads netlist p.device fabric (list_of netlist lists) (λ all. (i : ℕ) → i < length p.nets → slice_index_or lists i None ≡ list_in netlist p.device all (net_in p.nets i).number) [] (worded 4 nets_lines)
+  walked : Reads netlist p.device fabric (list_of netlist lists) (λ all. (i : ℕ) → i < length p.nets → slice_index_or lists i None ≡ list_of_net netlist p.device all (net_in p.nets i).number) [] (worded 4 nets_lines)
   unfolding net_lines
   walked =
-      nets_walked netlist p.device fabric (list_of netlist lists) (λ all. (i : ℕ) → i < length p.nets → slice_index_or lists i None ≡ list_in netlist p.device all (net_in p.nets i).number) placement (length netlist.nets) 0 [] 4
+      nets_walked netlist p.device fabric (list_of netlist lists) (λ all. (i : ℕ) → i < length p.nets → slice_index_or lists i None ≡ list_of_net netlist p.device all (net_in p.nets i).number) placement (length netlist.nets) 0 [] 4
       (omega arith) (omega (arith, facts.few_nets)) (λ n within. (named n within, readable n within)) has_lists begun
 
   clear : AreClear (text_lines netlist placement p lists)

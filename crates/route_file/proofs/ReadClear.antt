@@ -21,7 +21,7 @@ use Rattle.route_file.specs.Text.{node_lines, lines_of_node, routed_net_lines, b
 use Rattle.route_file.proofs.PlainWords.{is_plain, are_plain, IsPlain}
 use Rattle.route_file.proofs.TextWords.{AreClear}
 use Rattle.route_file.proofs.NetTexts.{lines_of_global, lines_of_other}
-use Rattle.route_file.proofs.ReadTold.{clear_span}
+use Rattle.route_file.proofs.ReadReported.{clear_span}
 use Rattle.route_file.proofs.ReadWalk.{AreNodes, IsReadable}
 
 pub clear_append : (xs ys : List TextLine) → AreClear xs → AreClear ys → AreClear (xs ++ ys)

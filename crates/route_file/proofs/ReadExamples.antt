@@ -28,14 +28,14 @@ pub cut_words : node_words (codes "IPIN(1,,1)" ∷ codes "Pin:" ∷ codes ")" �
 unfolding node_words pieces_of
 cut_words = refl
 
--- a wire is told by its two ends, a pin by its place
-pub wire_told : text_of (node_words wire) ≡ Some (record { kind = Chanx; x1 = 2; y1 = 0; x2 = 1; y2 = 0; label = Track; number = 0 })
+-- a wire is reported by its two ends, a pin by its place
+pub wire_reported : text_of (node_words wire) ≡ Some (record { kind = Chanx; x1 = 2; y1 = 0; x2 = 1; y2 = 0; label = Track; number = 0 })
 unfolding text_of is_place_line is_span_line place_text span_text kind_of label_from takes is_wire node_words pieces_of is_text
-wire_told = refl
+wire_reported = refl
 
-pub pin_told : text_of (node_words pin) ≡ Some (record { kind = Ipin; x1 = 1; y1 = 1; x2 = 1; y2 = 1; label = Pin; number = 0 })
+pub pin_reported : text_of (node_words pin) ≡ Some (record { kind = Ipin; x1 = 1; y1 = 1; x2 = 1; y2 = 1; label = Pin; number = 0 })
 unfolding text_of is_place_line is_span_line place_text span_text kind_of label_from takes is_wire node_words pieces_of is_text
-pin_told = refl
+pin_reported = refl
 
 -- no pin has two ends, and no pin is on a track
 pub no_pins : (text_of (node_words (codes "IPIN" ∷ codes "(1,1)" ∷ codes "to" ∷ codes "(1,1)" ∷ codes "Pin:" ∷ codes "0" ∷ [])) ≡ None) × (text_of (node_words (codes "IPIN" ∷ codes "(1,1)" ∷ codes "Track:" ∷ codes "0" ∷ [])) ≡ None)
@@ -78,7 +78,7 @@ net_lines = (refl, refl, refl, refl, refl)
 abbrev lines : List Line
 lines = record { number = 3; words = line_of (codes "(a)") } ∷ record { number = 4; words = pin } ∷ record { number = 5; words = global_line_of (codes "(y):") } ∷ record { number = 6; words = codes "Block" ∷ [] } ∷ []
 
--- the section of a is the one line behind its own, and the next line is in that of y
+-- the section of a is the one line after its own, and the next line is in that of y
 pub sections : (section_of nets lines 0 ≡ record { number = 4; words = pin } ∷ []) × (latest nets lines ≡ Some 1) × (had_line nets lines 0 ≡ true)
 unfolding section_of latest had_line net_on is_plain_form is_global_form name_on number_among enclosed before_ending is_text
 sections = (refl, refl, refl)

@@ -12,11 +12,11 @@ use Rattle.rr_graph.specs.Problems.{Net, is_sink}
 use Rattle.route_tree.specs.Paths.{Pair}
 use Rattle.route_tree.specs.Legality.{is_listed}
 use Rattle.route_tree.specs.Fits.{is_below, are_nodes}
-use Rattle.route_file.specs.PrintedNodes.{goes_on, nodes_behind}
+use Rattle.route_file.specs.PrintedNodes.{goes_on, nodes_after}
 use Rattle.route_file.specs.ReadBack.{tells_whole}
 use Rattle.route_file.proofs.PlainWords.{both_true}
 use Rattle.route_file.proofs.PrintedPairs.{LeaveSinks}
-use Rattle.route_file.proofs.ReadTold.{IsSmall}
+use Rattle.route_file.proofs.ReadReported.{IsSmall}
 use Rattle.route_file.proofs.ReadSmall.{node_small}
 use Rattle.route_file.proofs.ReadWalk.{AreNodes, IsReadable}
 
@@ -34,12 +34,12 @@ both_there : (f : Fabric) (p : Pair) (b : Bool) (rest : List ℕ) → IsThere f 
 both_there f p true rest h k m = (k, m)
 both_there f p false rest h k m = (h, (k, m))
 
-nodes_there : (f : Fabric) → IsFabric f → (before : Option ℕ) (pairs : List Pair) → list_all (is_below (node_count_of f)) pairs ≡ true → AreNodes f (nodes_behind f before pairs)
+nodes_there : (f : Fabric) → IsFabric f → (before : Option ℕ) (pairs : List Pair) → list_all (is_below (node_count_of f)) pairs ≡ true → AreNodes f (nodes_after f before pairs)
 nodes_there f l before [] e = tt
 nodes_there f l before (p ∷ ps) e =
     let h = both_true (is_below (node_count_of f) p) (list_all (is_below (node_count_of f)) ps) e in
     let ends = both_true (nat_lt p.0 (node_count_of f)) (nat_lt p.1 (node_count_of f)) h.0 in
-    both_there f p (goes_on f before p) (nodes_behind f (Some p.1) ps) (there f l p.0 ends.0) (there f l p.1 ends.1) (nodes_there f l (Some p.1) ps h.1)
+    both_there f p (goes_on f before p) (nodes_after f (Some p.1) ps) (there f l p.0 ends.0) (there f l p.1 ends.1) (nodes_there f l (Some p.1) ps h.1)
 
 not_false : (a : Bool) → not a ≡ true → a ≡ false
 not_false true e = absurd (false≢true e)

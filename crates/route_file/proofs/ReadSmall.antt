@@ -12,7 +12,7 @@ use Rattle.rr_graph.specs.Fabric.{Fabric, IsFabric}
 use Rattle.rr_graph.specs.Nodes.{nodes_of, node_at, span_by}
 use Rattle.rr_graph.specs.Wires.{begins, steps_of, last_of}
 use Rattle.rr_graph.proofs.Order.{code_of, Ascends, nodes-ascend}
-use Rattle.route_file.proofs.ReadTold.{IsSmall}
+use Rattle.route_file.proofs.ReadReported.{IsSmall}
 
 ascends-le : (lo hi : ℕ) (ns : List Node) → Ascends lo hi ns → lo ≤ hi
 ascends-le lo hi [] h = h

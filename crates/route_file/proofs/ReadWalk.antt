@@ -17,7 +17,7 @@ use Rattle.rr_graph.specs.declared.parts.Node.{Node}
 use Rattle.rr_graph.specs.Fabric.{Fabric, IsFabric}
 use Rattle.rr_graph.specs.Nodes.{node_at, label_of, span_of}
 use Rattle.route_tree.specs.Paths.{Pair}
-use Rattle.route_tree.specs.Legality.{is_listed_behind}
+use Rattle.route_tree.specs.Legality.{is_listed_after}
 use Rattle.route_file.specs.TextLine.{TextLine, RoutedNet, GlobalNet, NodeLine}
 use Rattle.route_file.specs.PrintedNodes.{printed_nodes}
 use Rattle.route_file.specs.Text.{lines_of_node, node_lines, routed_net_lines, block_line, global_net_lines, lines_of_net}
@@ -30,9 +30,9 @@ use Rattle.route_file.proofs.LineWords.{line_words, kind_word, label_word, span_
 use Rattle.route_file.proofs.NetTexts.{lines_of_global, lines_of_other}
 use Rattle.route_file.proofs.TextWords.{numbered}
 use Rattle.route_file.proofs.PrintedPairs.{LeaveSinks, AreAttached, pairs_read, nodes_attached}
-use Rattle.route_file.proofs.ReadTold.{IsSmall, node_read}
+use Rattle.route_file.proofs.ReadReported.{IsSmall, node_read}
 use Rattle.route_file.proofs.ReadNets.{IsNamed, plain_form, global_form, routed_net_read, global_net_read}
-use Rattle.route_file.proofs.ReadSections.{AreDone, IsWithin, begins, goes_on, node_goes_on, ends, passes, net_accepted, node_accepted, block_accepted, or_right}
+use Rattle.route_file.proofs.ReadSections.{AreDone, EndInSection, begins, goes_on, node_goes_on, ends, passes, net_accepted, node_accepted, block_accepted, or_right}
 
 -- the lines with words, numbered from k on
 abbrev pub worded : ℕ → List TextLine → List Line
@@ -46,7 +46,7 @@ AreNodes f nodes = AllByRecursion (λ a. (n : Node) × (node_at f a ≡ Some n) 
 abbrev pub IsReadable : Fabric → Option (List Pair) → Type 0
 IsReadable f None = Unit {0}
 IsReadable f (Some []) = ⊥
-IsReadable f (Some (p ∷ ps)) = (source : ℕ) × LeaveSinks f (p ∷ ps) × (is_listed_behind f source [] (p ∷ ps) ≡ true) × AreNodes f (printed_nodes f (p ∷ ps))
+IsReadable f (Some (p ∷ ps)) = (source : ℕ) × LeaveSinks f (p ∷ ps) × (is_listed_after f source [] (p ∷ ps) ≡ true) × AreNodes f (printed_nodes f (p ∷ ps))
 
 no_net_line : (k : Kind) (number : ℕ) (ws : List (List ℕ)) → is_net_line (record { number = number; words = kind_word k ∷ ws }) ≡ false
 unfolding is_text
@@ -61,7 +61,7 @@ no_node_line : (k : Kind) (s : Span) (l : Label) (n number : ℕ) → is_net_lin
 no_node_line k s l n number = no_net_line k number (span_words s ++ (label_word l ∷ decimal n ∷ []))
 
 module _ (netlist : Netlist) (f : Fabric) (fabric : IsFabric f) (wanted : ℕ → Option (List Pair)) (Final : List Line → Type 0) where
-  -- behind those before them the lines are accepted, and all of them come out well
+  -- after those before them the lines are accepted, and all of them come out well
   abbrev pub Reads : (before ls : List Line) → Type 0
   Reads before ls = AreAccepted netlist f before ls × Final (before ++ ls)
 
@@ -75,10 +75,10 @@ module _ (netlist : Netlist) (f : Fabric) (fabric : IsFabric f) (wanted : ℕ �
   one_line a n e = ap (lines_of_node f) e
 
   pub nodes_walked : (n : ℕ) (done nodes : List ℕ) (rest : List TextLine) (before : List Line) (k : ℕ) → is_global_at netlist n ≡ false → is_routed_at netlist n ≡ true
-      → IsWithin netlist f wanted before n done → AreAttached f done nodes → AreNodes f nodes
-      → ((later : List Line) (j : ℕ) → IsWithin netlist f wanted later n (done ++ nodes) → Reads later (worded j rest))
+      → EndInSection netlist f wanted before n done → AreAttached f done nodes → AreNodes f nodes
+      → ((later : List Line) (j : ℕ) → EndInSection netlist f wanted later n (done ++ nodes) → Reads later (worded j rest))
       → Reads before (worded k (flat_map (node_lines f) nodes ++ rest))
-  nodes_walked n done [] rest before k other routed h attached are next = next before k (subst (IsWithin netlist f wanted before n) (sym (append-nil done)) h)
+  nodes_walked n done [] rest before k other routed h attached are next = next before k (subst (EndInSection netlist f wanted before n) (sym (append-nil done)) h)
   nodes_walked n done (a ∷ nodes) rest before k other routed h attached are next =
       let node = are.0.0 in
       let line = NodeLine node.kind (span_of f node) (label_of f node) node.number in
@@ -86,14 +86,14 @@ module _ (netlist : Netlist) (f : Fabric) (fabric : IsFabric f) (wanted : ℕ �
       let is : is_net_line l ≡ false = no_node_line node.kind (span_of f node) (label_of f node) node.number k in
       let read : node_on f l.words ≡ Some a = node_read f fabric a node are.0.1 are.0.2 in
       let more = nodes_walked n (done ++ a ∷ []) nodes rest (before ++ l ∷ []) (k + 1) other routed (node_goes_on netlist f wanted before n l done a h is read) attached.1 are.1
-      (λ later j w. next later j (subst (IsWithin netlist f wanted later n) (append_assoc done (a ∷ []) nodes) w)) in
+      (λ later j w. next later j (subst (EndInSection netlist f wanted later n) (append_assoc done (a ∷ []) nodes) w)) in
       subst (λ (ls : List TextLine). Reads before (worded k ((ls ++ flat_map (node_lines f) nodes) ++ rest))) (sym (one_line a node are.0.1))
       (reads_line before l (worded (k + 1) (flat_map (node_lines f) nodes ++ rest)) (node_accepted netlist f wanted before n l done a h is other routed read attached.0) more)
 
   -- ---- the lines of a global net
 
-  blocks_walked : (placement : Placement) (n : ℕ) (ts : List Terminal) (rest : List TextLine) (before : List Line) (k : ℕ) (nodes : List ℕ) → is_global_at netlist n ≡ true → IsWithin netlist f wanted before n nodes
-      → ((later : List Line) (j : ℕ) (some : List ℕ) → IsWithin netlist f wanted later n some → Reads later (worded j rest))
+  blocks_walked : (placement : Placement) (n : ℕ) (ts : List Terminal) (rest : List TextLine) (before : List Line) (k : ℕ) (nodes : List ℕ) → is_global_at netlist n ≡ true → EndInSection netlist f wanted before n nodes
+      → ((later : List Line) (j : ℕ) (some : List ℕ) → EndInSection netlist f wanted later n some → Reads later (worded j rest))
       → Reads before (worded k (map (block_line netlist placement) ts ++ rest))
   unfolding block_line is_text
   blocks_walked placement n [] rest before k nodes global h next = next before k nodes h

@@ -19,8 +19,8 @@ use Rattle.route_file.specs.declared.fault.RouteFileFault.{RouteFileFault}
 use Rattle.route_file.specs.Judge.{is_size_line, is_size_of, is_title, header_fault, line_fault, fault_from}
 use Rattle.route_file.specs.Reading.{◌>>=◌, Gives, unless_faulty, lists_in, reading, lines_or_fault, routing_of}
 use Rattle.route_file.specs.Reads.{AreAccepted, ReadsRoute, ReadsBytes}
-use Rattle.route_file.specs.Seen.{routed_list, lists_by_net}
-use Rattle.route_file.specs.Sections.{list_in}
+use Rattle.route_file.specs.kept.LinesSeen.{routed_list, lists_by_net}
+use Rattle.route_file.specs.Sections.{list_of_net}
 
 -- ---- the head
 
@@ -60,7 +60,7 @@ head_good f lines h =
     let long = le-ltb (length lines) 2 h.two_lines in
     rw (some, long, h.size_line, h.same_size, h.title) refl
 
--- ---- the lines behind it
+-- ---- the lines after it
 
 neither : (a b : Option RouteFileFault) → option_or a b ≡ None → (a ≡ None) × (b ≡ None)
 neither None b e = (refl, e)
@@ -80,13 +80,13 @@ faultless netlist f before (l ∷ ls) h = ap (λ x. option_or x (fault_from netl
 
 -- ---- the lists
 
-list_at : (netlist : Netlist) (problem : RoutingProblem) (ls : List Line) (i : ℕ) → i < length problem.nets → get_or (lists_in netlist problem ls) i None ≡ list_in netlist problem.device ls (net_in problem.nets i).number
+list_at : (netlist : Netlist) (problem : RoutingProblem) (ls : List Line) (i : ℕ) → i < length problem.nets → get_or (lists_in netlist problem ls) i None ≡ list_of_net netlist problem.device ls (net_in problem.nets i).number
 unfolding lists_in
-list_at netlist problem ls i lt = get_or-map (λ net. list_in netlist problem.device ls net.number) problem.nets i no_net None lt
+list_at netlist problem ls i lt = get_or-map (λ net. list_of_net netlist problem.device ls net.number) problem.nets i no_net None lt
 
 count_lists : (netlist : Netlist) (problem : RoutingProblem) (ls : List Line) → length (lists_in netlist problem ls) ≡ length problem.nets
 unfolding lists_in
-count_lists netlist problem ls = length-map problem.nets (λ net. list_in netlist problem.device ls net.number)
+count_lists netlist problem ls = length-map problem.nets (λ net. list_of_net netlist problem.device ls net.number)
 
 all_lists : (netlist : Netlist) (problem : RoutingProblem) (lines : List Line) (routing : List (Option (List Pair))) → ReadsRoute netlist problem lines routing → routing ≡ lists_in netlist problem (drop 2 lines)
 all_lists netlist problem lines routing h =
@@ -183,7 +183,7 @@ unfolding lists_in routed_numbers
 lists_by_number netlist problem ls numbers =
     let count = length netlist.nets in
     let by_net = λ (n : ℕ). get_or (lists_by_net netlist problem.device ls) n None in
-    let list = list_in netlist problem.device ls in
+    let list = list_of_net netlist problem.device ls in
     let below = range_with_len 0 count in
     let same = λ (k : ℕ) (lt : k < length below).
     let within : k < count = subst (λ j. k < j) (length-range_with_len 0 count) lt in

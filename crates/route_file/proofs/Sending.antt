@@ -37,7 +37,7 @@ sends_nothing s text broken = record {
 pub lacks_for_good : {old now : Stream} {rest whole : List ℕ} → Lacks old now rest whole → now.buffer.broken ≡ true → Sends old now whole
 lacks_for_good {old} {now} {rest} {whole} h broken = h.then now (sends_nothing now rest broken)
 
--- what stands from place i on is its element and what stands behind it
+-- what stands from place i on is its element and what stands after it
 pub drop_next : {X : Type 0} (xs : List X) (i : ℕ) (d : X) → i < length xs → drop i xs ≡ get_or xs i d ∷ drop (i + 1) xs
 drop_next xs i d within = drop-cons xs i d within ∙ ap (λ (n : ℕ). get_or xs i d ∷ drop n xs) (sym (add-one i))
 

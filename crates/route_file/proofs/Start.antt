@@ -9,8 +9,8 @@ use Rattle.net_file.specs.Routed.{is_routed_at}
 use Rattle.rr_graph.specs.Fabric.{Fabric}
 use Rattle.rr_graph.specs.Nodes.{node_count_of}
 use Rattle.route_file.specs.declared.seen.Seen.{Seen}
-use Rattle.route_file.specs.Seen.{IsSeen, no_owner}
-use Rattle.route_file.specs.Sections.{had_line, latest, section_of, nodes_in, list_in}
+use Rattle.route_file.specs.kept.LinesSeen.{IsSeen, no_owner}
+use Rattle.route_file.specs.Sections.{had_line, latest, section_of, nodes_in, list_of_net}
 
 none_either : {X : Type 0} (b : Bool) (r : Option X) → r ≡ cond b r r
 none_either true r = refl
@@ -25,7 +25,7 @@ same_throughout n i x =
 
 pub nothing_seen : (netlist : Netlist) (f : Fabric) (seen : Seen) → length netlist.nets ≤ 65535 → seen.net ≡ None → seen.had.items ≡ replicate (length netlist.nets) false
     → seen.owners.items ≡ replicate (node_count_of f) no_owner → seen.lists.items ≡ map (λ _. None) (range_with_len 0 (length netlist.nets)) → IsSeen netlist f [] seen
-unfolding had_line latest section_of nodes_in list_in
+unfolding had_line latest section_of nodes_in list_of_net
 nothing_seen netlist f seen few net had owners lists =
     let count = length netlist.nets in
     record {

@@ -14,7 +14,7 @@ use Rattle.route_file.specs.declared.fault.RouteFileFault.TheVariants as route
 use Rattle.route_file.specs.declared.seen.Seen.{Seen}
 use Rattle.route_file.specs.Judge.{judge, fault_in, line_fault, fault_from}
 use Rattle.route_file.specs.Reading.{Fails}
-use Rattle.route_file.specs.Seen.{IsSeen, Notes, entry_after, routed_list, lists_by_net}
+use Rattle.route_file.specs.kept.LinesSeen.{IsSeen, Notes, entry_after, routed_list, lists_by_net}
 use Rattle.route_file.proofs.Adding.{line_added}
 use Rattle.route_file.proofs.Judged.{judged_same}
 
@@ -86,7 +86,7 @@ fails_is (route.NoNode n) given e = e
 fails_is (route.Detached n) given e = e
 fails_is route.Memory given e = tt
 
--- ---- the lines behind the first two
+-- ---- the lines after the first two
 
 row_line : (lines : List Line) (row : ℕ) → get_or lines (row + 2) no_line ≡ get_or (drop 2 lines) row no_line
 row_line lines row = let e : row + 2 ≡ 2 + row = omega arith in rw e (sym (get_or-drop 2 lines row no_line))

@@ -14,7 +14,7 @@ use Rattle.route_file.proofs.LineWords.{IsClear, line_words, words_on_line, ends
 abbrev pub AreClear : List TextLine → Type 0
 AreClear lines = AllByRecursion IsClear lines
 
--- lines with the words of these, numbered from n on, and an empty one behind the last line feed
+-- lines with the words of these, numbered from n on, and an empty one after the last line feed
 abbrev pub numbered : ℕ → List TextLine → List Line
 numbered n [] = record { number = n; words = [] } ∷ []
 numbered n (l ∷ ls) = record { number = n; words = line_words l } ∷ numbered (n + 1) ls

@@ -16,7 +16,7 @@ use Rattle.route_file.specs.declared.fault.RouteFileFault.{RouteFileFault}
 use Rattle.route_file.specs.declared.fault.RouteFileFault.TheVariants.{BadLine, ArraySize, UnknownNet, NetTwice, NoNode, Detached}
 use Rattle.route_file.specs.declared.node_line.NodeText.{NodeText}
 use Rattle.route_file.specs.NetLine.{is_net_line, is_plain_form, is_global_form, is_global_at, net_on}
-use Rattle.route_file.specs.NodeLine.{text_of, node_told}
+use Rattle.route_file.specs.NodeLine.{text_of, node_reported}
 use Rattle.route_file.specs.NodeWords.{node_words}
 use Rattle.route_file.specs.Sections.{had_line, latest, nodes_in}
 use Rattle.route_file.specs.Words.{is_number, number_on}
@@ -54,7 +54,7 @@ header_fault f lines =
     else (if not (is_title (words_at lines 1)) then Some (BadLine (number_at lines 1))
     else None)))
 
--- ---- the lines behind them: each is an entry, or its first fault
+-- ---- the lines after them: each is an entry, or its first fault
 
 -- the line of a net; `had` tells whether a line before is that of net n
 abbrev pub named_entry : (had : ℕ → Bool) → (line : ℕ) → Option ℕ → Result Entry RouteFileFault
@@ -65,21 +65,21 @@ unfoldable pub net_entry : Netlist → (had : ℕ → Bool) → (line : ℕ) →
 net_entry netlist had line words =
     if is_plain_form words || is_global_form words then named_entry had line (net_on netlist words) else Err (BadLine line)
 
--- a line behind that of a global net
+-- a line after that of a global net
 abbrev pub block_entry : (line : ℕ) → List (List ℕ) → Result Entry RouteFileFault
 block_entry line words = if is_at words 0 (codes "Block") then Ok BlockLine else Err (BadLine line)
 
--- a line behind that of a routed net; `detached` tells of which nodes it may not be
+-- a line after that of a routed net; `detached` tells of which nodes it may not be
 abbrev pub placed_entry : (detached : ℕ → Bool) → (line : ℕ) → Option ℕ → Result Entry RouteFileFault
 placed_entry detached line None = Err (NoNode line)
 placed_entry detached line (Some a) = if detached a then Err (Detached line) else Ok (NodeLine a)
 
-abbrev pub told_entry : Fabric → (detached : ℕ → Bool) → (line : ℕ) → Option NodeText → Result Entry RouteFileFault
-told_entry f detached line None = Err (BadLine line)
-told_entry f detached line (Some text) = placed_entry detached line (node_told f text)
+abbrev pub reported_entry : Fabric → (detached : ℕ → Bool) → (line : ℕ) → Option NodeText → Result Entry RouteFileFault
+reported_entry f detached line None = Err (BadLine line)
+reported_entry f detached line (Some text) = placed_entry detached line (node_reported f text)
 
 unfoldable pub node_entry : Fabric → (detached : ℕ → Bool) → (line : ℕ) → List (List ℕ) → Result Entry RouteFileFault
-node_entry f detached line words = told_entry f detached line (text_of (node_words words))
+node_entry f detached line words = reported_entry f detached line (text_of (node_words words))
 
 -- a line of a net's section: of a net that is neither global nor has sinks there is none
 abbrev pub section_entry : Netlist → Fabric → (detached : ℕ → ℕ → Bool) → (line : ℕ) → List (List ℕ) → (net : Option ℕ) → Result Entry RouteFileFault
@@ -88,11 +88,11 @@ section_entry netlist f detached line words (Some n) =
     if is_global_at netlist n then block_entry line words
     else (if is_routed_at netlist n then node_entry f (detached n) line words else Err (BadLine line))
 
--- behind a sink stands a node that stood in the section before; node a may not stand behind these
+-- after a sink stands a node that stood in the section before; node a may not stand after these
 unfoldable pub is_detached : Fabric → (nodes : List ℕ) → ℕ → Bool
 is_detached f nodes a = option_map_or (is_sink f) (last_or None nodes) false && not (is_among nodes a)
 
--- a line, behind those before it
+-- a line, after those before it
 unfoldable pub judge : Netlist → Fabric → (before : List Line) → Line → Result Entry RouteFileFault
 judge netlist f before l =
     if is_net_line l then net_entry netlist (had_line netlist before) l.number l.words
@@ -102,11 +102,11 @@ abbrev pub fault_in : {X : Type 0} → Result X RouteFileFault → Option RouteF
 fault_in (Ok x) = None
 fault_in (Err fault) = Some fault
 
--- the fault of a line, behind those before it
+-- the fault of a line, after those before it
 abbrev pub line_fault : Netlist → Fabric → (before : List Line) → Line → Option RouteFileFault
 line_fault netlist f before l = fault_in (judge netlist f before l)
 
--- the fault of the first faulty line, behind those before them
+-- the fault of the first faulty line, after those before them
 unfoldable pub fault_from : Netlist → Fabric → (before ls : List Line) → Option RouteFileFault
 fault_from netlist f before [] = None
 fault_from netlist f before (l ∷ ls) = option_or (line_fault netlist f before l) (fault_from netlist f (before ++ l ∷ []) ls)

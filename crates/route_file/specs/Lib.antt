@@ -6,12 +6,10 @@ pub mod Sections
 pub mod Judge
 pub mod Reading
 pub mod Reads
-pub mod Kept
-pub mod Seen
-pub mod Fields
 pub mod TextLine
 pub mod PrintedNodes
 pub mod Text
 pub mod Design
 pub mod Writes
 pub mod ReadBack
+pub mod kept

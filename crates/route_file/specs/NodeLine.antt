@@ -122,14 +122,14 @@ are_ends s t =
     (s.x1 == t.x1 && s.y1 == t.y1 && (s.x2 == t.x2 && s.y2 == t.y2))
     || (s.x1 == t.x2 && s.y1 == t.y2 && (s.x2 == t.x1 && s.y2 == t.y1))
 
--- the node is the one that is told: of this kind and number, between these ends, with the label that its place gives it
-unfoldable pub is_told : Fabric → NodeText → Node → Bool
-is_told f t n = rank_of_kind n.kind == rank_of_kind t.kind && n.number == t.number && are_ends (span_of f n) t && same_label (label_of f n) t.label
+-- the node is the one that is reported: of this kind and number, between these ends, with the label that its place gives it
+unfoldable pub is_reported : Fabric → NodeText → Node → Bool
+is_reported f t n = rank_of_kind n.kind == rank_of_kind t.kind && n.number == t.number && are_ends (span_of f n) t && same_label (label_of f n) t.label
 
--- the number of the node that is told, if the device has it
-unfoldable pub node_told : Fabric → NodeText → Option ℕ
-node_told f t = position (is_told f t) (nodes_of f)
+-- the number of the node that is reported, if the device has it
+unfoldable pub node_reported : Fabric → NodeText → Option ℕ
+node_reported f t = position (is_reported f t) (nodes_of f)
 
 -- the number of the node that a line with these words names, if it is a node's line and the device has the node
 unfoldable pub node_on : Fabric → List (List ℕ) → Option ℕ
-node_on f words = option_and_then (node_told f) (text_of (node_words words))
+node_on f words = option_and_then (node_reported f) (text_of (node_words words))

@@ -13,11 +13,11 @@ goes_on f (Some a) p = p.0 == a && not (is_sink f a)
 abbrev pub nodes_for : Fabric → (before : Option ℕ) → Pair → List ℕ
 nodes_for f before p = if goes_on f before p then p.1 ∷ [] else (p.0 ∷ p.1 ∷ [])
 
--- those for pairs behind one that ended at a node
-abbrev pub nodes_behind : Fabric → (before : Option ℕ) → List Pair → List ℕ
-nodes_behind f before [] = []
-nodes_behind f before (p ∷ ps) = nodes_for f before p ++ nodes_behind f (Some p.1) ps
+-- those for pairs after one that ended at a node
+abbrev pub nodes_after : Fabric → (before : Option ℕ) → List Pair → List ℕ
+nodes_after f before [] = []
+nodes_after f before (p ∷ ps) = nodes_for f before p ++ nodes_after f (Some p.1) ps
 
 -- those for all pairs of a net
 abbrev pub printed_nodes : Fabric → List Pair → List ℕ
-printed_nodes f pairs = nodes_behind f None pairs
+printed_nodes f pairs = nodes_after f None pairs

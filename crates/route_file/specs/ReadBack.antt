@@ -7,11 +7,11 @@ use Rattle.route_tree.specs.Paths.{Pair}
 use Rattle.route_tree.specs.Legality.{is_listed}
 
 -- the list has pairs, they are in the order in which routings are written, and none begins at a sink
-abbrev pub is_told_whole : Fabric → Net → List Pair → Bool
-is_told_whole f n pairs = nat_lt 0 (length pairs) && is_listed f n pairs && not (list_any (λ p. is_sink f p.0) pairs)
+abbrev pub is_reported_whole : Fabric → Net → List Pair → Bool
+is_reported_whole f n pairs = nat_lt 0 (length pairs) && is_listed f n pairs && not (list_any (λ p. is_sink f p.0) pairs)
 
 abbrev pub tells_whole : Fabric → Net → Option (List Pair) → Bool
-tells_whole f n (Some pairs) = is_told_whole f n pairs
+tells_whole f n (Some pairs) = is_reported_whole f n pairs
 tells_whole f n None = true
 
 -- the text tells each list whole

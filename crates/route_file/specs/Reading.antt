@@ -10,7 +10,7 @@ use Rattle.route_tree.specs.Paths.{Pair}
 use Rattle.route_file.specs.declared.fault.RouteFileFault.{RouteFileFault}
 use Rattle.route_file.specs.declared.fault.RouteFileFault.TheVariants as route
 use Rattle.route_file.specs.Judge.{header_fault, fault_from}
-use Rattle.route_file.specs.Sections.{list_in}
+use Rattle.route_file.specs.Sections.{list_of_net}
 
 -- the value, or the fault that was found
 abbrev pub unless_faulty : {X : Type 0} → Option RouteFileFault → Result X RouteFileFault → Result X RouteFileFault
@@ -19,7 +19,7 @@ unless_faulty None rest = rest
 
 -- the list of each net of the problem
 unfoldable pub lists_in : Netlist → RoutingProblem → List Line → List (Option (List Pair))
-lists_in netlist problem lines = map (λ net. list_in netlist problem.device lines net.number) problem.nets
+lists_in netlist problem lines = map (λ net. list_of_net netlist problem.device lines net.number) problem.nets
 
 -- lines as a routing
 unfoldable pub reading : Netlist → RoutingProblem → List Line → Result (List (Option (List Pair))) RouteFileFault

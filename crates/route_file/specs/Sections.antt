@@ -23,23 +23,23 @@ is_line_of netlist n l = if is_net_line l then is_net n (net_on netlist l.words)
 unfoldable pub had_line : Netlist → List Line → ℕ → Bool
 had_line netlist lines n = list_any (is_line_of netlist n) lines
 
--- the net of the last net's line: a line behind these is in its section
+-- the net of the last net's line: a line after these is in its section
 unfoldable pub latest : Netlist → List Line → Option ℕ
 latest netlist lines = fold (λ net l. if is_net_line l then net_on netlist l.words else net) None lines
 
--- the lines behind the first that passes
-abbrev pub lines_behind : (Line → Bool) → List Line → List Line
-lines_behind passes [] = []
-lines_behind passes (l ∷ ls) = if passes l then ls else lines_behind passes ls
+-- the lines after the first that passes
+abbrev pub lines_after : (Line → Bool) → List Line → List Line
+lines_after passes [] = []
+lines_after passes (l ∷ ls) = if passes l then ls else lines_after passes ls
 
 -- the lines before the first that passes
 abbrev pub lines_before : (Line → Bool) → List Line → List Line
 lines_before passes [] = []
 lines_before passes (l ∷ ls) = if passes l then [] else (l ∷ lines_before passes ls)
 
--- the section of net n: the lines behind its own, up to the next net's
+-- the section of net n: the lines after its own, up to the next net's
 unfoldable pub section_of : Netlist → List Line → ℕ → List Line
-section_of netlist lines n = lines_before is_net_line (lines_behind (is_line_of netlist n) lines)
+section_of netlist lines n = lines_before is_net_line (lines_after (is_line_of netlist n) lines)
 
 -- the nodes of net n's section, in order
 unfoldable pub nodes_in : Netlist → Fabric → List Line → ℕ → List ℕ
@@ -61,5 +61,5 @@ list_along f [] = None
 list_along f (a ∷ nodes) = Some (pairs_along f (a ∷ nodes))
 
 -- the list of pairs that the lines tell of net n
-unfoldable pub list_in : Netlist → Fabric → List Line → ℕ → Option (List Pair)
-list_in netlist f lines n = list_along f (nodes_in netlist f lines n)
+unfoldable pub list_of_net : Netlist → Fabric → List Line → ℕ → Option (List Pair)
+list_of_net netlist f lines n = list_along f (nodes_in netlist f lines n)

@@ -10,7 +10,7 @@ pub data TextLine : Type 0 where
   -- the size of the array
   Size : (nx : ℕ) → (ny : ℕ) → TextLine
   Blank : TextLine
-  -- behind it stand the nets
+  -- after it stand the nets
   Heading : TextLine
   -- a net that is routed
   RoutedNet : (number : ℕ) → (name : List ℕ) → TextLine

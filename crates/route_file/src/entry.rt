@@ -1,6 +1,6 @@
 //! What a line without a fault is.
 
-/// What a line behind the first two is, where it has no fault.
+/// What a line after the first two is, where it has no fault.
 #[derive(Clone, Copy, Debug)]
 pub(crate) enum Entry {
     /// The line of a net, by its number in the netlist.

@@ -29,7 +29,7 @@ pub enum RouteFileFault {
     /// The device has no such node.
     #[error("line {0} names no node")]
     NoNode(u32),
-    /// Behind a sink stands a node that didn't stand in the net's section before.
+    /// After a sink stands a node that didn't stand in the net's section before.
     #[error("line {0} begins off the tree")]
     Detached(u32),
     /// Memory ran out.

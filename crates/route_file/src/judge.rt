@@ -3,12 +3,12 @@
 ghost use Rattle.std.specs.Prelude.{◌≡◌, ◌||◌, false, slice_index_or};
 ghost use Rattle.route_file.specs.Judge.{net_entry, block_entry, node_entry, section_entry};
 ghost use Rattle.route_file.specs.NetLine.{is_net_words, is_plain_form, is_global_form};
-ghost use Rattle.route_file.specs.Seen.{is_off, entry_after};
+ghost use Rattle.route_file.specs.kept.LinesSeen.{is_off, entry_after};
 
 use crate::entry::Entry;
 use crate::fault::RouteFileFault;
 use crate::net_line::{is_global_at, is_global_form, is_plain_form, is_routed_at, net_on};
-use crate::node_line::{node_told, text_of};
+use crate::node_line::{node_reported, text_of};
 use crate::seen::Seen;
 use crate::words::Words;
 use net_file::Netlist;
@@ -43,7 +43,7 @@ fn net_entry(
     Ok(Entry::NetLine(net))
 }
 
-/// A line behind that of a global net.
+/// A line after that of a global net.
 fn block_entry(line: u32, words: &Words) -> Result<Entry, RouteFileFault>
     ensures { result ≡ block_entry line words.now }
 {
@@ -54,7 +54,7 @@ fn block_entry(line: u32, words: &Words) -> Result<Entry, RouteFileFault>
     }
 }
 
-/// A line behind that of routed net `net`.
+/// A line after that of routed net `net`.
 #[tactic(auto, unfolding(crate::specs::Judge::node_entry))]
 fn node_entry(
     seen: &Seen,
@@ -68,7 +68,7 @@ fn node_entry(
     let Some(text) = text_of(words) else {
         return Err(RouteFileFault::BadLine(line));
     };
-    let Some(node) = node_told(device, text) else {
+    let Some(node) = node_reported(device, text) else {
         return Err(RouteFileFault::NoNode(line));
     };
     if seen.is_off(device, net, node) {
@@ -100,7 +100,7 @@ fn section_entry(
 }
 
 /// A line with this number and these words.
-#[tactic(auto, unfolding(crate::specs::Seen::entry_after))]
+#[tactic(auto, unfolding(crate::specs::kept::LinesSeen::entry_after))]
 pub(crate) fn judge(
     seen: &Seen,
     netlist: &Netlist,

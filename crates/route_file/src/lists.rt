@@ -3,7 +3,7 @@
 ghost use Rattle.std.specs.Prelude.{◌≡◌, ◌++◌, [], None, IfOk, OnOk, length, map, slice_index_or, slice_set, unwrap_or};
 ghost use Rattle.std.specs.List.{range_with_len};
 ghost use Rattle.std.specs.Option.{option_to_list};
-ghost use Rattle.route_file.specs.Seen.{list_more};
+ghost use Rattle.route_file.specs.kept.LinesSeen.{list_more};
 
 use route_tree::{Pairs, Routing};
 use rr_graph::Problem;

@@ -3,8 +3,8 @@
 ghost use Rattle.std.specs.Prelude.{◌≡◌, false};
 ghost use Rattle.std.specs.Option.{option_map_or};
 ghost use Rattle.rr_graph.specs.Nodes.{label_by};
-ghost use Rattle.route_file.specs.Kept.{beginning_of, is_told_at};
-ghost use Rattle.route_file.specs.NodeLine.{kind_of, label_from, kind_on, label_on, same_label, takes, takes_both, is_wire, is_place_line, is_span_line, place_text, span_text, text_of, are_ends, node_told};
+ghost use Rattle.route_file.specs.kept.NodeTexts.{beginning_of, is_reported_at};
+ghost use Rattle.route_file.specs.NodeLine.{kind_of, label_from, kind_on, label_on, same_label, takes, takes_both, is_wire, is_place_line, is_span_line, place_text, span_text, text_of, are_ends, node_reported};
 ghost use Rattle.route_file.specs.NodeWords.{node_words};
 
 use crate::node_words::NodeWords;
@@ -214,7 +214,7 @@ fn text_in(words: &NodeWords) -> Option<NodeText>
 }
 
 /// What a line tells, if it is a node's line.
-#[tactic(auto, using(crate::proofs::Told::too_long))]
+#[tactic(auto, using(crate::proofs::Reported::too_long))]
 pub(crate) fn text_of(words: &Words) -> Option<NodeText>
     ensures { result ≡ text_of (node_words words.now) }
 {
@@ -234,8 +234,8 @@ fn are_ends(span: Span, text: NodeText) -> bool
 }
 
 /// Whether node `id` lies between the ends and has the label.
-fn is_told_at(device: &Device, text: NodeText, id: u32) -> bool
-    ensures { result ≡ is_told_at device.now text id }
+fn is_reported_at(device: &Device, text: NodeText, id: u32) -> bool
+    ensures { result ≡ is_reported_at device.now text id }
 {
     match (device.span(id), device.label(id)) {
         (Some(span), Some(label)) => are_ends(span, text) && same_label(label, text.label),
@@ -255,15 +255,15 @@ fn beginning_of(text: NodeText) -> Node
     }
 }
 
-/// The number of the node that is told, if the device has it.
-#[tactic(auto, using(crate::proofs::Told::told_yes, crate::proofs::Told::told_no, crate::proofs::Told::told_nowhere))]
-pub(crate) fn node_told(device: &Device, text: NodeText) -> Option<u32>
-    ensures { result ≡ node_told device.now text }
+/// The number of the node that is reported, if the device has it.
+#[tactic(auto, using(crate::proofs::Reported::reported_yes, crate::proofs::Reported::reported_no, crate::proofs::Reported::reported_nowhere))]
+pub(crate) fn node_reported(device: &Device, text: NodeText) -> Option<u32>
+    ensures { result ≡ node_reported device.now text }
 {
     let Some(id) = device.id(beginning_of(text)) else {
         return None;
     };
-    if is_told_at(device, text, id) {
+    if is_reported_at(device, text, id) {
         Some(id)
     } else {
         None

@@ -4,7 +4,7 @@ ghost use Rattle.std.specs.Prelude.{◌≡◌, ◌<◌, ◌≤◌, ◌∷◌, �
 ghost use Rattle.std.specs.Option.{option_copied};
 ghost use Rattle.std.specs.List.{position, position_or_len};
 ghost use Rattle.arch_file.specs.Word.{is_at, number_at};
-ghost use Rattle.route_file.specs.Kept.{CutsPiece, CutsWords};
+ghost use Rattle.route_file.specs.kept.NodeTexts.{CutsPiece, CutsWords};
 ghost use Rattle.route_file.specs.NodeWords.{is_mark, pieces_of, node_words};
 ghost use Rattle.route_file.specs.Words.{is_number, number_on};
 
@@ -48,7 +48,7 @@ fn mark_at(word: &[u8]) -> usize
     }
 }
 
-/// The first piece of a word, and what stands behind it.
+/// The first piece of a word, and what stands after it.
 #[tactic(auto, using(crate::proofs::Pieces::no_piece, crate::proofs::Pieces::one_piece))]
 fn first_piece(word: &[u8]) -> Option<(&[u8], &[u8])>
     ensures { CutsPiece word.now result }
@@ -67,7 +67,7 @@ pub(crate) struct NodeWords<'a> {
 
 impl<'a> Model for NodeWords<'a> {
     ghost use Rattle.std.specs.Prelude.{ℕ, List, ◌≤◌};
-    ghost use Rattle.route_file.specs.Fields.{words_in};
+    ghost use Rattle.route_file.specs.kept.Fields.{words_in};
 
     ghost Value = { List (List ℕ) };
 

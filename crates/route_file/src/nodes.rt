@@ -60,7 +60,7 @@ fn goes_on(device: &Device, before: Option<u32>, pair: (u32, u32)) -> bool
     }
 }
 
-/// Prints the lines of the nodes that are named for a pair, behind one that ended at `before`.
+/// Prints the lines of the nodes that are named for a pair, after one that ended at `before`.
 fn put_pair<W: ByteSink>(
     out: &mut OutputBuffer,
     sink: &mut W,

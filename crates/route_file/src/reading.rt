@@ -5,7 +5,7 @@ ghost use Rattle.net_file.specs.Routed.{routed_numbers};
 ghost use Rattle.route_file.specs.Judge.{fault_from};
 ghost use Rattle.route_file.specs.Reading.{Gives, unless_faulty, reading, routing_of};
 ghost use Rattle.route_file.specs.Reads.{ReadsBytes};
-ghost use Rattle.route_file.specs.Seen.{lists_by_net};
+ghost use Rattle.route_file.specs.kept.LinesSeen.{lists_by_net};
 ghost use Rattle.route_tree.specs.Paths.{Pair};
 
 use crate::fault::RouteFileFault;
@@ -20,7 +20,7 @@ use rr_graph::{Device, Problem};
 use std::alloc::Global;
 use vpr_text::{Lines, TextFault, lines};
 
-/// The lists that the lines behind the first two tell, by the numbers of their nets.
+/// The lists that the lines after the first two tell, by the numbers of their nets.
 fn lists_by_net(
     alloc: Global,
     netlist: &Netlist,

@@ -3,7 +3,7 @@
 ghost use Rattle.std.specs.Prelude.{◌≡◌, [], true, false, IfOk, OnOk, slice_index_or, slice_set};
 ghost use Rattle.std.specs.Option.{option_map_or};
 ghost use Rattle.rr_graph.specs.Problems.{is_sink};
-ghost use Rattle.route_file.specs.Seen.{IsSeen, NotesNet, NotesNode, Notes, is_off, no_owner, pair_behind};
+ghost use Rattle.route_file.specs.kept.LinesSeen.{IsSeen, NotesNet, NotesNode, Notes, is_off, no_owner, pair_after};
 
 use crate::entry::Entry;
 use crate::lists::{add_pair, no_lists};
@@ -49,8 +49,8 @@ fn give(owners: &mut Vec<u32>, node: usize, net: u32)
 }
 
 /// The pair that a node makes with the one before it, if there is one and it is no sink.
-fn pair_behind(device: &Device, last: Option<u32>, node: u32) -> Option<(u32, u32)>
-    ensures { result ≡ pair_behind device.now last node }
+fn pair_after(device: &Device, last: Option<u32>, node: u32) -> Option<(u32, u32)>
+    ensures { result ≡ pair_after device.now last node }
 {
     match last {
         None => None,
@@ -133,7 +133,7 @@ impl Seen {
         ensures { OnOk result (NotesNode device.now self.old self.new node) }
     {
         if let Some(net) = self.net {
-            let pair = pair_behind(device, self.last, node);
+            let pair = pair_after(device, self.last, node);
             add_pair(alloc, &mut self.lists, net as usize, pair)?;
             give(&mut self.owners, node as usize, net);
         }

@@ -8,7 +8,7 @@ use Rattle.rr_graph.specs.Fabric.{Fabric}
 use Rattle.rr_graph.specs.Edges.{edge_between}
 use Rattle.rr_graph.specs.Problems.{Net, is_sink}
 use Rattle.route_tree.specs.Paths.{Pair, ends_of}
-use Rattle.route_tree.specs.Legality.{is_among, is_listed, is_listed_behind}
+use Rattle.route_tree.specs.Legality.{is_among, is_listed, is_listed_after}
 use Rattle.route_tree.specs.Faults.{begins_elsewhere, lacks_switch, leaves_twice, has_foreign_sink, misses_sink}
 use Rattle.route_tree.proofs.Members.{among_contains, contains_among, each_fails, none_passes}
 
@@ -46,7 +46,7 @@ pub begins_there : (f : Fabric) (n : Net) (pairs : List Pair) → count_by (λ p
 unfolding is_listed
 begins_there f n [] one listed = absurd (omega (arith, one))
 begins_there f n (p ∷ ps) one listed =
-    not_from_true (p.0 == n.source) (and_parts (p.0 == n.source) (is_listed_behind f n.source (p.1 ∷ []) ps) listed).0
+    not_from_true (p.0 == n.source) (and_parts (p.0 == n.source) (is_listed_after f n.source (p.1 ∷ []) ps) listed).0
 
 -- ---- the sinks at which pairs end are those of the net
 module _ (f : Fabric) (sinks : List ℕ) (pairs : List Pair) where

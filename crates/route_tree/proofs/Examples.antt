@@ -3,7 +3,7 @@ use Rattle.std.proofs.Common.{◌≡◌, true, false, List, [], ◌∷◌, Some,
 use Rattle.rr_graph.specs.Problems.{Net}
 use Rattle.route_tree.specs.Paths.{Pair}
 use Rattle.route_tree.specs.Faults.{begins_elsewhere, reaches_twice, leaves_twice, misses_sink}
-use Rattle.route_tree.specs.Ladder.{has_dead_end}
+use Rattle.route_tree.specs.kept.Ladder.{has_dead_end}
 use Rattle.route_tree.specs.Rows.{pairs_of, chain, pairs_along}
 use Rattle.route_tree.specs.TreeLists.{lists_of_trees}
 use Rattle.route_tree.specs.Usage.{covers, use_of, use_by_others}
@@ -14,7 +14,7 @@ one = record { number = 0; source = 0; sinks = 8 ∷ 9 ∷ [] }
 abbrev pub two : Net
 two = record { number = 1; source = 1; sinks = 9 ∷ [] }
 
--- 0 - 4 - 8, and 9 behind 4
+-- 0 - 4 - 8, and 9 after 4
 abbrev pub both : List Pair
 both = (0, 4) ∷ (4, 8) ∷ (4, 9) ∷ []
 

@@ -13,7 +13,7 @@ use Rattle.route_tree.specs.declared.fault.TreeFault.{TreeFault}
 use Rattle.route_tree.specs.declared.fault.TreeFault.TheVariants.{NoNet, WrongSource, NoSwitch, NodeTwice, SecondOutput, ForeignSink, Dangling, MissingSink, Order}
 use Rattle.route_tree.specs.Paths.{Pair}
 use Rattle.route_tree.specs.Faults.{begins_elsewhere, lacks_switch, reaches_twice, leaves_twice, has_foreign_sink, misses_sink, rank_of}
-use Rattle.route_tree.specs.Ladder.{has_dead_end, breaks_off, fault_of}
+use Rattle.route_tree.specs.kept.Ladder.{has_dead_end, breaks_off, fault_of}
 
 -- ---- the faults by rank
 abbrev pub all_faults : List TreeFault

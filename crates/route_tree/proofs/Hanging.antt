@@ -15,7 +15,7 @@ use Rattle.route_tree.specs.Paths.{Pair, ends_of}
 use Rattle.route_tree.specs.Legality.{is_among}
 use Rattle.route_tree.specs.Rows.{no_row, node_in, pairs_of, IsTree}
 use Rattle.route_tree.specs.Faults.{begins_elsewhere}
-use Rattle.route_tree.specs.Ladder.{HangOnEarlier, net_fault_of, fault_of, or_ok}
+use Rattle.route_tree.specs.kept.Ladder.{HangOnEarlier, net_fault_of, fault_of, or_ok}
 use Rattle.route_tree.proofs.Trees.{length_pairs, pair_at}
 use Rattle.route_tree.proofs.RowTests.{begins}
 

@@ -11,7 +11,7 @@ use Rattle.route_tree.specs.Paths.{Pair, Path, ends_of}
 use Rattle.route_tree.specs.Paths.Path.{here, along}
 use Rattle.route_tree.specs.Legality.{is_among, LeadsToSink, IsJoined}
 use Rattle.route_tree.specs.Faults.{reaches_twice}
-use Rattle.route_tree.specs.Ladder.{HangOnEarlier, has_dead_end}
+use Rattle.route_tree.specs.kept.Ladder.{HangOnEarlier, has_dead_end}
 use Rattle.route_tree.proofs.Members.{among_contains, contains_among, end_at, once_each, some_place}
 use Rattle.route_tree.proofs.Ways.{begins, reached}
 

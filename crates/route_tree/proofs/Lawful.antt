@@ -9,7 +9,7 @@ use Rattle.route_tree.specs.declared.fault.TreeFault.TheVariants.{NoNet, WrongSo
 use Rattle.route_tree.specs.Paths.{Pair}
 use Rattle.route_tree.specs.Legality.{IsJoined, is_listed}
 use Rattle.route_tree.specs.Faults.{begins_elsewhere, reaches_twice, rank_of, HasFault, IsFirstFault, IsRoute}
-use Rattle.route_tree.specs.Ladder.{HangOnEarlier, has_dead_end, breaks_off, fault_of}
+use Rattle.route_tree.specs.kept.Ladder.{HangOnEarlier, has_dead_end, breaks_off, fault_of}
 use Rattle.route_tree.proofs.Clauses.{all_edges, no_lack, one_leaves, not_twice, begins_there, exact_sinks, none_foreign, none_missed}
 use Rattle.route_tree.proofs.Joined.{all_joined, not_all_joined}
 use Rattle.route_tree.proofs.FirstTests.{IsFirstTest, all_faults, test_of, by_tests, first_found, none_found, none_from, same_rank}

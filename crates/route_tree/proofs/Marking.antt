@@ -1,11 +1,10 @@
 -- Marks by stamps, as a list of which numbers are marked.
 use Rattle.std.proofs.Common.{◌≡◌, ℕ, ◌<◌, ◌≤◌, ◌==◌, zero, suc, Bool, true, false, List, [], ◌∷◌, ◌++◌, length, map, get_or, replicate, set, ◌||◌, All, inl, inr, subst, refl, sym, ap, ◌∙◌, arith}
 use Rattle.route_tree.specs.Legality.{is_among}
-use Rattle.route_tree.specs.Marked.{IsMarked}
+use Rattle.route_tree.specs.kept.Marked.{IsMarked}
 use Rattle.std.proofs.lemmas.Bool.{eq-eqb, eqb-true, cases_Bool, false≢true}
 use Rattle.std.proofs.lemmas.Bool.Decides.{nat_tests}
-use Rattle.std.proofs.lemmas.List.{length-map, map-set, get_or-map, get_or-set_same, get_or-set_other, length-replicate, get_or-replicate}
-use Rattle.std.proofs.lemmas.List.{same_lists}
+use Rattle.std.proofs.lemmas.List.{length-map, map-set, get_or-map, get_or-set_same, get_or-set_other, length-replicate, get_or-replicate, same_lists}
 use Rattle.std.proofs.lemmas.List.Folds.{list_any-append}
 
 below_not : (m stamp : ℕ) → m < stamp → (m == stamp) ≡ false

@@ -15,7 +15,7 @@ use Rattle.route_tree.specs.Rows.{no_row, node_in, pair_of, pairs_of, IsTree}
 use Rattle.route_tree.specs.Faults.{begins_elsewhere, has_foreign_sink, misses_sink}
 use Rattle.rr_graph.specs.Fabric.{Fabric}
 use Rattle.rr_graph.specs.Problems.{is_sink}
-use Rattle.route_tree.specs.Marked.{IsMarked, nodes_of}
+use Rattle.route_tree.specs.kept.Marked.{IsMarked, nodes_of}
 
 module _ {X : Type 0} (p : X → Bool) (xs : List X) (d : X) where
   -- no element passes a test
@@ -43,7 +43,7 @@ same_any : {X : Type 0} (p q : X → Bool) → ((x : X) → p x ≡ q x) → (xs
 same_any p q same [] = refl
 same_any p q same (x ∷ xs) = ap₂ (λ a b. a || b) (same x) (same_any p q same xs)
 
--- a list with a number twice has it twice also with more behind
+-- a list with a number twice has it twice also with more after
 more_twice : (xs ys : List ℕ) → has_twice xs ≡ true → has_twice (xs ++ ys) ≡ true
 more_twice [] ys h = absurd (false≢true h)
 more_twice (x ∷ xs) ys h = elim (cases_Bool (is_among xs x)) [

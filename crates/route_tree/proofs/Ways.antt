@@ -5,7 +5,7 @@ use Rattle.std.proofs.lemmas.Bool.{eqb-true, or_cases}
 use Rattle.route_tree.specs.Paths.{Pair, Path, ends_of}
 use Rattle.route_tree.specs.Paths.Path.{here, along}
 use Rattle.route_tree.specs.Legality.{is_among}
-use Rattle.route_tree.specs.Ladder.{HangOnEarlier}
+use Rattle.route_tree.specs.kept.Ladder.{HangOnEarlier}
 use Rattle.route_tree.proofs.Members.{EndsBefore, ends_before, pair_among}
 
 -- one pair more
@@ -13,7 +13,7 @@ pub step_on : (pairs : List Pair) (c : ℕ) {a b : ℕ} → Path pairs a b → C
 step_on pairs c (here a) h = along a c c h (here c)
 step_on pairs c (along a b d g way) h = along a b c g (step_on pairs c way h)
 
--- one way behind another
+-- one way after another
 pub way_on : (pairs : List Pair) (c : ℕ) {a b : ℕ} → Path pairs a b → Path pairs b c → Path pairs a c
 way_on pairs c (here a) on = on
 way_on pairs c (along a b d g way) on = along a b c g (way_on pairs c way on)

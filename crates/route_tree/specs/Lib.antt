@@ -7,6 +7,4 @@ pub mod SameLaws
 pub mod Usage
 pub mod TreeLists
 pub mod Fits
-pub mod Ladder
-pub mod Marked
-pub mod Fields
+pub mod kept

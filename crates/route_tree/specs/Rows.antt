@@ -1,6 +1,5 @@
 -- A tree as its rows: each row is a node and the row of the node before it.
-use Rattle.std.specs.Prelude.{◌≡◌, ℕ, ◌+◌, ◌≤◌, ◌<◌, List, [], ◌∷◌, length, map, get_or}
-use Rattle.std.specs.Prelude.{drop}
+use Rattle.std.specs.Prelude.{◌≡◌, ℕ, ◌+◌, ◌≤◌, ◌<◌, List, [], ◌∷◌, length, map, get_or, drop}
 use Rattle.route_tree.specs.declared.tree.Row.{Row}
 use Rattle.route_tree.specs.Paths.{Pair}
 
@@ -22,7 +21,7 @@ abbrev pub chain : (next parent : ℕ) → List ℕ → List Row
 chain next parent [] = []
 chain next parent (n ∷ ns) = record { node = n; parent = parent } ∷ chain (next + 1) next ns
 
--- the pairs of a chain behind node a
+-- the pairs of a chain after node a
 abbrev pub pairs_along : ℕ → List ℕ → List Pair
 pairs_along a [] = []
 pairs_along a (b ∷ bs) = (a, b) ∷ pairs_along b bs

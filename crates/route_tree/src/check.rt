@@ -6,7 +6,7 @@ ghost use Rattle.rr_graph.specs.Problems.{net_in};
 ghost use Rattle.route_tree.specs.Rows.{pairs_of, IsTree};
 ghost use Rattle.route_tree.specs.Legality.{is_among};
 ghost use Rattle.route_tree.specs.Faults.{begins_elsewhere, misses_sink, IsFirstFault, IsRoute};
-ghost use Rattle.route_tree.specs.Ladder.{sink_fault_of, marked_fault_of, net_fault_of, fault_of, or_ok};
+ghost use Rattle.route_tree.specs.kept.Ladder.{sink_fault_of, marked_fault_of, net_fault_of, fault_of, or_ok};
 
 use crate::fault::TreeFault;
 use crate::marks::Marks;
@@ -18,7 +18,7 @@ use crate::stamps::{Stamps, mark_only};
 use crate::tree::{Row, Tree};
 use rr_graph::{Device, Problem};
 
-/// The first fault, of those for which the sinks are marked. Whether a sink is missed was told before.
+/// The first fault, of those for which the sinks are marked. Whether a sink is missed was reported before.
 fn sink_fault(
     device: &Device,
     sinks: &[u32],
@@ -29,7 +29,7 @@ fn sink_fault(
     requires tree { IsTree rows.now }
     requires below { All (λ r. r.node < length stamps.old) rows.now }
     requires sinks { All (λ s. s < length stamps.old) sinks.now }
-    requires told { misses ≡ misses_sink sinks.now (pairs_of rows.now) }
+    requires reported { misses ≡ misses_sink sinks.now (pairs_of rows.now) }
     ensures fault { result ≡ sink_fault_of device.now sinks.now (pairs_of rows.now) }
     ensures length { length stamps.new ≡ length stamps.old }
 {
@@ -101,7 +101,7 @@ fn net_fault(
 }
 
 /// The first fault of a tree for a net.
-#[tactic(auto, using(crate::proofs::Bounds::sinks_below, crate::proofs::Bounds::source_apart), unfolding(crate::specs::Ladder::fault_of))]
+#[tactic(auto, using(crate::proofs::Bounds::sinks_below, crate::proofs::Bounds::source_apart), unfolding(crate::specs::kept::Ladder::fault_of))]
 fn fault(problem: &Problem, net: u32, rows: &[Row], stamps: &mut Stamps) -> Option<TreeFault>
     requires tree { IsTree rows.now }
     requires fits { length stamps.old ≡ node_count_of problem.now.device }
@@ -127,7 +127,7 @@ fn or_ok(fault: Option<TreeFault>) -> Result<(), TreeFault>
 }
 
 /// Whether a tree routes a net: it joins the net's source to exactly its sinks, through switches of the device, and its pairs are in
-/// the order in which routings are written. Where not, the first fault is told, in the order of `TreeFault`.
+/// the order in which routings are written. Where not, the first fault is reported, in the order of `TreeFault`.
 /// It takes time of the order of the tree's rows. The marks fit afterwards, whatever the answer.
 pub fn check_tree(
     problem: &Problem,

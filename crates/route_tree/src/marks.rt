@@ -20,7 +20,7 @@ impl Model for Marks {
 
     ghost Value = { ℕ };
 
-    ghost use Rattle.route_tree.specs.Fields.{count_of};
+    ghost use Rattle.route_tree.specs.kept.Fields.{count_of};
 
     ghost view = { count_of };
 }

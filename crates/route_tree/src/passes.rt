@@ -8,8 +8,8 @@ ghost use Rattle.route_tree.specs.Paths.{ends_of};
 ghost use Rattle.route_tree.specs.Legality.{has_twice, is_among};
 ghost use Rattle.route_tree.specs.Rows.{no_row, node_in, pairs_of, IsTree};
 ghost use Rattle.route_tree.specs.Faults.{begins_elsewhere, lacks_switch, reaches_twice, leaves_twice, has_foreign_sink, misses_sink};
-ghost use Rattle.route_tree.specs.Ladder.{has_dead_end, breaks_at, breaks_off};
-ghost use Rattle.route_tree.specs.Marked.{IsMarked, nodes_of};
+ghost use Rattle.route_tree.specs.kept.Ladder.{has_dead_end, breaks_at, breaks_off};
+ghost use Rattle.route_tree.specs.kept.Marked.{IsMarked, nodes_of};
 
 use crate::stamps::Stamps;
 use crate::tree::{Row, count_pairs, pair_at};
@@ -153,7 +153,7 @@ pub(crate) fn has_foreign_sink(
 }
 
 /// Whether a pair ends neither in one of the sinks nor where a later pair begins. The sinks are marked; where pairs begin is marked
-/// behind them, from the last pair on.
+/// after them, from the last pair on.
 #[tactic(auto, using(crate::proofs::DeadEnds::dead, crate::proofs::DeadEnds::alive))]
 pub(crate) fn has_dead_end(rows: &[Row], sinks: &[u32], stamps: &mut Stamps) -> bool
     requires tree { IsTree rows.now }

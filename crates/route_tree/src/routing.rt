@@ -23,7 +23,7 @@ impl Model for Pairs {
 
     ghost Value = { List Pair };
 
-    ghost use Rattle.route_tree.specs.Fields.{items_of};
+    ghost use Rattle.route_tree.specs.kept.Fields.{items_of};
 
     ghost view = { items_of };
 }
@@ -40,7 +40,7 @@ impl Model for Routing {
 
     ghost Value = { List (Option (List Pair)) };
 
-    ghost use Rattle.route_tree.specs.Fields.{lists_of};
+    ghost use Rattle.route_tree.specs.kept.Fields.{lists_of};
 
     ghost view = { lists_of };
 }

@@ -1,7 +1,7 @@
 //! Marks on numbers that are all taken off at once: a number is marked where it has the stamp of now.
 
 ghost use Rattle.std.specs.Prelude.{◌≡◌, ◌<◌, ◌≤◌, All, false, true, length, replicate, get_or, set, IfOk};
-ghost use Rattle.route_tree.specs.Marked.{IsMarked};
+ghost use Rattle.route_tree.specs.kept.Marked.{IsMarked};
 
 use std::alloc::{AllocError, Global};
 use std::marker::Model;
@@ -18,7 +18,7 @@ impl Model for Stamps {
 
     ghost Value = { List Bool };
 
-    ghost use Rattle.route_tree.specs.Fields.{flags_of};
+    ghost use Rattle.route_tree.specs.kept.Fields.{flags_of};
 
     ghost view = { flags_of };
 

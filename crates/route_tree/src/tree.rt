@@ -29,7 +29,7 @@ impl Model for Tree {
 
     ghost Value = { List Row };
 
-    ghost use Rattle.route_tree.specs.Fields.{rows_of};
+    ghost use Rattle.route_tree.specs.kept.Fields.{rows_of};
 
     ghost view = { rows_of };
 

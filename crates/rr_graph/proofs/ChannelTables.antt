@@ -19,9 +19,9 @@ use Rattle.rr_graph.specs.declared.parts.Mode.TheVariants.{Detailed, Global}
 use Rattle.rr_graph.specs.Fabric.{Fabric, IsFabric, numbers_below, is_between}
 use Rattle.rr_graph.specs.Wires.{tracks_in, places_of_length, places_of_type, length_by, length_of, type_of, rank_of, begins, last_of}
 use Rattle.rr_graph.specs.Nodes.{beginnings_at}
-use Rattle.rr_graph.specs.Channels.{first_of}
+use Rattle.rr_graph.specs.kept.Channels.{first_of}
 use Rattle.rr_graph.specs.declared.channel.Wire.{Wire}
-use Rattle.rr_graph.specs.Tables.{starting_at, wires_before, wire_number, wire_at, wires_at}
+use Rattle.rr_graph.specs.kept.Tables.{starting_at, wires_before, wire_number, wire_at, wires_at}
 
 -- ---- wires have some length
 some_places : (n : ℕ) (l : SegmentLength) → 1 ≤ n → IsSegmentLength l → 1 ≤ places_of_length n l

@@ -17,11 +17,11 @@ pub record IsMostBelow (f : Fabric) (bound most : ℕ) : Type 0 where
   pub few : most < 2 ^ 23
 
 module _ (f : Fabric) where
-  none_behind : (i : ℕ) → node_count_of f ≤ i → length (successors_of f i) ≡ 0
-  none_behind i l = ap length (no_successors f i (none_past f i l))
+  none_after : (i : ℕ) → node_count_of f ≤ i → length (successors_of f i) ≡ 0
+  none_after i l = ap length (no_successors f i (none_past f i l))
 
   pub most_of_none : IsMostBelow f 0 0
-  most_of_none = record { above = λ i l. absurd (omega arith); reached = (node_count_of f, none_behind (node_count_of f) (omega arith)); few = omega arith }
+  most_of_none = record { above = λ i l. absurd (omega arith); reached = (node_count_of f, none_after (node_count_of f) (omega arith)); few = omega arith }
 
   pub most_of_more : (bound most degree next : ℕ) → IsMostBelow f bound most → degree ≡ length (successors_of f bound) → degree < 2 ^ 23 → next ≡ max most degree → IsMostBelow f (bound + 1) next
   most_of_more bound most degree next so_far here few both = record {
@@ -39,5 +39,5 @@ module _ (f : Fabric) where
   pub most_of_all : (bound most : ℕ) → IsMostBelow f bound most → node_count_of f ≤ bound → (i : ℕ) → length (successors_of f i) ≤ most
   most_of_all bound most all l i = elim (cases_lt i bound) [
     | inl before ↦ all.above i before
-    | inr past ↦ omega (arith, none_behind i (omega arith))
+    | inr past ↦ omega (arith, none_after i (omega arith))
   ]

@@ -10,7 +10,7 @@ use Rattle.rr_graph.specs.declared.fanout.Taps.{Taps}
 use Rattle.rr_graph.specs.declared.fanout.RowFanout.{RowFanout}
 use Rattle.rr_graph.specs.declared.fanout.ColumnFanout.{ColumnFanout}
 use Rattle.rr_graph.specs.Fabric.{numbers_below}
-use Rattle.rr_graph.specs.Fanouts.{of_option, numbers_of, runs_of, number_in, run_list, by_run, by_place, pins_at, row_list, column_list}
+use Rattle.rr_graph.specs.kept.Fanouts.{of_option, numbers_of, runs_of, number_in, run_list, by_run, by_place, pins_at, row_list, column_list}
 use Rattle.rr_graph.proofs.Ranges.{length_below}
 use Rattle.rr_graph.proofs.Lengths.{length_even}
 

@@ -12,7 +12,7 @@ use Rattle.rr_graph.specs.declared.parts.Span.{Span}
 use Rattle.rr_graph.specs.Fabric.{Fabric}
 use Rattle.rr_graph.specs.Wires.{reach_of}
 use Rattle.rr_graph.specs.Nodes.{nodes_of, nodes_of_kind, node_count_of, node_at, is_wire, is_wire_at, span_of, wire_in}
-use Rattle.rr_graph.specs.Starts.{kind_start}
+use Rattle.rr_graph.specs.kept.Starts.{kind_start}
 use Rattle.rr_graph.proofs.Pieces.{kind_within, node_count_by_kinds}
 
 pub few_before_wires : (f : Fabric) → kind_start f Chanx ≤ node_count_of f
@@ -56,10 +56,10 @@ wire_from f start i a wires from h =
     let test : nat_le start i ≡ true = grind (arith, nat_tests) in
     sym (ap (λ o. option_map_or is_wire (option_map (λ n. n.kind) o) false) h) ∙ wires i here ∙ test
 
--- what is told of a wire
-pub wire_told : (f : Fabric) (i : ℕ) (a : Node) (span : Span) (reach : ℕ) → node_at f i ≡ Some a → is_wire a.kind ≡ true → span ≡ span_of f a → reach ≡ reach_of f a.number
+-- what is reported of a wire
+pub wire_reported : (f : Fabric) (i : ℕ) (a : Node) (span : Span) (reach : ℕ) → node_at f i ≡ Some a → is_wire a.kind ≡ true → span ≡ span_of f a → reach ≡ reach_of f a.number
     → Some (a.kind, span, reach) ≡ wire_in f (node_at f i)
 unfolding wire_in
-wire_told f i a span reach h wire spans reaches =
+wire_reported f i a span reach h wire spans reaches =
     ap (λ s. Some (a.kind, s, reach)) spans ∙ ap (λ r. Some (a.kind, span_of f a, r)) reaches
     ∙ sym (ap (wire_in f) h ∙ ap (λ b. if b then Some (a.kind, span_of f a, reach_of f a.number) else None) wire)

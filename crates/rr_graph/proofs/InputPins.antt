@@ -11,10 +11,11 @@ use Rattle.rr_graph.specs.declared.parts.Node.{Node}
 use Rattle.rr_graph.specs.Fabric.{Fabric, IsFabric, numbers_below, is_block, is_pad}
 use Rattle.rr_graph.specs.Nodes.{numbers_at, node_of, node_at, kind_of_node, number_of}
 use Rattle.rr_graph.specs.Edges.{successors_of}
-use Rattle.rr_graph.specs.Numbering.{block_numbers}
-use Rattle.rr_graph.specs.Starts.{kind_start, place_start}
-use Rattle.rr_graph.specs.Terminals.{sink_beside, sink_label}
-use Rattle.rr_graph.specs.InputPins.{IsPinOf, most_pins_at}
+use Rattle.rr_graph.specs.kept.Numbering.{block_numbers}
+use Rattle.rr_graph.specs.kept.Starts.{kind_start, place_start}
+use Rattle.rr_graph.specs.kept.Terminals.{sink_beside, sink_label}
+use Rattle.rr_graph.specs.InputPins.{IsPinOf}
+use Rattle.rr_graph.specs.kept.PinsAtPlaces.{most_pins_at}
 use Rattle.rr_graph.proofs.NodeNumbers.{if_block, if_perimeter}
 use Rattle.rr_graph.proofs.Order.{number_inverse}
 use Rattle.rr_graph.proofs.Pieces.{kind_within, place_of_node}

@@ -5,9 +5,10 @@ use Rattle.std.proofs.lemmas.Bool.{cases_Bool, eqb-true}
 use Rattle.rr_graph.specs.declared.parts.Kind.TheVariants.{Chanx, Chany}
 use Rattle.rr_graph.specs.declared.parts.Node.{Node}
 use Rattle.rr_graph.specs.Fabric.{Fabric}
-use Rattle.rr_graph.specs.Wires.{last_of, last_by}
+use Rattle.rr_graph.specs.Wires.{last_of}
+use Rattle.rr_graph.specs.kept.LastPlaces.{last_by}
 use Rattle.rr_graph.specs.Nodes.{node_of}
-use Rattle.rr_graph.specs.Channels.{is_next_to, passes_corner}
+use Rattle.rr_graph.specs.kept.Channels.{is_next_to, passes_corner}
 use Rattle.rr_graph.specs.Edges.{joins}
 use Rattle.rr_graph.proofs.Joins.{chanx_joins_chanx, chanx_joins_chany, chany_joins_chanx, chany_joins_chany}
 

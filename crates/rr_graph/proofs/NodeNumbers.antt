@@ -14,12 +14,13 @@ use Rattle.rr_graph.specs.declared.parts.Kind.{Kind}
 use Rattle.rr_graph.specs.declared.parts.Kind.TheVariants.{Source, Sink, Opin, Ipin, Chanx, Chany}
 use Rattle.rr_graph.specs.declared.parts.Node.{Node}
 use Rattle.rr_graph.specs.Fabric.{Fabric, IsFabric, numbers_below, is_between, is_block, is_pad}
-use Rattle.rr_graph.specs.Wires.{tracks_in, begins, last_of, last_by}
+use Rattle.rr_graph.specs.Wires.{tracks_in, begins, last_of}
+use Rattle.rr_graph.specs.kept.LastPlaces.{last_by}
 use Rattle.rr_graph.specs.Nodes.{numbers_at, node_of, node_at, is_wire, number_of}
-use Rattle.rr_graph.specs.Starts.{kind_start, place_start}
-use Rattle.rr_graph.specs.Numbering.{is_terminal, block_numbers}
-use Rattle.rr_graph.specs.Tables.{starting_at, wires_before, wire_number, wire_at}
-use Rattle.rr_graph.specs.WireSuccessors.{wire_id, beginnings_below}
+use Rattle.rr_graph.specs.kept.Starts.{kind_start, place_start}
+use Rattle.rr_graph.specs.kept.Numbering.{is_terminal, block_numbers}
+use Rattle.rr_graph.specs.kept.Tables.{starting_at, wires_before, wire_number, wire_at}
+use Rattle.rr_graph.specs.kept.WireSuccessors.{wire_id, beginnings_below}
 use Rattle.rr_graph.proofs.Ranges.{kept_next}
 use Rattle.rr_graph.proofs.Windows.{range-append, slice_get-append_right}
 use Rattle.rr_graph.proofs.Pieces.{node_at_place, place_of_node, node_count_by_kinds}

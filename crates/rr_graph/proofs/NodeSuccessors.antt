@@ -9,7 +9,7 @@ use Rattle.rr_graph.specs.declared.parts.Node.{Node}
 use Rattle.rr_graph.specs.Fabric.{Fabric, IsFabric, numbers_below}
 use Rattle.rr_graph.specs.Nodes.{node_at, node_count_of}
 use Rattle.rr_graph.specs.Edges.{edge_between, edge_between_nodes, successors_of}
-use Rattle.rr_graph.specs.NodeSuccessors.{successors_by, node_successors, IsAtPlace}
+use Rattle.rr_graph.specs.kept.NodeSuccessors.{successors_by, node_successors, IsAtPlace}
 use Rattle.rr_graph.proofs.Order.{node_count_small}
 use Rattle.rr_graph.proofs.Pieces.{successors_of_sink}
 use Rattle.rr_graph.proofs.PinSuccessors.{source_listed, ipin_listed}

@@ -14,10 +14,10 @@ use Rattle.rr_graph.specs.declared.parts.Kind.TheVariants.{Chanx, Chany}
 use Rattle.rr_graph.specs.declared.channel.Beginning.{Beginning}
 use Rattle.rr_graph.specs.Fabric.{Fabric, numbers_below, is_between, is_block, is_pad}
 use Rattle.rr_graph.specs.Nodes.{numbers_at, node_of, node_at, nodes_of, node_count_of, beginnings_at}
-use Rattle.rr_graph.specs.Starts.{kind_length, kind_start, column_start, place_start}
-use Rattle.rr_graph.specs.Numbering.{is_terminal, column_length, columns_length, rows_length, inner_rows_length, block_numbers}
-use Rattle.rr_graph.specs.Tables.{starting_at, wires_before, beginning_of, beginnings_of}
-use Rattle.rr_graph.specs.Strides.{stride_at, column_stride}
+use Rattle.rr_graph.specs.kept.Starts.{kind_length, kind_start, column_start, place_start}
+use Rattle.rr_graph.specs.kept.Numbering.{is_terminal, column_length, columns_length, rows_length, inner_rows_length, block_numbers}
+use Rattle.rr_graph.specs.kept.Tables.{starting_at, wires_before, beginning_of, beginnings_of}
+use Rattle.rr_graph.specs.kept.Strides.{stride_at, column_stride}
 use Rattle.rr_graph.proofs.Lengths.{length_times}
 use Rattle.rr_graph.proofs.Windows.{slice_get-flat_map, slice_get_from_flat_map, slice_get_from_map}
 use Rattle.rr_graph.proofs.Pieces.{node_at_place}

@@ -12,14 +12,14 @@ use Rattle.rr_graph.specs.declared.parts.Node.{Node}
 use Rattle.rr_graph.specs.Fabric.{Fabric, is_block, is_pad}
 use Rattle.rr_graph.specs.Wires.{tracks_in}
 use Rattle.rr_graph.specs.Pins.{when}
-use Rattle.rr_graph.specs.Channels.{first_of}
-use Rattle.rr_graph.specs.WireSuccessors.{wire_id}
-use Rattle.rr_graph.specs.PinSuccessors.{taps_track, tapped_chanx, tapped_row, tapped_rows, tapped_column, wires_of_pin, wires_of_pad, opin_successors}
-use Rattle.rr_graph.specs.Terminals.{IsTerminal, above_wire, right_wire, all_tracks, wires_on, AreSides, no_sides, sides_of_pin, sides_of_pad, opin_sides, opin_fc}
+use Rattle.rr_graph.specs.kept.Channels.{first_of}
+use Rattle.rr_graph.specs.kept.WireSuccessors.{wire_id}
+use Rattle.rr_graph.specs.kept.PinSuccessors.{taps_track, tapped_chanx, tapped_row, tapped_rows, tapped_column, wires_of_pin, wires_of_pad, opin_successors}
+use Rattle.rr_graph.specs.kept.Terminals.{IsTerminal, above_wire, right_wire, all_tracks, wires_on, AreSides, no_sides, sides_of_pin, sides_of_pad, opin_sides, opin_fc}
 use Rattle.rr_graph.proofs.Lengths.{length_both}
 use Rattle.rr_graph.proofs.Windows.{flat_map_agree, flat_map_empty}
 use Rattle.rr_graph.proofs.OpinSuccessors.{tapped_rows_top, tapped_rows_bottom}
-use Rattle.rr_graph.specs.Tables.{tracks_from}
+use Rattle.rr_graph.specs.kept.Tables.{tracks_from}
 use Rattle.rr_graph.proofs.TrackOrder.{each_once}
 use Rattle.rr_graph.proofs.OpinWires.{above_by_track, right_by_track, rows_none}
 

@@ -15,9 +15,9 @@ use Rattle.rr_graph.specs.Wires.{Place, last_of, runs_through}
 use Rattle.rr_graph.specs.Pins.{channels_of_pin, channel_of_pad, channels_beside, is_marked_global, pins_of, taps, when}
 use Rattle.rr_graph.specs.Nodes.{beginnings_at, numbers_at, node_of, node_at}
 use Rattle.rr_graph.specs.Edges.{is_edge, successors_of}
-use Rattle.rr_graph.specs.Picks.{picks}
-use Rattle.rr_graph.specs.Starts.{place_start, pieces_at, pieces_of_kind}
-use Rattle.rr_graph.specs.PinSuccessors.{taps_track, tapped_chanx, tapped_chany, tapped_row, tapped_column, tapped_rows, wires_of_pin, wires_of_pad, opin_successors}
+use Rattle.rr_graph.specs.kept.Picks.{picks}
+use Rattle.rr_graph.specs.kept.Starts.{place_start, pieces_at, pieces_of_kind}
+use Rattle.rr_graph.specs.kept.PinSuccessors.{taps_track, tapped_chanx, tapped_chany, tapped_row, tapped_column, tapped_rows, wires_of_pin, wires_of_pad, opin_successors}
 use Rattle.rr_graph.proofs.Windows.{flat_map_same, flat_map_agree, flat_map_none, flat_map_window, flat_map_one, flat_map_two}
 use Rattle.rr_graph.proofs.Picks.{picks_agree}
 use Rattle.rr_graph.proofs.Pieces.{successors_of_opin}

@@ -9,13 +9,13 @@ use Rattle.rr_graph.specs.declared.parts.Kind.TheVariants.{Chanx, Chany}
 use Rattle.rr_graph.specs.Fabric.{Fabric, numbers_below, is_between}
 use Rattle.rr_graph.specs.Wires.{tracks_in, begins, last_of}
 use Rattle.rr_graph.specs.Pins.{when}
-use Rattle.rr_graph.specs.Picks.{picks}
-use Rattle.rr_graph.specs.Channels.{first_of}
-use Rattle.rr_graph.specs.WireSuccessors.{wire_id}
-use Rattle.rr_graph.specs.PinSuccessors.{taps_track, tapped_chanx, tapped_chany, tapped_rows, tapped_column}
-use Rattle.rr_graph.specs.Terminals.{above_wire, right_wire, all_tracks}
+use Rattle.rr_graph.specs.kept.Picks.{picks}
+use Rattle.rr_graph.specs.kept.Channels.{first_of}
+use Rattle.rr_graph.specs.kept.WireSuccessors.{wire_id}
+use Rattle.rr_graph.specs.kept.PinSuccessors.{taps_track, tapped_chanx, tapped_chany, tapped_rows, tapped_column}
+use Rattle.rr_graph.specs.kept.Terminals.{above_wire, right_wire, all_tracks}
 use Rattle.rr_graph.proofs.Ranges.{filter_next}
-use Rattle.rr_graph.specs.Tables.{tracks_from, tracks_through}
+use Rattle.rr_graph.specs.kept.Tables.{tracks_from, tracks_through}
 use Rattle.rr_graph.proofs.TrackOrder.{through_all}
 use Rattle.rr_graph.proofs.Windows.{flat_map_next, flat_map_same, flat_map_agree, flat_map_empty}
 use Rattle.rr_graph.proofs.Picks.{picks-append, picks_one}

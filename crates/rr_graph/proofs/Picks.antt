@@ -5,7 +5,7 @@ use Rattle.std.specs.List.{range_with_len, filter, flat_map}
 use Rattle.std.proofs.lemmas.Bool.{lt-ltb, le-ltb, ne_eqb, eq-eqb, cases_order}
 use Rattle.std.proofs.lemmas.List.{append-nil, append_assoc, take_more, length-take}
 use Rattle.std.proofs.lemmas.List.FromFn.{length-range_with_len}
-use Rattle.rr_graph.specs.Picks.{picks}
+use Rattle.rr_graph.specs.kept.Picks.{picks}
 use Rattle.rr_graph.proofs.Ranges.{filter_next}
 use Rattle.rr_graph.proofs.Windows.{flat_map_next}
 
@@ -144,18 +144,18 @@ module _ (q : ℕ → Bool) (c : Bool) (at : ℕ → ℕ) (t : ℕ) where
   abbrev OneMore : ℕ → (before here after : Bool) → Type 0
   OneMore m before here after = one (q t) before c (at t) ++ one (q m) here c (at m) ≡ one (q t) after c (at t)
 
-  one_told :
+  one_reported :
       (m : ℕ) (before here after : Bool) → nat_lt t m ≡ before → (m == t) ≡ here → nat_lt t (m + 1) ≡ after → OneMore m before here after
       → OneMore m (nat_lt t m) (m == t) (nat_lt t (m + 1))
-  one_told m before here after u v w h = rw (u, v, w) h
+  one_reported m before here after u v w h = rw (u, v, w) h
 
   one_more : (m : ℕ) → OneMore m (nat_lt t m) (m == t) (nat_lt t (m + 1))
   one_more m = elim (cases_order t m) [
-    | inl e ↦ one_told m false true true (le-ltb t m (omega arith)) (eq-eqb m t (sym e)) (lt-ltb t (m + 1) (omega arith))
+    | inl e ↦ one_reported m false true true (le-ltb t m (omega arith)) (eq-eqb m t (sym e)) (lt-ltb t (m + 1) (omega arith))
         (subst (λ n. OneMore n false true true) e (one_added (q t) c (at t)))
-    | inr (inl l) ↦ one_told m true false true (lt-ltb t m l) (ne_eqb m t (λ e. omega arith)) (lt-ltb t (m + 1) (omega arith))
+    | inr (inl l) ↦ one_reported m true false true (lt-ltb t m l) (ne_eqb m t (λ e. omega arith)) (lt-ltb t (m + 1) (omega arith))
         (one_kept (q t) (q m) c (at t) (at m))
-    | inr (inr l) ↦ one_told m false false false (le-ltb t m (omega arith)) (ne_eqb m t (λ e. omega arith)) (le-ltb t (m + 1) (omega arith))
+    | inr (inr l) ↦ one_reported m false false false (le-ltb t m (omega arith)) (ne_eqb m t (λ e. omega arith)) (le-ltb t (m + 1) (omega arith))
         (one_absent (q t) (q m) c (at t) (at m))
   ]
 

@@ -11,8 +11,8 @@ use Rattle.rr_graph.specs.declared.parts.Node.{Node}
 use Rattle.rr_graph.specs.Fabric.{Fabric, numbers_below}
 use Rattle.rr_graph.specs.Nodes.{numbers_at, node_of, nodes_at, nodes_of_column, nodes_of_kind, nodes_of, kinds, node_count_of, node_at}
 use Rattle.rr_graph.specs.Edges.{edge_by, edge_between_nodes, edge_between, is_edge, successors_of}
-use Rattle.rr_graph.specs.Picks.{picks}
-use Rattle.rr_graph.specs.Starts.{kind_start, column_start, place_start, pieces_at, pieces_of_kind}
+use Rattle.rr_graph.specs.kept.Picks.{picks}
+use Rattle.rr_graph.specs.kept.Starts.{kind_start, column_start, place_start, pieces_at, pieces_of_kind}
 use Rattle.rr_graph.proofs.Windows.{flat_map_same, flat_map_none, slice_get-append_left, slice_get-append_right, slice_get-append_cases, slice_get-flat_map, slice_get_from_flat_map, slice_get_from_map}
 use Rattle.rr_graph.proofs.Picks.{picks-append, picks-flat_map, picks-map, picks_none, filter_by_index}
 

@@ -17,9 +17,9 @@ use Rattle.rr_graph.specs.Fabric.{Fabric, numbers_below, is_block, is_pad}
 use Rattle.rr_graph.specs.Pins.{has_direction, classes_of, pins_of, has_class, belongs}
 use Rattle.rr_graph.specs.Nodes.{terminals_at, numbers_at, node_of, node_at}
 use Rattle.rr_graph.specs.Edges.{is_edge, successors_of}
-use Rattle.rr_graph.specs.Picks.{picks}
-use Rattle.rr_graph.specs.Starts.{place_start, pieces_at, pieces_of_kind}
-use Rattle.rr_graph.specs.PinSuccessors.{pins_of_source, source_successors, sink_of_pin, ipin_successors}
+use Rattle.rr_graph.specs.kept.Picks.{picks}
+use Rattle.rr_graph.specs.kept.Starts.{place_start, pieces_at, pieces_of_kind}
+use Rattle.rr_graph.specs.kept.PinSuccessors.{pins_of_source, source_successors, sink_of_pin, ipin_successors}
 use Rattle.rr_graph.proofs.Windows.{flat_map_one, flat_map_none}
 use Rattle.rr_graph.proofs.Picks.{picks_agree, picks_none, picks_below, picks_filtered}
 use Rattle.rr_graph.proofs.Pieces.{place_of_node, successors_of_source, successors_of_ipin}

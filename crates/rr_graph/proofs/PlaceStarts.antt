@@ -11,9 +11,9 @@ use Rattle.rr_graph.specs.declared.parts.Kind.{Kind}
 use Rattle.rr_graph.specs.declared.parts.Kind.TheVariants.{Source, Sink, Opin, Ipin, Chanx, Chany}
 use Rattle.rr_graph.specs.Fabric.{Fabric, IsFabric, numbers_below, is_block, is_pad, is_between}
 use Rattle.rr_graph.specs.Nodes.{numbers_at, terminals_at, node_of, nodes_at, nodes_of_column}
-use Rattle.rr_graph.specs.Starts.{kind_length, kind_start, column_start, place_start}
-use Rattle.rr_graph.specs.Numbering.{is_terminal, columns_length, rows_length, terminals_length, block_numbers}
-use Rattle.rr_graph.specs.Tables.{starting_at, wires_before}
+use Rattle.rr_graph.specs.kept.Starts.{kind_length, kind_start, column_start, place_start}
+use Rattle.rr_graph.specs.kept.Numbering.{is_terminal, columns_length, rows_length, terminals_length, block_numbers}
+use Rattle.rr_graph.specs.kept.Tables.{starting_at, wires_before}
 use Rattle.rr_graph.proofs.Order.{Rises, length-rises, classes-rise, pins-rise}
 use Rattle.rr_graph.proofs.Lengths.{length_next, length_even, length_after_first, length_times}
 
@@ -225,23 +225,23 @@ unfolding wires_before
 right_rows_before f x y l = length_times (nodes_at f Chany x) (starting_at f f.ny) 1 y (λ i. right_length f x i l ∙ let e = length (starting_at f f.ny i) in omega arith) ∙ omega arith
 
 -- the place behind the channel has none
-none_behind : (f : Fabric) (n : ℕ) → wires_before f n (n + 2) ≡ wires_before f n (n + 1)
+none_after : (f : Fabric) (n : ℕ) → wires_before f n (n + 2) ≡ wires_before f n (n + 1)
 unfolding wires_before
-none_behind f n =
+none_after f n =
     let out : is_between 1 n (n + 1) ≡ false = grind (arith, nat_tests) in
     let none : length (starting_at f n (n + 1)) ≡ 0 = rw out refl in
     let e : n + 2 ≡ n + 1 + 1 = omega arith in
     omega (arith, ap (λ m. length (flat_map (starting_at f n) (numbers_below m))) e, length_next (starting_at f n) (n + 1), none)
 
 right_columns : (f : Fabric) (x : ℕ) → x ≤ f.nx + 1 → length (flat_map (nodes_of_column f Chany) (numbers_below x)) ≡ x * wires_before f f.ny (f.ny + 1)
-right_columns f x l = length_even (nodes_of_column f Chany) (wires_before f f.ny (f.ny + 1)) (f.nx + 1) x (λ i m. right_rows_before f i (f.ny + 2) (omega arith) ∙ none_behind f f.ny) l
+right_columns f x l = length_even (nodes_of_column f Chany) (wires_before f f.ny (f.ny + 1)) (f.nx + 1) x (λ i m. right_rows_before f i (f.ny + 2) (omega arith) ∙ none_after f f.ny) l
 
 pub right_start : (f : Fabric) (x y : ℕ) → x ≤ f.nx → place_start f Chany x y ≡ kind_start f Chany + x * wires_before f f.ny (f.ny + 1) + wires_before f f.ny y
 unfolding place_start column_start
 right_start f x y l = omega (arith, right_columns f x (omega arith), right_rows_before f x y l)
 
 pub above_count : (f : Fabric) → kind_length f Chanx ≡ (f.ny + 1) * wires_before f f.nx (f.nx + 1)
-above_count f = above_columns f (f.nx + 2) ∙ ap (λ n. (f.ny + 1) * n) (none_behind f f.nx)
+above_count f = above_columns f (f.nx + 2) ∙ ap (λ n. (f.ny + 1) * n) (none_after f f.nx)
 
 pub right_count : (f : Fabric) → kind_length f Chany ≡ (f.nx + 1) * wires_before f f.ny (f.ny + 1)
 right_count f =

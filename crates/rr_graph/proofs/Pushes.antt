@@ -7,9 +7,9 @@ use Rattle.std.proofs.lemmas.List.Folds.{length-flat_map-take}
 use Rattle.std.proofs.lemmas.List.Concat.{flat_map-append}
 use Rattle.smallvec.specs.SmallVec.{SmallVec, HasRoomFor}
 use Rattle.rr_graph.specs.Fabric.{numbers_below}
-use Rattle.rr_graph.specs.Pushes.{Pushes}
+use Rattle.rr_graph.specs.kept.Pushes.{Pushes}
 use Rattle.rr_graph.specs.Pins.{when}
-use Rattle.rr_graph.specs.Picks.{picks}
+use Rattle.rr_graph.specs.kept.Picks.{picks}
 use Rattle.rr_graph.proofs.Picks.{picks-append, picks_more, length-picks}
 use Rattle.rr_graph.proofs.Ranges.{length_below, mapped_more, range_more}
 use Rattle.rr_graph.proofs.Windows.{range-append, flat_map_next, flat_map_split}

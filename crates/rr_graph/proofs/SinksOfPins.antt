@@ -15,10 +15,10 @@ use Rattle.rr_graph.specs.Fabric.{Fabric, IsFabric, numbers_below, is_block}
 use Rattle.rr_graph.specs.Pins.{has_direction, classes_of, pins_of}
 use Rattle.rr_graph.specs.Nodes.{numbers_at, node_of, node_at, kind_of_node, number_of}
 use Rattle.rr_graph.specs.Edges.{successors_of}
-use Rattle.rr_graph.specs.Starts.{place_start}
-use Rattle.rr_graph.specs.Numbering.{block_numbers}
-use Rattle.rr_graph.specs.PinSuccessors.{sink_of_pin, ipin_successors}
-use Rattle.rr_graph.specs.Terminals.{sink_beside}
+use Rattle.rr_graph.specs.kept.Starts.{place_start}
+use Rattle.rr_graph.specs.kept.Numbering.{block_numbers}
+use Rattle.rr_graph.specs.kept.PinSuccessors.{sink_of_pin, ipin_successors}
+use Rattle.rr_graph.specs.kept.Terminals.{sink_beside}
 use Rattle.rr_graph.proofs.Capacities.{kept_passes}
 use Rattle.rr_graph.proofs.Classes.{class_counted, class_directed, class_placed}
 use Rattle.rr_graph.proofs.NodeNumbers.{number_at_place, block_within, if_block, some_pad}

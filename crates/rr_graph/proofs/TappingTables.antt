@@ -6,7 +6,7 @@ use Rattle.std.proofs.Math.Seq.{drop-append_seam, take-append_seam}
 use Rattle.std.proofs.lemmas.List.{append-nil, length-append}
 use Rattle.std.proofs.lemmas.List.FromFn.{get_or-map-range_with_len, length-map-range_with_len}
 use Rattle.rr_graph.specs.declared.sides.Tapping.{Tapping}
-use Rattle.rr_graph.specs.TappingTables.{IsTapping, HoldsTrack, places_of_track}
+use Rattle.rr_graph.specs.kept.TappingTables.{IsTapping, HoldsTrack, places_of_track}
 use Rattle.rr_graph.proofs.Ranges.{mapped_more}
 use Rattle.rr_graph.proofs.Windows.{flat_map_next, flat_map_split}
 

@@ -11,11 +11,11 @@ use Rattle.rr_graph.specs.declared.parts.Node.{Node}
 use Rattle.rr_graph.specs.Fabric.{Fabric, IsFabric}
 use Rattle.rr_graph.specs.Pins.{has_direction, has_class, when, classes_of}
 use Rattle.rr_graph.specs.Nodes.{numbers_at, node_at}
-use Rattle.rr_graph.specs.Picks.{picks}
-use Rattle.rr_graph.specs.Starts.{place_start}
-use Rattle.rr_graph.specs.Numbering.{is_terminal, block_numbers}
-use Rattle.rr_graph.specs.PinSuccessors.{pins_of_source, sink_of_pin}
-use Rattle.rr_graph.specs.Terminals.{IsTerminal}
+use Rattle.rr_graph.specs.kept.Picks.{picks}
+use Rattle.rr_graph.specs.kept.Starts.{place_start}
+use Rattle.rr_graph.specs.kept.Numbering.{is_terminal, block_numbers}
+use Rattle.rr_graph.specs.kept.PinSuccessors.{pins_of_source, sink_of_pin}
+use Rattle.rr_graph.specs.kept.Terminals.{IsTerminal}
 use Rattle.rr_graph.proofs.Order.{Rises, numbers-rise, number_limit, number_limit_small}
 use Rattle.rr_graph.proofs.Picks.{picks_agree, picks_filtered}
 use Rattle.rr_graph.proofs.Pieces.{place_of_node}

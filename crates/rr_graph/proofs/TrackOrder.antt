@@ -11,8 +11,8 @@ use Rattle.std.proofs.lemmas.List.Elements.{All-append, All-filter, All-get_or, 
 use Rattle.std.proofs.lemmas.List.FromFn.{length-range_with_len, get_or-range_with_len}
 use Rattle.rr_graph.specs.Fabric.{Fabric, numbers_below}
 use Rattle.rr_graph.specs.Wires.{tracks_in}
-use Rattle.rr_graph.specs.Channels.{first_of}
-use Rattle.rr_graph.specs.Tables.{tracks_from, tracks_since, tracks_through}
+use Rattle.rr_graph.specs.kept.Channels.{first_of}
+use Rattle.rr_graph.specs.kept.Tables.{tracks_from, tracks_since, tracks_through}
 use Rattle.rr_graph.proofs.Ranges.{range_more, filter_next, kept_next, skipped_next}
 use Rattle.rr_graph.proofs.Windows.{flat_map_from, flat_map_agree, flat_map_empty, flat_map_one, flat_map_split}
 use Rattle.rr_graph.proofs.Lengths.{length_next, length_after_first, length_both}
@@ -161,17 +161,17 @@ module _ (f : Fabric) (n p : ℕ) where
       let e : p + 1 - first ≡ suc (p + 1 - (first + 1)) = omega arith in
       ap (λ k. flat_map (tracks_from f n p) (range_with_len first k)) e
 
-  begins_behind : (first k : ℕ) → first + 1 ≤ k → All (λ t. (first_of f n t p == first) ≡ false) (tracks_from f n p k)
-  begins_behind first k l =
+  begins_after : (first k : ℕ) → first + 1 ≤ k → All (λ t. (first_of f n t p == first) ≡ false) (tracks_from f n p k)
+  begins_after first k l =
       let here = filter_passes (λ t. first_of f n t p == k) (numbers_below (tracks_in f.mode f.width)) in
       All-from_get_or (λ t. (first_of f n t p == first) ≡ false) (tracks_from f n p k) 0 (λ i m.
       let at = eqb-true _ k (All-get_or (λ t. (first_of f n t p == k) ≡ true) (tracks_from f n p k) i 0 m here) in
       ne_eqb _ first (λ e. omega (arith, at, e)))
 
-  since_behind : (first : ℕ) → All (λ t. (first_of f n t p == first) ≡ false) (tracks_since f n p (first + 1))
+  since_after : (first : ℕ) → All (λ t. (first_of f n t p == first) ≡ false) (tracks_since f n p (first + 1))
   unfolding tracks_since
-  since_behind first =
-      all_joined (λ t. (first_of f n t p == first) ≡ false) (tracks_from f n p) (first + 1) (p + 1 - (first + 1)) (λ k l. begins_behind first k l)
+  since_after first =
+      all_joined (λ t. (first_of f n t p == first) ≡ false) (tracks_from f n p) (first + 1) (p + 1 - (first + 1)) (λ k l. begins_after first k l)
 
   module _ (first : ℕ) (l : first ≤ p) where
     abbrev begun_here : ℕ
@@ -181,7 +181,7 @@ module _ (f : Fabric) (n p : ℕ) where
     begun-length =
         ap (prefix_len (λ t. first_of f n t p == first)) (since_next first l)
         ∙ prefix_passes (λ t. first_of f n t p == first) (tracks_from f n p first) (tracks_since f n p (first + 1))
-        (filter_passes (λ t. first_of f n t p == first) (numbers_below (tracks_in f.mode f.width))) (since_behind first)
+        (filter_passes (λ t. first_of f n t p == first) (numbers_below (tracks_in f.mode f.width))) (since_after first)
 
     pub begun_front : take begun_here (tracks_since f n p first) ≡ tracks_from f n p first
     begun_front =

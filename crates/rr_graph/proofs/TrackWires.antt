@@ -8,7 +8,7 @@ use Rattle.std.proofs.lemmas.List.Sums.{fails_before_first, passes_at_first, pre
 use Rattle.std.proofs.lemmas.List.FromFn.{length-range_with_len, get_or-range_with_len}
 use Rattle.rr_graph.specs.Fabric.{Fabric, numbers_below, is_between}
 use Rattle.rr_graph.specs.Wires.{begins, steps_of, last_of}
-use Rattle.rr_graph.specs.Channels.{first_of, meeting_of, beside_of}
+use Rattle.rr_graph.specs.kept.Channels.{first_of, meeting_of, beside_of}
 use Rattle.rr_graph.proofs.Order.{Rises, rises-lower, rises-higher, length-rises}
 
 -- ---- a list over a range that is empty off a few places
@@ -241,8 +241,8 @@ module _ (f : Fabric) (n t : ℕ) where
   first_of_itself p h = first_itself (begins f n t) p (first_of f n t p) (first_of-is p h.from) h.begins_here
 
   -- just behind a wire begins the next
-  pub begins_behind : (q : ℕ) → IsBeginning q → last_of f n t q < n → IsBeginning (last_of f n t q + 1)
-  begins_behind q h l =
+  pub begins_after : (q : ℕ) → IsBeginning q → last_of f n t q < n → IsBeginning (last_of f n t q + 1)
+  begins_after q h l =
       let last = last_of-is q h.upto in
       record { from = omega arith; upto = omega arith; begins_here = last.next l }
 
@@ -353,7 +353,7 @@ module _ (f : Fabric) (n t : ℕ) where
       among_sides (nat_lt 1 x) (nat_lt e n) first (e + 1) q
       ∙ ap (λ b. b || (nat_lt e n && q == e + 1)) before
       ∙ at_sides w q l x e n end.from (λ t. let b = beginning q t in (apart q x b h, b.upto))
-      (λ less same. beginning-test q (subst IsBeginning (sym same) (begins_behind x h less)))
+      (λ less same. beginning-test q (subst IsBeginning (sym same) (begins_after x h less)))
 
   pub beside_of-rises : (x : ℕ) → IsBeginning x → Rises 1 (n + 1) (beside_of f n t x (last_of f n t x))
   unfolding beside_of

@@ -13,8 +13,8 @@ use Rattle.rr_graph.specs.declared.parts.Mode.TheVariants.{Detailed, Global}
 use Rattle.rr_graph.specs.Fabric.{Fabric, IsFabric, numbers_below}
 use Rattle.rr_graph.specs.Wires.{tracks_in}
 use Rattle.rr_graph.specs.Pins.{tap_count, tracks_by, tapped_tracks}
-use Rattle.rr_graph.specs.PinSuccessors.{taps_track}
-use Rattle.rr_graph.specs.Terminals.{all_tracks}
+use Rattle.rr_graph.specs.kept.PinSuccessors.{taps_track}
+use Rattle.rr_graph.specs.kept.Terminals.{all_tracks}
 use Rattle.rr_graph.proofs.Ranges.{below_next, none_mapped}
 use Rattle.rr_graph.proofs.ChannelTables.{count_next}
 use Rattle.rr_graph.proofs.Taps.{steps_unique, step_below}

@@ -13,16 +13,16 @@ use Rattle.rr_graph.specs.declared.parts.Kind.TheVariants.{Chanx, Chany, Ipin}
 use Rattle.rr_graph.specs.Fabric.{Fabric, IsFabric, numbers_below, is_between, is_block}
 use Rattle.rr_graph.specs.Wires.{begins, last_of}
 use Rattle.rr_graph.specs.Pins.{pins_of, tapped_tracks}
-use Rattle.rr_graph.specs.Picks.{picks}
-use Rattle.rr_graph.specs.Channels.{first_of}
-use Rattle.rr_graph.specs.Sides.{taps_on, tapping_pins, tapping_pads}
-use Rattle.rr_graph.specs.Starts.{kind_start, place_start}
-use Rattle.rr_graph.specs.Numbering.{columns_length, rows_length, block_numbers}
-use Rattle.rr_graph.specs.Tables.{starting_at, wires_before, wire_number, wire_at}
-use Rattle.rr_graph.specs.WireSuccessors.{wire_id, pins_beside}
-use Rattle.rr_graph.specs.Fanouts.{pins_of_row, pins_of_column, pins_at}
+use Rattle.rr_graph.specs.kept.Picks.{picks}
+use Rattle.rr_graph.specs.kept.Channels.{first_of}
+use Rattle.rr_graph.specs.kept.Sides.{taps_on, tapping_pins, tapping_pads}
+use Rattle.rr_graph.specs.kept.Starts.{kind_start, place_start}
+use Rattle.rr_graph.specs.kept.Numbering.{columns_length, rows_length, block_numbers}
+use Rattle.rr_graph.specs.kept.Tables.{starting_at, wires_before, wire_number, wire_at}
+use Rattle.rr_graph.specs.kept.WireSuccessors.{wire_id, pins_beside}
+use Rattle.rr_graph.specs.kept.Fanouts.{pins_of_row, pins_of_column, pins_at}
 use Rattle.rr_graph.proofs.Picks.{length-picks}
-use Rattle.rr_graph.proofs.TrackWires.{IsBeginning, begins_behind, first_of_itself, last_of-is}
+use Rattle.rr_graph.proofs.TrackWires.{IsBeginning, begins_after, first_of_itself, last_of-is}
 use Rattle.rr_graph.proofs.PlaceStarts.{terminal_start, few_numbers}
 use Rattle.rr_graph.proofs.NodeNumbers.{above_first, above_by_row, right_first, right_by_column}
 
@@ -42,7 +42,7 @@ first_upto f n t p = omega arith
 pub behind_first : (f : Fabric) (n t x : ℕ) → 1 ≤ x → x ≤ n → begins f n t x ≡ true → last_of f n t x < n → first_of f n t (last_of f n t x + 1) ≡ last_of f n t x + 1
 behind_first f n t x l m e less =
     let here : IsBeginning f n t x = record { from = l; upto = m; begins_here = e } in
-    first_of_itself f n t (last_of f n t x + 1) (begins_behind f n t x here less)
+    first_of_itself f n t (last_of f n t x + 1) (begins_after f n t x here less)
 
 -- the end of a wire from the table
 pub wire_end : (f : Fabric) (n t x : ℕ) (w : Wire) → w ≡ wire_at f n x t → 1 ≤ x → x ≤ n → begins f n t x ≡ true → w.last ≡ last_of f n t x

@@ -1,4 +1,4 @@
--- What a wire leads to, told as numbers at even distances, are its successors.
+-- What a wire leads to, reported as numbers at even distances, are its successors.
 use Rattle.std.proofs.Common.{◌≡◌, ℕ, ◌+◌, ◌-◌, ◌*◌, ◌<◌, ◌≤◌, List, ◌++◌, map, Some, refl, ap, ◌∙◌, arith}
 use Rattle.std.specs.List.{range_with_len, flat_map}
 use Rattle.std.proofs.lemmas.List.Folds.{flat_map-map}
@@ -12,9 +12,9 @@ use Rattle.rr_graph.specs.Fabric.{Fabric, IsFabric, numbers_below}
 use Rattle.rr_graph.specs.Wires.{steps_of, last_of}
 use Rattle.rr_graph.specs.Nodes.{node_at}
 use Rattle.rr_graph.specs.Edges.{successors_of}
-use Rattle.rr_graph.specs.Channels.{meeting_of, beside_of}
-use Rattle.rr_graph.specs.WireSuccessors.{wire_id, pins_beside}
-use Rattle.rr_graph.specs.Fanouts.{numbers_of, runs_of, number_in, run_list, run_above, run_right, pins_at, row_list, column_list, row_wire_list, column_wire_list}
+use Rattle.rr_graph.specs.kept.Channels.{meeting_of, beside_of}
+use Rattle.rr_graph.specs.kept.WireSuccessors.{wire_id, pins_beside}
+use Rattle.rr_graph.specs.kept.Fanouts.{numbers_of, runs_of, number_in, run_list, run_above, run_right, pins_at, row_list, column_list, row_wire_list, column_wire_list}
 use Rattle.rr_graph.proofs.Windows.{flat_map_same, flat_map_from, map_from, map_agree}
 use Rattle.rr_graph.proofs.NodeNumbers.{above_by_row, right_by_column}
 use Rattle.rr_graph.proofs.WireSuccessorsChanx.{successors_of_row_wire}

@@ -13,10 +13,10 @@ use Rattle.rr_graph.specs.Fabric.{Fabric, numbers_below, is_between}
 use Rattle.rr_graph.specs.Wires.{tracks_in, begins, last_of}
 use Rattle.rr_graph.specs.Nodes.{numbers_at, node_of, node_at}
 use Rattle.rr_graph.specs.Edges.{is_edge}
-use Rattle.rr_graph.specs.Picks.{picks}
-use Rattle.rr_graph.specs.Channels.{meeting_of, beside_of}
-use Rattle.rr_graph.specs.Starts.{place_start, pieces_at}
-use Rattle.rr_graph.specs.WireSuccessors.{wire_id}
+use Rattle.rr_graph.specs.kept.Picks.{picks}
+use Rattle.rr_graph.specs.kept.Channels.{meeting_of, beside_of}
+use Rattle.rr_graph.specs.kept.Starts.{place_start, pieces_at}
+use Rattle.rr_graph.specs.kept.WireSuccessors.{wire_id}
 use Rattle.rr_graph.proofs.Windows.{flat_map_none, flat_map_window, flat_map_agree}
 use Rattle.rr_graph.proofs.Picks.{picks_agree, picks_filtered}
 use Rattle.rr_graph.proofs.Pieces.{place_of_node}

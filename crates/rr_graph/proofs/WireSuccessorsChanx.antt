@@ -11,10 +11,10 @@ use Rattle.rr_graph.specs.Fabric.{Fabric, IsFabric, numbers_below, is_between, i
 use Rattle.rr_graph.specs.Wires.{tracks_in, begins, steps_of, last_of, places_of, runs_through}
 use Rattle.rr_graph.specs.Nodes.{node_of, node_at}
 use Rattle.rr_graph.specs.Edges.{successors_of}
-use Rattle.rr_graph.specs.Channels.{meeting_of, beside_of}
-use Rattle.rr_graph.specs.Starts.{pieces_at, pieces_of_kind}
-use Rattle.rr_graph.specs.Sides.{has_side}
-use Rattle.rr_graph.specs.WireSuccessors.{wire_id, pins_beside}
+use Rattle.rr_graph.specs.kept.Channels.{meeting_of, beside_of}
+use Rattle.rr_graph.specs.kept.Starts.{pieces_at, pieces_of_kind}
+use Rattle.rr_graph.specs.kept.Sides.{has_side}
+use Rattle.rr_graph.specs.kept.WireSuccessors.{wire_id, pins_beside}
 use Rattle.rr_graph.proofs.Windows.{flat_map_one, flat_map_two}
 use Rattle.rr_graph.proofs.Pieces.{successors_of_chanx}
 use Rattle.rr_graph.proofs.TrackWires.{is_among, IsBeginning, IsLast, last_of-is, meeting_of-is, beside_of-is}

@@ -11,10 +11,10 @@ use Rattle.rr_graph.specs.Fabric.{Fabric, IsFabric, numbers_below, is_between, i
 use Rattle.rr_graph.specs.Wires.{tracks_in, begins, steps_of, last_of, places_of, runs_through}
 use Rattle.rr_graph.specs.Nodes.{node_of, node_at}
 use Rattle.rr_graph.specs.Edges.{successors_of}
-use Rattle.rr_graph.specs.Channels.{meeting_of, beside_of}
-use Rattle.rr_graph.specs.Starts.{pieces_at, pieces_of_kind}
-use Rattle.rr_graph.specs.Sides.{has_side}
-use Rattle.rr_graph.specs.WireSuccessors.{wire_id, pins_beside}
+use Rattle.rr_graph.specs.kept.Channels.{meeting_of, beside_of}
+use Rattle.rr_graph.specs.kept.Starts.{pieces_at, pieces_of_kind}
+use Rattle.rr_graph.specs.kept.Sides.{has_side}
+use Rattle.rr_graph.specs.kept.WireSuccessors.{wire_id, pins_beside}
 use Rattle.rr_graph.proofs.Windows.{flat_map_one, flat_map_two, flat_map_none}
 use Rattle.rr_graph.proofs.Pieces.{successors_of_chany}
 use Rattle.rr_graph.proofs.TrackWires.{is_among, IsBeginning, IsLast, last_of-is, meeting_of-is, beside_of-is}
@@ -142,9 +142,9 @@ module _ (f : Fabric) (x y t : ℕ) (here : IsBeginning f f.ny t y) (column : x 
       (λ block pad. of_channel_of_pad (runs_through f wire) f x q ∙ pad_near f x q x y l here.from last-is.upto column (inl refl) block pad)
       (λ block pad. corner_near f x q x y l here.from last-is.upto column (inl refl) block pad)
 
-  pins_behind : (q : ℕ) → pieces_at f wire Ipin (x + 1) q ≡ cond (runs_here q) (lefts q) []
+  pins_after : (q : ℕ) → pieces_at f wire Ipin (x + 1) q ≡ cond (runs_here q) (lefts q) []
   unfolding runs_through
-  pins_behind q =
+  pins_after q =
       let l = last_of f f.ny t y in
       pin_piece f Chany x y t (x + 1) q refl (λ s. s.left) (runs_here q)
       (λ block pin. any_channel_of_pin (runs_through f wire) pin (x + 1) q ∙ right_of_wire x (runs_here q) (λ side. has_side side pin))
@@ -173,7 +173,7 @@ module _ (f : Fabric) (x y t : ℕ) (here : IsBeginning f f.ny t y) (column : x 
   column_wire_pins =
       flat_map_two _ x (x + 1) (f.nx + 2) (omega arith) (omega arith) (λ p _ differ more. flat_map_none _ (f.ny + 2) (λ q _. pins_elsewhere p q differ more))
       ∙ ap (λ ns. ns ++ flat_map (pieces_at f wire Ipin (x + 1)) (numbers_below (f.ny + 2))) (along_wire (pieces_at f wire Ipin x) rights pins_before)
-      ∙ ap (λ ns. flat_map rights (places_of f f.ny t y) ++ ns) (along_wire (pieces_at f wire Ipin (x + 1)) lefts pins_behind)
+      ∙ ap (λ ns. flat_map rights (places_of f f.ny t y) ++ ns) (along_wire (pieces_at f wire Ipin (x + 1)) lefts pins_after)
 
 -- the successors of a wire of a column: pins and pads, wires of rows, wires of the column
 pub successors_of_column_wire :

@@ -16,10 +16,10 @@ use Rattle.rr_graph.specs.Wires.{Place, runs_through}
 use Rattle.rr_graph.specs.Pins.{pins_of, tapped_tracks, is_marked_global, when, channels_of_pin, channel_of_pad, channels_beside, taps}
 use Rattle.rr_graph.specs.Nodes.{numbers_at, node_of}
 use Rattle.rr_graph.specs.Edges.{is_edge}
-use Rattle.rr_graph.specs.Picks.{picks}
-use Rattle.rr_graph.specs.Sides.{has_side, taps_on, tapping_pins, tapping_pads}
-use Rattle.rr_graph.specs.Starts.{place_start, pieces_at}
-use Rattle.rr_graph.specs.WireSuccessors.{pins_beside}
+use Rattle.rr_graph.specs.kept.Picks.{picks}
+use Rattle.rr_graph.specs.kept.Sides.{has_side, taps_on, tapping_pins, tapping_pads}
+use Rattle.rr_graph.specs.kept.Starts.{place_start, pieces_at}
+use Rattle.rr_graph.specs.kept.WireSuccessors.{pins_beside}
 use Rattle.rr_graph.proofs.Picks.{picks_agree, picks_none, picks_shift}
 use Rattle.rr_graph.proofs.Joins.{is_wire}
 

@@ -34,9 +34,9 @@ up_to_multiple s d some =
 abbrev rank : Fabric → ℕ → ℕ
 rank f track = rank_of f.architecture.segments f.width track
 
-begins_behind : (f : Fabric) (n track place k : ℕ) → (place + rank f track + k) % length_of f n track ≡ 0 → begins f n track (place + 1 + k) ≡ true
+begins_after : (f : Fabric) (n track place k : ℕ) → (place + rank f track + k) % length_of f n track ≡ 0 → begins f n track (place + 1 + k) ≡ true
 unfolding begins
-begins_behind f n track place k whole =
+begins_after f n track place k whole =
     let e : place + 1 + k - 1 + rank f track ≡ place + rank f track + k = omega arith in
     or_right (place + 1 + k == 1) ((place + 1 + k - 1 + rank f track) % length_of f n track == 0)
     (eq-eqb _ _ (ap (λ m. m % length_of f n track) e ∙ whole))
@@ -47,7 +47,7 @@ steps_within f l n track place some =
     let d = length_of f n track in
     let positive : 1 ≤ d = some_length f n track l some in
     let k = d - 1 - (place + rank f track + (d - 1)) % d in
-    let first = first_by (begins f n track) (place + 1) (n - place) k (begins_behind f n track place k (up_to_multiple (place + rank f track) d positive)) in
+    let first = first_by (begins f n track) (place + 1) (n - place) k (begins_after f n track place k (up_to_multiple (place + rank f track) d positive)) in
     omega arith
 
 pub row_within : (f : Fabric) → IsFabric f → (track place : ℕ) → steps_of f f.nx track place + 1 ≤ reach_of f track

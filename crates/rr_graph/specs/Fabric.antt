@@ -3,6 +3,7 @@
 use Rattle.std.specs.Prelude.{ℕ, ◌+◌, ◌≤◌, ◌==◌, Bool, ◌&&◌, ◌||◌, nat_le, List}
 use Rattle.std.specs.List.{range_with_len}
 use Rattle.arch_file.specs.Architecture.{Architecture, IsWithinLimits}
+pub use Rattle.place_file.specs.Placement.{longest_side}
 use Rattle.rr_graph.specs.declared.parts.Mode.{Mode}
 
 pub record Fabric : Type 0 where
@@ -18,14 +19,18 @@ pub record Fabric : Type 0 where
 abbrev pub fabric_with : (nx ny width : ℕ) → Mode → Architecture → Fabric
 fabric_with nx ny width mode a = record { architecture = a; nx = nx; ny = ny; width = width; mode = mode }
 
+-- the most tracks of a channel (this project's profile)
+abbrev pub most_tracks : ℕ
+most_tracks = 256
+
 -- the limits that every device keeps (this project's profile)
 pub record IsFabric (f : Fabric) : Type 0 where
   pub some_columns : 1 ≤ f.nx
-  pub few_columns : f.nx ≤ 100
+  pub few_columns : f.nx ≤ longest_side
   pub some_rows : 1 ≤ f.ny
-  pub few_rows : f.ny ≤ 100
+  pub few_rows : f.ny ≤ longest_side
   pub some_tracks : 1 ≤ f.width
-  pub few_tracks : f.width ≤ 256
+  pub few_tracks : f.width ≤ most_tracks
   pub limits : IsWithinLimits f.architecture
 
 -- 0, 1, .. up to n - 1

@@ -40,7 +40,7 @@ fc_tracks Fractional fc width = fc * width
 abbrev pub tap_count : FcType → (fc width : ℕ) → ℕ
 tap_count t fc width = max 1 (min width ((fc_tracks t fc width + 500000000) / 1000000000))
 
--- the tracks that pin p taps by Fc, spread evenly and turned on by the pin's number; in a global device the one track
+-- the tracks that pin p taps by Fc, spread evenly and shifted by the pin's number; in a global device the one track
 abbrev pub tracks_by : Mode → (count width p : ℕ) → List ℕ
 tracks_by Detailed count width p = map (λ i. (p + (i * width) / count) % width) (numbers_below count)
 tracks_by Global count width p = 0 ∷ []

@@ -14,17 +14,17 @@ use Rattle.rr_graph.specs.Problems.{Net, RoutingProblem}
 use Rattle.rr_graph.specs.Same.{same_mode, is_same_device, is_same_net, is_same_problem}
 
 mode_decides : (a b : Mode) → Decides (same_mode a b) (a ≡ b)
-mode_decides = decides_from_tests same_mode same told
+mode_decides = decides_from_tests same_mode same reported
   where
     same : (a : Mode) → same_mode a a ≡ true
     same Detailed = refl
     same Global = refl
 
-    told : (a b : Mode) → same_mode a b ≡ true → a ≡ b
-    told Detailed Detailed e = refl
-    told Detailed Global e = absurd (false≢true e)
-    told Global Detailed e = absurd (false≢true e)
-    told Global Global e = refl
+    reported : (a b : Mode) → same_mode a b ≡ true → a ≡ b
+    reported Detailed Detailed e = refl
+    reported Detailed Global e = absurd (false≢true e)
+    reported Global Detailed e = absurd (false≢true e)
+    reported Global Global e = refl
 
 -- the test is true exactly where the two are one
 pub same_device : (a b : Fabric) → Decides (is_same_device a b) (a ≡ b)

@@ -8,7 +8,7 @@ use Rattle.arch_file.specs.declared.parts.SegmentLength.TheVariants.{Places, Lon
 use Rattle.rr_graph.specs.declared.parts.Mode.{Mode}
 use Rattle.rr_graph.specs.declared.parts.Mode.TheVariants.{Detailed, Global}
 use Rattle.rr_graph.specs.declared.parts.Kind.{Kind}
-use Rattle.rr_graph.specs.declared.parts.Kind.TheVariants.{Source, Sink, Opin, Ipin, Chanx, Chany}
+use Rattle.rr_graph.specs.declared.parts.Kind.TheVariants.{Chanx, Chany}
 use Rattle.rr_graph.specs.declared.parts.Node.{Node}
 use Rattle.rr_graph.specs.Fabric.{Fabric, numbers_below}
 
@@ -48,7 +48,7 @@ abbrev pub places_of_length : ℕ → SegmentLength → ℕ
 places_of_length n (Places k) = k
 places_of_length n Longline = n
 
--- (every track has a type)
+-- how many places a wire of this type passes in a channel of n places; 1 for no type, which no track lacks
 abbrev pub places_of_type : ℕ → Option Segment → ℕ
 places_of_type n (Some s) = places_of_length n s.length
 places_of_type n None = 1
@@ -81,15 +81,6 @@ last_of f n track place = place + steps_of f n track place
 -- the places of the wire that begins at a place, in order
 abbrev pub places_of : Fabric → (n track place : ℕ) → List ℕ
 places_of f n track place = range_with_len place (steps_of f n track place + 1)
-
--- the last place of a node along its channel; of what is no wire its x
-abbrev pub last_by : Kind → Fabric → Node → ℕ
-last_by Source f n = n.x
-last_by Sink f n = n.x
-last_by Opin f n = n.x
-last_by Ipin f n = n.x
-last_by Chanx f n = last_of f f.nx n.number n.x
-last_by Chany f n = last_of f f.ny n.number n.y
 
 -- the wire runs through a place of its channel
 abbrev pub runs_by : Kind → Kind → Fabric → Node → (x y : ℕ) → Bool

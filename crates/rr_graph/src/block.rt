@@ -1,9 +1,10 @@
 //! What stands at a block: its classes and pins by direction.
 
 ghost use Rattle.std.specs.Prelude.{◌≡◌, ◌≤◌, length, vec_len, IfOk};
+ghost use Rattle.arch_file.specs.Architecture.{most_pins};
 ghost use Rattle.rr_graph.specs.Pins.{has_direction, classes_of, pins_of};
-ghost use Rattle.rr_graph.specs.Numbering.{block_numbers};
-ghost use Rattle.rr_graph.specs.Numbers.{IsBlock};
+ghost use Rattle.rr_graph.specs.kept.Numbering.{block_numbers};
+ghost use Rattle.rr_graph.specs.kept.Numbers.{IsBlock};
 
 use crate::layout::Layout;
 use crate::parts::Kind;
@@ -57,7 +58,7 @@ impl Layout {
         direction: Direction,
     ) -> Result<Vec<u32>, AllocError>
         ensures pins { IfOk result (λ v. v.items ≡ pins_of self.now.architecture direction) }
-        ensures few { IfOk result (λ v. vec_len v ≤ 64) }
+        ensures few { IfOk result (λ v. vec_len v ≤ most_pins) }
     {
         let mut pins = Vec::new(alloc);
         for number in 0..self.arch.pins().len() as u32 {
@@ -69,7 +70,7 @@ impl Layout {
     }
 
     /// What stands at a block.
-    #[tactic(auto, unfolding(crate::specs::Numbering::block_numbers))]
+    #[tactic(auto, unfolding(crate::specs::kept::Numbering::block_numbers))]
     pub(crate) fn block(&self, alloc: Global) -> Result<Block, AllocError>
         ensures { IfOk result (IsBlock self.now) }
     {
@@ -82,7 +83,7 @@ impl Layout {
     }
 
     /// The numbers of the nodes of a kind at a block, at which no wire stands.
-    #[tactic(auto, unfolding(crate::specs::Numbering::block_numbers))]
+    #[tactic(auto, unfolding(crate::specs::kept::Numbering::block_numbers))]
     pub(crate) fn numbers<'a>(&self, block: &'a Block, kind: Kind) -> &'a [u32]
         requires { IsBlock self.now block.now }
         ensures { result.now ≡ block_numbers self.now kind }
@@ -101,7 +102,7 @@ impl Layout {
     pub(crate) fn count_at_block(&self, block: &Block, kind: Kind) -> u32
         requires { IsBlock self.now block.now }
         ensures count { result ≡ length (block_numbers self.now kind) }
-        ensures few { result ≤ 64 }
+        ensures few { result ≤ most_pins }
     {
         let _ = &self.arch;
         self.numbers(block, kind).len() as u32

@@ -3,9 +3,10 @@
 
 ghost use Rattle.std.specs.Prelude.{◌≡◌, ◌+◌, ◌-◌, ◌*◌, ◌<◌, ◌≤◌, ◌++◌, length, map, slice_get, Some, true, IfOk, OnOk};
 ghost use Rattle.std.specs.List.{flat_map};
-ghost use Rattle.rr_graph.specs.Fabric.{numbers_below};
+ghost use Rattle.place_file.specs.Placement.{longest_side};
+ghost use Rattle.rr_graph.specs.Fabric.{numbers_below, most_tracks};
 ghost use Rattle.rr_graph.specs.Wires.{tracks_in, type_of, rank_of, begins, steps_of};
-ghost use Rattle.rr_graph.specs.Tables.{stagger_of, starting_at, wires_before, wire_number, wire_at, beginning_of, beginnings_of, wires_at, IsChannel};
+ghost use Rattle.rr_graph.specs.kept.Tables.{stagger_of, starting_at, wires_before, wire_number, wire_at, beginning_of, beginnings_of, wires_at, IsChannel};
 
 use crate::layout::Layout;
 use std::alloc::{AllocError, Global};
@@ -138,7 +139,7 @@ impl Layout {
         requires some { 1 ≤ places }
         requires staggers { staggers.now ≡ map (stagger_of self.now places) (numbers_below (tracks_in self.now.mode self.now.width)) }
         ensures count { result ≡ length (starting_at self.now places place) }
-        ensures few { result ≤ 256 }
+        ensures few { result ≤ most_tracks }
     {
         if place == 0 || place > places {
             return 0;
@@ -158,7 +159,7 @@ impl Layout {
         staggers: &[Stagger],
         places: u32,
     ) -> Result<Vec<u32>, AllocError>
-        requires some { (1 ≤ places) × (places ≤ 100) }
+        requires some { (1 ≤ places) × (places ≤ longest_side) }
         requires staggers { staggers.now ≡ map (stagger_of self.now places) (numbers_below (tracks_in self.now.mode self.now.width)) }
         ensures { IfOk result (λ v. v.items ≡ map (wires_before self.now places) (numbers_below (places + 2))) }
     {
@@ -180,7 +181,7 @@ impl Layout {
         places: u32,
         place: u32,
     ) -> Result<(), AllocError>
-        requires some { (1 ≤ places) × (places ≤ 100) }
+        requires some { (1 ≤ places) × (places ≤ longest_side) }
         requires staggers { staggers.now ≡ map (stagger_of self.now places) (numbers_below (tracks_in self.now.mode self.now.width)) }
         ensures { OnOk result
             (beginnings.new.items ≡ beginnings.old.items ++ map (beginning_of place) (starting_at self.now places place)) }
@@ -200,7 +201,7 @@ impl Layout {
     }
 
     /// The wires of a channel in their order; room is made for `count`.
-    #[tactic(auto, using(crate::proofs::Windows::flat_map_next), unfolding(crate::specs::Tables::beginnings_of))]
+    #[tactic(auto, using(crate::proofs::Windows::flat_map_next), unfolding(crate::specs::kept::Tables::beginnings_of))]
     fn beginnings(
         &self,
         alloc: Global,
@@ -208,7 +209,7 @@ impl Layout {
         places: u32,
         count: usize,
     ) -> Result<Vec<Beginning>, AllocError>
-        requires some { (1 ≤ places) × (places ≤ 100) }
+        requires some { (1 ≤ places) × (places ≤ longest_side) }
         requires staggers { staggers.now ≡ map (stagger_of self.now places) (numbers_below (tracks_in self.now.mode self.now.width)) }
         ensures { IfOk result (λ v. v.items ≡ beginnings_of self.now places) }
     {
@@ -248,7 +249,7 @@ impl Layout {
         track: u32,
         number: u32,
     ) -> Wire
-        requires some { (1 ≤ places) × (places ≤ 100) }
+        requires some { (1 ≤ places) × (places ≤ longest_side) }
         requires place { (1 ≤ place) × (place ≤ places) }
         requires staggers { staggers.now ≡ map (stagger_of self.now places) (numbers_below (tracks_in self.now.mode self.now.width)) }
         requires within { track < tracks_in self.now.mode self.now.width }
@@ -279,7 +280,7 @@ impl Layout {
         place: u32,
         before: u32,
     ) -> Result<(), AllocError>
-        requires some { (1 ≤ places) × (places ≤ 100) }
+        requires some { (1 ≤ places) × (places ≤ longest_side) }
         requires place { (1 ≤ place) × (place ≤ places) }
         requires staggers { staggers.now ≡ map (stagger_of self.now places) (numbers_below (tracks_in self.now.mode self.now.width)) }
         requires before { before ≡ wire_number self.now places place 0 }
@@ -305,7 +306,7 @@ impl Layout {
         places: u32,
         before: &[u32],
     ) -> Result<Vec<Wire>, AllocError>
-        requires some { (1 ≤ places) × (places ≤ 100) }
+        requires some { (1 ≤ places) × (places ≤ longest_side) }
         requires staggers { staggers.now ≡ map (stagger_of self.now places) (numbers_below (tracks_in self.now.mode self.now.width)) }
         requires before { before.now ≡ map (wires_before self.now places) (numbers_below (places + 2)) }
         ensures { IfOk result (λ v. v.items ≡ flat_map (λ m. wires_at self.now places (m + 1)) (numbers_below places)) }
@@ -320,7 +321,7 @@ impl Layout {
 
     /// The tables of a channel of `places` places.
     pub(crate) fn channel(&self, alloc: Global, places: u32) -> Result<Channel, AllocError>
-        requires { (1 ≤ places) × (places ≤ 100) }
+        requires { (1 ≤ places) × (places ≤ longest_side) }
         ensures { IfOk result (IsChannel self.now places) }
     {
         let staggers = self.staggers(alloc, places)?;
@@ -340,7 +341,7 @@ impl Layout {
     /// How many wires begin before a place of a channel of `places` places.
     #[tactic(auto, using(crate::proofs::Ranges::length_below, crate::proofs::Ranges::get_below, crate::proofs::ChannelTables::few_before))]
     pub(crate) fn wires_before(&self, channel: &Channel, places: u32, place: u32) -> u32
-        requires few { places ≤ 100 }
+        requires few { places ≤ longest_side }
         requires within { place ≤ places + 1 }
         requires tables { IsChannel self.now places channel.now }
         ensures before { result ≡ wires_before self.now places place }
@@ -352,7 +353,7 @@ impl Layout {
 
     /// The wire of a track through a place, where those through each place of a channel of `places` places are given.
     pub(crate) fn wire_among(&self, wires: &[Wire], places: u32, place: u32, track: u32) -> Wire
-        requires few { places ≤ 100 }
+        requires few { places ≤ longest_side }
         requires within { (1 ≤ place) × (place ≤ places) }
         requires track { track < tracks_in self.now.mode self.now.width }
         requires wires { wires.now ≡ flat_map (λ m. wires_at self.now places (m + 1)) (numbers_below places) }
@@ -363,7 +364,7 @@ impl Layout {
 
     /// The wire of a track through a place of a channel of `places` places.
     pub(crate) fn wire_at(&self, channel: &Channel, places: u32, place: u32, track: u32) -> Wire
-        requires few { places ≤ 100 }
+        requires few { places ≤ longest_side }
         requires within { (1 ≤ place) × (place ≤ places) }
         requires track { track < tracks_in self.now.mode self.now.width }
         requires tables { IsChannel self.now places channel.now }

@@ -2,13 +2,14 @@
 
 ghost use Rattle.std.specs.Prelude.{◌≡◌, ◌+◌, ◌-◌, ◌*◌, ◌/◌, ◌%◌, ◌≤◌, ◌<◌, true, false, length, slice_get, Some};
 ghost use Rattle.std.specs.Option.{option_map};
-ghost use Rattle.rr_graph.specs.Numbering.{is_terminal, column_length, columns_length, inner_rows_length, inner_place_length, terminals_length, block_numbers};
+ghost use Rattle.arch_file.specs.Architecture.{most_pins};
+ghost use Rattle.rr_graph.specs.kept.Numbering.{is_terminal, column_length, columns_length, inner_rows_length, inner_place_length, terminals_length, block_numbers};
 ghost use Rattle.rr_graph.specs.Fabric.{is_between};
 ghost use Rattle.rr_graph.specs.Nodes.{node_at, node_count_of};
-ghost use Rattle.rr_graph.specs.Starts.{kind_length, kind_start, column_start};
-ghost use Rattle.rr_graph.specs.Tables.{wires_before, beginnings_of, IsChannel};
-ghost use Rattle.rr_graph.specs.Numbers.{IsBlock};
-ghost use Rattle.rr_graph.specs.Strides.{stride_at, column_stride};
+ghost use Rattle.rr_graph.specs.kept.Starts.{kind_length, kind_start, column_start};
+ghost use Rattle.rr_graph.specs.kept.Tables.{wires_before, beginnings_of, IsChannel};
+ghost use Rattle.rr_graph.specs.kept.Numbers.{IsBlock};
+ghost use Rattle.rr_graph.specs.kept.Strides.{stride_at, column_stride};
 
 use crate::block::Block;
 use crate::channel::{Beginning, Channel};
@@ -26,9 +27,9 @@ struct LinePlace {
 
 impl Layout {
     /// The column of a terminal or pin, before which `at` stand, where a block has `count`.
-    #[tactic(auto, unfolding(crate::specs::Numbering::columns_length, crate::specs::Numbering::column_length, crate::specs::Numbering::terminals_length))]
+    #[tactic(auto, unfolding(crate::specs::kept::Numbering::columns_length, crate::specs::kept::Numbering::column_length, crate::specs::kept::Numbering::terminals_length))]
     fn column_found(&self, count: u32, at: u32) -> LinePlace
-        requires few { count ≤ 64 }
+        requires few { count ≤ most_pins }
         requires within { at < terminals_length self.now count }
         ensures within { result.line ≤ self.now.nx + 1 }
         ensures before { columns_length self.now count result.line + result.rest ≡ at }
@@ -57,7 +58,7 @@ impl Layout {
 
     /// The row of a terminal or pin in a column of blocks, before which `rest` stand there.
     fn inner_row_found(&self, count: u32, rest: u32) -> LinePlace
-        requires few { count ≤ 64 }
+        requires few { count ≤ most_pins }
         requires within { rest < 2 * self.now.architecture.io_rat + self.now.ny * count }
         ensures within { result.line ≤ self.now.ny + 1 }
         ensures before { inner_rows_length self.now count result.line + result.rest ≡ rest }
@@ -299,7 +300,7 @@ impl Device {
 
     /// The node of a number.
     #[inline(always)]
-    #[tactic(auto, using(crate::proofs::Pieces::node_count_by_kinds, crate::proofs::NodesFound::none_past), unfolding(crate::specs::Starts::kind_start))]
+    #[tactic(auto, using(crate::proofs::Pieces::node_count_by_kinds, crate::proofs::NodesFound::none_past), unfolding(crate::specs::kept::Starts::kind_start))]
     pub(crate) fn node_of(&self, id: u32) -> Option<Node>
         ensures { result ≡ node_at self.now id }
     {
@@ -311,7 +312,7 @@ impl Device {
 
     /// The node of a number that one has.
     #[inline(always)]
-    #[tactic(auto, using(crate::proofs::Pieces::node_count_by_kinds), unfolding(crate::specs::Starts::kind_start))]
+    #[tactic(auto, using(crate::proofs::Pieces::node_count_by_kinds), unfolding(crate::specs::kept::Starts::kind_start))]
     fn node_below(&self, id: u32) -> Node
         requires { id < node_count_of self.now }
         ensures { node_at self.now id ≡ Some result }

@@ -3,7 +3,8 @@
 ghost use Rattle.std.specs.Prelude.{◌≡◌, ℕ, ◌+◌, ◌^◌, ◌<◌, ◌≤◌, ◌↔◌, ◌⊎◌, [], ◌∷◌, length, nat_le, Contains, true, IfOk, IfSome, IsSome, Some, OnOk, OnErr, IsOk, Option, Result};
 ghost use Rattle.std.specs.List.Sorted.{IsStrictlyIncreasing};
 ghost use Rattle.std.specs.Option.{option_map};
-ghost use Rattle.rr_graph.specs.Fabric.{Fabric, IsFabric};
+ghost use Rattle.place_file.specs.Placement.{longest_side};
+ghost use Rattle.rr_graph.specs.Fabric.{Fabric, IsFabric, most_tracks};
 ghost use Rattle.rr_graph.specs.Nodes.{node_count_of, node_at, kind_of_node, is_wire_at, number_of, label_of, capacity_of, span_of, wire_in};
 ghost use Rattle.rr_graph.specs.Edges.{edge_between, successors_of, edge_count_of};
 
@@ -43,7 +44,7 @@ impl Model for Device {
     ghost Value = { Fabric };
 
     ghost use Rattle.rr_graph.specs.Fabric.{IsFabric};
-    ghost use Rattle.rr_graph.specs.Numbers.{IsTabled};
+    ghost use Rattle.rr_graph.specs.kept.Numbers.{IsTabled};
 
     ghost view = { λ d. d.layout };
 
@@ -59,11 +60,11 @@ impl Device {
         ny: u32,
         width: u32,
     ) -> Result<Device, DeviceFault>
-        requires columns { (1 ≤ nx) × (nx ≤ 100) }
-        requires rows { (1 ≤ ny) × (ny ≤ 100) }
+        requires columns { (1 ≤ nx) × (nx ≤ longest_side) }
+        requires rows { (1 ≤ ny) × (ny ≤ longest_side) }
         ensures made { IfOk result
             (λ d. d ≡ record { architecture = arch.now; nx = nx; ny = ny; width = width; mode = Mode.Detailed }) }
-        ensures width { (result ≡ Err DeviceFault.Width) ↔ ((width ≡ 0) ⊎ (256 < width)) }
+        ensures width { (result ≡ Err DeviceFault.Width) ↔ ((width ≡ 0) ⊎ (most_tracks < width)) }
     {
         Device::make(alloc, arch, nx, ny, width, Mode::Detailed)
     }
@@ -77,11 +78,11 @@ impl Device {
         ny: u32,
         width: u32,
     ) -> Result<Device, DeviceFault>
-        requires columns { (1 ≤ nx) × (nx ≤ 100) }
-        requires rows { (1 ≤ ny) × (ny ≤ 100) }
+        requires columns { (1 ≤ nx) × (nx ≤ longest_side) }
+        requires rows { (1 ≤ ny) × (ny ≤ longest_side) }
         ensures made { IfOk result
             (λ d. d ≡ record { architecture = arch.now; nx = nx; ny = ny; width = width; mode = Mode.Global }) }
-        ensures width { (result ≡ Err DeviceFault.Width) ↔ ((width ≡ 0) ⊎ (256 < width)) }
+        ensures width { (result ≡ Err DeviceFault.Width) ↔ ((width ≡ 0) ⊎ (most_tracks < width)) }
     {
         Device::make(alloc, arch, nx, ny, width, Mode::Global)
     }
@@ -94,11 +95,11 @@ impl Device {
         width: u32,
         mode: Mode,
     ) -> Result<Device, DeviceFault>
-        requires columns { (1 ≤ nx) × (nx ≤ 100) }
-        requires rows { (1 ≤ ny) × (ny ≤ 100) }
+        requires columns { (1 ≤ nx) × (nx ≤ longest_side) }
+        requires rows { (1 ≤ ny) × (ny ≤ longest_side) }
         ensures made { IfOk result
             (λ d. d ≡ record { architecture = arch.now; nx = nx; ny = ny; width = width; mode = mode }) }
-        ensures width { (result ≡ Err DeviceFault.Width) ↔ ((width ≡ 0) ⊎ (256 < width)) }
+        ensures width { (result ≡ Err DeviceFault.Width) ↔ ((width ≡ 0) ⊎ (most_tracks < width)) }
     {
         if width == 0 || width > 256 {
             return Err(DeviceFault::Width);

@@ -17,7 +17,7 @@ pub(crate) struct Divisor {
 
 impl Model for Divisor {
     ghost use Rattle.std.specs.Prelude.{ℕ};
-    ghost use Rattle.rr_graph.specs.Divisors.{IsDivisor};
+    ghost use Rattle.rr_graph.specs.kept.Divisors.{IsDivisor};
 
     ghost Value = { ℕ };
 

@@ -1,10 +1,10 @@
 //! The edges of a device.
 
 ghost use Rattle.std.specs.Prelude.{◌≡◌, ◌==◌, ◌&&◌};
-ghost use Rattle.rr_graph.specs.Wires.{last_by};
-ghost use Rattle.rr_graph.specs.Channels.{is_next_to, passes_corner};
+ghost use Rattle.rr_graph.specs.kept.LastPlaces.{last_by};
+ghost use Rattle.rr_graph.specs.kept.Channels.{is_next_to, passes_corner};
 ghost use Rattle.rr_graph.specs.Edges.{is_edge};
-ghost use Rattle.rr_graph.specs.Numbers.{IsTapCounts};
+ghost use Rattle.rr_graph.specs.kept.Numbers.{IsTapCounts};
 
 use crate::layout::Layout;
 use crate::parts::{Kind, Node};

@@ -5,8 +5,8 @@ ghost use Rattle.std.specs.List.{flat_map};
 ghost use Rattle.smallvec.specs.SmallVec.{HasRoomFor};
 ghost use Rattle.rr_graph.specs.Fabric.{numbers_below};
 ghost use Rattle.rr_graph.specs.Pins.{when};
-ghost use Rattle.rr_graph.specs.Pushes.{Pushes};
-ghost use Rattle.rr_graph.specs.Fanouts.{numbers_of, runs_of, number_in, run_list, by_run, by_place, pins_at, row_list, column_list, IsSmallRun, IsSmallMeeting, IsSmallTaps, IsSmallRow, IsSmallColumn};
+ghost use Rattle.rr_graph.specs.kept.Pushes.{Pushes};
+ghost use Rattle.rr_graph.specs.kept.Fanouts.{numbers_of, runs_of, number_in, run_list, by_run, by_place, pins_at, row_list, column_list, IsSmallRun, IsSmallMeeting, IsSmallTaps, IsSmallRow, IsSmallColumn};
 
 use smallvec::SmallVec;
 use std::alloc::AllocError;
@@ -239,7 +239,7 @@ impl RowFanout<'_> {
 
     /// Pushes it; for a number of places that is known when this is inlined, without loops.
     #[inline(always)]
-    #[tactic(auto, using(crate::proofs::Pushes::pushed_then, crate::proofs::Pushes::room_first, crate::proofs::Pushes::room_then), unfolding(crate::specs::Fanouts::row_list))]
+    #[tactic(auto, using(crate::proofs::Pushes::pushed_then, crate::proofs::Pushes::room_first, crate::proofs::Pushes::room_then), unfolding(crate::specs::kept::Fanouts::row_list))]
     fn push_along(self, list: &mut SmallVec<u32, 8>, places: u32)
         requires room { HasRoomFor list.old (length (row_list self)) }
         requires small { IsSmallRow self }
@@ -316,7 +316,7 @@ impl ColumnFanout<'_> {
 
     /// Pushes it; for a number of places that is known when this is inlined, without loops.
     #[inline(always)]
-    #[tactic(auto, using(crate::proofs::Pushes::pushed_then, crate::proofs::Pushes::room_first, crate::proofs::Pushes::room_then), unfolding(crate::specs::Fanouts::column_list))]
+    #[tactic(auto, using(crate::proofs::Pushes::pushed_then, crate::proofs::Pushes::room_first, crate::proofs::Pushes::room_then), unfolding(crate::specs::kept::Fanouts::column_list))]
     fn push_along(self, list: &mut SmallVec<u32, 8>, places: u32)
         requires room { HasRoomFor list.old (length (column_list self)) }
         requires small { IsSmallColumn self }

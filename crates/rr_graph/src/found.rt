@@ -4,7 +4,7 @@
 ghost use Rattle.std.specs.Prelude.{◌≡◌, not};
 ghost use Rattle.std.specs.List.{list_any};
 ghost use Rattle.rr_graph.specs.Edges.{edge_between};
-ghost use Rattle.rr_graph.specs.Found.{IsFound, IsFoundAt, MayBeFound, TellsEdge};
+ghost use Rattle.rr_graph.specs.kept.Found.{IsFound, IsFoundAt, MayBeFound, TellsEdge};
 
 use crate::device::Device;
 use crate::parts::Node;
@@ -102,7 +102,7 @@ impl<'a> Model for EdgeFinder<'a> {
 
     ghost Value = { Fabric };
 
-    ghost use Rattle.rr_graph.specs.Found.{MayBeFound};
+    ghost use Rattle.rr_graph.specs.kept.Found.{MayBeFound};
 
     ghost view = { λ e. e.device.now };
 

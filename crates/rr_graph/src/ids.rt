@@ -5,8 +5,8 @@ ghost use Rattle.std.specs.List.{position};
 ghost use Rattle.rr_graph.specs.Fabric.{IsFabric, is_between, is_block, is_pad};
 ghost use Rattle.rr_graph.specs.Wires.{tracks_in, begins};
 ghost use Rattle.rr_graph.specs.Nodes.{number_of, node_of};
-ghost use Rattle.rr_graph.specs.Numbering.{is_terminal};
-ghost use Rattle.rr_graph.specs.WireSuccessors.{wire_id};
+ghost use Rattle.rr_graph.specs.kept.Numbering.{is_terminal};
+ghost use Rattle.rr_graph.specs.kept.WireSuccessors.{wire_id};
 
 use crate::device::Device;
 use crate::parts::{Kind, Node};

@@ -2,8 +2,9 @@
 
 ghost use Rattle.std.specs.Prelude.{◌≡◌, ℕ, ◌+◌, ◌≤◌, Some};
 ghost use Rattle.rr_graph.specs.Nodes.{kind_of_node};
-ghost use Rattle.rr_graph.specs.Starts.{kind_length, kind_start, place_start};
-ghost use Rattle.rr_graph.specs.InputPins.{IsWithin, IsPinOf, most_pins_at};
+ghost use Rattle.rr_graph.specs.kept.Starts.{kind_length, kind_start, place_start};
+ghost use Rattle.rr_graph.specs.InputPins.{IsInRange, IsPinOf};
+ghost use Rattle.rr_graph.specs.kept.PinsAtPlaces.{most_pins_at};
 
 use crate::device::Device;
 use crate::parts::{Kind, NodeRange};
@@ -12,7 +13,7 @@ impl Device {
     /// The numbers of the input pins.
     #[tactic(auto, using(crate::proofs::InputPins::pins_follow))]
     pub fn input_pins(&self) -> NodeRange
-        ensures { (i : ℕ) → IsWithin result i → kind_of_node self.now i ≡ Some Kind.Ipin }
+        ensures { (i : ℕ) → IsInRange result i → kind_of_node self.now i ≡ Some Kind.Ipin }
     {
         NodeRange {
             first: self.kind_start(Kind::Ipin),
@@ -48,7 +49,7 @@ impl Device {
 
     /// The numbers of the input pins that stand where a sink does: all that lead to it are among them.
     pub fn pins_beside(&self, sink: u32) -> NodeRange
-        ensures { (pin : ℕ) → IsPinOf self.now sink pin → IsWithin result pin }
+        ensures { (pin : ℕ) → IsPinOf self.now sink pin → IsInRange result pin }
     {
         let _limits = self.nx();
         match self.node(sink) {

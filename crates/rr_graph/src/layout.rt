@@ -1,7 +1,8 @@
 //! What a device is made from: its architecture, the size of its array, the width of its channels, and its mode.
 
 ghost use Rattle.std.specs.Prelude.{◌≡◌, ℕ, ◌+◌, ◌≤◌, ◌<◌, IfOk};
-ghost use Rattle.rr_graph.specs.Fabric.{IsFabric, is_block, is_pad};
+ghost use Rattle.place_file.specs.Placement.{longest_side};
+ghost use Rattle.rr_graph.specs.Fabric.{IsFabric, is_block, is_pad, most_tracks};
 ghost use Rattle.rr_graph.specs.Wires.{tracks_in};
 
 use crate::parts::Mode;
@@ -26,7 +27,7 @@ impl Model for Layout {
 
     ghost Value = { Fabric };
 
-    ghost use Rattle.rr_graph.specs.Fields.{fabric_of};
+    ghost use Rattle.rr_graph.specs.kept.Fields.{fabric_of};
 
     ghost view = { fabric_of };
 
@@ -55,9 +56,9 @@ impl Layout {
         width: u32,
         mode: Mode,
     ) -> Result<Layout, AllocError>
-        requires columns { (1 ≤ nx) × (nx ≤ 100) }
-        requires rows { (1 ≤ ny) × (ny ≤ 100) }
-        requires tracks { (1 ≤ width) × (width ≤ 256) }
+        requires columns { (1 ≤ nx) × (nx ≤ longest_side) }
+        requires rows { (1 ≤ ny) × (ny ≤ longest_side) }
+        requires tracks { (1 ≤ width) × (width ≤ most_tracks) }
         ensures made { IfOk result
             (λ l. l ≡ record { architecture = arch.now; nx = nx; ny = ny; width = width; mode = mode }) }
         ensures limits { IfOk result IsFabric }

@@ -3,8 +3,8 @@
 ghost use Rattle.std.specs.Prelude.{◌≡◌, ℕ, ◌≤◌, List, map, IfOk};
 ghost use Rattle.net_file.specs.Reads.{ReadsBytes};
 ghost use Rattle.net_file.specs.Routed.{routed_numbers};
-ghost use Rattle.place_file.specs.Placement.{IsPlaced};
-ghost use Rattle.rr_graph.specs.Fabric.{fabric_with};
+ghost use Rattle.place_file.specs.Placement.{IsPlaced, longest_side};
+ghost use Rattle.rr_graph.specs.Fabric.{fabric_with, most_tracks};
 ghost use Rattle.rr_graph.specs.Designs.{problem_with};
 
 use crate::device::Device;
@@ -26,9 +26,9 @@ impl Device {
         width: u32,
         mode: Mode,
     ) -> Result<Device, AllocError>
-        requires columns { (1 ≤ nx) × (nx ≤ 100) }
-        requires rows { (1 ≤ ny) × (ny ≤ 100) }
-        requires tracks { (1 ≤ width) × (width ≤ 256) }
+        requires columns { (1 ≤ nx) × (nx ≤ longest_side) }
+        requires rows { (1 ≤ ny) × (ny ≤ longest_side) }
+        requires tracks { (1 ≤ width) × (width ≤ most_tracks) }
         ensures { IfOk result (λ d. d ≡ fabric_with nx ny width mode arch.now) }
     {
         let layout = Layout::new(alloc, arch, nx, ny, width, mode)?;
@@ -48,7 +48,7 @@ impl Problem {
         width: u32,
         mode: Mode,
     ) -> Result<Problem, AllocError>
-        requires tracks { (1 ≤ width) × (width ≤ 256) }
+        requires tracks { (1 ≤ width) × (width ≤ most_tracks) }
         requires read { (bytes : List ℕ) × ReadsBytes arch.now.pins bytes netlist.now }
         requires placed { IsPlaced arch.now.io_rat netlist.now.blocks placement.now }
         ensures made { IfOk result (λ p. p ≡ problem_with width mode arch.now netlist.now placement.now) }

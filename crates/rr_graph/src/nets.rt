@@ -21,7 +21,7 @@ impl Model for Terminals {
 
     ghost Value = { Net };
 
-    ghost use Rattle.rr_graph.specs.Fields.{net_of};
+    ghost use Rattle.rr_graph.specs.kept.Fields.{net_of};
 
     ghost view = { net_of };
 }

@@ -1,7 +1,7 @@
 //! What a node is: its label, its capacity by its kind, and its span.
 
 ghost use Rattle.std.specs.Prelude.{◌≡◌};
-ghost use Rattle.rr_graph.specs.Wires.{last_by};
+ghost use Rattle.rr_graph.specs.kept.LastPlaces.{last_by};
 ghost use Rattle.rr_graph.specs.Nodes.{label_of, terminal_capacity, wire_capacity, span_of};
 
 use crate::layout::Layout;

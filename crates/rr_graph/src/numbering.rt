@@ -1,13 +1,15 @@
 //! The numbers of nodes at a place, by arithmetic.
 
 ghost use Rattle.std.specs.Prelude.{◌≡◌, ◌+◌, ◌≤◌, ◌<◌, true, length, Some};
+ghost use Rattle.arch_file.specs.Architecture.{most_pins};
 ghost use Rattle.rr_graph.specs.Fabric.{IsFabric};
-ghost use Rattle.rr_graph.specs.Wires.{tracks_in, begins, last_by};
+ghost use Rattle.rr_graph.specs.Wires.{tracks_in, begins};
+ghost use Rattle.rr_graph.specs.kept.LastPlaces.{last_by};
 ghost use Rattle.rr_graph.specs.Nodes.{node_at};
-ghost use Rattle.rr_graph.specs.Starts.{kind_start, place_start};
-ghost use Rattle.rr_graph.specs.Numbering.{is_terminal, columns_length, rows_length, block_numbers};
-ghost use Rattle.rr_graph.specs.Tables.{starting_at, wires_before, wire_at};
-ghost use Rattle.rr_graph.specs.WireSuccessors.{wire_id};
+ghost use Rattle.rr_graph.specs.kept.Starts.{kind_start, place_start};
+ghost use Rattle.rr_graph.specs.kept.Numbering.{is_terminal, columns_length, rows_length, block_numbers};
+ghost use Rattle.rr_graph.specs.kept.Tables.{starting_at, wires_before, wire_at};
+ghost use Rattle.rr_graph.specs.kept.WireSuccessors.{wire_id};
 
 use crate::channel::Wire;
 use crate::device::Device;
@@ -16,9 +18,9 @@ use crate::parts::{Kind, Node};
 
 impl Layout {
     /// How many nodes of a kind of terminals or pins, of which a block has `count`, stand in the columns before `x`.
-    #[tactic(auto, unfolding(crate::specs::Numbering::columns_length))]
+    #[tactic(auto, unfolding(crate::specs::kept::Numbering::columns_length))]
     fn columns_length(&self, count: u32, x: u32) -> u32
-        requires few { count ≤ 64 }
+        requires few { count ≤ most_pins }
         requires within { x ≤ self.now.nx + 1 }
         ensures length { result ≡ columns_length self.now count x }
         ensures few { result ≤ 800000 }
@@ -32,9 +34,9 @@ impl Layout {
     }
 
     /// How many stand in the rows before `y` of column `x`.
-    #[tactic(auto, unfolding(crate::specs::Numbering::rows_length))]
+    #[tactic(auto, unfolding(crate::specs::kept::Numbering::rows_length))]
     fn rows_length(&self, count: u32, x: u32, y: u32) -> u32
-        requires few { count ≤ 64 }
+        requires few { count ≤ most_pins }
         requires within { y ≤ self.now.ny + 1 }
         ensures length { result ≡ rows_length self.now count x y }
         ensures few { result ≤ 8000 }
@@ -61,7 +63,7 @@ impl Device {
     #[tactic(auto, using(crate::proofs::PlaceStarts::few_numbers))]
     pub(crate) fn number_count(&self, kind: Kind) -> u32
         ensures count { result ≡ length (block_numbers self.now kind) }
-        ensures few { result ≤ 64 }
+        ensures few { result ≤ most_pins }
         ensures limits { IsFabric self.now }
     {
         self.numbers(kind).len() as u32

@@ -4,10 +4,11 @@ ghost use Rattle.std.specs.Prelude.{◌≡◌, ◌+◌, ◌<◌, ◌≤◌, ◌=
 ghost use Rattle.std.specs.List.{filter, flat_map};
 ghost use Rattle.smallvec.specs.SmallVec.{HasRoomFor};
 ghost use Rattle.rr_graph.specs.Wires.{tracks_in};
-ghost use Rattle.rr_graph.specs.PinSuccessors.{taps_track, tapped_chanx, tapped_rows, tapped_column, opin_successors};
-ghost use Rattle.rr_graph.specs.Pushes.{Pushes};
-ghost use Rattle.rr_graph.specs.Tables.{tracks_from, tracks_through};
-ghost use Rattle.rr_graph.specs.Terminals.{IsTapper, above_wire, right_wire, all_tracks, rows_piece, wires_on, AreSides, IsTerminal, sides_of_pin, sides_of_pad, opin_sides, opin_fc};
+ghost use Rattle.rr_graph.specs.kept.PinSuccessors.{taps_track, tapped_chanx, tapped_rows, tapped_column, opin_successors};
+ghost use Rattle.rr_graph.specs.kept.Pushes.{Pushes};
+ghost use Rattle.rr_graph.specs.kept.Tables.{tracks_from, tracks_through};
+ghost use Rattle.rr_graph.specs.kept.Terminals.{IsTapper, above_wire, right_wire, all_tracks, rows_piece, wires_on, AreSides, IsTerminal, sides_of_pin, sides_of_pad, opin_sides, opin_fc};
+ghost use Rattle.rr_graph.specs.Fabric.{most_tracks};
 
 use crate::device::Device;
 use crate::layout::Layout;
@@ -187,7 +188,7 @@ impl Device {
     }
 
     /// All those above the two rows, where there are wires through the column.
-    #[tactic(auto, using(crate::proofs::Pushes::pushed_further, crate::proofs::Pushes::room_further), unfolding(crate::specs::PinSuccessors::tapped_rows))]
+    #[tactic(auto, using(crate::proofs::Pushes::pushed_further, crate::proofs::Pushes::room_further), unfolding(crate::specs::kept::PinSuccessors::tapped_rows))]
     fn push_rows_through(
         &self,
         list: &mut SmallVec<u32, 8>,
@@ -313,7 +314,7 @@ impl Device {
     fn count_tapped(&self, tapper: Tapper) -> u32
         requires { IsTapper self.now tapper }
         ensures count { result ≡ length (filter (taps_track self.now tapper.fc tapper.number) (all_tracks self.now)) }
-        ensures few { result ≤ 256 }
+        ensures few { result ≤ most_tracks }
     {
         let _limits = self.nx();
         match self.mode() {

@@ -2,9 +2,11 @@
 
 ghost use Rattle.std.specs.Prelude.{◌≡◌, ℕ, ◌+◌, ◌-◌, ◌*◌, ◌/◌, ◌%◌, ◌==◌, ◌≤◌, ◌<◌, slice_get};
 ghost use Rattle.std.specs.List.{list_any};
-ghost use Rattle.rr_graph.specs.Wires.{last_by, runs_through};
+ghost use Rattle.rr_graph.specs.Wires.{runs_through};
+ghost use Rattle.rr_graph.specs.kept.LastPlaces.{last_by};
 ghost use Rattle.rr_graph.specs.Pins.{tap_count, tracks_by, fc_at, channels_of_pin, channel_of_pad, channels_beside, is_marked_global, has_class, taps, belongs};
-ghost use Rattle.rr_graph.specs.Numbers.{IsTapCounts};
+ghost use Rattle.rr_graph.specs.kept.Numbers.{IsTapCounts};
+ghost use Rattle.rr_graph.specs.Fabric.{most_tracks};
 
 use crate::layout::Layout;
 use crate::parts::{Kind, Mode, Node};
@@ -45,7 +47,7 @@ pub(crate) fn has_class(pin: Option<Pin>, class: u32) -> bool
 #[tactic(auto, using(crate::proofs::Taps::steps_ahead, crate::proofs::Taps::steps_around))]
 fn steps_on(width: u32, number: u32, track: u32) -> u32
     requires wide { 1 ≤ width }
-    requires narrow { width ≤ 256 }
+    requires narrow { width ≤ most_tracks }
     requires within { track < width }
     ensures steps { result ≡ (track + width - number % width) % width }
     ensures few { result < width }
@@ -66,9 +68,9 @@ fn steps_on(width: u32, number: u32, track: u32) -> u32
 /// `i * width / count` tracks on from the first one: only the first tap that is as far on as the track can be on it.
 fn is_tapped(width: u32, count: u32, number: u32, track: u32) -> bool
     requires wide { 1 ≤ width }
-    requires narrow { width ≤ 256 }
+    requires narrow { width ≤ most_tracks }
     requires some { 1 ≤ count }
-    requires few { count ≤ 256 }
+    requires few { count ≤ most_tracks }
     ensures { result ≡ list_any (λ t. t == track) (tracks_by Mode.Detailed count width number) }
 {
     if track >= width {
@@ -91,7 +93,7 @@ impl Layout {
     pub(crate) fn tap_count(&self, fc: u64) -> u32
         ensures count { result ≡ tap_count self.now.architecture.fc_type fc self.now.width }
         ensures some { 1 ≤ result }
-        ensures few { result ≤ 256 }
+        ensures few { result ≤ most_tracks }
     {
         let tracks = match self.arch.fc_type() {
             FcType::Absolute => u128::from(fc),
@@ -105,7 +107,7 @@ impl Layout {
     /// Whether pin `number` taps the track, where it taps `count` tracks.
     pub(crate) fn taps_by_count(&self, count: u32, number: u32, track: u32) -> bool
         requires some { 1 ≤ count }
-        requires few { count ≤ 256 }
+        requires few { count ≤ most_tracks }
         ensures { result ≡ list_any (λ t. t == track) (tracks_by self.now.mode count self.now.width number) }
     {
         match self.mode() {
@@ -130,7 +132,7 @@ impl Layout {
         requires { IsTapCounts self.now counts }
         ensures count { result ≡ tap_count self.now.architecture.fc_type (fc_at self.now pin) self.now.width }
         ensures some { 1 ≤ result }
-        ensures few { result ≤ 256 }
+        ensures few { result ≤ most_tracks }
     {
         let _limits = self.width();
         if self.is_block(pin.x, pin.y) {

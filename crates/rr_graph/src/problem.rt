@@ -25,7 +25,7 @@ impl Model for Problem {
 
     ghost Value = { RoutingProblem };
 
-    ghost use Rattle.rr_graph.specs.Fields.{problem_inside};
+    ghost use Rattle.rr_graph.specs.kept.Fields.{problem_inside};
 
     ghost view = { problem_inside };
 

@@ -2,7 +2,7 @@
 
 ghost use Rattle.std.specs.Prelude.{◌≡◌, ◌<◌, IfOk};
 ghost use Rattle.rr_graph.specs.Wires.{tracks_in, reach_of};
-ghost use Rattle.rr_graph.specs.Tables.{AreReaches};
+ghost use Rattle.rr_graph.specs.kept.Tables.{AreReaches};
 
 use crate::device::Device;
 use crate::layout::Layout;

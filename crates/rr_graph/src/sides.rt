@@ -1,12 +1,13 @@
 //! Tables of the input pins and pads that tap each track, made once for a device.
 
 ghost use Rattle.std.specs.Prelude.{◌≡◌, ℕ, ◌+◌, ◌≤◌, ◌<◌, ◌++◌, length, map, IfOk, OnOk, vec_len};
+ghost use Rattle.arch_file.specs.Architecture.{most_pins};
 ghost use Rattle.rr_graph.specs.Fabric.{numbers_below};
 ghost use Rattle.rr_graph.specs.Wires.{tracks_in};
 ghost use Rattle.rr_graph.specs.Pins.{tap_count};
-ghost use Rattle.rr_graph.specs.Picks.{picks};
-ghost use Rattle.rr_graph.specs.Sides.{has_side};
-ghost use Rattle.rr_graph.specs.TappingTables.{on_side, fc_on, taps_from, tapping_on, IsTapping, IsSides, HoldsTrack, places_of_track};
+ghost use Rattle.rr_graph.specs.kept.Picks.{picks};
+ghost use Rattle.rr_graph.specs.kept.Sides.{has_side};
+ghost use Rattle.rr_graph.specs.kept.TappingTables.{on_side, fc_on, taps_from, tapping_on, IsTapping, IsSides, HoldsTrack, places_of_track};
 
 use crate::layout::Layout;
 use crate::pins::is_marked_global;
@@ -43,7 +44,7 @@ pub(crate) struct BlockSides {
 
 impl Tapping {
     /// The places of a track.
-    #[tactic(auto, unfolding(crate::specs::TappingTables::places_of_track))]
+    #[tactic(auto, unfolding(crate::specs::kept::TappingTables::places_of_track))]
     pub(crate) fn of_track(&self, track: u32) -> &[u8]
         requires { HoldsTrack self.now track }
         ensures { result.now ≡ places_of_track self.now track }
@@ -54,7 +55,7 @@ impl Tapping {
     }
 
     /// How many places a track has.
-    #[tactic(auto, unfolding(crate::specs::TappingTables::places_of_track))]
+    #[tactic(auto, unfolding(crate::specs::kept::TappingTables::places_of_track))]
     pub(crate) fn count_of_track(&self, track: u32) -> u32
         requires { HoldsTrack self.now track }
         ensures { result ≡ length (places_of_track self.now track) }
@@ -124,10 +125,10 @@ impl Layout {
         count: u32,
         track: u32,
     ) -> Result<(), AllocError>
-        requires few { length pins.now ≤ 64 }
+        requires few { length pins.now ≤ most_pins }
         requires count { count ≡ tap_count self.now.architecture.fc_type (fc_on side self.now) self.now.width }
         ensures places { OnOk result (places.new.items ≡ places.old.items ++ picks (taps_from side self.now track) 0 pins.now) }
-        ensures few { OnOk result (vec_len places.new ≤ vec_len places.old + 64) }
+        ensures few { OnOk result (vec_len places.new ≤ vec_len places.old + most_pins) }
     {
         for (place, pin) in pins.iter().enumerate() {
             if self.taps_from(side, count, track, *pin) {
@@ -139,7 +140,7 @@ impl Layout {
 
     /// The table of a side.
     fn tapping(&self, alloc: Global, side: Side, pins: &[u32]) -> Result<Tapping, AllocError>
-        requires { length pins.now ≤ 64 }
+        requires { length pins.now ≤ most_pins }
         ensures { IfOk result (IsTapping (λ t. picks (taps_from side self.now t) 0 pins.now) (tracks_in self.now.mode self.now.width)) }
     {
         let count = self.tap_count(self.fc_on(side));
@@ -159,7 +160,7 @@ impl Layout {
         requires sides { IsSides self.now sides.now }
         requires track { track < tracks_in self.now.mode self.now.width }
         ensures places { result.now ≡ tapping_on side self.now track }
-        ensures few { length result.now ≤ 64 }
+        ensures few { length result.now ≤ most_pins }
     {
         let _limits = self.nx();
         match side {
@@ -175,7 +176,7 @@ impl Layout {
     #[tactic(auto, using(crate::proofs::Ranges::below_next))]
     fn pads(&self, alloc: Global) -> Result<Vec<u32>, AllocError>
         ensures pads { IfOk result (λ v. v.items ≡ numbers_below self.now.architecture.io_rat) }
-        ensures few { IfOk result (λ v. vec_len v ≤ 64) }
+        ensures few { IfOk result (λ v. vec_len v ≤ most_pins) }
     {
         let mut pads = Vec::new(alloc);
         for pad in 0..self.arch.io_rat() {

@@ -1,10 +1,11 @@
 //! How many nodes stand before those of a kind, counted by arithmetic.
 
 ghost use Rattle.std.specs.Prelude.{◌≡◌, ◌+◌, ◌≤◌, true};
-ghost use Rattle.rr_graph.specs.Starts.{kind_length, kind_start};
-ghost use Rattle.rr_graph.specs.Numbering.{is_terminal, terminals_length};
-ghost use Rattle.rr_graph.specs.Tables.{IsChannel};
-ghost use Rattle.rr_graph.specs.Numbers.{IsBlock, IsStarts};
+ghost use Rattle.arch_file.specs.Architecture.{most_pins};
+ghost use Rattle.rr_graph.specs.kept.Starts.{kind_length, kind_start};
+ghost use Rattle.rr_graph.specs.kept.Numbering.{is_terminal, terminals_length};
+ghost use Rattle.rr_graph.specs.kept.Tables.{IsChannel};
+ghost use Rattle.rr_graph.specs.kept.Numbers.{IsBlock, IsStarts};
 
 use crate::block::Block;
 use crate::channel::Channel;
@@ -24,9 +25,9 @@ pub(crate) struct Starts {
 
 impl Layout {
     /// How many nodes there are of a kind of terminals or pins, of which a block has `count`.
-    #[tactic(auto, unfolding(crate::specs::Numbering::terminals_length))]
+    #[tactic(auto, unfolding(crate::specs::kept::Numbering::terminals_length))]
     fn terminal_count(&self, count: usize) -> u32
-        requires { count ≤ 64 }
+        requires { count ≤ most_pins }
         ensures count { result ≡ terminals_length self.now count }
         ensures few { result ≤ 1000000 }
     {
@@ -68,7 +69,7 @@ impl Layout {
     }
 
     /// How many nodes stand before those of each kind, and how many there are.
-    #[tactic(auto, unfolding(crate::specs::Starts::kind_start))]
+    #[tactic(auto, unfolding(crate::specs::kept::Starts::kind_start))]
     pub(crate) fn starts(&self, block: &Block, rows: &Channel, columns: &Channel) -> Starts
         requires block { IsBlock self.now block.now }
         requires rows { IsChannel self.now self.now.nx rows.now }
@@ -92,7 +93,7 @@ impl Layout {
     }
 
     /// How many nodes stand before those of a kind.
-    #[tactic(auto, unfolding(crate::specs::Starts::kind_start))]
+    #[tactic(auto, unfolding(crate::specs::kept::Starts::kind_start))]
     pub(crate) fn kind_start(&self, starts: Starts, kind: Kind) -> u32
         requires { IsStarts self.now starts }
         ensures { result ≡ kind_start self.now kind }

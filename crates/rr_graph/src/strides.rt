@@ -2,8 +2,8 @@
 
 ghost use Rattle.std.specs.Prelude.{◌≡◌, ◌+◌, ◌≤◌, length, map, max, IfOk};
 ghost use Rattle.rr_graph.specs.Fabric.{numbers_below};
-ghost use Rattle.rr_graph.specs.Tables.{starting_at, wires_before, IsChannel};
-ghost use Rattle.rr_graph.specs.Strides.{stride_at, column_stride, AreStrides};
+ghost use Rattle.rr_graph.specs.kept.Tables.{starting_at, wires_before, IsChannel};
+ghost use Rattle.rr_graph.specs.kept.Strides.{stride_at, column_stride, AreStrides};
 
 use crate::channel::Channel;
 use crate::divisor::Divisor;

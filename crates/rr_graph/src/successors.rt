@@ -2,16 +2,17 @@
 
 ghost use Rattle.std.specs.Prelude.{◌≡◌, OnOk, OnErr, IsOk, ℕ, ◌+◌, ◌*◌, ◌<◌, ◌≤◌, ◌⊎◌, ◌++◌, true, length, map};
 ghost use Rattle.std.specs.List.{range_with_len, flat_map};
+ghost use Rattle.arch_file.specs.Architecture.{most_pins};
 ghost use Rattle.smallvec.specs.SmallVec.{HasRoomFor};
 ghost use Rattle.rr_graph.specs.Fabric.{IsFabric};
-ghost use Rattle.rr_graph.specs.Pushes.{Pushes};
-ghost use Rattle.rr_graph.specs.NodeSuccessors.{node_successors, IsAtPlace};
+ghost use Rattle.rr_graph.specs.kept.Pushes.{Pushes};
+ghost use Rattle.rr_graph.specs.kept.NodeSuccessors.{node_successors, IsAtPlace};
 ghost use Rattle.rr_graph.specs.Wires.{tracks_in, begins, steps_of, last_of, places_of};
-ghost use Rattle.rr_graph.specs.Channels.{first_of, meeting_of, beside_of};
-ghost use Rattle.rr_graph.specs.Starts.{place_start};
-ghost use Rattle.rr_graph.specs.TappingTables.{tapping_on};
-ghost use Rattle.rr_graph.specs.WireSuccessors.{wire_id, pins_beside};
-ghost use Rattle.rr_graph.specs.Fanouts.{numbers_of, runs_of, run_above, run_right, pins_of_row, pins_of_column, pins_at, row_list, column_list, row_wire_list, column_wire_list, IsSmallRun, IsSmallMeeting, IsSmallTaps, IsSmallRow, IsSmallColumn};
+ghost use Rattle.rr_graph.specs.kept.Channels.{first_of, meeting_of, beside_of};
+ghost use Rattle.rr_graph.specs.kept.Starts.{place_start};
+ghost use Rattle.rr_graph.specs.kept.TappingTables.{tapping_on};
+ghost use Rattle.rr_graph.specs.kept.WireSuccessors.{wire_id, pins_beside};
+ghost use Rattle.rr_graph.specs.kept.Fanouts.{numbers_of, runs_of, run_above, run_right, pins_of_row, pins_of_column, pins_at, row_list, column_list, row_wire_list, column_wire_list, IsSmallRun, IsSmallMeeting, IsSmallTaps, IsSmallRow, IsSmallColumn};
 
 use crate::device::Device;
 use crate::fanout::{ColumnFanout, Meeting, Pair, RowFanout, Run, Taps};
@@ -62,7 +63,7 @@ impl Device {
 
     /// The wires above row `y` and the rows over it that touch the corners right of column `x`.
     #[inline(always)]
-    #[tactic(auto, unfolding(crate::specs::Channels::meeting_of))]
+    #[tactic(auto, unfolding(crate::specs::kept::Channels::meeting_of))]
     fn meeting_above(&self, track: u32, x: u32, y: u32) -> Meeting
         requires column { x ≤ self.now.nx }
         requires row { y ≤ self.now.ny }
@@ -90,7 +91,7 @@ impl Device {
 
     /// The wires right of column `x` and the columns behind it that touch the corners above row `y`.
     #[inline(always)]
-    #[tactic(auto, unfolding(crate::specs::Channels::meeting_of))]
+    #[tactic(auto, unfolding(crate::specs::kept::Channels::meeting_of))]
     fn meeting_right(&self, track: u32, x: u32, y: u32) -> Meeting
         requires column { x ≤ self.now.nx }
         requires row { y ≤ self.now.ny }
@@ -119,7 +120,7 @@ impl Device {
     /// The wire that ends just before the wire of a track that passes the places from `x` to `last` above row `y`, and the
     /// one that begins just behind.
     #[inline(always)]
-    #[tactic(auto, using(crate::proofs::WireFanouts::behind_first), unfolding(crate::specs::Channels::beside_of))]
+    #[tactic(auto, using(crate::proofs::WireFanouts::behind_first), unfolding(crate::specs::kept::Channels::beside_of))]
     fn beside_above(&self, track: u32, x: u32, last: u32, y: u32) -> Pair
         requires place { (1 ≤ x) × (x ≤ self.now.nx) }
         requires row { y ≤ self.now.ny }
@@ -146,7 +147,7 @@ impl Device {
     /// The wire that ends just before the wire of a track that passes the places from `y` to `last` right of column `x`, and
     /// the one that begins just behind.
     #[inline(always)]
-    #[tactic(auto, using(crate::proofs::WireFanouts::behind_first), unfolding(crate::specs::Channels::beside_of))]
+    #[tactic(auto, using(crate::proofs::WireFanouts::behind_first), unfolding(crate::specs::kept::Channels::beside_of))]
     fn beside_right(&self, track: u32, x: u32, y: u32, last: u32) -> Pair
         requires place { (1 ≤ y) × (y ≤ self.now.ny) }
         requires column { x ≤ self.now.nx }
@@ -175,7 +176,7 @@ impl Device {
     fn tapping(&self, side: Side, track: u32) -> &[u8]
         requires { track < tracks_in self.now.mode self.now.width }
         ensures places { result.now ≡ tapping_on side self.now track }
-        ensures few { length result.now ≤ 64 }
+        ensures few { length result.now ≤ most_pins }
     {
         self.layout.tapping_on(&self.sides, side, track)
     }
@@ -232,7 +233,7 @@ impl Device {
     /// Those of a row's input pins that stand at `places`, from the one of number `start` on.
     #[inline(always)]
     fn taps_in_row<'a>(&self, places: &'a [u8], start: u32) -> Taps<'a>
-        requires few { length places.now ≤ 64 }
+        requires few { length places.now ≤ most_pins }
         requires small { start < 16777216 }
         ensures places { result.places.now ≡ places.now }
         ensures start { result.start ≡ start }
@@ -250,7 +251,7 @@ impl Device {
     #[inline(always)]
     #[tactic(auto, using(crate::proofs::WireFanouts::pins_by_blocks))]
     fn taps_in_column<'a>(&self, places: &'a [u8], x: u32, start: u32) -> Taps<'a>
-        requires few { length places.now ≤ 64 }
+        requires few { length places.now ≤ most_pins }
         requires small { start < 16777216 }
         requires column { (1 ≤ x) × (x ≤ self.now.nx) }
         ensures places { result.places.now ≡ places.now }
@@ -269,7 +270,7 @@ impl Device {
     #[inline(always)]
     #[tactic(auto, using(crate::proofs::WireFanouts::pins_by_pads))]
     fn taps_beside<'a>(&self, places: &'a [u8], x: u32, start: u32) -> Taps<'a>
-        requires few { length places.now ≤ 64 }
+        requires few { length places.now ≤ most_pins }
         requires small { start < 16777216 }
         requires column { (x ≡ 0) ⊎ (x ≡ self.now.nx + 1) }
         ensures places { result.places.now ≡ places.now }

@@ -1,14 +1,15 @@
 //! The successors of sources and input pins, from their places by arithmetic.
 
 ghost use Rattle.std.specs.Prelude.{◌≡◌, ℕ, ◌+◌, ◌<◌, ◌≤◌, ◌==◌, false, true, length, slice_get};
+ghost use Rattle.arch_file.specs.Architecture.{most_pins};
 ghost use Rattle.smallvec.specs.SmallVec.{HasRoomFor};
 ghost use Rattle.rr_graph.specs.Fabric.{is_block};
 ghost use Rattle.rr_graph.specs.Pins.{has_class};
-ghost use Rattle.rr_graph.specs.Picks.{picks};
-ghost use Rattle.rr_graph.specs.Starts.{place_start};
-ghost use Rattle.rr_graph.specs.PinSuccessors.{source_successors, sink_of_pin, ipin_successors};
-ghost use Rattle.rr_graph.specs.Pushes.{Pushes};
-ghost use Rattle.rr_graph.specs.Terminals.{IsTerminal, sink_label, sink_beside};
+ghost use Rattle.rr_graph.specs.kept.Picks.{picks};
+ghost use Rattle.rr_graph.specs.kept.Starts.{place_start};
+ghost use Rattle.rr_graph.specs.kept.PinSuccessors.{source_successors, sink_of_pin, ipin_successors};
+ghost use Rattle.rr_graph.specs.kept.Pushes.{Pushes};
+ghost use Rattle.rr_graph.specs.kept.Terminals.{IsTerminal, sink_label, sink_beside};
 
 use crate::device::Device;
 use crate::fanout::push_if;
@@ -23,7 +24,7 @@ impl Layout {
     #[tactic(auto, using(crate::proofs::Pushes::pushed_next, crate::proofs::Pushes::room_next))]
     fn push_class(&self, list: &mut SmallVec<u32, 8>, pins: &[u32], class: u32, start: u32)
         requires room { HasRoomFor list.old (length (picks (λ p. has_class (slice_get self.now.architecture.pins p) class) start pins.now)) }
-        requires few { length pins.now ≤ 64 }
+        requires few { length pins.now ≤ most_pins }
         requires small { start < 16777216 }
         ensures { Pushes list.old (picks (λ p. has_class (slice_get self.now.architecture.pins p) class) start pins.now) list.new }
     {
@@ -36,7 +37,7 @@ impl Layout {
     /// How many pins are of a class.
     #[tactic(auto, using(crate::proofs::Pushes::count_picked, crate::proofs::Pushes::count_passed))]
     fn count_class(&self, pins: &[u32], class: u32) -> u32
-        requires { length pins.now ≤ 64 }
+        requires { length pins.now ≤ most_pins }
         ensures { result ≡ length (picks (λ p. has_class (slice_get self.now.architecture.pins p) class) 0 pins.now) }
     {
         let mut count = 0;
@@ -53,7 +54,7 @@ impl Layout {
 #[tactic(auto, using(crate::proofs::Pushes::pushed_next, crate::proofs::Pushes::room_next))]
 fn push_equal(list: &mut SmallVec<u32, 8>, classes: &[u32], class: u32, start: u32)
     requires room { HasRoomFor list.old (length (picks (λ c. c == class) start classes.now)) }
-    requires few { length classes.now ≤ 64 }
+    requires few { length classes.now ≤ most_pins }
     requires small { start < 16777216 }
     ensures { Pushes list.old (picks (λ c. c == class) start classes.now) list.new }
 {
@@ -65,7 +66,7 @@ fn push_equal(list: &mut SmallVec<u32, 8>, classes: &[u32], class: u32, start: u
 /// How many of the classes are this one.
 #[tactic(auto, using(crate::proofs::Pushes::count_picked, crate::proofs::Pushes::count_passed))]
 fn count_equal(classes: &[u32], class: u32) -> u32
-    requires { length classes.now ≤ 64 }
+    requires { length classes.now ≤ most_pins }
     ensures { result ≡ length (picks (λ c. c == class) 0 classes.now) }
 {
     let mut count = 0;
@@ -79,7 +80,7 @@ fn count_equal(classes: &[u32], class: u32) -> u32
 
 impl Device {
     /// The successors of a source at (x, y).
-    #[tactic(auto, using(crate::proofs::TerminalPlaces::source_of_block, crate::proofs::PlaceStarts::few_numbers), unfolding(crate::specs::PinSuccessors::source_successors))]
+    #[tactic(auto, using(crate::proofs::TerminalPlaces::source_of_block, crate::proofs::PlaceStarts::few_numbers), unfolding(crate::specs::kept::PinSuccessors::source_successors))]
     pub(crate) fn push_pins_of_source(&self, list: &mut SmallVec<u32, 8>, node: Node)
         requires room { HasRoomFor list.old (length (source_successors self.now node)) }
         requires place { IsTerminal self.now node.x node.y node.number }
@@ -95,7 +96,7 @@ impl Device {
     }
 
     /// How many successors a source has.
-    #[tactic(auto, using(crate::proofs::TerminalPlaces::source_of_block, crate::proofs::Pushes::count_shifted, crate::proofs::Pushes::few_picked, crate::proofs::PlaceStarts::few_numbers), unfolding(crate::specs::PinSuccessors::source_successors))]
+    #[tactic(auto, using(crate::proofs::TerminalPlaces::source_of_block, crate::proofs::Pushes::count_shifted, crate::proofs::Pushes::few_picked, crate::proofs::PlaceStarts::few_numbers), unfolding(crate::specs::kept::PinSuccessors::source_successors))]
     pub(crate) fn count_pins_of_source(&self, node: Node) -> u32
         ensures { result ≡ length (source_successors self.now node) }
     {
@@ -136,7 +137,7 @@ impl Device {
     }
 
     /// The successors of an input pin at (x, y).
-    #[tactic(auto, unfolding(crate::specs::PinSuccessors::ipin_successors))]
+    #[tactic(auto, unfolding(crate::specs::kept::PinSuccessors::ipin_successors))]
     pub(crate) fn push_sink_of_ipin(&self, list: &mut SmallVec<u32, 8>, node: Node)
         requires room { HasRoomFor list.old (length (ipin_successors self.now node)) }
         requires place { IsTerminal self.now node.x node.y node.number }
@@ -151,7 +152,7 @@ impl Device {
     }
 
     /// How many successors an input pin has.
-    #[tactic(auto, unfolding(crate::specs::PinSuccessors::ipin_successors))]
+    #[tactic(auto, unfolding(crate::specs::kept::PinSuccessors::ipin_successors))]
     pub(crate) fn count_sink_of_ipin(&self, node: Node) -> u32
         ensures { result ≡ length (ipin_successors self.now node) }
     {

@@ -2,10 +2,11 @@
 
 ghost use Rattle.std.specs.Prelude.{◌≡◌, ◌+◌, ◌<◌, ◌≤◌, ◌==◌, ◌++◌, All, IfOk, OnOk};
 ghost use Rattle.std.specs.List.{flat_map, prefix_len};
+ghost use Rattle.place_file.specs.Placement.{longest_side};
 ghost use Rattle.rr_graph.specs.Fabric.{numbers_below};
 ghost use Rattle.rr_graph.specs.Wires.{tracks_in};
-ghost use Rattle.rr_graph.specs.Channels.{first_of};
-ghost use Rattle.rr_graph.specs.Tables.{wires_at, tracks_from, tracks_since, tracks_through, IsChannel};
+ghost use Rattle.rr_graph.specs.kept.Channels.{first_of};
+ghost use Rattle.rr_graph.specs.kept.Tables.{wires_at, tracks_from, tracks_since, tracks_through, IsChannel};
 
 use crate::channel::{Channel, Wire};
 use crate::device::Device;
@@ -23,7 +24,7 @@ impl Layout {
         place: u32,
         first: u32,
     ) -> Result<(), AllocError>
-        requires few { places ≤ 100 }
+        requires few { places ≤ longest_side }
         requires within { (1 ≤ place) × (place ≤ places) }
         requires wires { wires.now ≡ flat_map (λ m. wires_at self.now places (m + 1)) (numbers_below places) }
         ensures { OnOk result (order.new.items ≡ order.old.items ++ tracks_from self.now places place first) }
@@ -38,7 +39,7 @@ impl Layout {
     }
 
     /// All tracks in the order of where their wires through a place begin.
-    #[tactic(auto, using(crate::proofs::TrackOrder::joined_further), unfolding(crate::specs::Tables::tracks_since))]
+    #[tactic(auto, using(crate::proofs::TrackOrder::joined_further), unfolding(crate::specs::kept::Tables::tracks_since))]
     fn push_tracks_through(
         &self,
         order: &mut Vec<u8>,
@@ -46,7 +47,7 @@ impl Layout {
         places: u32,
         place: u32,
     ) -> Result<(), AllocError>
-        requires few { places ≤ 100 }
+        requires few { places ≤ longest_side }
         requires within { place ≤ places }
         requires wires { wires.now ≡ flat_map (λ m. wires_at self.now places (m + 1)) (numbers_below places) }
         ensures { OnOk result (order.new.items ≡ order.old.items ++ tracks_through self.now places place) }
@@ -65,7 +66,7 @@ impl Layout {
         wires: &[Wire],
         places: u32,
     ) -> Result<Vec<u8>, AllocError>
-        requires few { places ≤ 100 }
+        requires few { places ≤ longest_side }
         requires wires { wires.now ≡ flat_map (λ m. wires_at self.now places (m + 1)) (numbers_below places) }
         ensures { IfOk result (λ v. v.items ≡ flat_map (tracks_through self.now places) (numbers_below (places + 1))) }
     {
@@ -83,7 +84,7 @@ impl Layout {
         places: u32,
         place: u32,
     ) -> &'a [u8]
-        requires few { places ≤ 100 }
+        requires few { places ≤ longest_side }
         requires within { place ≤ places }
         requires tables { IsChannel self.now places channel.now }
         ensures { result.now ≡ tracks_through self.now places place }

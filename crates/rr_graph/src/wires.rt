@@ -1,14 +1,17 @@
 //! The tracks of a channel, and the wires in them.
 
 ghost use Rattle.std.specs.Prelude.{◌≡◌, ℕ, ◌+◌, ◌-◌, ◌*◌, ◌^◌, ◌≤◌, ◌<◌, length, if◌then◌else◌};
-ghost use Rattle.rr_graph.specs.Wires.{tracks_in, total_frequency, weight_of_first, type_of, length_of, last_by, runs_through};
+ghost use Rattle.arch_file.specs.Architecture.{most_segments};
+ghost use Rattle.rr_graph.specs.Wires.{tracks_in, total_frequency, weight_of_first, type_of, length_of, runs_through};
+ghost use Rattle.rr_graph.specs.kept.LastPlaces.{last_by};
+ghost use Rattle.rr_graph.specs.Fabric.{most_tracks};
 
 use crate::layout::Layout;
 use crate::parts::{Kind, Mode, Node};
 use arch_file::{Segment, SegmentLength};
 
 fn total_frequency(segments: &[Segment]) -> u128
-    requires { length segments.now ≤ 16 }
+    requires { length segments.now ≤ most_segments }
     ensures { result ≡ total_frequency segments.now }
 {
     let mut total = 0u128;
@@ -28,10 +31,10 @@ fn weight_of(segment: &Segment, even: bool) -> u64
 /// The weight of the first `count` types together.
 #[tactic(auto, unfolding(crate::specs::Wires::weight_of_first))]
 fn weight_of_first(segments: &[Segment], count: usize) -> u128
-    requires few { length segments.now ≤ 16 }
+    requires few { length segments.now ≤ most_segments }
     requires within { count ≤ length segments.now }
     ensures weight { result ≡ weight_of_first segments.now count }
-    ensures fits { result ≤ 2 ^ 64 * 16 }
+    ensures fits { result ≤ 2 ^ 64 * most_segments }
 {
     let even = total_frequency(segments) == 0;
     let mut weight = 0u128;
@@ -44,8 +47,8 @@ fn weight_of_first(segments: &[Segment], count: usize) -> u128
 /// The type of a track.
 #[tactic(auto, using(crate::proofs::Ranges::first_below), unfolding(crate::specs::Wires::type_of))]
 fn type_of(segments: &[Segment], width: u32, track: u32) -> usize
-    requires few { length segments.now ≤ 16 }
-    requires narrow { width ≤ 256 }
+    requires few { length segments.now ≤ most_segments }
+    requires narrow { width ≤ most_tracks }
     ensures { result ≡ type_of segments.now width track }
 {
     let middle = (2 * u128::from(track) + 1) * weight_of_first(segments, segments.len());
@@ -69,7 +72,7 @@ impl Layout {
     #[tactic(auto, using(crate::proofs::TrackCounts::tracks_within))]
     pub(crate) fn tracks(&self) -> u32
         ensures tracks { result ≡ tracks_in self.now.mode self.now.width }
-        ensures few { result ≤ 256 }
+        ensures few { result ≤ most_tracks }
         ensures within { result ≤ self.now.width }
     {
         self.tracks

@@ -34,7 +34,7 @@ lines_begin line i n le =
     let e : i + (n - i) ≡ n = omega arith in
     (found.0, found.1 ∙ ap (λ m. flat_map line (numbers_below m)) e)
 
--- what broke off may have had more behind it
+-- what broke off may have had more after it
 pub sends_broken : {s t : Stream} {x : List ℕ} (y : List ℕ) → Sends s t x → t.buffer.broken ≡ true → Sends s t (x ++ y)
 sends_broken {s} {t} {x} y p broken = record {
   prints = λ e. absurd (false≢true (sym e ∙ broken));
@@ -42,7 +42,7 @@ sends_broken {s} {t} {x} y p broken = record {
   stays = p.stays;
 }
 
--- lines up to one behind which the sink broke
+-- lines up to one after which the sink broke
 pub sends_broken_lines : {s t : Stream} (line : ℕ → List ℕ) (i n : ℕ) → i ≤ n → Sends s t (flat_map line (numbers_below i)) → t.buffer.broken ≡ true → Sends s t (flat_map line (numbers_below n))
 sends_broken_lines {s} {t} line i n le p broken =
     let rest = lines_begin line i n le in subst (Sends s t) rest.1 (sends_broken rest.0 p broken)

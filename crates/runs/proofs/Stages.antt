@@ -1,4 +1,4 @@
--- How a run meets its input files, and stops at one or goes on behind it.
+-- How a run meets its input files, and stops at one or goes on after it.
 use Rattle.std.proofs.Common.{◌≡◌, ℕ, ◌+◌, ◌^◌, Bool, true, false, take, List, [], Option, Some, None, Result, Ok, Err, refl, sym, ap, subst, ◌∙◌}
 use Rattle.std.specs.Prelude.{nat_lt}
 use Rattle.std.specs.Option.{option_map_or}
@@ -9,7 +9,7 @@ use Rattle.runs.specs.declared.fault.InputFile.TheVariants as file
 use Rattle.runs.specs.declared.fault.AppFault.{AppFault}
 use Rattle.runs.specs.declared.fault.AppFault.TheVariants.{Unread}
 use Rattle.runs.specs.Inputs.{ends_before, file_of, turn_of}
-use Rattle.runs.specs.Runs.{Input, Reading, reading, AreRead, IsMet, Meets, DesignFiles, MeetsDesign, bytes_in, ◌>>=◌, Ends}
+use Rattle.runs.specs.Runs.{Input, Reading, reading, AreRead, IsMet, Meets, DesignFiles, MeetsDesign, bytes_in, ◌>>=◌, StopsOrGoesOn}
 
 -- any source is met as some input
 met : (had : Option (List ℕ)) (failed : Bool) → (input : Input) × IsMet (reading had failed) input
@@ -59,8 +59,8 @@ gives_by f given x h = ap (λ g. g >>= f) h
 
 -- a run whose inputs have a fault ends with it
 pub stops : {X R : Type 0} (untouched : Type 0) (goes_on : X → Result R AppFault → Type 0) (given : Result X AppFault) (e : AppFault) → untouched → given ≡ Err e
-    → Ends untouched goes_on given (Err e)
-stops untouched goes_on given e was h = subst (λ g. Ends untouched goes_on g (Err e)) (sym h) (refl, was)
+    → StopsOrGoesOn untouched goes_on given (Err e)
+stops untouched goes_on given e was h = subst (λ g. StopsOrGoesOn untouched goes_on g (Err e)) (sym h) (refl, was)
 
 -- ---- at which file a run ended
 

@@ -4,7 +4,7 @@ use Rattle.rr_graph.specs.declared.parts.Mode.{Mode}
 use Rattle.node_cost.specs.Options.{RouterOptions}
 use Rattle.width_search.specs.declared.report.LeastWidth.{LeastWidth}
 use Rattle.width_search.specs.declared.trial.Trial.{Trial}
-use Rattle.width_search.specs.Reports.{IsLeast, IsWidthReport, Negotiates, Report}
+use Rattle.width_search.specs.Reports.{IsOfLeastWidth, IsWidthReport, Negotiates, Report}
 use Rattle.route_file.specs.Text.{text_of}
 use Rattle.runs.specs.declared.fault.InputFile.TheVariants as file
 use Rattle.runs.specs.declared.fault.AppFault.{AppFault}
@@ -12,7 +12,8 @@ use Rattle.runs.specs.declared.fault.AppFault.TheVariants.{Unwritten}
 use Rattle.runs.specs.Faults.{ends_free}
 use Rattle.runs.specs.Inputs.{PlacedNetlist, ends_before, placed_problem}
 use Rattle.runs.specs.Runs.{PrintsText, TakesAll, TakesFront, TakesNothing, Writing, writing}
-use Rattle.runs.specs.WidthRun.{RoutesLeast, WritesFound, WritesLeast, found_line, least_line, report_text}
+use Rattle.runs.specs.WidthRun.{WritesFound, WritesLeast, found_line, least_line, report_text}
+use Rattle.runs.specs.kept.Routing.{RoutesLeast}
 
 -- the lines of a search aren't empty
 least_filled : (least : Option LeastWidth) → 0 < length (least_line least)
@@ -25,7 +26,7 @@ report_filled r = let filled = least_filled r.least in simp length-append (omega
 
 -- the routing of the least width routes its problem
 routes_found : (mode : Mode) (p : PlacedNetlist) (o : RouterOptions) (workers : ℕ) (trials : List Trial) (least : Option LeastWidth)
-    → IsLeast (Negotiates (placed_problem mode p) o workers) trials least → RoutesLeast mode p least
+    → IsOfLeastWidth (Negotiates (placed_problem mode p) o workers) trials least → RoutesLeast mode p least
 routes_found mode p o workers trials (Some least) is = is.1.0.0
 routes_found mode p o workers trials None is = tt
 

@@ -4,7 +4,7 @@ use Rattle.std.proofs.lemmas.Bool.{false≢true}
 use Rattle.route_file.specs.declared.writing.WriteFault.TheVariants.{Failed}
 use Rattle.route_file.specs.Text.{text_of}
 use Rattle.route_file.specs.Writes.{Writes}
-use Rattle.route_check.specs.Routed.{Lists}
+use Rattle.route_tree.specs.Usage.{Lists}
 use Rattle.rr_graph.specs.Problems.{RoutingProblem}
 use Rattle.node_cost.specs.Options.{RouterOptions}
 use Rattle.net_workers.specs.declared.fault.WorkFault.{WorkFault}
@@ -18,7 +18,8 @@ use Rattle.runs.specs.declared.fault.AppFault.TheVariants.{Arch, Net, Place, Rou
 use Rattle.runs.specs.Faults.{ends_free, fault_of_work, is_free}
 use Rattle.runs.specs.Inputs.{PlacedDesign, ends_before}
 use Rattle.runs.specs.Runs.{PrintsText, TakesAll, TakesFront, TakesNothing, Writing, writing}
-use Rattle.runs.specs.RouteRun.{RoutesProblem, WritesOutcome, WritesSuccess, left_text, outcome_text, routed_text}
+use Rattle.runs.specs.RouteRun.{WritesOutcome, WritesSuccess, left_text, routed_text}
+use Rattle.runs.specs.kept.Routing.{RoutesProblem, outcome_text}
 
 module _ (before after : Option (List ℕ)) (text : List ℕ) where
   -- a routing was written, or wasn't

@@ -1,20 +1,10 @@
--- An architecture's fault as a run tells it (ours).
-use Rattle.std.specs.Prelude.{ℕ, Bool, true, false, if◌then◌else◌, List, codes}
+-- The line and the name of an architecture's fault, as a run prints them (ours).
+use Rattle.std.specs.Prelude.{ℕ, List, codes}
 use Rattle.vpr_text.specs.declared.fault.TextFault.TheVariants as text
 use Rattle.arch_file.specs.declared.fault.ArchFault.{ArchFault}
 use Rattle.arch_file.specs.declared.fault.ArchFault.TheVariants as arch
-use Rattle.runs.specs.declared.fault.AppFault.{AppFault}
-use Rattle.runs.specs.declared.fault.AppFault.TheVariants.{Arch, Memory}
+use Rattle.runs.specs.declared.fault.AppFault.TheVariants.{Memory}
 use Rattle.runs.specs.TextFaults.{text_line, text_name}
-
-abbrev pub is_arch_memory : ArchFault → Bool
-is_arch_memory arch.Memory = true
-is_arch_memory (arch.Text text.Memory) = true
-is_arch_memory _ = false
-
--- the fault of a run whose architecture has this one: that of memory is the run's own
-abbrev pub fault_of_arch : ArchFault → AppFault
-fault_of_arch f = if is_arch_memory f then Memory else Arch f
 
 -- 0 is the end of the file
 abbrev pub arch_line : ArchFault → ℕ

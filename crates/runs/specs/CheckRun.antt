@@ -5,7 +5,7 @@ use Rattle.route_tree.specs.Paths.{Pair}
 use Rattle.route_check.specs.declared.fault.RouteFault.{RouteFault}
 use Rattle.runs.specs.declared.fault.AppFault.{AppFault}
 use Rattle.runs.specs.Inputs.{PlacedDesign, design_in, routing_in}
-use Rattle.runs.specs.Runs.{DesignFiles, Ends, Input, PrintsText, TakesNothing, Writing, ◌>>=◌}
+use Rattle.runs.specs.Runs.{DesignFiles, StopsOrGoesOn, Input, PrintsText, TakesNothing, Writing, ◌>>=◌}
 use Rattle.runs.specs.Verdict.{IsVerdict, verdict_text}
 
 -- a routing, and the design that it is meant for
@@ -29,4 +29,4 @@ PrintsVerdict out j result =
 
 -- A run of `check`, memory aside: where its files say a routing of a problem, there is a verdict on it, whose line is printed.
 abbrev pub RunsCheck : (out : Writing) → Result Judged AppFault → Result (Option RouteFault) AppFault → Type 0
-RunsCheck out = Ends (TakesNothing out) (PrintsVerdict out)
+RunsCheck out = StopsOrGoesOn (TakesNothing out) (PrintsVerdict out)

@@ -4,8 +4,8 @@ use Rattle.arch_file.specs.Architecture.{Architecture}
 use Rattle.rr_graph.specs.Fabric.{Fabric}
 use Rattle.runs.specs.declared.fault.AppFault.{AppFault}
 use Rattle.runs.specs.Listing.{listing_of}
-use Rattle.runs.specs.Runs.{Ends, PrintsText, TakesNothing, Writing}
+use Rattle.runs.specs.Runs.{StopsOrGoesOn, PrintsText, TakesNothing, Writing}
 
 -- A run of `graph`, memory aside: where an architecture is read, the listing of its device is printed.
 abbrev pub RunsGraph : (out : Writing) → (Architecture → Fabric) → Result Architecture AppFault → Result (Unit {0}) AppFault → Type 0
-RunsGraph out fabric = Ends (TakesNothing out) (λ a result. PrintsText out (listing_of (fabric a)) tt result)
+RunsGraph out fabric = StopsOrGoesOn (TakesNothing out) (λ a result. PrintsText out (listing_of (fabric a)) tt result)

@@ -32,7 +32,7 @@ placement_from a netlist bytes = with_fault Place (placement_of a.io_rat netlist
 abbrev pub routing_from : Netlist → RoutingProblem → List ℕ → Result (List (Option (List Pair))) AppFault
 routing_from netlist problem bytes = with_fault Route (routing_of netlist problem bytes)
 
--- ---- what a file says, behind those that are read before it
+-- ---- what a file says, after those that are read before it
 
 unfoldable pub arch_in : Input → Result Architecture AppFault
 arch_in input = bytes_in file.Arch input >>= arch_from

@@ -1,20 +1,10 @@
--- A netlist's fault as a run tells it (ours).
-use Rattle.std.specs.Prelude.{ℕ, Bool, true, false, if◌then◌else◌, List, codes}
+-- The line and the name of a netlist's fault, as a run prints them (ours).
+use Rattle.std.specs.Prelude.{ℕ, List, codes}
 use Rattle.vpr_text.specs.declared.fault.TextFault.TheVariants as text
 use Rattle.net_file.specs.declared.fault.NetFault.{NetFault}
 use Rattle.net_file.specs.declared.fault.NetFault.TheVariants as net
-use Rattle.runs.specs.declared.fault.AppFault.{AppFault}
-use Rattle.runs.specs.declared.fault.AppFault.TheVariants.{Net, Memory}
+use Rattle.runs.specs.declared.fault.AppFault.TheVariants.{Memory}
 use Rattle.runs.specs.TextFaults.{text_line, text_name}
-
-abbrev pub is_net_memory : NetFault → Bool
-is_net_memory net.Memory = true
-is_net_memory (net.Text text.Memory) = true
-is_net_memory _ = false
-
--- the fault of a run whose netlist has this one: that of memory is the run's own
-abbrev pub fault_of_net : NetFault → AppFault
-fault_of_net f = if is_net_memory f then Memory else Net f
 
 -- 0 is the end of the file
 abbrev pub net_line : NetFault → ℕ

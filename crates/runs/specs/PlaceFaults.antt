@@ -1,20 +1,10 @@
--- A placement's fault as a run tells it (ours).
-use Rattle.std.specs.Prelude.{ℕ, Bool, true, false, if◌then◌else◌, List, codes}
+-- The line and the name of a placement's fault, as a run prints them (ours).
+use Rattle.std.specs.Prelude.{ℕ, List, codes}
 use Rattle.vpr_text.specs.declared.fault.TextFault.TheVariants as text
 use Rattle.place_file.specs.declared.fault.PlaceFault.{PlaceFault}
 use Rattle.place_file.specs.declared.fault.PlaceFault.TheVariants as place
-use Rattle.runs.specs.declared.fault.AppFault.{AppFault}
-use Rattle.runs.specs.declared.fault.AppFault.TheVariants.{Place, Memory}
+use Rattle.runs.specs.declared.fault.AppFault.TheVariants.{Memory}
 use Rattle.runs.specs.TextFaults.{text_line, text_name}
-
-abbrev pub is_place_memory : PlaceFault → Bool
-is_place_memory place.Memory = true
-is_place_memory (place.Text text.Memory) = true
-is_place_memory _ = false
-
--- the fault of a run whose placement has this one: that of memory is the run's own
-abbrev pub fault_of_place : PlaceFault → AppFault
-fault_of_place f = if is_place_memory f then Memory else Place f
 
 -- 0 is the end of the file
 abbrev pub place_line : PlaceFault → ℕ

@@ -1,20 +1,10 @@
--- A routing's fault as a run tells it (ours).
-use Rattle.std.specs.Prelude.{ℕ, Bool, true, false, if◌then◌else◌, List, codes}
+-- The line and the name of a routing's fault, as a run prints them (ours).
+use Rattle.std.specs.Prelude.{ℕ, List, codes}
 use Rattle.vpr_text.specs.declared.fault.TextFault.TheVariants as text
 use Rattle.route_file.specs.declared.fault.RouteFileFault.{RouteFileFault}
 use Rattle.route_file.specs.declared.fault.RouteFileFault.TheVariants as route
-use Rattle.runs.specs.declared.fault.AppFault.{AppFault}
-use Rattle.runs.specs.declared.fault.AppFault.TheVariants.{Route, Memory}
+use Rattle.runs.specs.declared.fault.AppFault.TheVariants.{Memory}
 use Rattle.runs.specs.TextFaults.{text_line, text_name}
-
-abbrev pub is_route_memory : RouteFileFault → Bool
-is_route_memory route.Memory = true
-is_route_memory (route.Text text.Memory) = true
-is_route_memory _ = false
-
--- the fault of a run whose routing has this one: that of memory is the run's own
-abbrev pub fault_of_route : RouteFileFault → AppFault
-fault_of_route f = if is_route_memory f then Memory else Route f
 
 -- 0 is the end of the file
 abbrev pub route_line : RouteFileFault → ℕ

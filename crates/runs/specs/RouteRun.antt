@@ -1,8 +1,7 @@
 -- What a run of `route` answers, writes and prints (ours).
 use Rattle.std.specs.Prelude.{◌≡◌, ℕ, List, ◌++◌, codes, decimal, Result, Err, MatchBool}
-use Rattle.rr_graph.specs.Problems.{RoutingProblem}
 use Rattle.node_cost.specs.Options.{RouterOptions}
-use Rattle.route_check.specs.Routed.{IsRouted, Lists}
+use Rattle.route_tree.specs.Usage.{Lists}
 use Rattle.route_file.specs.Text.{text_of}
 use Rattle.iteration.specs.declared.outcome.Outcome.{Outcome}
 use Rattle.iteration.specs.declared.outcome.Outcome.TheVariants.{Success, NotRouted}
@@ -10,7 +9,7 @@ use Rattle.iteration.specs.Outcomes as negotiation
 use Rattle.runs.specs.declared.fault.AppFault.{AppFault}
 use Rattle.runs.specs.declared.fault.AppFault.TheVariants.{Unwritten}
 use Rattle.runs.specs.Inputs.{PlacedDesign}
-use Rattle.runs.specs.Runs.{Ends, PrintsText, TakesAll, TakesFront, TakesNothing, Writing}
+use Rattle.runs.specs.Runs.{StopsOrGoesOn, PrintsText, TakesAll, TakesFront, TakesNothing, Writing}
 
 -- ---- the line of an outcome
 
@@ -24,21 +23,12 @@ left_text unrouted overused iterations =
     codes "not routed: unrouted "
     ++ (decimal unrouted ++ (codes ", overused " ++ (decimal overused ++ (codes ", iterations " ++ (decimal iterations ++ codes "\n")))))
 
-abbrev pub outcome_text : Outcome → List ℕ
-outcome_text (Success lists iterations) = routed_text iterations
-outcome_text (NotRouted unrouted overused iterations) = left_text unrouted overused iterations
-
 -- the exit status of an outcome
 abbrev pub status_of_outcome : Outcome → ℕ
 status_of_outcome (Success lists iterations) = 0
 status_of_outcome (NotRouted unrouted overused iterations) = 3
 
 -- ---- what is written
-
--- a success is a routing of the problem
-abbrev pub RoutesProblem : RoutingProblem → Outcome → Type 0
-RoutesProblem p (Success lists iterations) = IsRouted p lists
-RoutesProblem p (NotRouted unrouted overused iterations) = Unit {0}
 
 -- What comes of a success: its text is written to `route`, and Unwritten is answered where that failed, `out` having taken nothing; else
 -- the line is printed to `out`.
@@ -60,10 +50,10 @@ abbrev pub RoutesDesign : RouterOptions → (workers : ℕ) → (route out : Wri
 RoutesDesign o workers route out d result =
     (outcome : Outcome)
     × negotiation.IsOutcome d.problem o outcome
-    × negotiation.Ends d.problem o workers outcome
+    × negotiation.EndsNegotiation d.problem o workers outcome
     × WritesOutcome route out d outcome result
 
 -- A run of `route`, free faults aside: with a fault of its files neither sink takes anything; where they say a design, its problem is
 -- negotiated, and the outcome is written.
 abbrev pub RunsRoute : RouterOptions → (workers : ℕ) → (route out : Writing) → Result PlacedDesign AppFault → Result Outcome AppFault → Type 0
-RunsRoute o workers route out = Ends (TakesNothing route × TakesNothing out) (RoutesDesign o workers route out)
+RunsRoute o workers route out = StopsOrGoesOn (TakesNothing route × TakesNothing out) (RoutesDesign o workers route out)

@@ -1,9 +1,9 @@
 -- What a run reads of its input files, and what comes of printing a text (ours).
-use Rattle.std.specs.Prelude.{◌≡◌, ◌≢◌, ℕ, ◌+◌, ◌^◌, Bool, if◌then◌else◌, List, ◌++◌, take, Option, None, Some, Result, Ok, Err, MatchBool}
+use Rattle.std.specs.Prelude.{◌≡◌, ℕ, ◌+◌, ◌^◌, Bool, if◌then◌else◌, List, ◌++◌, take, Option, None, Some, Result, Ok, Err, MatchBool}
 use Rattle.std.specs.Io.KnownBytes.{Appends, Keeps}
 use Rattle.runs.specs.declared.fault.InputFile.{InputFile}
 use Rattle.runs.specs.declared.fault.AppFault.{AppFault}
-use Rattle.runs.specs.declared.fault.AppFault.TheVariants.{Unread, Unwritten, Memory}
+use Rattle.runs.specs.declared.fault.AppFault.TheVariants.{Unread, Unwritten}
 
 -- ---- what is read
 
@@ -59,11 +59,6 @@ abbrev pub ◌>>=◌ : {A B : Type 0} → Result A AppFault → (A → Result B 
 (Ok x) >>= f = f x
 (Err e) >>= f = Err e
 
--- what a call returned, seen by view, is what is given, unless memory ran out
-abbrev pub Gives : {X Y : Type 0} → (X → Y) → Result X AppFault → Result Y AppFault → Type 0
-Gives view (Ok x) given = given ≡ Ok (view x)
-Gives view (Err f) given = f ≢ Memory → given ≡ Err f
-
 -- ---- what is printed
 
 -- the writing of a sink: the bytes that it had taken before, and those that it has taken after, where they are known, and whether it
@@ -95,6 +90,6 @@ PrintsText w text value result =
     MatchBool w.failed ((result ≡ Err Unwritten) × TakesFront w text) ((result ≡ Ok value) × TakesAll w text)
 
 -- a run ends with the fault of its inputs, and its sinks are untouched; or it goes on with what they say
-abbrev pub Ends : {X R : Type 0} → (untouched : Type 0) → (goes_on : X → Result R AppFault → Type 0) → Result X AppFault → Result R AppFault → Type 0
-Ends untouched goes_on (Err f) result = (result ≡ Err f) × untouched
-Ends untouched goes_on (Ok x) result = goes_on x result
+abbrev pub StopsOrGoesOn : {X R : Type 0} → (untouched : Type 0) → (goes_on : X → Result R AppFault → Type 0) → Result X AppFault → Result R AppFault → Type 0
+StopsOrGoesOn untouched goes_on (Err f) result = (result ≡ Err f) × untouched
+StopsOrGoesOn untouched goes_on (Ok x) result = goes_on x result

@@ -3,7 +3,6 @@ use Rattle.std.specs.Prelude.{◌≡◌, ℕ, Bool, if◌then◌else◌, List, �
 use Rattle.std.specs.List.{flat_map}
 use Rattle.rr_graph.specs.declared.parts.Mode.{Mode}
 use Rattle.node_cost.specs.Options.{RouterOptions}
-use Rattle.route_check.specs.Routed.{IsRouted}
 use Rattle.route_file.specs.Text.{text_of}
 use Rattle.width_search.specs.declared.report.LeastWidth.{LeastWidth}
 use Rattle.width_search.specs.declared.trial.Trial.{Trial}
@@ -11,7 +10,7 @@ use Rattle.width_search.specs.Reports.{IsWidthReport, Negotiates, Report}
 use Rattle.runs.specs.declared.fault.AppFault.{AppFault}
 use Rattle.runs.specs.declared.fault.AppFault.TheVariants.{Unwritten}
 use Rattle.runs.specs.Inputs.{PlacedNetlist, placed_problem}
-use Rattle.runs.specs.Runs.{Ends, PrintsText, TakesAll, TakesFront, TakesNothing, Writing}
+use Rattle.runs.specs.Runs.{StopsOrGoesOn, PrintsText, TakesAll, TakesFront, TakesNothing, Writing}
 
 -- ---- the lines of a search
 
@@ -52,7 +51,7 @@ WritesFound route out lines text value result =
     ((result ≡ Err Unwritten) × TakesFront out lines × TakesNothing route)
     (TakesAll out lines × PrintsText route text value result)
 
--- What comes of the least width: its routing's text is written behind the lines; where there is none, `route` took nothing.
+-- What comes of the least width: its routing's text is written after the lines; where there is none, `route` took nothing.
 abbrev pub WritesLeast : {R : Type 0} → (route out : Writing) → Mode → PlacedNetlist → (lines : List ℕ) → Option LeastWidth → R → Result R AppFault → Type 0
 WritesLeast route out mode p lines (Some least) value result =
     WritesFound route out lines (text_of p.netlist p.placement (placed_problem mode p least.width) least.routing) value result
@@ -61,11 +60,6 @@ WritesLeast route out mode p lines None value result = PrintsText out lines valu
 -- What comes of a report: its lines are printed to `out`, and then the routing of the least width is written to `route`.
 abbrev pub WritesReport : {R : Type 0} → (route out : Writing) → Mode → PlacedNetlist → Report → R → Result R AppFault → Type 0
 WritesReport route out mode p r value result = WritesLeast route out mode p (report_text r) r.least value result
-
--- the routing of the least width routes the problem on a device of that width
-abbrev pub RoutesLeast : Mode → PlacedNetlist → Option LeastWidth → Type 0
-RoutesLeast mode p (Some least) = IsRouted (placed_problem mode p least.width) least.routing
-RoutesLeast mode p None = Unit {0}
 
 -- Widths are tried for a placed netlist, from a start on: the report is that of the search, and it is written.
 abbrev pub SearchesWidths : RouterOptions → (workers start : ℕ) → Mode → (route out : Writing) → PlacedNetlist → Result Report AppFault → Type 0
@@ -77,4 +71,4 @@ SearchesWidths o workers start mode route out p result =
 -- A run of `width`, free faults aside: with a fault of its files neither sink takes anything; where they say a placed netlist, widths are
 -- tried for it, and the report is written.
 abbrev pub RunsWidth : RouterOptions → (workers start : ℕ) → Mode → (route out : Writing) → Result PlacedNetlist AppFault → Result Report AppFault → Type 0
-RunsWidth o workers start mode route out = Ends (TakesNothing route × TakesNothing out) (SearchesWidths o workers start mode route out)
+RunsWidth o workers start mode route out = StopsOrGoesOn (TakesNothing route × TakesNothing out) (SearchesWidths o workers start mode route out)

@@ -1,7 +1,8 @@
 //! An architecture's fault as a run tells it.
 
 ghost use Rattle.std.specs.Prelude.{◌≡◌};
-ghost use Rattle.runs.specs.ArchFaults.{is_arch_memory, fault_of_arch, arch_line, arch_name};
+ghost use Rattle.runs.specs.ArchFaults.{arch_line, arch_name};
+ghost use Rattle.runs.specs.kept.ReaderFaults.{is_arch_memory, fault_of_arch};
 
 use crate::fault::AppFault;
 use crate::text_fault::{text_line, text_name};

@@ -1,6 +1,7 @@
 //! The `check` command over any sources and sink.
 
 ghost use Rattle.std.specs.Prelude.{◌≡◌, ◌≢◌, ◌≤◌, true, false, length, Err};
+ghost use Rattle.rr_graph.specs.Fabric.{most_tracks};
 ghost use Rattle.runs.specs.Runs.{Meets, MeetsDesign, PrintsText, TakesNothing, reading, writing};
 ghost use Rattle.runs.specs.Inputs.{ends_before};
 ghost use Rattle.runs.specs.CheckRun.{PrintsVerdict, RunsCheck, judged_in, judged_on};
@@ -101,7 +102,7 @@ pub fn check_run<N: ByteSource, A: ByteSource, P: ByteSource, R: ByteSource, W: 
     width: u32,
     mode: Mode,
 ) -> Result<Option<RouteFault>, AppFault>
-    requires tracks { (1 ≤ width) × (width ≤ 256) }
+    requires tracks { (1 ≤ width) × (width ≤ most_tracks) }
     // What the files say decides, and where they say a routing of a problem, the line of the verdict on it is printed.
     ensures runs { result ≢ Err AppFault.Memory
         → MeetsDesign (reading (A.remaining arch.old) (A.failed arch.new))

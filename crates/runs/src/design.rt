@@ -2,10 +2,12 @@
 
 ghost use Rattle.std.specs.Prelude.{◌≡◌, ◌≤◌, true, false, map};
 ghost use Rattle.net_file.specs.Routed.{routed_numbers};
+ghost use Rattle.rr_graph.specs.Fabric.{most_tracks};
 ghost use Rattle.route_file.specs.Design.{IsDesign};
 ghost use Rattle.runs.specs.Inputs.{ends_before};
-ghost use Rattle.runs.specs.Runs.{Gives, Meets, reading};
-ghost use Rattle.runs.specs.Stages.{design_of};
+ghost use Rattle.runs.specs.Runs.{Meets, reading};
+ghost use Rattle.runs.specs.kept.Reading.{Gives};
+ghost use Rattle.runs.specs.kept.Stages.{design_of};
 
 use crate::fault::{AppFault, InputFile};
 use crate::netlist_text::NetlistText;
@@ -52,7 +54,7 @@ impl<'a> Design<'a> {
         width: u32,
         mode: Mode,
     ) -> Result<Design<'a>, AppFault>
-        requires tracks { (1 ≤ width) × (width ≤ 256) }
+        requires tracks { (1 ≤ width) × (width ≤ most_tracks) }
         ensures given { Meets (reading (P.remaining place.old) (P.failed place.new))
             (λ p. Gives (λ d. d) result (design_of width mode text.now p)) }
         ensures late { ends_before InputFile.Net result ≡ false }

@@ -1,10 +1,11 @@
 //! The `graph` command over any source and sink.
 
 ghost use Rattle.std.specs.Prelude.{◌≡◌, ◌≢◌, ◌≤◌, Err};
+ghost use Rattle.place_file.specs.Placement.{longest_side};
 ghost use Rattle.runs.specs.Inputs.{arch_in};
 ghost use Rattle.runs.specs.Listing.{listing_of};
 ghost use Rattle.runs.specs.Runs.{Meets, PrintsText, TakesNothing, reading, writing};
-ghost use Rattle.rr_graph.specs.Fabric.{fabric_with};
+ghost use Rattle.rr_graph.specs.Fabric.{fabric_with, most_tracks};
 ghost use Rattle.runs.specs.GraphRun.{RunsGraph};
 
 use crate::fault::AppFault;
@@ -47,9 +48,9 @@ pub fn graph_run<S: ByteSource, W: ByteSink>(
     mode: Mode,
     out: &mut W,
 ) -> Result<(), AppFault>
-    requires columns { (1 ≤ nx) × (nx ≤ 100) }
-    requires rows { (1 ≤ ny) × (ny ≤ 100) }
-    requires tracks { (1 ≤ width) × (width ≤ 256) }
+    requires columns { (1 ≤ nx) × (nx ≤ longest_side) }
+    requires rows { (1 ≤ ny) × (ny ≤ longest_side) }
+    requires tracks { (1 ≤ width) × (width ≤ most_tracks) }
     // What the file says decides, and where it says an architecture, the listing of its device is printed.
     ensures runs { result ≢ Err AppFault.Memory
         → Meets (reading (S.remaining arch.old) (S.failed arch.new))

@@ -1,7 +1,8 @@
 //! A netlist's fault as a run tells it.
 
 ghost use Rattle.std.specs.Prelude.{◌≡◌};
-ghost use Rattle.runs.specs.NetFaults.{is_net_memory, fault_of_net, net_line, net_name};
+ghost use Rattle.runs.specs.NetFaults.{net_line, net_name};
+ghost use Rattle.runs.specs.kept.ReaderFaults.{is_net_memory, fault_of_net};
 
 use crate::fault::AppFault;
 use crate::text_fault::{text_line, text_name};

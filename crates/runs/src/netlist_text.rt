@@ -2,8 +2,9 @@
 
 ghost use Rattle.std.specs.Prelude.{◌≡◌, true};
 ghost use Rattle.runs.specs.Inputs.{ends_before};
-ghost use Rattle.runs.specs.Runs.{Gives, Meets, reading};
-ghost use Rattle.runs.specs.Stages.{text_in};
+ghost use Rattle.runs.specs.Runs.{Meets, reading};
+ghost use Rattle.runs.specs.kept.Reading.{Gives};
+ghost use Rattle.runs.specs.kept.Stages.{text_in};
 
 use crate::fault::{AppFault, InputFile};
 use crate::inputs::{read_arch, read_input};
@@ -20,7 +21,7 @@ pub(crate) struct NetlistText {
 }
 
 impl Model for NetlistText {
-    ghost use Rattle.runs.specs.Stages.{NetlistText};
+    ghost use Rattle.runs.specs.kept.Stages.{NetlistText};
 
     ghost Value = { NetlistText };
 

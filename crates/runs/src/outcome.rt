@@ -2,7 +2,8 @@
 
 ghost use Rattle.std.specs.Prelude.{◌≡◌};
 ghost use Rattle.vpr_text.specs.Output.{Sends, stream};
-ghost use Rattle.runs.specs.RouteRun.{left_text, outcome_text, routed_text, status_of_outcome};
+ghost use Rattle.runs.specs.RouteRun.{left_text, routed_text, status_of_outcome};
+ghost use Rattle.runs.specs.kept.Routing.{outcome_text};
 
 use iteration::Outcome;
 use route_file::text::put_number;

@@ -1,7 +1,8 @@
 //! A placement's fault as a run tells it.
 
 ghost use Rattle.std.specs.Prelude.{◌≡◌};
-ghost use Rattle.runs.specs.PlaceFaults.{is_place_memory, fault_of_place, place_line, place_name};
+ghost use Rattle.runs.specs.PlaceFaults.{place_line, place_name};
+ghost use Rattle.runs.specs.kept.ReaderFaults.{is_place_memory, fault_of_place};
 
 use crate::fault::AppFault;
 use crate::text_fault::{text_line, text_name};

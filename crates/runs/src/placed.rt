@@ -4,11 +4,13 @@ ghost use Rattle.std.specs.Prelude.{◌≡◌, ℕ, ◌≤◌, true, false, List
 ghost use Rattle.net_file.specs.Reads.{ReadsBytes};
 ghost use Rattle.net_file.specs.Routed.{routed_numbers};
 ghost use Rattle.place_file.specs.Placement.{IsPlaced};
+ghost use Rattle.rr_graph.specs.Fabric.{most_tracks};
 ghost use Rattle.route_file.specs.Design.{IsDesign};
 ghost use Rattle.width_search.specs.Reports.{problem_at};
 ghost use Rattle.runs.specs.Inputs.{ends_before, placed_problem};
-ghost use Rattle.runs.specs.Runs.{Gives, Meets, reading};
-ghost use Rattle.runs.specs.Stages.{placed_of};
+ghost use Rattle.runs.specs.Runs.{Meets, reading};
+ghost use Rattle.runs.specs.kept.Reading.{Gives};
+ghost use Rattle.runs.specs.kept.Stages.{placed_of};
 
 use crate::fault::{AppFault, InputFile};
 use crate::inputs::{parse_netlist, read_placement};
@@ -30,7 +32,7 @@ fn problem_of(
     width: u32,
     mode: Mode,
 ) -> Result<Problem, AllocError>
-    requires tracks { (1 ≤ width) × (width ≤ 256) }
+    requires tracks { (1 ≤ width) × (width ≤ most_tracks) }
     requires read { (bytes : List ℕ) × ReadsBytes arch.now.pins bytes netlist.now }
     requires placed { IsPlaced arch.now.io_rat netlist.now.blocks placement.now }
     ensures made { IfOk result
@@ -127,7 +129,7 @@ impl<'a> PlacedNetlist<'a> {
         width: u32,
         mode: Mode,
     ) -> Result<Problem, AllocError>
-        requires tracks { (1 ≤ width) × (width ≤ 256) }
+        requires tracks { (1 ≤ width) × (width ≤ most_tracks) }
         ensures made { IfOk result (λ p. p ≡ placed_problem mode self.now width) }
         ensures fits { IfOk result (IsDesign self.now.netlist self.now.placement) }
         ensures numbers { IfOk result

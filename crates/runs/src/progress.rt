@@ -61,7 +61,7 @@ impl fmt::Display for Standing {
 
 /// A gate that keeps a line on standard error up to date, for people who look at a terminal: the width, where widths are tried, the
 /// iteration, how many nets had their turn in it of all, how many nodes were overused after the last close, and the time since it was
-/// made. The line ends by `end`; behind each trial of a width one stays that tells what it came to.
+/// made. The line ends by `end`; after each trial of a width one stays that tells what it came to.
 #[derive(Drop)]
 pub struct Progress<'a, R> {
     rt: &'a R,

@@ -1,12 +1,15 @@
 //! The `route` command over any sources and sinks.
 
 ghost use Rattle.std.specs.Prelude.{◌≡◌, ◌≤◌, true, false, IfErr, IfOk};
+ghost use Rattle.rr_graph.specs.Fabric.{most_tracks};
+ghost use Rattle.node_cost.specs.Options.{most_workers};
 ghost use Rattle.route_check.specs.Routed.{IsRouted};
 ghost use Rattle.iteration.specs.Outcomes as negotiation;
 ghost use Rattle.runs.specs.Faults.{ends_free, is_free};
 ghost use Rattle.runs.specs.Runs.{MeetsDesign, PrintsText, TakesNothing, reading, writing};
 ghost use Rattle.runs.specs.Inputs.{design_in, ends_before};
-ghost use Rattle.runs.specs.RouteRun.{RoutesDesign, RoutesProblem, RunsRoute, WritesOutcome, WritesSuccess, outcome_text};
+ghost use Rattle.runs.specs.RouteRun.{RoutesDesign, RunsRoute, WritesOutcome, WritesSuccess};
+ghost use Rattle.runs.specs.kept.Routing.{RoutesProblem, outcome_text};
 
 use crate::design::Design;
 use crate::fault::{AppFault, InputFile};
@@ -95,9 +98,10 @@ fn negotiate_design<T: Threads + Wait + Sync + AllocGlobal, G: Gate + Sync>(
     workers: u32,
     gate: &G,
 ) -> Result<Outcome, AppFault>
-    requires workers { (1 ≤ workers) × (workers ≤ 16) }
+    requires workers { (1 ≤ workers) × (workers ≤ most_workers) }
     ensures outcome { IfOk result (negotiation.IsOutcome design.now.problem settings.now) }
-    ensures run { IfOk result (negotiation.Ends design.now.problem settings.now workers) }
+    ensures run { IfOk result
+        (negotiation.EndsNegotiation design.now.problem settings.now workers) }
     ensures free { IfErr result (λ e. is_free e ≡ true) }
 {
     let problem = design.problem().copy(rt.alloc())?;
@@ -115,7 +119,7 @@ fn route_design<T: Threads + Wait + Sync + AllocGlobal, R: ByteSink, W: ByteSink
     workers: u32,
     gate: &G,
 ) -> Result<Outcome, AppFault>
-    requires workers { (1 ≤ workers) × (workers ≤ 16) }
+    requires workers { (1 ≤ workers) × (workers ≤ most_workers) }
     ensures runs { ends_free result ≡ false → RoutesDesign settings.now workers
         (writing (R.taken route.old) (R.taken route.new) (R.failed route.new))
         (writing (W.taken out.old) (W.taken out.new) (W.failed out.new)) design.now result }
@@ -162,8 +166,8 @@ pub fn route_run<
     workers: u32,
     gate: &G,
 ) -> Result<Outcome, AppFault>
-    requires tracks { (1 ≤ width) × (width ≤ 256) }
-    requires workers { (1 ≤ workers) × (workers ≤ 16) }
+    requires tracks { (1 ≤ width) × (width ≤ most_tracks) }
+    requires workers { (1 ≤ workers) × (workers ≤ most_workers) }
     // What the files say decides; where they say a design, its problem is negotiated, and a success is a routing of it, whose
     // text is written.
     ensures runs { ends_free result ≡ false

@@ -1,7 +1,8 @@
 //! A routing's fault as a run tells it.
 
 ghost use Rattle.std.specs.Prelude.{◌≡◌};
-ghost use Rattle.runs.specs.RouteFaults.{is_route_memory, fault_of_route, route_line, route_name};
+ghost use Rattle.runs.specs.RouteFaults.{route_line, route_name};
+ghost use Rattle.runs.specs.kept.ReaderFaults.{is_route_memory, fault_of_route};
 
 use crate::fault::AppFault;
 use crate::text_fault::{text_line, text_name};

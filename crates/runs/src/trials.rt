@@ -9,7 +9,7 @@ use route_file::text::put_number;
 use vpr_text::{ByteSink, OutputBuffer};
 use width_search::{LeastWidth, Trial, WidthReport};
 
-/// What a trial came to, behind its width.
+/// What a trial came to, after its width.
 fn trial_end(routed: bool) -> &'static [u8]
     ensures { result.now ≡ trial_end routed }
 {

@@ -1,6 +1,8 @@
 //! The `width` command over any sources and sinks.
 
 ghost use Rattle.std.specs.Prelude.{◌≡◌, ◌≤◌, true, false, IfErr, IfOk};
+ghost use Rattle.rr_graph.specs.Fabric.{most_tracks};
+ghost use Rattle.node_cost.specs.Options.{most_workers};
 ghost use Rattle.route_check.specs.Routed.{IsRouted};
 ghost use Rattle.route_file.specs.Design.{IsDesign};
 ghost use Rattle.route_file.specs.Text.{text_of};
@@ -8,7 +10,8 @@ ghost use Rattle.width_search.specs.Reports.{IsWidthReport, Negotiates};
 ghost use Rattle.runs.specs.Faults.{ends_free, is_free};
 ghost use Rattle.runs.specs.Inputs.{ends_before, placed_in, placed_problem};
 ghost use Rattle.runs.specs.Runs.{MeetsDesign, PrintsText, TakesNothing, reading, writing};
-ghost use Rattle.runs.specs.WidthRun.{RoutesLeast, RunsWidth, SearchesWidths, WritesFound, WritesReport, report_text};
+ghost use Rattle.runs.specs.WidthRun.{RunsWidth, SearchesWidths, WritesFound, WritesReport, report_text};
+ghost use Rattle.runs.specs.kept.Routing.{RoutesLeast};
 
 use crate::fault::{AppFault, InputFile};
 use crate::netlist_text::NetlistText;
@@ -115,8 +118,8 @@ fn search_widths<T: Threads + Wait + Sync + AllocGlobal, G: Gate + Sync>(
     workers: u32,
     gate: &G,
 ) -> Result<WidthReport, AppFault>
-    requires start { (1 ≤ start) × (start ≤ 256) }
-    requires workers { (1 ≤ workers) × (workers ≤ 16) }
+    requires start { (1 ≤ start) × (start ≤ most_tracks) }
+    requires workers { (1 ≤ workers) × (workers ≤ most_workers) }
     ensures report { IfOk result (IsWidthReport
         (Negotiates (placed_problem mode placed.now) settings.now workers) start) }
     ensures free { IfErr result (λ e. is_free e ≡ true) }
@@ -148,8 +151,8 @@ fn width_placed<T: Threads + Wait + Sync + AllocGlobal, R: ByteSink, W: ByteSink
     workers: u32,
     gate: &G,
 ) -> Result<WidthReport, AppFault>
-    requires start { (1 ≤ start) × (start ≤ 256) }
-    requires workers { (1 ≤ workers) × (workers ≤ 16) }
+    requires start { (1 ≤ start) × (start ≤ most_tracks) }
+    requires workers { (1 ≤ workers) × (workers ≤ most_workers) }
     ensures runs { ends_free result ≡ false → SearchesWidths settings.now workers start mode
         (writing (R.taken route.old) (R.taken route.new) (R.failed route.new))
         (writing (W.taken out.old) (W.taken out.new) (W.failed out.new)) placed.now result }
@@ -200,8 +203,8 @@ pub fn width_run<
     workers: u32,
     gate: &G,
 ) -> Result<WidthReport, AppFault>
-    requires start { (1 ≤ start) × (start ≤ 256) }
-    requires workers { (1 ≤ workers) × (workers ≤ 16) }
+    requires start { (1 ≤ start) × (start ≤ most_tracks) }
+    requires workers { (1 ≤ workers) × (workers ≤ most_workers) }
     // What the files say decides; where they say a placed netlist, the widths are those of a search for it, their lines are
     // printed, and the text of a routing of it at the least width is written.
     ensures runs { ends_free result ≡ false

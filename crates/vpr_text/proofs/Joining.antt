@@ -10,7 +10,7 @@ use Rattle.std.proofs.lemmas.List.Sums.{prefix_len-le-length, fails_before_first
 use Rattle.vpr_text.specs.declared.line.Range.{Range}
 use Rattle.vpr_text.specs.declared.line.Entry.{Entry}
 use Rattle.vpr_text.specs.Words.{Line, is_line_feed, is_separator, is_comment_sign, is_filled, has_words, words_on, goes_on, given_up, continued, lines_from, words_of}
-use Rattle.vpr_text.specs.Split.{word_in, words_in, line_in, lines_in, IsRange, IsEntry, AreKept, entry_if, AddsLine}
+use Rattle.vpr_text.specs.kept.Split.{word_in, words_in, line_in, lines_in, IsRange, IsEntry, AreEntriesOf, entry_if, AddsLine}
 use Rattle.vpr_text.proofs.Parts.{length-part}
 
 -- ---- physical lines
@@ -252,7 +252,7 @@ IsJoined-closed source old new entries more first opened number at end j t e =
 
 -- the end of the file closes the opened line
 pub record AreAll (source : List ℕ) (ranges : List Range) (entries : List Entry) : Type 0 where
-  pub kept : AreKept source ranges entries
+  pub kept : AreEntriesOf source ranges entries
   pub lines : lines_in source ranges entries ≡ words_of source
 
 pub IsJoined-ends : (source : List ℕ) (ranges : List Range) (entries more : List Entry) (first opened number at : ℕ) → length source < at → IsJoined source ranges entries first opened number at

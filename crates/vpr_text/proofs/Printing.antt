@@ -19,7 +19,7 @@ joined h m k x y f g p q =
 pub prints_none : (s : Stream) → Prints s s []
 prints_none s = record { front = []; whole = append-nil s.buffer.held; taken = Appends-nil s.taken; sound = inr (refl, refl) }
 
--- one text is printed behind another
+-- one text is printed after another
 pub prints_then : {r s t : Stream} {x y : List ℕ} → Prints r s x → Prints s t y → Prints r t (x ++ y)
 prints_then {r} {s} {t} {x} {y} p q = record {
   front = p.front ++ q.front;
@@ -28,7 +28,7 @@ prints_then {r} {s} {t} {x} {y} p q = record {
   sound = sound_then r.failed s.failed t.failed p.front q.front p.sound q.sound;
 }
 
--- a text breaks off behind another
+-- a text breaks off after another
 pub breaks_then : {r s t : Stream} {x y : List ℕ} → Prints r s x → Breaks s t y → Breaks r t (x ++ y)
 breaks_then {r} {s} {t} {x} {y} p q = record {
   front = p.front ++ q.front;
@@ -38,7 +38,7 @@ breaks_then {r} {s} {t} {x} {y} p q = record {
   failed = q.failed;
 }
 
--- a text that breaks off may have had more behind it
+-- a text that breaks off may have had more after it
 pub breaks_more : {s t : Stream} {x : List ℕ} (y : List ℕ) → Breaks s t x → Breaks s t (x ++ y)
 breaks_more {s} {t} {x} y p = record {
   front = p.front;
@@ -55,7 +55,7 @@ broken-cases false = inl refl
 is-not-broken : (s t : Stream) (y : List ℕ) → Sends s t y → t.buffer.broken ≡ false → s.buffer.broken ≡ false
 is-not-broken s t y q e = elim (broken-cases s.buffer.broken) [ inl f ↦ f | inr b ↦ sym (ap (λ (u : Stream). u.buffer.broken) (q.stays b)) ∙ e ]
 
--- one text is sent behind another
+-- one text is sent after another
 pub sends_then : {r s t : Stream} {x y : List ℕ} → Sends r s x → Sends s t y → Sends r t (x ++ y)
 sends_then {r} {s} {t} {x} {y} p q = record {
   prints = λ e. let f = is-not-broken s t y q e in prints_then (p.prints f) (q.prints e);
@@ -81,7 +81,7 @@ takes_more s taken taken' failed failed' held n text p a f = record {
   sound = inl f;
 }
 
--- what is held behind the bytes that were held is sent
+-- what is held after the bytes that were held is sent
 pub sends_held : (taken : Option (List ℕ)) (failed : Bool) (old new : Buffer) (bytes : List ℕ)
     → (old.broken ≡ false → new ≡ record { held = old.held ++ bytes; broken = false }) → (old.broken ≡ true → new ≡ old)
     → Sends (stream taken failed old) (stream taken failed new) bytes

@@ -1,16 +1,15 @@
 -- The words of a part of the source, as ranges.
 use Rattle.std.proofs.Common.{◌≡◌, ℕ, suc, ◌+◌, ◌-◌, ◌<◌, ◌≤◌, Bool, true, false, cond, eqb, ltb, List, [], ◌∷◌, ◌++◌, length, get_or, take, drop, set, All, refl, sym, ap, subst, ◌∙◌, append_assoc, arith, inl, inr}
-use Rattle.std.specs.Prelude.{slice_range, filter}
+use Rattle.std.specs.Prelude.{slice_range, filter, not}
 use Rattle.std.specs.List.{slice_split, before_first, position_or_len}
 use Rattle.std.proofs.lemmas.Bool.{cases_lt, lt-ltb, le-ltb, ltb-true}
 use Rattle.std.proofs.lemmas.List.{append-nil, map-append, take-take, take_more, take_all, take-append-drop, drop-append-le, drop_at, take_at, length-take, length-drop, set_split, drop_all, get_or-drop}
 use Rattle.std.proofs.lemmas.List.Elements.{All-append, All-nil, All-cons, All-take}
 use Rattle.std.proofs.lemmas.List.Splits.{slice_split_at, slice_split_none}
 use Rattle.std.proofs.lemmas.List.Sums.{prefix_len-le-length}
-use Rattle.std.specs.Prelude.{not}
 use Rattle.vpr_text.specs.declared.line.Range.{Range}
 use Rattle.vpr_text.specs.Words.{is_separator, is_comment_sign, is_filled, words_between, words_on, ends_in_backslash, goes_on, shortened, given_up}
-use Rattle.vpr_text.specs.Split.{word_in, words_in, IsRange, range_if, Adds, words_left, GivesUp, AddsLine}
+use Rattle.vpr_text.specs.kept.Split.{word_in, words_in, IsRange, range_if, Adds, words_left, GivesUp, AddsLine}
 use Rattle.vpr_text.proofs.Parts.{NonePass, NonePass-more, length-part, get_or-part, part_at, part_fails}
 
 -- ---- one word

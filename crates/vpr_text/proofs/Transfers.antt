@@ -3,7 +3,8 @@ use Rattle.std.proofs.Common.{◌≡◌, ℕ, ◌+◌, ◌≤◌, List, ◌++◌
 use Rattle.std.specs.Io.KnownBytes.{Consumes, IsAtEnd}
 use Rattle.std.proofs.KnownBytes.{Consumes-trans}
 use Rattle.std.proofs.lemmas.List.{append-nil, length-append, take_all, drop_all, take_at, drop_at}
-use Rattle.vpr_text.specs.Transfer.{ReadsFront, ReadsMore}
+use Rattle.vpr_text.specs.Transfer.{ReadsFront}
+use Rattle.vpr_text.specs.kept.Transfers.{ReadsMore}
 
 pub Consumes-more : (a b c : Option (List ℕ)) (held now : List ℕ) (n : ℕ) → Consumes a b held → ReadsMore b c held now n → Consumes a c now
 Consumes-more a b c held now n p q = subst (Consumes a c) (sym q.whole) (Consumes-trans a b c held q.added p q.consumed)

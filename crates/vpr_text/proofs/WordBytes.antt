@@ -7,7 +7,8 @@ use Rattle.std.proofs.lemmas.List.Elements.{All-from_recursion, recursion_from_A
 use Rattle.std.proofs.lemmas.List.Sums.{fails_before_first}
 use Rattle.vpr_text.specs.declared.fault.TextFault.{TextFault}
 use Rattle.vpr_text.specs.Words.{Line, is_line_feed, is_separator, is_comment_sign, is_filled, has_words, words_on, goes_on, shortened, given_up, continued, lines_from, words_of}
-use Rattle.vpr_text.specs.Text.{is_bad, is_word_byte, IsWord, HaveWords, bad_line_from, lines_or_bad, lines_of}
+use Rattle.vpr_text.specs.Text.{is_bad, is_word_byte, IsWord, bad_line_from, lines_or_bad, lines_of}
+use Rattle.vpr_text.specs.kept.Split.{HaveWords}
 
 -- ---- of lists
 

@@ -7,7 +7,7 @@ pub record Buffer : Type 0 where
   pub held : List ℕ
   pub broken : Bool
 
--- what the sink took, where it tells that, whether it has failed, and the buffer before it
+-- what the sink took, where that is known, whether it has failed, and the buffer before it
 pub record Stream : Type 0 where
   pub taken : Option (List ℕ)
   pub failed : Bool

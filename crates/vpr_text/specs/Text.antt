@@ -18,10 +18,6 @@ pub record IsWord (word : List ℕ) : Type 0 where
   pub filled : is_filled word ≡ true
   pub bytes : All (λ b. is_word_byte b ≡ true) word
 
--- lines consist of words
-abbrev pub HaveWords : List Line → Type 0
-HaveWords lines = All (λ l. All IsWord l.words) lines
-
 -- the first physical line that has a bad byte, where the bytes begin on line n
 abbrev pub bad_line_from : ℕ → List ℕ → Option ℕ
 bad_line_from n bytes = position_from (list_any is_bad) n (slice_split is_line_feed bytes)

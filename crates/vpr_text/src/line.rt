@@ -32,20 +32,20 @@ pub struct Lines<'a> {
 impl<'a> Model for Lines<'a> {
     ghost use Rattle.std.specs.Prelude.{List};
     ghost use Rattle.vpr_text.specs.Words.{Line};
-    ghost use Rattle.vpr_text.specs.Split.{lines_in, AreKept};
+    ghost use Rattle.vpr_text.specs.kept.Split.{lines_in, AreEntriesOf};
 
     ghost Value = { List Line };
 
     ghost view = { λ t. lines_in t.source.now t.ranges.items t.entries.items };
 
-    ghost invariant = { λ t. AreKept t.source.now t.ranges.items t.entries.items };
+    ghost invariant = { λ t. AreEntriesOf t.source.now t.ranges.items t.entries.items };
 }
 
 impl<'a> Lines<'a> {
-    ghost use Rattle.vpr_text.specs.Split.{lines_in, AreKept};
+    ghost use Rattle.vpr_text.specs.kept.Split.{lines_in, AreEntriesOf};
 
     pub(crate) fn from_parts(source: &'a [u8], ranges: Vec<Range>, entries: Vec<Entry>) -> Lines<'a>
-        requires { AreKept source.now ranges.items entries.items }
+        requires { AreEntriesOf source.now ranges.items entries.items }
         ensures { result ≡ lines_in source.now ranges.items entries.items }
     {
         Lines {

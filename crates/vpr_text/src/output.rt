@@ -61,7 +61,7 @@ impl OutputBuffer {
         self.broken
     }
 
-    /// Prints the bytes behind those that are held.
+    /// Prints the bytes after those that are held.
     pub fn push<W: ByteSink>(&mut self, sink: &mut W, bytes: &[u8])
         ensures { Sends (stream (W.taken sink.old) (W.failed sink.old) self.old) (stream (W.taken sink.new) (W.failed sink.new) self.new) bytes.now }
     {
@@ -94,7 +94,7 @@ impl OutputBuffer {
         self.hand_out(sink);
     }
 
-    /// Holds the bytes behind those that are held.
+    /// Holds the bytes after those that are held.
     fn hold(&mut self, bytes: &[u8])
         requires { self.old.broken ≡ false → length self.old.held + length bytes.now ≤ 8192 }
         ensures held { self.old.broken ≡ false → self.new ≡ record { held = self.old.held ++ bytes.now; broken = false } }

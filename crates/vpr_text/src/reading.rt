@@ -2,7 +2,8 @@
 
 ghost use Rattle.std.specs.Prelude.{◌≡◌, ◌+◌, ◌^◌, ◌<◌, ◌≤◌, ◌↔◌, length, false, IsTrue, IfOk, OnErr, IsErrOf, vec_len, is_ok};
 ghost use Rattle.vpr_text.specs.declared.reading.ReadFault.TheVariants.{Failed, Memory};
-ghost use Rattle.vpr_text.specs.Transfer.{ReadsFront, ReadsMore};
+ghost use Rattle.vpr_text.specs.Transfer.{ReadsFront};
+ghost use Rattle.vpr_text.specs.kept.Transfers.{ReadsMore};
 
 use crate::source::{Broken, ByteSource};
 use crate::split::MAX_LEN;

@@ -4,7 +4,7 @@ ghost use Rattle.std.specs.Prelude.{◌≡◌, ◌+◌, ◌<◌, ◌≤◌, ◌^
 ghost use Rattle.std.specs.List.{position_or_len};
 ghost use Rattle.vpr_text.specs.Words.{Line, words_of, words_between, is_separator};
 ghost use Rattle.vpr_text.specs.Text.{is_bad, bad_line_from, lines_of, Gives};
-ghost use Rattle.vpr_text.specs.Split.{range_if, entry_if, IsRange, Adds, AddsLine, GivesUp};
+ghost use Rattle.vpr_text.specs.kept.Split.{range_if, entry_if, IsRange, Adds, AddsLine, GivesUp};
 
 use crate::fault::TextFault;
 use crate::line::{Entry, Lines, Range};

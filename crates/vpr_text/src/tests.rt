@@ -332,7 +332,7 @@ fn a_writer_that_takes_nothing_is_broken(rt: HostRuntime) {
     assert!(rt; sink.put(b"c") == Err(Broken));
 }
 
-/// A reader or a writer of which one call is interrupted; those before and behind it succeed.
+/// A reader or a writer of which one call is interrupted; those before and after it succeed.
 #[derive(Drop)]
 struct InterruptedOnce<T> {
     inner: T,

@@ -5,12 +5,14 @@ use Rattle.std.proofs.lemmas.List.Elements.{Contains-append_left, Contains-appen
 use Rattle.route_tree.specs.declared.tree.Row.{Row}
 use Rattle.route_tree.specs.Paths.{Pair, ends_of}
 use Rattle.route_tree.specs.Rows.{node_in, pairs_of, pairs_along}
-use Rattle.wavefront.specs.WaveState.{Wave}
-use Rattle.wavefront.specs.Space.{Space, HasEdge, IsSpace, IsWanted}
-use Rattle.wavefront.specs.Growth.{Covers, IsStart, IsTarget, IsLeast, IsGrown, IsGrowth, IsLeft, IsStarted, Matches}
+use Rattle.wavefront.specs.kept.WaveState.{Wave}
+use Rattle.wavefront.specs.Space.{Space, HasEdge, IsWanted}
+use Rattle.wavefront.specs.kept.Spaces.{IsSpace}
+use Rattle.wavefront.specs.Growth.{Covers, IsStart, IsTarget, IsLeastExtension, IsGrown}
+use Rattle.wavefront.specs.kept.Growing.{IsGrowth, StartsAnew, IsStarted, Matches}
 use Rattle.wavefront.specs.Growth.IsGrown.{alone, grown}
-use Rattle.wavefront.specs.Wave.{IsOrigin, IsOpen}
-use Rattle.wavefront.specs.Steps.{IsTaken, IsTraced, SameOrigins}
+use Rattle.wavefront.specs.kept.Wave.{IsOrigin, IsOpen}
+use Rattle.wavefront.specs.kept.Steps.{IsTaken, IsTraced, SameOrigins}
 use Rattle.wavefront.proofs.Lists.{contains_none}
 use Rattle.wavefront.proofs.WayNodes.{way_entered, way_last}
 
@@ -39,7 +41,7 @@ pub record IsAdded (space : Space) (tree : List Pair) (way : List ℕ) (w0 w1 w2
   pub same : SameOrigins w0 w1
   pub taken : IsTaken space w1 sink
   pub traced : IsTraced space w1 a way sink
-  pub left : IsLeft space tree w1 w2
+  pub left : StartsAnew space tree w1 w2
   pub started : IsStarted space w2 w3 way
 
 pub no_source : (space : Space) (v : ℕ) → IsSpace space → (u : ℕ) × HasEdge space u v → v ≡ space.net.source → ⊥
@@ -76,7 +78,7 @@ module _ (space : Space) (tree : List Pair) (way : List ℕ) (w0 w1 w2 w3 : Wave
   pub added_start : IsStart space tree a
   added_start = (matches a).0 d.traced.start
 
-  pub added_least : IsLeast space tree a way sink
+  pub added_least : IsLeastExtension space tree a way sink
   added_least = record {
     extension = record {
       start = added_start;

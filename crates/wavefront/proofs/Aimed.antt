@@ -10,13 +10,13 @@ use Rattle.rr_graph.specs.Fabric.{Fabric}
 use Rattle.rr_graph.specs.Nodes.{span_by, span_of}
 use Rattle.wavefront.specs.declared.boxes.BoundingBox.{BoundingBox}
 use Rattle.wavefront.specs.Boxes.{box_of_node, box_of_span}
-use Rattle.wavefront.specs.Bounds.{IsCovered, IsWithin, Surrounds}
+use Rattle.wavefront.specs.kept.Bounds.{IsCovered, IsInsideBox, Surrounds}
 use Rattle.route_tree.specs.declared.tree.Row.{Row}
-use Rattle.wavefront.specs.WaveState.{Wave}
+use Rattle.wavefront.specs.kept.WaveState.{Wave}
 use Rattle.wavefront.specs.Space.{Space}
-use Rattle.wavefront.specs.Wave.{IsOpen, IsWave, Serves}
-use Rattle.wavefront.specs.Steps.{IsAimed, Spreads}
-use Rattle.wavefront.specs.Growth.{IsGrowth}
+use Rattle.wavefront.specs.kept.Wave.{IsOpen, IsWave, Serves}
+use Rattle.wavefront.specs.kept.Steps.{IsAimed, Spreads}
+use Rattle.wavefront.specs.kept.Growing.{IsGrowth}
 use Rattle.wavefront.proofs.Lower.{still_done, still_open}
 use Rattle.wavefront.proofs.Unchanged.{unchanged_spreads, unchanged_wave}
 
@@ -48,7 +48,7 @@ in_span Ipin f n = (omega arith, omega arith, omega arith, omega arith)
 in_span Chanx f n = (omega arith, omega arith, omega arith, omega arith)
 in_span Chany f n = (omega arith, omega arith, omega arith, omega arith)
 
-surrounded : (f : Fabric) (v : ℕ) (outer : BoundingBox) → IsWithin (box_of_node f v) outer → Surrounds f outer v
+surrounded : (f : Fabric) (v : ℕ) (outer : BoundingBox) → IsInsideBox (box_of_node f v) outer → Surrounds f outer v
 surrounded f v outer within n at =
     let same : box_of_node f v ≡ box_of_span (span_of f n) = ap (λ o. option_map_or box_of_span (option_map (span_of f) o) (record { left = 0; right = 0; bottom = 0; top = 0 })) at in
     let place = in_span n.kind f n in
@@ -69,7 +69,7 @@ covered_serves space w i all covered = inr (λ b target. around b target target.
     around b target (k, lt, found) =
         let e : slice_index space.net.sinks k ≡ b = get_or_default space.net.sinks k 0 b lt ∙ found in
         let place = covered k (omega (arith, lt, all)) (subst (IsOpen space w) (sym e) target) in
-        (place.0, place.1, surrounded space.device b place.0 (subst (λ v. IsWithin (box_of_node space.device v) place.0) e place.2))
+        (place.0, place.1, surrounded space.device b place.0 (subst (λ v. IsInsideBox (box_of_node space.device v) place.0) e place.2))
 
 pub aimed_trans : (s t u : Wave) → IsAimed s t → IsAimed t u → IsAimed s u
 aimed_trans s t u a b = record {

@@ -8,16 +8,17 @@ use Rattle.std.proofs.lemmas.Option.{same_Some}
 use Rattle.rr_graph.specs.Nodes.{is_wire, is_wire_at, span_of}
 use Rattle.wavefront.specs.declared.boxes.BoundingBox.{BoundingBox}
 use Rattle.wavefront.specs.declared.space.Wire.{Wire}
-use Rattle.wavefront.specs.WaveState.{Wave as Labelled}
-use Rattle.wavefront.specs.Space.{Space, IsSpace, HasEdge, node_count}
-use Rattle.wavefront.specs.Wave.{IsBound, IsDead, Serves}
-use Rattle.wavefront.specs.Bounds.{IsFar, IsFewest, IsWireAt, left_over, steps_within, wires_by, wires_to}
+use Rattle.wavefront.specs.kept.WaveState.{Wave as Labelled}
+use Rattle.wavefront.specs.Space.{Space, HasEdge}
+use Rattle.wavefront.specs.kept.Spaces.{IsSpace, node_count}
+use Rattle.wavefront.specs.kept.Wave.{IsBound, IsDead, Serves}
+use Rattle.wavefront.specs.kept.Bounds.{IsFar, IsFewest, IsWireAt, left_over, steps_within, wires_by_kind, wires_to}
 use Rattle.wavefront.proofs.WaysLeft.{edge_nodes, pin_left, way_left, wire_leads}
 
 module _ (s : Space) (w : Labelled) (ok : IsSpace s) (serves : Serves s w) where
   -- a wire's own fields tell of it
-  told : (v : ℕ) (wire : Wire) (box : BoundingBox) (at : IsWireAt s.device v wire) → wires_to box wire ≡ wires_by (steps_within s.device at.node.number) at.node.kind box (span_of s.device at.node)
-  told v wire box at = rw (at.kind, at.span, at.steps) refl
+  reported : (v : ℕ) (wire : Wire) (box : BoundingBox) (at : IsWireAt s.device v wire) → wires_to box wire ≡ wires_by_kind (steps_within s.device at.node.number) at.node.kind box (span_of s.device at.node)
+  reported v wire box at = rw (at.kind, at.span, at.steps) refl
 
   pub bound_low : (v wires : ℕ) → IsFewest s.device w.boxes v wires → IsBound s w v (left_over wires)
   bound_low v wires fewest b way target walk = elim serves [
@@ -27,7 +28,7 @@ module _ (s : Space) (w : Labelled) (ok : IsSpace s) (serves : Serves s w) where
         let there = fewest.there in
         let from = fewest.fewest in
         let low = from.few place.0 place.1 in
-        let same = told v fewest.wire place.0 there in
+        let same = reported v fewest.wire place.0 there in
         let left = way_left s ok place.0 b place.2 (ok.are_sinks b target.0) way v there.node there.there there.is walk in
         omega (arith, low, same, left)
   ]
@@ -41,7 +42,7 @@ module _ (s : Space) (w : Labelled) (ok : IsSpace s) (serves : Serves s w) where
         let there = far.fewest.there in
         let least = far.fewest.fewest in
         let low = least.few place.0 place.1 in
-        let same = told v far.fewest.wire place.0 there in
+        let same = reported v far.fewest.wire place.0 there in
         let some = far.some in
         let e = edge_nodes s.device v u edge in
         let from = same_Some there.node e.from (sym there.there ∙ e.from_at) in

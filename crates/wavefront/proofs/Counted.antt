@@ -2,8 +2,8 @@
 use Rattle.std.proofs.Common.{◌≡◌, ℕ, ◌+◌, ◌<◌, ◌≤◌, List, [], ◌∷◌, Bool, true, false, not, count_by, cond, Contains, inl, inr, refl, sym, ◌∙◌, arith, rules, eq-eqb}
 use Rattle.std.proofs.lemmas.Grind.{common_steps}
 use Rattle.std.proofs.lemmas.Bool.{false≢true}
-use Rattle.wavefront.specs.WaveState.{Wave}
-use Rattle.wavefront.specs.Wave.{IsOrigin, is_origin, open_count}
+use Rattle.wavefront.specs.kept.WaveState.{Wave}
+use Rattle.wavefront.specs.kept.Wave.{IsOrigin, is_origin, open_count}
 use Rattle.wavefront.specs.Space.{Space, IsWanted}
 use Rattle.std.proofs.lemmas.List.Sums.{sum_by-cons}
 use Rattle.wavefront.proofs.Lists.{contains_none, contains_first, contains_later, contains_cases}

@@ -4,9 +4,9 @@ use Rattle.std.proofs.lemmas.Bool.{cases_eq}
 use Rattle.std.proofs.lemmas.List.{get_or_default, length-set}
 use Rattle.wavefront.specs.declared.boxes.BoundingBox.{BoundingBox}
 use Rattle.wavefront.specs.Boxes.{box_around}
-use Rattle.wavefront.specs.Bounds.{CoversMore, IsCovered, IsWithin}
+use Rattle.wavefront.specs.kept.Bounds.{CoversMore, IsCovered, IsInsideBox}
 
-within_trans : (a b c : BoundingBox) → IsWithin a b → IsWithin b c → IsWithin a c
+within_trans : (a b c : BoundingBox) → IsInsideBox a b → IsInsideBox b c → IsInsideBox a c
 within_trans a b c h g = record {
   left = omega (arith, h.left, g.left);
   right = omega (arith, h.right, g.right);
@@ -14,10 +14,10 @@ within_trans a b c h g = record {
   top = omega (arith, h.top, g.top);
 }
 
-first_around : (a b : BoundingBox) → IsWithin a (box_around a b)
+first_around : (a b : BoundingBox) → IsInsideBox a (box_around a b)
 first_around a b = record { left = omega arith; right = omega arith; bottom = omega arith; top = omega arith }
 
-second_around : (a b : BoundingBox) → IsWithin b (box_around a b)
+second_around : (a b : BoundingBox) → IsInsideBox b (box_around a b)
 second_around a b = record { left = omega arith; right = omega arith; bottom = omega arith; top = omega arith }
 
 module _ (boxes : List BoundingBox) (last : ℕ) (d place : BoundingBox) (lt : last < length boxes) where

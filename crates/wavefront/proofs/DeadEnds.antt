@@ -7,10 +7,11 @@ use Rattle.rr_graph.specs.declared.parts.Kind.TheVariants.{Ipin}
 use Rattle.rr_graph.specs.Nodes.{kind_of_node}
 use Rattle.rr_graph.specs.InputPins.{IsPinOf}
 use Rattle.rr_graph.proofs.InputPins.{pin_leads_on}
-use Rattle.wavefront.specs.WaveState.{Wave}
-use Rattle.wavefront.specs.Space.{Space, IsSpace, LeadsOnlyTo, HasEdge, IsInside, IsWanted}
-use Rattle.wavefront.specs.Entrances.{IsClosed, Knows, LeadsNowhere, Tells}
-use Rattle.wavefront.specs.Wave.{WentOn}
+use Rattle.wavefront.specs.kept.WaveState.{Wave}
+use Rattle.wavefront.specs.Space.{Space, HasEdge, IsInside, IsWanted}
+use Rattle.wavefront.specs.kept.Spaces.{IsSpace, LeadsOnlyTo}
+use Rattle.wavefront.specs.kept.Entrances.{IsClosed, AreEntrances, LeadsNowhere, IsEntranceOf}
+use Rattle.wavefront.specs.kept.Wave.{WentOn}
 use Rattle.wavefront.proofs.Spaces.{pin_leads}
 
 -- no way leads on from a pin whose sink is not the net's
@@ -36,7 +37,7 @@ closed_went space w key v (inl outside) inside = absurd (outside inside)
 closed_went space w key v (inr nowhere) inside = inl (λ b way target walk. nowhere b way target.0 walk)
 
 -- what is known of nodes, and of one more
-pub known_more : (space : Space) (known : List (Option Entrance)) (node : ℕ) (entrance : Entrance) → Knows space known → node < length known → Tells space node entrance → Knows space (slice_set known node (Some entrance))
+pub known_more : (space : Space) (known : List (Option Entrance)) (node : ℕ) (entrance : Entrance) → AreEntrances space known → node < length known → IsEntranceOf space node entrance → AreEntrances space (slice_set known node (Some entrance))
 known_more space known node entrance knows lt tells = record {
   rows = length-set known node _ ∙ knows.rows;
   each = λ v. elim (cases_eq v node) [

@@ -1,6 +1,6 @@
 -- How many wires lead on, in worked cases.
 use Rattle.std.proofs.Common.{◌≡◌, refl}
-use Rattle.wavefront.specs.Bounds.{wires_for, wires_over}
+use Rattle.wavefront.specs.kept.Bounds.{wires_for, wires_over}
 
 -- where wires are one place long
 short_wires : (wires_for 0 0 0 ≡ 0) × (wires_for 0 3 0 ≡ 3) × (wires_for 0 0 2 ≡ 3) × (wires_for 0 1 2 ≡ 3) × (wires_for 0 3 2 ≡ 5)

@@ -13,7 +13,8 @@ use Rattle.route_tree.specs.Legality.{has_twice, is_among, IsJoined, IsLegal}
 use Rattle.route_tree.specs.Rows.{pairs_along}
 use Rattle.route_tree.proofs.Members.{among_contains, end_of}
 use Rattle.route_tree.proofs.Ways.{way_on}
-use Rattle.wavefront.specs.Space.{Space, IsInside, IsSpace, IsWanted}
+use Rattle.wavefront.specs.Space.{Space, IsInside, IsWanted}
+use Rattle.wavefront.specs.kept.Spaces.{IsSpace}
 use Rattle.wavefront.specs.Ways.{AreDistinct, IsWay}
 use Rattle.wavefront.specs.Growth.{Covers, IsStart, IsGrown}
 use Rattle.wavefront.specs.Growth.IsGrown.{alone, grown}

@@ -8,17 +8,18 @@ use Rattle.std.proofs.lemmas.Bool.{cases_eq}
 use Rattle.wavefront.specs.declared.rows.Label.{Label}
 use Rattle.wavefront.specs.declared.rows.TheConstants.{FAR}
 use Rattle.wavefront.specs.declared.queue.Entry.{Entry}
-use Rattle.wavefront.specs.WaveState.{Wave}
-use Rattle.wavefront.specs.Label.{unreached}
-use Rattle.wavefront.specs.Space.{Space, HasEdge, IsInside, entry_cost, node_count}
-use Rattle.wavefront.specs.Wave.{IsWave, IsComplete, IsCompleteBut, IsOrigin, IsOpen, IsEntered, IsDone, IsWaiting, IsEdgeCovered, IsAwaited, IsDead, WentOn, StillComplete, Serves, key_of, parent_of, label_at, work_of}
-use Rattle.wavefront.specs.Steps.{IsLowered, Lowers, Spreads, SameOrigins, MoreOrigins, WentAlong}
+use Rattle.wavefront.specs.kept.WaveState.{Wave}
+use Rattle.wavefront.specs.kept.Label.{unreached}
+use Rattle.wavefront.specs.Space.{Space, HasEdge, IsInside, entry_cost}
+use Rattle.wavefront.specs.kept.Spaces.{node_count}
+use Rattle.wavefront.specs.kept.Wave.{IsWave, IsComplete, IsCompleteBut, IsOrigin, IsOpen, IsEntered, IsDone, IsWaiting, IsEdgeCovered, IsAwaited, IsDead, WentOn, StillComplete, Serves, cost_at, parent_of, label_at, work_of}
+use Rattle.wavefront.specs.kept.Steps.{IsLowered, Lowers, Spreads, SameOrigins, MoreOrigins, WentAlong}
 use Rattle.wavefront.proofs.Lists.{contains_first, contains_later, contains_cases}
 use Rattle.wavefront.proofs.WayNodes.{way_cost_more, way_cost_none}
 
 -- the same label is an origin's before and after
 pub same_origin : (s t : Wave) (v : ℕ) → label_at t v ≡ label_at s v → IsOrigin s v → IsOrigin t v
-same_origin s t v same o = (ap (λ l. l.key) same ∙ o.0, ap (λ l. l.parent) same ∙ o.1)
+same_origin s t v same o = (ap (λ l. l.cost) same ∙ o.0, ap (λ l. l.parent) same ∙ o.1)
 
 pub same_origins_trans : (s t u : Wave) → SameOrigins s t → SameOrigins t u → SameOrigins s u
 same_origins_trans s t u a b v = (λ o. (a v).0 ((b v).0 o), λ o. (b v).1 ((a v).1 o))
@@ -42,21 +43,21 @@ module _ (space : Space) where
 
   -- the entry that is put in
   abbrev put : (s t : Wave) (node : ℕ) (label : Label) → IsLowered space s t node label → Entry
-  put s t node label r = record { key = r.key; label = label.key; node = node }
+  put s t node label r = record { key = r.key; label = label.cost; node = node }
 
   put_in : (s t : Wave) (node : ℕ) (label : Label) (r : IsLowered space s t node label) → Contains t.queue (put s t node label r)
   put_in s t node label r = Contains-permutation _ _ _ r.moved (contains_first _ s.queue)
 
-  lowered_down : (s t : Wave) (node : ℕ) (label : Label) → IsLowered space s t node label → node < length s.labels → label.key ≤ key_of s node → (v : ℕ) → key_of t v ≤ key_of s v
+  lowered_down : (s t : Wave) (node : ℕ) (label : Label) → IsLowered space s t node label → node < length s.labels → label.cost ≤ cost_at s node → (v : ℕ) → cost_at t v ≤ cost_at s v
   lowered_down s t node label r lt less v = elim (cases_eq v node) [
-    | inl e ↦ let here = ap (λ l. l.key) (label_here s t node label r lt) in rw e (omega (arith, here, less))
-    | inr ne ↦ let there = ap (λ l. l.key) (label_there s t node label v r ne) in omega (arith, there)
+    | inl e ↦ let here = ap (λ l. l.cost) (label_here s t node label r lt) in rw e (omega (arith, here, less))
+    | inr ne ↦ let there = ap (λ l. l.cost) (label_there s t node label v r ne) in omega (arith, there)
   ]
 
   -- the node waits then
   lowered_waits : (s t : Wave) (node : ℕ) (label : Label) → IsLowered space s t node label → node < length s.labels → ((v : ℕ) → IsOrigin s v → IsOrigin t v) → IsWaiting space t node
   lowered_waits s t node label r lt starts =
-      let here = ap (λ l. l.key) (label_here s t node label r lt) in
+      let here = ap (λ l. l.cost) (label_here s t node label r lt) in
       record {
         entry = put s t node label r;
         there = put_in s t node label r;
@@ -72,21 +73,21 @@ module _ (space : Space) where
     | inr ne ↦ same_origin s t v (label_there s t node label v r ne)
   ]
 
-  pub lowered_lowers : (s t : Wave) (node : ℕ) (label : Label) → IsLowered space s t node label → node < length s.labels → label.key ≤ key_of s node → (IsOrigin s node → IsOrigin t node) → Lowers space s t
+  pub lowered_lowers : (s t : Wave) (node : ℕ) (label : Label) → IsLowered space s t node label → node < length s.labels → label.cost ≤ cost_at s node → (IsOrigin s node → IsOrigin t node) → Lowers space s t
   lowered_lowers s t node label r lt less stays = record {
     down = lowered_down s t node label r lt less;
     wait = λ v. elim (cases_eq v node) [
       | inl e ↦ inr (rw e (lowered_waits s t node label r lt (lowered_starts s t node label r stays)))
-      | inr ne ↦ inl (ap (λ l. l.key) (label_there s t node label v r ne))
+      | inr ne ↦ inl (ap (λ l. l.cost) (label_there s t node label v r ne))
     ];
     kept = λ e h. Contains-permutation _ _ e r.moved (contains_later _ e s.queue h);
     limit = let same = r.limit in omega (arith, same);
     starts = lowered_starts s t node label r stays;
   }
 
-  pub entered_lower : (s t : Wave) (v : ℕ) → ((x : ℕ) → key_of t x ≤ key_of s x) → label_at t v ≡ label_at s v → IsEntered space s v → IsEntered space t v
+  pub entered_lower : (s t : Wave) (v : ℕ) → ((x : ℕ) → cost_at t x ≤ cost_at s x) → label_at t v ≡ label_at s v → IsEntered space s v → IsEntered space t v
   entered_lower s t v down same e =
-      let key = ap (λ l. l.key) same in
+      let key = ap (λ l. l.cost) same in
       let parent = ap (λ l. l.parent) same in
       let d = down (parent_of s v) in
       let reached = e.reached in
@@ -98,11 +99,11 @@ module _ (space : Space) where
         paid = rw (parent, key) (omega (arith, d, paid));
       }
 
-  pub lowered_wave : (s t : Wave) (node : ℕ) (label : Label) → IsLowered space s t node label → IsWave space s → node < node_count space → label.key ≤ key_of s node → label.key < FAR → (IsOrigin s node → IsOrigin t node) → IsOrigin t node ⊎ IsEntered space t node → IsWave space t
+  pub lowered_wave : (s t : Wave) (node : ℕ) (label : Label) → IsLowered space s t node label → IsWave space s → node < node_count space → label.cost ≤ cost_at s node → label.cost < FAR → (IsOrigin s node → IsOrigin t node) → IsOrigin t node ⊎ IsEntered space t node → IsWave space t
   lowered_wave s t node label r wave lt less near stays way =
       let rows = wave.rows in
       let inside : node < length s.labels = omega (arith, rows) in
-      let here = ap (λ l. l.key) (label_here s t node label r inside) in
+      let here = ap (λ l. l.cost) (label_here s t node label r inside) in
       let down = lowered_down s t node label r inside less in
       let above = r.above in
       record {
@@ -115,7 +116,7 @@ module _ (space : Space) where
           | inl e ↦ rw e way
           | inr ne ↦
               let same = label_there s t node label v r ne in
-              let key = ap (λ l. l.key) same in
+              let key = ap (λ l. l.cost) same in
               elim (wave.entered v (omega (arith, key, reached))) [
                 | inl o ↦ inl (same_origin s t v same o)
                 | inr e ↦ inr (entered_lower s t v down same e)
@@ -162,7 +163,7 @@ module _ (space : Space) where
   )
 
   -- at the key that it had a node goes on along each edge as it did
-  still_covered : (s t : Wave) (v b : ℕ) → Lowers space s t → key_of t v ≡ key_of s v → IsEdgeCovered space s v b → IsEdgeCovered space t v b
+  still_covered : (s t : Wave) (v b : ℕ) → Lowers space s t → cost_at t v ≡ cost_at s v → IsEdgeCovered space s v b → IsEdgeCovered space t v b
   still_covered s t v b low same covered = record {
     entry = covered.entry;
     there = low.kept covered.entry covered.there;
@@ -171,7 +172,7 @@ module _ (space : Space) where
     low = λ c way target walk. let l = covered.low c way (still_open s t c low.starts target) walk in omega (arith, l, same);
   }
 
-  still_awaited : (s t : Wave) (v : ℕ) → Lowers space s t → key_of t v ≡ key_of s v → IsAwaited s v → IsAwaited t v
+  still_awaited : (s t : Wave) (v : ℕ) → Lowers space s t → cost_at t v ≡ cost_at s v → IsAwaited s v → IsAwaited t v
   still_awaited s t v low same awaited = record {
     entry = awaited.entry;
     there = low.kept awaited.entry awaited.there;
@@ -180,7 +181,7 @@ module _ (space : Space) where
     low = let l = awaited.low in omega (arith, l, same);
   }
 
-  still_waits : (s t : Wave) (v : ℕ) → Lowers space s t → key_of t v ≡ key_of s v → IsWaiting space s v → IsWaiting space t v
+  still_waits : (s t : Wave) (v : ℕ) → Lowers space s t → cost_at t v ≡ cost_at s v → IsWaiting space s v → IsWaiting space t v
   still_waits s t v low same w = record {
     entry = w.entry;
     there = low.kept w.entry w.there;
@@ -195,7 +196,7 @@ module _ (space : Space) where
     | inl same ↦
         let was = done (omega (arith, same, reached)) in (
           λ b edge inside. elim (was.0 b edge inside) [
-            | inl went ↦ inl (went_up t (key_of s v) (key_of t v) b (omega (arith, same)) (went_lower s t (key_of s v) b low went))
+            | inl went ↦ inl (went_up t (cost_at s v) (cost_at t v) b (omega (arith, same)) (went_lower s t (cost_at s v) b low went))
             | inr covered ↦ inr (still_covered s t v b low same covered)
           ],
           λ target. still_awaited s t v low same (was.1 (still_open s t v low.starts target)),
@@ -203,7 +204,7 @@ module _ (space : Space) where
   ]
 
   -- where a label is lowered, the node waits, and so it is done if the others are
-  pub lowered_complete : (s t : Wave) (node : ℕ) (label : Label) → IsLowered space s t node label → node < length s.labels → label.key ≤ key_of s node → (IsOrigin s node → IsOrigin t node) → StillComplete space s t node
+  pub lowered_complete : (s t : Wave) (node : ℕ) (label : Label) → IsLowered space s t node label → node < length s.labels → label.cost ≤ cost_at s node → (IsOrigin s node → IsOrigin t node) → StillComplete space s t node
   lowered_complete s t node label r lt less stays x but =
       let low = lowered_lowers s t node label r lt less stays in (
         record { each = λ v ne. still_done s t low v (but.each v ne) },
@@ -216,13 +217,13 @@ module _ (space : Space) where
       )
 
   -- after an expansion each node is done
-  pub expanded_complete : (s t : Wave) (x key : ℕ) → IsCompleteBut space s x → Lowers space s t → key ≡ key_of s x → WentAlong space t x key → (IsOpen space s x → ⊥) → IsComplete space t
+  pub expanded_complete : (s t : Wave) (x key : ℕ) → IsCompleteBut space s x → Lowers space s t → key ≡ cost_at s x → WentAlong space t x key → (IsOpen space s x → ⊥) → IsComplete space t
   expanded_complete s t x key but low at went shut = record {
     each = λ v reached. elim (low.wait v) [
       | inr waiting ↦ waiting_done t v waiting reached
       | inl same ↦ elim (cases_eq v x) [
         | inl e ↦ (
-          λ b edge inside. inl (went_up t key (key_of t v) b (let f = ap (key_of s) e in omega (arith, same, at, f)) (went b (rw e at edge) inside)),
+          λ b edge inside. inl (went_up t key (cost_at t v) b (let f = ap (cost_at s) e in omega (arith, same, at, f)) (went b (rw e at edge) inside)),
           λ h. absurd (shut (rw e at h.0, λ o. h.1 (low.starts v (rw e o)))),
         )
         | inr ne ↦ still_done s t low v (but.each v ne) reached
@@ -249,37 +250,37 @@ module _ (space : Space) where
   lowers_refl s = record { down = λ v. omega arith; wait = λ v. inl refl; kept = λ e h. h; limit = omega arith; starts = λ v o. o }
 
   -- a way that is cheaper makes no origin and ends none
-  offered_origins : (s t : Wave) (node : ℕ) (label : Label) → IsLowered space s t node label → node < length s.labels → label.key < key_of s node → key_of s label.parent ≤ label.key → SameOrigins s t
+  offered_origins : (s t : Wave) (node : ℕ) (label : Label) → IsLowered space s t node label → node < length s.labels → label.cost < cost_at s node → cost_at s label.parent ≤ label.cost → SameOrigins s t
   offered_origins s t node label r lt less above v = elim (cases_eq v node) [
     | inl e ↦
         let here = label_here s t node label r lt in
-        let k = ap (key_of s) e in
-        (λ o. let p : label.parent ≡ node = sym (ap (λ l. l.parent) here) ∙ rw e at o.1 in let q = ap (key_of s) p in absurd (omega (arith, q, less, above)), λ o. absurd (omega (arith, o.0, less, k)))
+        let k = ap (cost_at s) e in
+        (λ o. let p : label.parent ≡ node = sym (ap (λ l. l.parent) here) ∙ rw e at o.1 in let q = ap (cost_at s) p in absurd (omega (arith, q, less, above)), λ o. absurd (omega (arith, o.0, less, k)))
     | inr ne ↦ let same = label_there s t node label v r ne in (λ o. same_origin t s v (sym same) o, λ o. same_origin s t v same o)
   ]
 
   -- at a new origin the wave starts, and elsewhere where it did
-  pub started_origins : (s t : Wave) (node : ℕ) → IsLowered space s t node (record { key = 0; parent = node }) → node < length s.labels → MoreOrigins s t node
+  pub started_origins : (s t : Wave) (node : ℕ) → IsLowered space s t node (record { cost = 0; parent = node }) → node < length s.labels → MoreOrigins s t node
   started_origins s t node r lt v = elim (cases_eq v node) [
-    | inl e ↦ (λ o. inr e, λ o. let here = label_here s t node _ r lt in rw e (ap (λ l. l.key) here, ap (λ l. l.parent) here))
+    | inl e ↦ (λ o. inr e, λ o. let here = label_here s t node _ r lt in rw e (ap (λ l. l.cost) here, ap (λ l. l.parent) here))
     | inr ne ↦
         let same = label_there s t node _ v r ne in
         (λ o. inl (same_origin t s v (sym same) o), λ h. elim h [ inl o ↦ same_origin s t v same o | inr e ↦ absurd (ne e) ])
   ]
 
   -- a lower label is less work
-  lowered_work : (s t : Wave) (node : ℕ) (label : Label) → IsLowered space s t node label → node < length s.labels → label.key < key_of s node → work_of t ≤ work_of s
+  lowered_work : (s t : Wave) (node : ℕ) (label : Label) → IsLowered space s t node label → node < length s.labels → label.cost < cost_at s node → work_of t ≤ work_of s
   lowered_work s t node label r lt less =
-      let sums = sum_by-set (λ l. l.key) s.labels node label unreached lt in
-      let sum = ap (λ ls. sum_by (λ l. l.key) ls) r.labels in
+      let sums = sum_by-set (λ l. l.cost) s.labels node label unreached lt in
+      let sum = ap (λ ls. sum_by (λ l. l.cost) ls) r.labels in
       let count = length_permutation _ _ r.moved in
       omega (arith, sums, sum, count, less)
 
   -- a way that is offered and taken
-  pub offered_entered : (s t : Wave) (source to key : ℕ) (label : Label) → IsLowered space s t to label → to < length s.labels → label.parent ≡ source → label.key < key_of s to → key_of s source ≤ key → key < FAR → HasEdge space source to → IsInside space to → label.key ≡ key + entry_cost space to → IsEntered space t to
+  pub offered_entered : (s t : Wave) (source to key : ℕ) (label : Label) → IsLowered space s t to label → to < length s.labels → label.parent ≡ source → label.cost < cost_at s to → cost_at s source ≤ key → key < FAR → HasEdge space source to → IsInside space to → label.cost ≡ key + entry_cost space to → IsEntered space t to
   offered_entered s t source to key label r lt at less above near edge inside cost =
       let here = label_here s t to label r lt in
-      let key_here : key_of t to ≡ label.key = ap (λ l. l.key) here in
+      let key_here : cost_at t to ≡ label.cost = ap (λ l. l.cost) here in
       let parent_here : parent_of t to ≡ source = ap (λ l. l.parent) here ∙ at in
       let d = lowered_down s t to label r lt (omega (arith, less)) source in
       record {
@@ -299,12 +300,12 @@ module _ (space : Space) where
     work = let x = a.work in let y = b.work in omega (arith, x, y);
   }
 
-  pub offered_spreads : (s t : Wave) (node : ℕ) (label : Label) → IsLowered space s t node label → node < length s.labels → label.key < key_of s node → key_of s label.parent ≤ label.key → Spreads space s t
+  pub offered_spreads : (s t : Wave) (node : ℕ) (label : Label) → IsLowered space s t node label → node < length s.labels → label.cost < cost_at s node → cost_at s label.parent ≤ label.cost → Spreads space s t
   offered_spreads s t node label r lt less above = record {
     lowers = lowered_lowers s t node label r lt (omega (arith, less)) (λ o. absurd (omega (arith, o.0, less)));
     origins = offered_origins s t node label r lt less above;
     work = lowered_work s t node label r lt less;
   }
 
-  pub lowered_here : (s t : Wave) (node : ℕ) (label : Label) → IsLowered space s t node label → node < length s.labels → key_of t node ≡ label.key
-  lowered_here s t node label r lt = ap (λ l. l.key) (label_here s t node label r lt)
+  pub lowered_here : (s t : Wave) (node : ℕ) (label : Label) → IsLowered space s t node label → node < length s.labels → cost_at t node ≡ label.cost
+  lowered_here s t node label r lt = ap (λ l. l.cost) (label_here s t node label r lt)

@@ -12,7 +12,7 @@ use Rattle.rr_graph.specs.Nodes.{span_by, span_of}
 use Rattle.rr_graph.specs.Wires.{Place, last_of, runs_by, runs_through}
 use Rattle.rr_graph.specs.Pins.{belongs, channel_of_pad, channels_beside, channels_of_pin, is_global_pin, taps, when}
 use Rattle.wavefront.specs.declared.boxes.BoundingBox.{BoundingBox}
-use Rattle.wavefront.specs.Bounds.{gap, wires_by}
+use Rattle.wavefront.specs.kept.Bounds.{gap, wires_by_kind}
 use Rattle.wavefront.proofs.WireSteps.{both}
 use Rattle.wavefront.proofs.WiresOver.{none_left}
 
@@ -48,7 +48,7 @@ module _ (f : Fabric) (steps : ℕ) where
       (leb-true _ _ b.0, leb-true _ _ b.1, eqb-true n.x x a.0)
 
   -- a wire that runs through a channel's place beside the box stands beside it
-  runs_at : (box : BoundingBox) (k c : Kind) (n : Node) (x y : ℕ) → runs_by k c f n x y ≡ true → off c box x y ≡ 0 → wires_by steps k box (span_by k f n) ≡ 0
+  runs_at : (box : BoundingBox) (k c : Kind) (n : Node) (x y : ℕ) → runs_by k c f n x y ≡ true → off c box x y ≡ 0 → wires_by_kind steps k box (span_by k f n) ≡ 0
   runs_at box Chanx Chanx n x y e none = let at = at_row n x y e in none_left steps _ _ (omega (arith, at.0, at.1, at.2, none))
   runs_at box Chany Chany n x y e none = let at = at_column n x y e in none_left steps _ _ (omega (arith, at.0, at.1, at.2, none))
   runs_at box Chanx _ n x y e none = absurd (false≢true e)
@@ -56,12 +56,12 @@ module _ (f : Fabric) (steps : ℕ) where
   runs_at box _ _ n x y e none = absurd (false≢true e)
 
   module _ (box : BoundingBox) (wire : Node) where
-    near : (p : Place) → runs_through f wire p ≡ true → off p.0 box p.1 p.2 ≡ 0 → wires_by steps wire.kind box (span_of f wire) ≡ 0
+    near : (p : Place) → runs_through f wire p ≡ true → off p.0 box p.1 p.2 ≡ 0 → wires_by_kind steps wire.kind box (span_of f wire) ≡ 0
     unfolding runs_through
     near p e none = runs_at box wire.kind p.0 wire p.1 p.2 e none
 
     module _ (x y : ℕ) (left : box.left ≤ x) (right : x ≤ box.right) (bottom : box.bottom ≤ y) (top : y ≤ box.top) where
-      beside_block : (pin : Option Pin) → list_any (runs_through f wire) (channels_of_pin pin x y) ≡ true → wires_by steps wire.kind box (span_of f wire) ≡ 0
+      beside_block : (pin : Option Pin) → list_any (runs_through f wire) (channels_of_pin pin x y) ≡ true → wires_by_kind steps wire.kind box (span_of f wire) ≡ 0
       beside_block None e = absurd (false≢true e)
       beside_block (Some p) e = elim (any_when (runs_through f wire) p.sides.top (Chanx, x, y) _ e) [
         | inl here ↦ near (Chanx, x, y) here (omega (arith, left, right, bottom, top))
@@ -74,7 +74,7 @@ module _ (f : Fabric) (steps : ℕ) where
         ]
       ]
 
-      beside_pad : is_pad f x y ≡ true → runs_through f wire (channel_of_pad f x y) ≡ true → wires_by steps wire.kind box (span_of f wire) ≡ 0
+      beside_pad : is_pad f x y ≡ true → runs_through f wire (channel_of_pad f x y) ≡ true → wires_by_kind steps wire.kind box (span_of f wire) ≡ 0
       beside_pad pad e = elim (cases_Bool (x == 0)) [
         | inl first ↦ let at = eqb-true x 0 first in near (Chany, 0, y) (rw first at e) (omega (arith, at, left, right, bottom, top))
         | inr inner ↦ elim (cases_Bool (x == f.nx + 1)) [
@@ -90,7 +90,7 @@ module _ (f : Fabric) (steps : ℕ) where
           upper pad inner middle above = eqb-true y (f.ny + 1) (both _ _ (rw (inner, middle, above) at pad)).0
 
       -- an input pin that taps the wire stands beside it
-      pub pin_step : (pin : Node) → pin.x ≡ x → pin.y ≡ y → (is_block f x y ≡ false → is_pad f x y ≡ true) → taps f pin wire ≡ true → wires_by steps wire.kind box (span_of f wire) ≡ 0
+      pub pin_step : (pin : Node) → pin.x ≡ x → pin.y ≡ y → (is_block f x y ≡ false → is_pad f x y ≡ true) → taps f pin wire ≡ true → wires_by_kind steps wire.kind box (span_of f wire) ≡ 0
       unfolding taps channels_beside
       pin_step pin ex ey around e =
           let a = both (not (is_global_pin f pin)) _ e in

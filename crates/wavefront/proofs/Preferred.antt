@@ -5,11 +5,11 @@ use Rattle.std.proofs.lemmas.List.{length-set}
 use Rattle.std.proofs.lemmas.Bool.{cases_eq}
 use Rattle.wavefront.specs.declared.rows.Label.{Label}
 use Rattle.wavefront.specs.declared.rows.TheConstants.{FAR}
-use Rattle.wavefront.specs.WaveState.{Wave}
-use Rattle.wavefront.specs.Label.{unreached}
+use Rattle.wavefront.specs.kept.WaveState.{Wave}
+use Rattle.wavefront.specs.kept.Label.{unreached}
 use Rattle.wavefront.specs.Space.{Space, HasEdge, IsInside, entry_cost}
-use Rattle.wavefront.specs.Wave.{IsWave, key_of, parent_of, label_at}
-use Rattle.wavefront.specs.Steps.{IsPreferred, Spreads, SameOrigins}
+use Rattle.wavefront.specs.kept.Wave.{IsWave, cost_at, parent_of, label_at}
+use Rattle.wavefront.specs.kept.Steps.{IsPreferred, Spreads, SameOrigins}
 use Rattle.wavefront.proofs.Lower.{same_origin, entered_lower, still_serves}
 
 here : (s t : Wave) (node : ℕ) (label : Label) → IsPreferred s t node label → node < length s.labels → label_at t node ≡ label
@@ -18,10 +18,10 @@ here s t node label r lt = ap (λ xs. slice_index_or xs node unreached) r.labels
 there : (s t : Wave) (node : ℕ) (label : Label) (v : ℕ) → IsPreferred s t node label → (v ≡ node → ⊥) → label_at t v ≡ label_at s v
 there s t node label v r ne = ap (λ xs. slice_index_or xs v unreached) r.labels ∙ get_or-set_other s.labels node v label unreached ne
 
-same_key : (s t : Wave) (node : ℕ) (label : Label) (v : ℕ) → IsPreferred s t node label → node < length s.labels → key_of t v ≡ key_of s v
+same_key : (s t : Wave) (node : ℕ) (label : Label) (v : ℕ) → IsPreferred s t node label → node < length s.labels → cost_at t v ≡ cost_at s v
 same_key s t node label v r lt = elim (cases_eq v node) [
-  | inl e ↦ rw e (ap (λ l. l.key) (here s t node label r lt) ∙ r.same)
-  | inr ne ↦ ap (λ l. l.key) (there s t node label v r ne)
+  | inl e ↦ rw e (ap (λ l. l.cost) (here s t node label r lt) ∙ r.same)
+  | inr ne ↦ ap (λ l. l.cost) (there s t node label v r ne)
 ]
 
 same_starts : (s t : Wave) (node : ℕ) (label : Label) → IsPreferred s t node label → node < length s.labels → (label.parent ≡ node → ⊥) → SameOrigins s t
@@ -36,8 +36,8 @@ same_starts s t node label r lt other v = elim (cases_eq v node) [
 pub preferred_spreads : (space : Space) (s t : Wave) (node : ℕ) (label : Label) → IsPreferred s t node label → node < length s.labels → (label.parent ≡ node → ⊥) → Spreads space s t
 preferred_spreads space s t node label r lt other =
     let starts = same_starts s t node label r lt other in
-    let sums = sum_by-set (λ l. l.key) s.labels node label unreached lt in
-    let sum = ap (λ ls. sum_by (λ l. l.key) ls) r.labels in
+    let sums = sum_by-set (λ l. l.cost) s.labels node label unreached lt in
+    let sum = ap (λ ls. sum_by (λ l. l.cost) ls) r.labels in
     let count = ap length r.queue in
     let same = r.same in
     record {
@@ -52,7 +52,7 @@ preferred_spreads space s t node label r lt other =
       work = omega (arith, sums, sum, count, same);
     }
 
-pub preferred_wave : (space : Space) (s t : Wave) (node key : ℕ) (label : Label) → IsPreferred s t node label → IsWave space s → node < length s.labels → key_of s label.parent ≤ key → key < FAR → HasEdge space label.parent node → IsInside space node → label.key ≡ key + entry_cost space node → (label.parent ≡ node → ⊥) → IsWave space t
+pub preferred_wave : (space : Space) (s t : Wave) (node key : ℕ) (label : Label) → IsPreferred s t node label → IsWave space s → node < length s.labels → cost_at s label.parent ≤ key → key < FAR → HasEdge space label.parent node → IsInside space node → label.cost ≡ key + entry_cost space node → (label.parent ≡ node → ⊥) → IsWave space t
 preferred_wave space s t node key label r wave lt above near edge inside cost other = record {
   rows = ap length r.labels ∙ length-set _ _ _ ∙ wave.rows;
   near = λ v. let k = same_key s t node label v r lt in let n = wave.near v in omega (arith, k, n);
@@ -61,7 +61,7 @@ preferred_wave space s t node key label r wave lt above near edge inside cost ot
   boxes = still_serves space s t r.boxes (λ v. (same_starts s t node label r lt other v).1) wave.boxes;
   entered = λ v reached. elim (cases_eq v node) [
     | inl e ↦
-        let key_here : key_of t node ≡ label.key = ap (λ l. l.key) (here s t node label r lt) in
+        let key_here : cost_at t node ≡ label.cost = ap (λ l. l.cost) (here s t node label r lt) in
         let parent_here : parent_of t node ≡ label.parent = ap (λ l. l.parent) (here s t node label r lt) in
         let k = same_key s t node label label.parent r lt in
         inr (rw e (record {
@@ -72,7 +72,7 @@ preferred_wave space s t node key label r wave lt above near edge inside cost ot
         }))
     | inr ne ↦
         let same = there s t node label v r ne in
-        let k = ap (λ l. l.key) same in
+        let k = ap (λ l. l.cost) same in
         elim (wave.entered v (omega (arith, k, reached))) [
           | inl o ↦ inl (same_origin s t v same o)
           | inr e ↦ inr (entered_lower space s t v (λ x. let m = same_key s t node label x r lt in omega (arith, m)) same e)

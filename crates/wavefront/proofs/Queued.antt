@@ -8,8 +8,8 @@ use Rattle.std.proofs.lemmas.List.Elements.{All-append, All-cons, All-contains, 
 use Rattle.std.proofs.lemmas.List.Sorted.{All-permutation, IsPermutation-append_left, IsPermutation-append_right, IsPermutation-middle, IsPermutation-swap_remove, IsPermutation-sym, IsPermutation-to_front, IsPermutation-trans}
 use Rattle.wavefront.specs.declared.queue.Entry.{Entry}
 use Rattle.wavefront.specs.declared.queue.Waiting.{Waiting}
-use Rattle.wavefront.specs.Entries.{entry_cmp}
-use Rattle.wavefront.specs.Queues.{entry_of, IsSplit, TakesLeast}
+use Rattle.wavefront.specs.kept.Entries.{entry_cmp}
+use Rattle.wavefront.specs.kept.Queues.{entry_of, IsSplit, TakesLeast}
 use Rattle.wavefront.proofs.Lists.{contains_first}
 use Rattle.wavefront.proofs.Waits.{pushed}
 

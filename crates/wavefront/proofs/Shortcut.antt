@@ -7,11 +7,13 @@ use Rattle.std.proofs.lemmas.Map.Steps.{length-le_from_distinct_below}
 use Rattle.std.proofs.lemmas.Map.Views.{Contains-from_any}
 use Rattle.route_tree.specs.Paths.{Pair}
 use Rattle.wavefront.specs.declared.rows.TheConstants.{FAR}
-use Rattle.wavefront.specs.WaveState.{Wave}
-use Rattle.wavefront.specs.Space.{Space, IsSpace, node_count}
+use Rattle.wavefront.specs.kept.WaveState.{Wave}
+use Rattle.wavefront.specs.Space.{Space}
+use Rattle.wavefront.specs.kept.Spaces.{IsSpace, node_count}
 use Rattle.wavefront.specs.Ways.{AreDistinct, IsWay, way_cost}
-use Rattle.wavefront.specs.Growth.{Matches, IsShut}
-use Rattle.wavefront.specs.Steps.{IsLeastKey, SameOrigins}
+use Rattle.wavefront.specs.Growth.{IsShut}
+use Rattle.wavefront.specs.kept.Growing.{Matches}
+use Rattle.wavefront.specs.kept.Steps.{IsLeastKey, SameOrigins}
 use Rattle.wavefront.proofs.Added.{matches_same, target_open}
 use Rattle.wavefront.proofs.Lists.{contains_none, contains_first, contains_later, contains_cases}
 use Rattle.wavefront.proofs.WayNodes.{way_cost_more, way_cost_none, way_in}
@@ -33,7 +35,7 @@ record IsShort (space : Space) (a : ℕ) (way : List ℕ) (b k : ℕ) : Type 0 w
   cheap : way_cost space way ≤ k
 
 module _ (space : Space) where
-  -- the part of a way behind a node of its
+  -- the part of a way after a node of its
   cut : (v b a : ℕ) (way : List ℕ) → IsWay space v way b → AreDistinct way → Contains way a → (rest : List ℕ) × IsShort space a rest b (way_cost space way)
   cut v b a [] walk d h = absurd (contains_none a h)
   cut v b a (u ∷ us) (_, _, walk) d h =

@@ -20,7 +20,8 @@ use Rattle.node_cost.specs.Views.{others_in, history_in}
 use Rattle.node_cost.proofs.Bounds.{factor_bounded, cost_bounded}
 use Rattle.wavefront.proofs.Lists.{contains_first, contains_none, contains_cases}
 use Rattle.wavefront.proofs.Insides.{source_inside}
-use Rattle.wavefront.specs.Space.{Space, IsSpace, LeadsOnlyTo, HasEdge, IsWanted, base_cost, entry_cost, node_count}
+use Rattle.wavefront.specs.Space.{Space, HasEdge, IsWanted, base_cost, entry_cost}
+use Rattle.wavefront.specs.kept.Spaces.{IsSpace, LeadsOnlyTo, node_count}
 
 source_node : (f : Fabric) (a : ℕ) → is_source f a ≡ true → a < node_count_of f
 unfolding is_source

@@ -9,8 +9,8 @@ use Rattle.std.proofs.lemmas.List.{length-set, map-set, length-replicate, set-ge
 use Rattle.wavefront.specs.declared.rows.Label.{Label}
 use Rattle.wavefront.specs.declared.rows.Row.{Row}
 use Rattle.wavefront.specs.declared.entrances.Entrance.{Entrance}
-use Rattle.wavefront.specs.Label.{unreached}
-use Rattle.wavefront.specs.Rows.{KeepsEntrances, entrance_of, label_of, told_by}
+use Rattle.wavefront.specs.kept.Label.{unreached}
+use Rattle.wavefront.specs.kept.Rows.{KeepsEntrances, entrance_of, label_of, entrance_in}
 
 nothing : (n v : ℕ) → slice_index_or {A = Option Entrance} (replicate n None) v None ≡ None
 nothing zero v = refl
@@ -69,18 +69,18 @@ module _ {K : Type 0} (value : K → ℕ) where
   unmoved g rows node d row same = map-set g rows node row ∙ ap (slice_set (map g rows) node) same ∙ sym (map-set g rows node (get_or rows node d)) ∙ ap (map g) (set-get_or rows node d)
 
   -- a label that is put
-  pub label_put : (now : ℕ) (rows : List (Row K)) (labels : List Label) (node : ℕ) (row : Row K) → row.stamp ≡ now → map (label_of value now) rows ≡ labels → map (label_of value now) (slice_set rows node row) ≡ slice_set labels node (record { key = value row.key; parent = row.parent })
+  pub label_put : (now : ℕ) (rows : List (Row K)) (labels : List Label) (node : ℕ) (row : Row K) → row.stamp ≡ now → map (label_of value now) rows ≡ labels → map (label_of value now) (slice_set rows node row) ≡ slice_set labels node (record { cost = value row.cost; parent = row.parent })
   label_put now rows labels node row at e = map-set (label_of value now) rows node row ∙ rw (e, at, eq-eqb now now refl) refl
 
   -- how the net enters a node is put once more
-  pub entrance_stays : (first : ℕ) (rows : List (Row K)) (entrances : List (Option Entrance)) (node : ℕ) (d row : Row K) → d ≡ get_or rows node d → first ≤ row.stamp → told_by row.entrance ≡ entrance_of first d → map (entrance_of first) rows ≡ entrances → map (entrance_of first) (slice_set rows node row) ≡ entrances
-  entrance_stays first rows entrances node d row there at told e =
+  pub entrance_stays : (first : ℕ) (rows : List (Row K)) (entrances : List (Option Entrance)) (node : ℕ) (d row : Row K) → d ≡ get_or rows node d → first ≤ row.stamp → entrance_in row.entrance ≡ entrance_of first d → map (entrance_of first) rows ≡ entrances → map (entrance_of first) (slice_set rows node row) ≡ entrances
+  entrance_stays first rows entrances node d row there at reported e =
       let since : nat_le first row.stamp ≡ true = grind (arith, nat_tests) in
-      let here : entrance_of first row ≡ told_by row.entrance = rw since refl in
-      unmoved (entrance_of first) rows node d row (here ∙ told ∙ ap (entrance_of first) there) ∙ e
+      let here : entrance_of first row ≡ entrance_in row.entrance = rw since refl in
+      unmoved (entrance_of first) rows node d row (here ∙ reported ∙ ap (entrance_of first) there) ∙ e
 
-  pub entrance_put : (first : ℕ) (rows : List (Row K)) (entrances : List (Option Entrance)) (node : ℕ) (row : Row K) (entrance : Entrance) → first ≤ row.stamp → told_by row.entrance ≡ Some entrance → map (entrance_of first) rows ≡ entrances → map (entrance_of first) (slice_set rows node row) ≡ slice_set entrances node (Some entrance)
-  entrance_put first rows entrances node row entrance at told e = let since : nat_le first row.stamp ≡ true = grind (arith, nat_tests) in map-set (entrance_of first) rows node row ∙ rw (e, since, told) refl
+  pub entrance_put : (first : ℕ) (rows : List (Row K)) (entrances : List (Option Entrance)) (node : ℕ) (row : Row K) (entrance : Entrance) → first ≤ row.stamp → entrance_in row.entrance ≡ Some entrance → map (entrance_of first) rows ≡ entrances → map (entrance_of first) (slice_set rows node row) ≡ slice_set entrances node (Some entrance)
+  entrance_put first rows entrances node row entrance at reported e = let since : nat_le first row.stamp ≡ true = grind (arith, nat_tests) in map-set (entrance_of first) rows node row ∙ rw (e, since, reported) refl
 
   same_stamp : (first now stamp : ℕ) → first < now → (max stamp first == now) ≡ (stamp == now)
   same_stamp first now stamp before = elim (cases_lt first stamp) [
@@ -93,7 +93,7 @@ module _ {K : Type 0} (value : K → ℕ) where
   ]
 
   -- a row that is put for its entrance alone has the label that it had
-  pub label_stays : (first now : ℕ) (rows : List (Row K)) (labels : List Label) (node : ℕ) (d row : Row K) → d ≡ get_or rows node d → first < now → row.stamp ≡ max d.stamp first → row.key ≡ d.key → row.parent ≡ d.parent → map (label_of value now) rows ≡ labels → map (label_of value now) (slice_set rows node row) ≡ labels
+  pub label_stays : (first now : ℕ) (rows : List (Row K)) (labels : List Label) (node : ℕ) (d row : Row K) → d ≡ get_or rows node d → first < now → row.stamp ≡ max d.stamp first → row.cost ≡ d.cost → row.parent ≡ d.parent → map (label_of value now) rows ≡ labels → map (label_of value now) (slice_set rows node row) ≡ labels
   label_stays first now rows labels node d row there before stamp key parent e =
       let same : label_of value now row ≡ label_of value now d = rw (stamp, same_stamp first now d.stamp before, key, parent) refl in
       unmoved (label_of value now) rows node d row (same ∙ ap (label_of value now) there) ∙ e

@@ -3,11 +3,11 @@ use Rattle.std.proofs.Common.{ℕ, ◌+◌, ◌<◌, ◌≤◌, List, [], ◌∷
 use Rattle.std.specs.Prelude.{take}
 use Rattle.std.proofs.lemmas.List.{take_more, take_all}
 use Rattle.std.proofs.lemmas.List.Elements.{Contains-get_or, Contains-append_left, Contains-append_right, Contains-append_cases}
-use Rattle.wavefront.specs.WaveState.{Wave}
+use Rattle.wavefront.specs.kept.WaveState.{Wave}
 use Rattle.wavefront.specs.Space.{Space}
-use Rattle.wavefront.specs.Wave.{IsWave, StillComplete}
-use Rattle.wavefront.specs.Steps.{MoreOrigins}
-use Rattle.wavefront.specs.Growth.{IsStarted}
+use Rattle.wavefront.specs.kept.Wave.{IsWave, StillComplete}
+use Rattle.wavefront.specs.kept.Steps.{MoreOrigins}
+use Rattle.wavefront.specs.kept.Growing.{IsStarted}
 use Rattle.wavefront.proofs.Lists.{contains_none, contains_first, contains_cases}
 
 pub node_here : (nodes : List ℕ) (k : ℕ) → k < length nodes → Contains nodes (slice_index nodes k)
@@ -20,8 +20,8 @@ started_none space w nodes wave = record {
   origins = λ v. (λ o. inl o, λ h. elim h [ inl o ↦ o | inr none ↦ absurd (contains_none v none) ]);
 }
 
-started_behind : (space : Space) (w s t : Wave) (nodes : List ℕ) (node : ℕ) → IsStarted space w s nodes → IsWave space t → StillComplete space s t node → MoreOrigins s t node → IsStarted space w t (nodes ++ node ∷ [])
-started_behind space w s t nodes node started wave complete more = record {
+started_after : (space : Space) (w s t : Wave) (nodes : List ℕ) (node : ℕ) → IsStarted space w s nodes → IsWave space t → StillComplete space s t node → MoreOrigins s t node → IsStarted space w t (nodes ++ node ∷ [])
+started_after space w s t nodes node started wave complete more = record {
   wave = wave;
   complete = λ x but.
       let before = started.complete x but in
@@ -49,7 +49,7 @@ started_behind space w s t nodes node started wave complete more = record {
 
 pub started_more : (space : Space) (w s t : Wave) (nodes : List ℕ) (k : ℕ) → k < length nodes → IsStarted space w s (take k nodes) → IsWave space t → StillComplete space s t (slice_index nodes k) → MoreOrigins s t (slice_index nodes k) → IsStarted space w t (take (k + 1) nodes)
 started_more space w s t nodes k lt started wave complete more =
-    subst (IsStarted space w t) (sym (take_more nodes k 0 lt)) (started_behind space w s t (take k nodes) (slice_index nodes k) started wave complete more)
+    subst (IsStarted space w t) (sym (take_more nodes k 0 lt)) (started_after space w s t (take k nodes) (slice_index nodes k) started wave complete more)
 
 pub started_all : (space : Space) (w s : Wave) (nodes : List ℕ) (k : ℕ) → length nodes ≤ k → IsStarted space w s (take k nodes) → IsStarted space w s nodes
 started_all space w s nodes k le started = subst (IsStarted space w s) (take_all k nodes le) started

@@ -3,11 +3,12 @@ use Rattle.std.proofs.Common.{◌≡◌, ℕ, ◌+◌, ◌<◌, ◌≤◌, List,
 use Rattle.std.proofs.lemmas.Bool.{false≢true}
 use Rattle.std.proofs.lemmas.List.{reverse-append}
 use Rattle.wavefront.specs.declared.rows.TheConstants.{FAR}
-use Rattle.wavefront.specs.WaveState.{Wave}
-use Rattle.wavefront.specs.Space.{Space, HasEdge, IsSpace, IsWanted, entry_cost}
+use Rattle.wavefront.specs.kept.WaveState.{Wave}
+use Rattle.wavefront.specs.Space.{Space, HasEdge, IsWanted, entry_cost}
+use Rattle.wavefront.specs.kept.Spaces.{IsSpace}
 use Rattle.wavefront.specs.Ways.{AreDistinct, IsWay, way_cost}
-use Rattle.wavefront.specs.Wave.{IsWave, IsOrigin, IsOpen, IsEntered, key_of, parent_of}
-use Rattle.wavefront.specs.Steps.{IsTraced}
+use Rattle.wavefront.specs.kept.Wave.{IsWave, IsOrigin, IsOpen, IsEntered, cost_at, parent_of}
+use Rattle.wavefront.specs.kept.Steps.{IsTraced}
 use Rattle.wavefront.proofs.Lists.{contains_none, contains_cases}
 use Rattle.wavefront.proofs.WayNodes.{way_cost_more, way_cost_none}
 
@@ -16,16 +17,16 @@ pub record IsTracing (space : Space) (w : Wave) (v : ℕ) (way : List ℕ) (sink
   pub walk : IsWay space v way sink
   pub apart : (x : ℕ) → Contains way x → IsOrigin w x → ⊥
   pub distinct : AreDistinct way
-  pub above : (x : ℕ) → Contains way x → (x ≡ sink) ⊎ (key_of w v < key_of w x)
-  pub paid : key_of w v + way_cost space way ≤ key_of w sink
-  pub reached : key_of w v < FAR
+  pub above : (x : ℕ) → Contains way x → (x ≡ sink) ⊎ (cost_at w v < cost_at w x)
+  pub paid : cost_at w v + way_cost space way ≤ cost_at w sink
+  pub reached : cost_at w v < FAR
   pub leads : (b : ℕ) × HasEdge space v b
 
 module _ (space : Space) (w : Wave) where
-  entered_at : (v : ℕ) → IsWave space w → key_of w v < FAR → (IsOrigin w v → ⊥) → IsEntered space w v
+  entered_at : (v : ℕ) → IsWave space w → cost_at w v < FAR → (IsOrigin w v → ⊥) → IsEntered space w v
   entered_at v wave near apart = elim (wave.entered v near) [ inl o ↦ absurd (apart o) | inr e ↦ e ]
 
-  traced_first : (sink : ℕ) → IsWave space w → IsOpen space w sink → key_of w sink < FAR → IsTracing space w (parent_of w sink) (sink ∷ []) sink
+  traced_first : (sink : ℕ) → IsWave space w → IsOpen space w sink → cost_at w sink < FAR → IsTracing space w (parent_of w sink) (sink ∷ []) sink
   traced_first sink wave target near =
       let e = entered_at sink wave near target.1 in
       record {
@@ -38,12 +39,12 @@ module _ (space : Space) (w : Wave) where
         leads = (sink, e.edge);
       }
 
-  traced_more : (v : ℕ) (way : List ℕ) (sink : ℕ) → IsSpace space → IsWave space w → IsWanted space sink → IsTracing space w v way sink → (IsOrigin w v → ⊥) → IsTracing space w (parent_of w v) (v ∷ way) sink × (key_of w (parent_of w v) < key_of w v)
+  traced_more : (v : ℕ) (way : List ℕ) (sink : ℕ) → IsSpace space → IsWave space w → IsWanted space sink → IsTracing space w v way sink → (IsOrigin w v → ⊥) → IsTracing space w (parent_of w v) (v ∷ way) sink × (cost_at w (parent_of w v) < cost_at w v)
   traced_more v way sink ok wave wanted t apart =
       let e = entered_at v wave t.reached apart in
       let costs : 0 < entry_cost space v = ok.costly (parent_of w v) v t.leads.0 e.edge t.leads.1 in
       let paid = e.paid in
-      let less : key_of w (parent_of w v) < key_of w v = omega (arith, costs, paid) in
+      let less : cost_at w (parent_of w v) < cost_at w v = omega (arith, costs, paid) in
       let on : HasEdge space v t.leads.0 = t.leads.1 in (
         record {
           walk = (e.edge, e.inside, t.walk);
@@ -73,12 +74,12 @@ module _ (space : Space) (w : Wave) where
   noted : (v : ℕ) (old new : List ℕ) → new ≡ old ++ v ∷ [] → reverse new ≡ v ∷ reverse old
   noted v old new e = ap reverse e ∙ reverse-append old _
 
-  pub stepped_first : (sink u : ℕ) (old new : List ℕ) → IsWave space w → IsOpen space w sink → key_of w sink < FAR → old ≡ [] → new ≡ old ++ sink ∷ [] → u ≡ parent_of w sink → IsTracing space w u (reverse new) sink
+  pub stepped_first : (sink u : ℕ) (old new : List ℕ) → IsWave space w → IsOpen space w sink → cost_at w sink < FAR → old ≡ [] → new ≡ old ++ sink ∷ [] → u ≡ parent_of w sink → IsTracing space w u (reverse new) sink
   stepped_first sink u old new wave target near none pushed at =
       let e : reverse new ≡ sink ∷ [] = noted sink old new pushed ∙ rw none refl in
       rw (e, at) (traced_first sink wave target near)
 
-  pub stepped_more : (v u sink : ℕ) (old new : List ℕ) → IsSpace space → IsWave space w → IsWanted space sink → IsTracing space w v (reverse old) sink → (IsOrigin w v → ⊥) → new ≡ old ++ v ∷ [] → u ≡ parent_of w v → IsTracing space w u (reverse new) sink × (key_of w u < key_of w v)
+  pub stepped_more : (v u sink : ℕ) (old new : List ℕ) → IsSpace space → IsWave space w → IsWanted space sink → IsTracing space w v (reverse old) sink → (IsOrigin w v → ⊥) → new ≡ old ++ v ∷ [] → u ≡ parent_of w v → IsTracing space w u (reverse new) sink × (cost_at w u < cost_at w v)
   stepped_more v u sink old new ok wave wanted t apart pushed at =
       let e : reverse new ≡ v ∷ reverse old = noted v old new pushed in
       rw (e, at) (traced_more v (reverse old) sink ok wave wanted t apart)

@@ -1,23 +1,23 @@
 -- What is kept where no label and no entry changes.
 use Rattle.std.proofs.Common.{◌≡◌, ◌≤◌, ℕ, length, slice_index_or, inl, inr, sym, ap, ◌∙◌, arith, sum_by}
-use Rattle.wavefront.specs.WaveState.{Wave}
-use Rattle.wavefront.specs.Label.{unreached}
+use Rattle.wavefront.specs.kept.WaveState.{Wave}
+use Rattle.wavefront.specs.kept.Label.{unreached}
 use Rattle.wavefront.specs.Space.{Space}
-use Rattle.wavefront.specs.Entrances.{Knows}
-use Rattle.wavefront.specs.Wave.{IsWave, Serves, key_of, label_at}
-use Rattle.wavefront.specs.Steps.{IsNoted, LeavesOut, Spreads}
+use Rattle.wavefront.specs.kept.Entrances.{AreEntrances}
+use Rattle.wavefront.specs.kept.Wave.{IsWave, Serves, cost_at, label_at}
+use Rattle.wavefront.specs.kept.Steps.{IsNoted, LeavesOut, Spreads}
 use Rattle.wavefront.proofs.Lower.{same_origin, entered_lower, still_serves}
 
 module _ (space : Space) (s t : Wave) (labels : t.labels ≡ s.labels) (queue : t.queue ≡ s.queue) (limit : t.limit ≤ s.limit) where
   same_label : (v : ℕ) → label_at t v ≡ label_at s v
   same_label v = ap (λ ls. slice_index_or ls v unreached) labels
 
-  same_key : (v : ℕ) → key_of t v ≡ key_of s v
-  same_key v = ap (λ l. l.key) (same_label v)
+  same_key : (v : ℕ) → cost_at t v ≡ cost_at s v
+  same_key v = ap (λ l. l.cost) (same_label v)
 
   pub unchanged_spreads : Spreads space s t
   unchanged_spreads =
-      let sum = ap (λ ls. sum_by (λ l. l.key) ls) labels in
+      let sum = ap (λ ls. sum_by (λ l. l.cost) ls) labels in
       let count = ap length queue in
       record {
         lowers = record {
@@ -31,7 +31,7 @@ module _ (space : Space) (s t : Wave) (labels : t.labels ≡ s.labels) (queue : 
         work = omega (arith, sum, count);
       }
 
-  pub unchanged_wave : Knows space t.entrances → Serves space t → IsWave space s → IsWave space t
+  pub unchanged_wave : AreEntrances space t.entrances → Serves space t → IsWave space s → IsWave space t
   unchanged_wave known boxes wave = record {
     rows = ap length labels ∙ wave.rows;
     near = λ v. let k = same_key v in let n = wave.near v in omega (arith, k, n);
@@ -61,11 +61,11 @@ module _ (space : Space) (s t : Wave) (noted : IsNoted s t) where
   limit_same : t.limit ≤ s.limit
   limit_same = let limit = noted.limit in omega (arith, limit)
 
-  pub noted_key : (v : ℕ) → key_of t v ≡ key_of s v
+  pub noted_key : (v : ℕ) → cost_at t v ≡ cost_at s v
   noted_key = same_key space s t noted.labels noted.queue limit_same
 
   pub noted_spreads : Spreads space s t
   noted_spreads = unchanged_spreads space s t noted.labels noted.queue limit_same
 
-  pub noted_wave : Knows space t.entrances → IsWave space s → IsWave space t
+  pub noted_wave : AreEntrances space t.entrances → IsWave space s → IsWave space t
   noted_wave known wave = unchanged_wave space s t noted.labels noted.queue limit_same known (still_serves space s t noted.boxes noted_spreads.lowers.starts wave.boxes) wave

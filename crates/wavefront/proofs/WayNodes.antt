@@ -2,7 +2,8 @@
 use Rattle.std.proofs.Common.{◌≡◌, ℕ, ◌+◌, ◌<◌, List, [], ◌∷◌, Contains, ◌⊎◌, inl, inr, rules}
 use Rattle.std.proofs.lemmas.List.Sums.{sum_by-cons}
 use Rattle.std.proofs.lemmas.Grind.{common_steps}
-use Rattle.wavefront.specs.Space.{Space, HasEdge, IsInside, IsSpace, entry_cost, node_count}
+use Rattle.wavefront.specs.Space.{Space, HasEdge, IsInside, entry_cost}
+use Rattle.wavefront.specs.kept.Spaces.{IsSpace, node_count}
 use Rattle.wavefront.specs.Ways.{IsWay, way_cost}
 use Rattle.wavefront.proofs.Lists.{contains_none, contains_first, contains_later, contains_cases}
 

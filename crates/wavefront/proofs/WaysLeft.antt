@@ -9,7 +9,7 @@ use Rattle.rr_graph.specs.declared.parts.Kind.TheVariants.{Source, Sink, Opin, I
 use Rattle.rr_graph.specs.declared.parts.Node.{Node}
 use Rattle.rr_graph.specs.Fabric.{Fabric}
 use Rattle.rr_graph.specs.Nodes.{node_at, is_wire, is_wire_at, kind_of_node, span_of}
-use Rattle.rr_graph.specs.Numbering.{is_terminal}
+use Rattle.rr_graph.specs.kept.Numbering.{is_terminal}
 use Rattle.rr_graph.specs.Pins.{belongs, taps}
 use Rattle.rr_graph.specs.Edges.{edge_by, edge_between, edge_between_nodes, is_edge}
 use Rattle.rr_graph.specs.Problems.{is_sink, is_sink_kind}
@@ -18,9 +18,10 @@ use Rattle.rr_graph.proofs.TerminalPlaces.{terminal_node}
 use Rattle.node_cost.specs.Views.{others_in, history_in}
 use Rattle.route_tree.specs.Usage.{room_of}
 use Rattle.wavefront.specs.declared.boxes.BoundingBox.{BoundingBox}
-use Rattle.wavefront.specs.Space.{Space, IsSpace, base_cost, entry_cost}
+use Rattle.wavefront.specs.Space.{Space, base_cost, entry_cost}
+use Rattle.wavefront.specs.kept.Spaces.{IsSpace}
 use Rattle.wavefront.specs.Ways.{IsWay, way_cost}
-use Rattle.wavefront.specs.Bounds.{Surrounds, left_over, steps_within, wires_by}
+use Rattle.wavefront.specs.kept.Bounds.{Surrounds, left_over, steps_within, wires_by_kind}
 use Rattle.wavefront.proofs.WayNodes.{way_cost_more}
 use Rattle.wavefront.proofs.WireSteps.{wire_step}
 use Rattle.wavefront.proofs.PinSteps.{pin_step, sink_step}
@@ -114,8 +115,8 @@ unfolding is_sink
 sink_at f b node at e = rw at at e
 
 module _ (s : Space) (ok : IsSpace s) (box : BoundingBox) (b : ℕ) (inside : Surrounds s.device box b) (sink : is_sink s.device b ≡ true) where
-  -- behind an input pin its sink comes, and nothing else
-  pub pin_left : (steps : ℕ) (way : List ℕ) (u : ℕ) (wire pin : Node) → node_at s.device u ≡ Some pin → Enters s.device wire pin → IsWay s u way b → wires_by steps wire.kind box (span_of s.device wire) ≡ 0
+  -- after an input pin its sink comes, and nothing else
+  pub pin_left : (steps : ℕ) (way : List ℕ) (u : ℕ) (wire pin : Node) → node_at s.device u ≡ Some pin → Enters s.device wire pin → IsWay s u way b → wires_by_kind steps wire.kind box (span_of s.device wire) ≡ 0
   pin_left steps [] u wire pin at enters walk = absurd (let h = sink_at s.device b pin (rw walk at at) sink in false≢true (rw enters.kind at h))
   pin_left steps (w ∷ []) u wire pin at enters walk =
       let e = edge_nodes s.device u w walk.0 in
@@ -128,7 +129,7 @@ module _ (s : Space) (ok : IsSpace s) (box : BoundingBox) (b : ℕ) (inside : Su
       pin_step s.device steps box wire pin.x pin.y (omega (arith, ex, place.0, around.0)) (omega (arith, ex, place.0, around.1)) (omega (arith, ey, place.1, around.2)) (omega (arith, ey, place.1, around.3)) pin refl refl terminal.around enters.tap
   pin_left steps (w ∷ x ∷ way) u wire pin at enters walk = absurd (false≢true (sym (ok.ends w x walk.2.0) ∙ pin_enters_sink s.device u w (ap (option_map (λ n. n.kind)) at ∙ ap Some enters.kind) walk.0))
 
-  pub way_left : (way : List ℕ) (v : ℕ) (node : Node) → node_at s.device v ≡ Some node → is_wire node.kind ≡ true → IsWay s v way b → left_over (wires_by (steps_within s.device node.number) node.kind box (span_of s.device node)) ≤ way_cost s way
+  pub way_left : (way : List ℕ) (v : ℕ) (node : Node) → node_at s.device v ≡ Some node → is_wire node.kind ≡ true → IsWay s v way b → left_over (wires_by_kind (steps_within s.device node.number) node.kind box (span_of s.device node)) ≤ way_cost s way
   way_left [] v node at wire walk = absurd (wire_no_sink node.kind wire (sink_at s.device b node (rw walk at at) sink))
   way_left (u ∷ way) v node at wire walk =
       let e = edge_nodes s.device v u walk.0 in

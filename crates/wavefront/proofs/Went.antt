@@ -3,10 +3,10 @@ use Rattle.std.proofs.Common.{◌≡◌, ℕ, ◌+◌, ◌<◌, ◌≤◌, List,
 use Rattle.std.specs.Prelude.{Contains}
 use Rattle.std.proofs.lemmas.Bool.{cases_lt}
 use Rattle.std.proofs.lemmas.List.{get_or_default}
-use Rattle.wavefront.specs.WaveState.{Wave}
+use Rattle.wavefront.specs.kept.WaveState.{Wave}
 use Rattle.wavefront.specs.Space.{Space, IsInside}
-use Rattle.wavefront.specs.Wave.{WentOn}
-use Rattle.wavefront.specs.Steps.{Lowers}
+use Rattle.wavefront.specs.kept.Wave.{WentOn}
+use Rattle.wavefront.specs.kept.Steps.{Lowers}
 use Rattle.wavefront.proofs.Lower.{went_lower}
 
 -- the key was offered to the first i nodes of a list

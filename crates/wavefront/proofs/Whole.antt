@@ -9,12 +9,14 @@ use Rattle.route_tree.specs.Paths.{Pair, ends_of}
 use Rattle.route_tree.specs.Legality.{is_among}
 use Rattle.route_tree.specs.Rows.{pairs_of}
 use Rattle.route_tree.proofs.Members.{contains_among, among_contains}
-use Rattle.wavefront.specs.WaveState.{Wave}
-use Rattle.wavefront.specs.Space.{Space, IsSpace, IsWanted}
-use Rattle.wavefront.specs.Growth.{IsGrown, IsGrowth, IsPart, IsRouteSoFar, IsShut, IsStuck, IsWhole, Matches, net_reached}
+use Rattle.wavefront.specs.kept.WaveState.{Wave}
+use Rattle.wavefront.specs.Space.{Space, IsWanted}
+use Rattle.wavefront.specs.kept.Spaces.{IsSpace}
+use Rattle.wavefront.specs.Growth.{IsGrown, IsPart, IsRouteSoFar, IsShut, IsStuck, IsWhole, net_reached}
+use Rattle.wavefront.specs.kept.Growing.{IsGrowth, Matches}
 use Rattle.wavefront.specs.Growth.IsGrown.{alone}
-use Rattle.wavefront.specs.Wave.{IsWave, IsComplete, IsOrigin, StillComplete}
-use Rattle.wavefront.specs.Steps.{MoreOrigins, NoOrigins}
+use Rattle.wavefront.specs.kept.Wave.{IsWave, IsComplete, IsOrigin, StillComplete}
+use Rattle.wavefront.specs.kept.Steps.{MoreOrigins, NoOrigins}
 use Rattle.wavefront.proofs.Added.{open_target, target_open}
 use Rattle.wavefront.proofs.Grown.{grown_legal, grown_inside, grown_wants}
 use Rattle.wavefront.proofs.Lists.{contains_none, contains_first, contains_later, contains_cases}

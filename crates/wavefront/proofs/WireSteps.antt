@@ -10,7 +10,7 @@ use Rattle.rr_graph.specs.Edges.{is_edge}
 use Rattle.rr_graph.proofs.WiresWithin.{column_within, row_within}
 use Rattle.rr_graph.proofs.Joins.{chanx_joins_chanx, chanx_joins_chany, chany_joins_chanx, chany_joins_chany}
 use Rattle.wavefront.specs.declared.boxes.BoundingBox.{BoundingBox}
-use Rattle.wavefront.specs.Bounds.{steps_within, wires_by}
+use Rattle.wavefront.specs.kept.Bounds.{steps_within, wires_by_kind}
 use Rattle.wavefront.proofs.WiresOver.{next_across, next_along}
 
 pub both : (a b : Bool) → (a && b) ≡ true → (a ≡ true) × (b ≡ true)
@@ -21,7 +21,7 @@ both false b e = absurd (false≢true e)
 module _ (f : Fabric) (ok : IsFabric f) (box : BoundingBox) where
   -- how many wires lead on from one
   abbrev from : Kind → (x y track : ℕ) → ℕ
-  from k x y track = wires_by (steps_within f track) k box (span_of f (node_of k x y track))
+  from k x y track = wires_by_kind (steps_within f track) k box (span_of f (node_of k x y track))
 
   rows : (x y t p r s : ℕ) → is_edge f (node_of Chanx x y t) (node_of Chanx p r s) ≡ true → from Chanx x y t ≤ from Chanx p r s + 1
   unfolding is_edge

@@ -7,7 +7,7 @@ use Rattle.rr_graph.specs.declared.parts.Node.{Node}
 use Rattle.rr_graph.specs.declared.parts.Span.{Span}
 use Rattle.rr_graph.specs.Fabric.{Fabric}
 use Rattle.rr_graph.specs.Nodes.{node_at, is_wire, wire_in}
-use Rattle.wavefront.specs.Bounds.{IsWireAt}
+use Rattle.wavefront.specs.kept.Bounds.{IsWireAt}
 
 pub wire_found : (f : Fabric) (v : ℕ) (kind : Kind) (span : Span) (reach steps : ℕ) → wire_in f (node_at f v) ≡ Some (kind, span, reach) → steps ≡ reach - 1 → IsWireAt f v (record { kind = kind; span = span; steps = steps })
 unfolding wire_in

@@ -1,20 +1,17 @@
--- Trees that are grown way by way (McMurchie and Ebeling 1995, "signal router"), and what holds between a tree and the wave that
--- spreads from it.
-use Rattle.std.specs.Prelude.{◌≡◌, ℕ, ◌≤◌, ◌⊎◌, ◌↔◌, List, [], ◌++◌, length, Contains}
+-- Trees that are grown way by way (McMurchie and Ebeling 1995, "signal router").
+use Rattle.std.specs.Prelude.{◌≡◌, ℕ, ◌≤◌, ◌⊎◌, List, [], ◌++◌, length, Contains}
 use Rattle.std.specs.List.{filter}
 use Rattle.rr_graph.specs.Problems.{Net, RoutingProblem, net_in}
-use Rattle.node_cost.specs.Views.{Seen}
+use Rattle.node_cost.specs.Views.{NetView}
 use Rattle.route_tree.specs.declared.tree.Row.{Row}
 use Rattle.route_tree.specs.Paths.{Pair, ends_of}
 use Rattle.route_tree.specs.Legality.{is_among, IsLegal, IsListed}
 use Rattle.route_tree.specs.Faults.{IsRoute}
 use Rattle.route_tree.specs.Rows.{node_in, pairs_of, pairs_along}
-use Rattle.wavefront.specs.WaveState.{Wave}
 use Rattle.wavefront.specs.declared.found.Found.{Found}
 use Rattle.wavefront.specs.declared.found.Found.TheVariants.{Tree, NoPath}
 use Rattle.wavefront.specs.Space.{Space, IsInside, IsWanted}
 use Rattle.wavefront.specs.Ways.{AreDistinct, IsWay, way_cost}
-use Rattle.wavefront.specs.Wave.{IsWave, IsComplete, IsCompleteBut, IsOrigin}
 
 -- the tree has the node
 abbrev pub Covers : Space → List Pair → ℕ → Type 0
@@ -37,8 +34,8 @@ pub record IsExtension (s : Space) (tree : List Pair) (a : ℕ) (way : List ℕ)
   pub apart : (v : ℕ) → Contains way v → Covers s tree v → ⊥
   pub target : IsTarget s tree b
 
--- it enters no node twice, and no other costs less
-pub record IsLeast (s : Space) (tree : List Pair) (a : ℕ) (way : List ℕ) (b : ℕ) : Type 0 where
+-- a way by which the tree may grow, that enters no node twice, and none costs less
+pub record IsLeastExtension (s : Space) (tree : List Pair) (a : ℕ) (way : List ℕ) (b : ℕ) : Type 0 where
   pub extension : IsExtension s tree a way b
   pub distinct : AreDistinct way
   pub least : (c d : ℕ) (other : List ℕ) → IsExtension s tree c other d → way_cost s way ≤ way_cost s other
@@ -46,7 +43,7 @@ pub record IsLeast (s : Space) (tree : List Pair) (a : ℕ) (way : List ℕ) (b 
 -- a tree made of least ways, each for those before it
 pub data IsGrown (s : Space) : List Pair → Type 0 where
   alone : IsGrown s []
-  grown : (tree : List Pair) (a : ℕ) (way : List ℕ) (b : ℕ) → IsGrown s tree → IsLeast s tree a way b → IsGrown s (tree ++ pairs_along a way)
+  grown : (tree : List Pair) (a : ℕ) (way : List ℕ) (b : ℕ) → IsGrown s tree → IsLeastExtension s tree a way b → IsGrown s (tree ++ pairs_along a way)
 
 -- the net with those of its sinks alone that the pairs reach
 abbrev pub net_reached : Net → List Pair → Net
@@ -67,7 +64,7 @@ pub record IsPart (s : Space) (pairs : List Pair) : Type 0 where
 abbrev pub IsShut : Space → List Pair → Type 0
 IsShut s tree = (a b : ℕ) (way : List ℕ) → IsStart s tree a → IsTarget s tree b → IsWay s a way b → ⊥
 
--- the tree has this part, sink v is the least that it lacks, and no way leads on to any that it lacks
+-- this part is grown of least ways, v is the least sink that it lacks, and no way leads on to any that it lacks
 pub record IsStuckAt (s : Space) (tree : List Pair) (v : ℕ) : Type 0 where
   pub part : IsPart s tree
   pub grown : IsGrown s tree
@@ -79,32 +76,8 @@ pub record IsStuckAt (s : Space) (tree : List Pair) (v : ℕ) : Type 0 where
 abbrev pub IsStuck : Space → ℕ → Type 0
 IsStuck s v = (tree : List Pair) × IsStuckAt s tree v
 
--- the wave starts where a way may
-abbrev pub Matches : Space → List Pair → Wave → Type 0
-Matches s tree w = (v : ℕ) → IsOrigin w v ↔ IsStart s tree v
-
--- the tree is grown so far, and the wave starts where a way may
-pub record IsGrowth (s : Space) (rows : List Row) (w : Wave) : Type 0 where
-  pub root : node_in rows 0 ≡ s.net.source
-  pub wave : IsWave s w
-  pub complete : IsComplete s w
-  pub grown : IsGrown s (pairs_of rows)
-  pub origins : Matches s (pairs_of rows) w
-
--- after the first way the wave starts anew
-pub record IsLeft (s : Space) (tree : List Pair) (old new : Wave) : Type 0 where
-  pub wave : IsWave s new
-  pub complete : (x : ℕ) → IsCompleteBut s old x → IsCompleteBut s new x
-  pub origins : (v : ℕ) → IsOrigin new v ↔ (IsOrigin old v × (tree ≡ [] → ⊥))
-
--- the wave starts at these nodes too
-pub record IsStarted (s : Space) (old new : Wave) (nodes : List ℕ) : Type 0 where
-  pub wave : IsWave s new
-  pub complete : (x : ℕ) → IsCompleteBut s old x → IsCompleteBut s new x × (Contains nodes x → IsComplete s new)
-  pub origins : (v : ℕ) → IsOrigin new v ↔ (IsOrigin old v ⊎ Contains nodes v)
-
 -- a net of a problem, what it sees of the others, the present-congestion factor, and the margin of its box
-abbrev pub space_of : RoutingProblem → ℕ → List Seen → (present bb : ℕ) → Space
+abbrev pub space_of : RoutingProblem → ℕ → NetView → (present bb : ℕ) → Space
 space_of p i view present bb = record { device = p.device; net = net_in p.nets i; view = view; present = present; bb = bb }
 
 -- the tree routes the space's net, is grown of least ways, and stays inside the box
@@ -120,7 +93,7 @@ abbrev pub IsAnswer : Space → Found → Type 0
 IsAnswer s (Tree rows) = IsWhole s rows
 IsAnswer s (NoPath v) = IsStuck s v
 
--- a tree that routes net i of the problem
-abbrev pub IsRouted : RoutingProblem → ℕ → Found → Type 0
-IsRouted p i (Tree rows) = IsRoute p i (pairs_of rows)
-IsRouted p i (NoPath v) = Unit {0}
+-- where a tree is found, it routes net i of the problem
+abbrev pub RoutesIfFound : RoutingProblem → ℕ → Found → Type 0
+RoutesIfFound p i (Tree rows) = IsRoute p i (pairs_of rows)
+RoutesIfFound p i (NoPath v) = Unit {0}

@@ -1,16 +1,5 @@
 pub mod Boxes
 pub mod Space
 pub mod Ways
-pub mod Entrances
-pub mod Bounds
-pub mod Known
-pub mod Label
-pub mod Rows
-pub mod Entries
-pub mod Queues
-pub mod WaveState
-pub mod Wave
-pub mod Steps
 pub mod Growth
-pub mod Targets
-pub mod Fields
+pub mod kept

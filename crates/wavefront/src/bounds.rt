@@ -2,7 +2,7 @@
 
 ghost use Rattle.std.specs.Prelude.{◌≡◌, ◌+◌, ◌*◌, ◌<◌, ◌≤◌, [], All, Contains, IfOk, IfSome, IsTrue, OnOk, length};
 ghost use Rattle.wavefront.specs.declared.boxes.BoundingBox.{BoundingBox};
-ghost use Rattle.wavefront.specs.Bounds.{CoversMore, IsCovered, IsFewestFrom, IsLeast, gap, wires_by, wires_for, wires_from, wires_over, wires_to};
+ghost use Rattle.wavefront.specs.kept.Bounds.{CoversMore, IsCovered, IsFewestFrom, IsFewestIfAny, gap, wires_by_kind, wires_for, wires_from, wires_over, wires_to};
 
 use crate::boxes::BoundingBox;
 use crate::space::Wire;
@@ -19,7 +19,7 @@ fn gap(low: u32, high: u32, first: u32, last: u32) -> u64
 }
 
 /// How many wires lead over so many places, at least, where each goes on over so many steps at most.
-#[tactic(auto, using(crate::proofs::WiresOver::over_one, crate::proofs::WiresOver::over_few), unfolding(crate::specs::Bounds::wires_over))]
+#[tactic(auto, using(crate::proofs::WiresOver::over_one, crate::proofs::WiresOver::over_few), unfolding(crate::specs::kept::Bounds::wires_over))]
 fn wires_over(steps: u32, places: u64) -> u64
     requires { places ≤ 4294967296 * 2 }
     ensures exact { result ≡ wires_over steps places }
@@ -59,7 +59,7 @@ fn wires_for(steps: u32, along: u64, across: u64) -> u64
 }
 
 /// How many wires lead from a wire to one beside the box's blocks, at least.
-fn wires_by(place: BoundingBox, wire: Wire) -> u64
+fn wires_to(place: BoundingBox, wire: Wire) -> u64
     ensures exact { result ≡ wires_to place wire }
     ensures few { result ≤ 4294967296 * 4 }
 {
@@ -95,7 +95,7 @@ const ROWS: usize = 512;
 
 /// What was found for a wire, and when.
 #[derive(Clone, Copy, Drop)]
-struct Kept {
+struct CachedBound {
     wire: Wire,
     fewest: u64,
     stamp: u64,
@@ -103,7 +103,7 @@ struct Kept {
 
 /// The rows for what is found, none of which was put yet.
 #[tactic(auto, using(crate::proofs::KeptRows::blank_more))]
-fn no_rows(alloc: Global) -> Result<Vec<Kept>, AllocError>
+fn no_rows(alloc: Global) -> Result<Vec<CachedBound>, AllocError>
     ensures { IfOk result (λ rows. All (λ row. row.stamp < 1) rows.items) }
 {
     let place = Span {
@@ -119,7 +119,7 @@ fn no_rows(alloc: Global) -> Result<Vec<Kept>, AllocError>
     };
     let mut rows = Vec::with_capacity(alloc, ROWS)?;
     for _ in 0..ROWS {
-        rows.push(Kept {
+        rows.push(CachedBound {
             wire,
             fewest: 0,
             stamp: 0,
@@ -128,8 +128,8 @@ fn no_rows(alloc: Global) -> Result<Vec<Kept>, AllocError>
     Ok(rows)
 }
 
-/// The stamp of boxes that are new, behind those of all rows. Rows that can have none behind them go.
-fn next_stamp(rows: &mut Vec<Kept>, stamp: u64) -> u64
+/// The stamp of boxes that are new, after those of all rows. Rows that can have none after them go.
+fn next_stamp(rows: &mut Vec<CachedBound>, stamp: u64) -> u64
     requires { All (λ row. row.stamp ≤ stamp) rows.old.items }
     ensures { All (λ row. row.stamp < result) rows.new.items }
 {
@@ -159,11 +159,11 @@ fn row_of(wire: Wire) -> usize {
 
 /// The fewest wires of which a box tells.
 fn fewest_in(boxes: &[BoundingBox], wire: Wire) -> u64
-    ensures { IsLeast boxes.now wire result }
+    ensures { IsFewestIfAny boxes.now wire result }
 {
     let mut fewest = u64::MAX;
     for place in boxes {
-        fewest = fewest.min(wires_by(*place, wire));
+        fewest = fewest.min(wires_to(*place, wire));
     }
     fewest
 }
@@ -179,7 +179,7 @@ pub(crate) struct Bounds {
     /// How many sinks may be taken before boxes are made anew.
     spare: usize,
     /// What was found in the boxes. That of an earlier stamp was found in other ones.
-    kept: Vec<Kept>,
+    kept: Vec<CachedBound>,
     stamp: u64,
 }
 
@@ -189,11 +189,11 @@ impl Model for Bounds {
 
     ghost Value = { List BoundingBox };
 
-    ghost use Rattle.wavefront.specs.Known.{AreKept};
+    ghost use Rattle.wavefront.specs.kept.CachedBounds.{AreCached};
 
     ghost view = { λ b. b.boxes.items };
 
-    ghost invariant = { AreKept };
+    ghost invariant = { AreCached };
 }
 
 impl Bounds {
@@ -275,7 +275,7 @@ impl Bounds {
     /// What was found for a wire in these boxes, if that is kept.
     #[inline(always)]
     fn known(&self, wire: Wire) -> Option<u64>
-        ensures { IfSome result (IsLeast self.now wire) }
+        ensures { IfSome result (IsFewestIfAny self.now wire) }
     {
         let at = row_of(wire);
         if at >= self.kept.len() {
@@ -291,13 +291,13 @@ impl Bounds {
 
     /// Keeps what was found for a wire.
     fn keep(&mut self, wire: Wire, fewest: u64)
-        requires { IsLeast self.old wire fewest }
+        requires { IsFewestIfAny self.old wire fewest }
         ensures { self.new ≡ self.old }
     {
         let stamp = self.stamp;
         let at = row_of(wire);
         if at < self.kept.len() {
-            self.kept[at] = Kept {
+            self.kept[at] = CachedBound {
                 wire,
                 fewest,
                 stamp,
@@ -308,7 +308,7 @@ impl Bounds {
     /// The fewest wires of which a box tells, which may be known.
     fn fewest_kept(&mut self, wire: Wire) -> u64
         ensures same { self.new ≡ self.old }
-        ensures least { IsLeast self.old wire result }
+        ensures least { IsFewestIfAny self.old wire result }
     {
         if let Some(fewest) = self.known(wire) {
             return fewest;

@@ -1,9 +1,8 @@
 //! The box in which a net is routed.
 
-ghost use Rattle.std.specs.Prelude.{◌≡◌};
+ghost use Rattle.std.specs.Prelude.{◌≡◌, ◌<◌, length};
 ghost use Rattle.wavefront.specs.Boxes.{box_of_span, box_around, box_of_node, box_with, box_of_net, touches};
 ghost use Rattle.rr_graph.specs.Problems.{net_in};
-ghost use Rattle.std.specs.Prelude.{◌<◌, length};
 
 use rr_graph::{Device, Problem, Span};
 

@@ -1,11 +1,12 @@
 //! How a net enters each node.
 
 ghost use Rattle.std.specs.Prelude.{◌≡◌, ◌<◌, IfSome, IfNone};
-ghost use Rattle.wavefront.specs.Space.{IsSpace, node_count};
-ghost use Rattle.wavefront.specs.Entrances.{IsAtCost, IsClosed, IsEntrance, Tells};
-ghost use Rattle.wavefront.specs.Bounds.{IsWireAt};
-ghost use Rattle.wavefront.specs.Rows.{IsKept};
+ghost use Rattle.wavefront.specs.kept.Spaces.{IsSpace, node_count};
+ghost use Rattle.wavefront.specs.kept.Entrances.{IsAtCost, IsClosed, IsEntrance, IsEntranceOf};
+ghost use Rattle.wavefront.specs.kept.Bounds.{IsWireAt};
+ghost use Rattle.wavefront.specs.kept.Rows.{FitsRow};
 
+use crate::rows::DEAR;
 use crate::space::{SearchSpace, Wire};
 
 /// What a net pays to enter a node, and the wire that the node is, where that was looked up.
@@ -32,8 +33,8 @@ impl Entrance {
     pub(crate) fn of(space: &SearchSpace<'_>, node: u32) -> (Entrance, Option<Wire>)
         requires space { IsSpace space.now }
         requires node_in { node < node_count space.now }
-        ensures told { Tells space.now node result.0 }
-        ensures kept { IsKept result.0 }
+        ensures reported { IsEntranceOf space.now node result.0 }
+        ensures kept { FitsRow result.0 }
         ensures wire { IfSome result.1 (IsWireAt space.now.device node) }
     {
         match space.wire(node) {
@@ -47,8 +48,8 @@ impl Entrance {
     fn of_wire(space: &SearchSpace<'_>, node: u32, wire: Wire) -> Entrance
         requires node_in { node < node_count space.now }
         requires wire { IsWireAt space.now.device node wire }
-        ensures told { Tells space.now node result }
-        ensures kept { IsKept result }
+        ensures reported { IsEntranceOf space.now node result }
+        ensures kept { FitsRow result }
     {
         if space.is_wire_inside(node, wire) {
             Entrance::at(space.wire_cost(node, wire))
@@ -61,8 +62,8 @@ impl Entrance {
     fn of_other(space: &SearchSpace<'_>, node: u32) -> Entrance
         requires space { IsSpace space.now }
         requires node_in { node < node_count space.now }
-        ensures told { Tells space.now node result }
-        ensures kept { IsKept result }
+        ensures reported { IsEntranceOf space.now node result }
+        ensures kept { FitsRow result }
     {
         if space.is_dead_end(node) || !space.is_inside(node) {
             return Entrance::Closed;
@@ -75,7 +76,7 @@ impl Entrance {
     fn at(cost: u128) -> Entrance
         ensures { IsAtCost cost result }
     {
-        if cost < 4_294_967_293 {
+        if cost < u128::from(DEAR) {
             Entrance::At(cost as u32)
         } else {
             Entrance::Dear
@@ -85,7 +86,7 @@ impl Entrance {
     /// What the net pays to enter the node, if it has a use for it.
     #[inline(always)]
     pub(crate) fn cost(self, space: &SearchSpace<'_>, node: u32) -> Option<u128>
-        requires told { Tells space.now node self }
+        requires reported { IsEntranceOf space.now node self }
         requires node_in { node < node_count space.now }
         ensures closed { IfNone result (IsClosed space.now node) }
         ensures cost { IfSome result (IsEntrance space.now node) }

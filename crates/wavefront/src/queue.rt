@@ -7,9 +7,9 @@ ghost use Rattle.std.proofs.Common.{rules};
 ghost use Rattle.std.specs.Cmp.{partial_order_from_own_ties, partial_order_from_total};
 ghost use Rattle.std.specs.Cmp.Rules.{comparing};
 ghost use Rattle.std.specs.Ordering.{as_partial_cmp};
-ghost use Rattle.wavefront.specs.Entries.{entry_cmp, entry_total};
+ghost use Rattle.wavefront.specs.kept.Entries.{entry_cmp, entry_total};
 ghost use Rattle.std.specs.BinaryHeap.{heap_items, heap_len, heap_capacity, IsHeap};
-ghost use Rattle.wavefront.specs.Queues.{IsPopped, IsSplit, TakesLeast};
+ghost use Rattle.wavefront.specs.kept.Queues.{TakesLeastEntry, IsSplit, TakesLeast};
 
 use crate::keys::Key;
 use std::alloc::{AllocError, Global};
@@ -29,7 +29,7 @@ pub(crate) struct Entry {
 }
 
 /// An entry as it is kept. The least key is the greatest. Of equal ones the least label is, so that a
-/// wire, behind which something is left, comes before pins and sinks; and then the least node.
+/// wire, after which something is left, comes before pins and sinks; and then the least node.
 #[derive(Clone, Copy, Drop)]
 struct Waiting<K> {
     key: K,
@@ -204,7 +204,7 @@ impl<K: Key> Model for Queue<K> {
 
     ghost Value = { List Entry };
 
-    ghost use Rattle.wavefront.specs.Queues.{entries_of, IsOrdered};
+    ghost use Rattle.wavefront.specs.kept.Queues.{entries_of, IsOrdered};
 
     ghost view = { entries_of K.value };
 
@@ -265,7 +265,7 @@ impl<K: Key> Queue<K> {
     /// Takes the least entry out.
     pub(crate) fn pop(&mut self) -> Entry
         requires { 0 < length self.old }
-        ensures popped { IsPopped self.old self.new result }
+        ensures popped { TakesLeastEntry self.old self.new result }
         ensures within { result.key ≤ K.range }
     {
         self.bound = refill(&mut self.near, &mut self.far, self.bound);

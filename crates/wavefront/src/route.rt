@@ -2,9 +2,11 @@
 
 ghost use Rattle.std.specs.Prelude.{◌≡◌, ℕ, ◌<◌, ◌≤◌, ◌==◌, IfOk, OnOk, IfSome, IfNone, IsTrue, IsFalse, length, ◌↔◌, Contains, Err, true};
 ghost use Rattle.rr_graph.specs.Nodes.{node_count_of};
-ghost use Rattle.wavefront.specs.Space.{IsSpace, IsWanted, node_count};
-ghost use Rattle.wavefront.specs.Wave.{IsWave, IsOrigin, open_count};
-ghost use Rattle.wavefront.specs.Growth.{IsAnswer, IsGrowth, IsShut, IsLeft, IsStarted, IsRouted, space_of};
+ghost use Rattle.wavefront.specs.Space.{IsWanted};
+ghost use Rattle.wavefront.specs.kept.Spaces.{IsSpace, node_count};
+ghost use Rattle.wavefront.specs.kept.Wave.{IsWave, IsOrigin, open_count};
+ghost use Rattle.wavefront.specs.Growth.{IsAnswer, IsShut, RoutesIfFound, space_of};
+ghost use Rattle.wavefront.specs.kept.Growing.{IsGrowth, StartsAnew, IsStarted};
 ghost use Rattle.route_tree.specs.Rows.{node_in, pairs_of, pairs_along};
 ghost use Rattle.std.specs.List.{list_any, position};
 ghost use Rattle.wavefront.specs.declared.found.Found.TheVariants.{NoPath};
@@ -37,7 +39,7 @@ pub fn route_net(
     requires present { present ≤ GREATEST_PRESENT }
     requires bb { (1 ≤ bb) × (bb ≤ 255) }
     ensures found { IfOk result (IsAnswer (space_of problem.now net view.now present bb)) }
-    ensures routed { IfOk result (IsRouted problem.now net) }
+    ensures routed { IfOk result (RoutesIfFound problem.now net) }
     ensures view_size { (result ≡ Err ViewSize) ↔
         (length view.now ≡ node_count_of problem.now.device → ⊥) }
     ensures fits { scratch.new ≡ node_count_of problem.now.device }
@@ -140,7 +142,7 @@ fn add_way<K: Key>(
 /// After the first way the source is no start any more, and the wave begins anew.
 fn leave_source<K: Key>(space: &SearchSpace<'_>, wave: &mut Wave<K>, tree: &Tree)
     requires { IsWave space.now wave.old }
-    ensures { IsLeft space.now (pairs_of tree.now) wave.old wave.new }
+    ensures { StartsAnew space.now (pairs_of tree.now) wave.old wave.new }
 {
     if tree.pairs() == 0 {
         wave.begin_anew(space);

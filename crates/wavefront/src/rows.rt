@@ -1,21 +1,21 @@
 //! What a search keeps of each node, all of it taken off in one step: a label, and how the net enters the node.
 
 ghost use Rattle.std.specs.Prelude.{◌≡◌, ◌<◌, ◌≤◌, All, length, IfOk, replicate, slice_index_or, slice_set, Some, None};
-ghost use Rattle.wavefront.specs.Label.{unreached};
-ghost use Rattle.wavefront.specs.Rows.{KeepsEntrances, IsKept, entrance_of, told_by};
+ghost use Rattle.wavefront.specs.kept.Label.{unreached};
+ghost use Rattle.wavefront.specs.kept.Rows.{KeepsEntrances, FitsRow, entrance_of, entrance_in};
 
 use crate::entrances::Entrance;
 use crate::keys::Key;
 use std::alloc::{AllocError, Global};
 use std::marker::Model;
 
-/// The key of a node that the wave has not reached.
+/// The cost of a node that the wave has not reached.
 pub(crate) const FAR: u128 = u128::MAX;
 
 /// The cost of a way to a node, and the last node before it. At a start the cost is 0, and it is itself that node.
 #[derive(Clone, Copy, Debug, PartialEq, Eq)]
 pub(crate) struct Label {
-    pub(crate) key: u128,
+    pub(crate) cost: u128,
     pub(crate) parent: u32,
 }
 
@@ -23,23 +23,23 @@ pub(crate) struct Label {
 /// the processor's memory.
 #[derive(Clone, Copy, Drop)]
 struct Row<K> {
-    key: K,
+    cost: K,
     parent: u32,
     entrance: u32,
     stamp: u16,
 }
 
 /// Of a node of which it isn't known how the net enters it.
-const UNKNOWN: u32 = u32::MAX;
+pub(crate) const UNKNOWN: u32 = u32::MAX;
 /// Of one for which it has no use.
-const CLOSED: u32 = u32::MAX - 1;
+pub(crate) const CLOSED: u32 = u32::MAX - 1;
 /// Of one whose cost is worked out each time. What is below is a cost.
-const DEAR: u32 = u32::MAX - 2;
+pub(crate) const DEAR: u32 = u32::MAX - 2;
 
 /// How a net enters a node, as one number.
 fn keep(entrance: Entrance) -> u32
-    requires { IsKept entrance }
-    ensures { told_by result ≡ Some entrance }
+    requires { FitsRow entrance }
+    ensures { entrance_in result ≡ Some entrance }
 {
     match entrance {
         Entrance::Closed => CLOSED,
@@ -50,7 +50,7 @@ fn keep(entrance: Entrance) -> u32
 
 /// How a net enters a node, by what is kept of that.
 fn tell(kept: u32) -> Option<Entrance>
-    ensures { result ≡ told_by kept }
+    ensures { result ≡ entrance_in kept }
 {
     if kept == UNKNOWN {
         return None;
@@ -66,7 +66,7 @@ fn tell(kept: u32) -> Option<Entrance>
 
 /// What a row keeps of how the net enters its node, if it was put at this stamp or later.
 fn entrance_kept<K: Key>(first: u16, row: Row<K>) -> u32
-    ensures { told_by result ≡ entrance_of first row }
+    ensures { entrance_in result ≡ entrance_of first row }
 {
     if first <= row.stamp {
         row.entrance
@@ -107,11 +107,11 @@ pub(crate) struct Rows<K: Key> {
 }
 
 impl<K: Key> Model for Rows<K> {
-    ghost use Rattle.wavefront.specs.Rows.{Known};
+    ghost use Rattle.wavefront.specs.kept.Rows.{RowContents};
 
-    ghost Value = { Known };
+    ghost Value = { RowContents };
 
-    ghost use Rattle.wavefront.specs.Rows.{known_of, AreStamped};
+    ghost use Rattle.wavefront.specs.kept.Rows.{known_of, AreStamped};
 
     ghost view = { known_of K.value };
 
@@ -125,7 +125,7 @@ impl<K: Key> Rows<K> {
         ensures entrances { IfOk result (λ r. r.entrances ≡ replicate nodes None) }
     {
         let none = Row {
-            key: K::zero(),
+            cost: K::zero(),
             parent: 0,
             entrance: UNKNOWN,
             stamp: 0,
@@ -154,12 +154,12 @@ impl<K: Key> Rows<K> {
         let row = self.rows[node as usize];
         if row.stamp == self.stamp {
             Label {
-                key: row.key.wide(),
+                cost: row.cost.wide(),
                 parent: row.parent,
             }
         } else {
             Label {
-                key: FAR,
+                cost: FAR,
                 parent: 0,
             }
         }
@@ -175,16 +175,16 @@ impl<K: Key> Rows<K> {
     }
 
     /// Puts a label on a node.
-    pub(crate) fn set_label(&mut self, node: u32, key: K, parent: u32)
+    pub(crate) fn set_label(&mut self, node: u32, cost: K, parent: u32)
         requires { node < length self.old.labels }
         ensures labels { self.new.labels ≡
-            slice_set self.old.labels node (record { key = K.value key; parent = parent }) }
+            slice_set self.old.labels node (record { cost = K.value cost; parent = parent }) }
         ensures entrances { self.new.entrances ≡ self.old.entrances }
     {
         let row = self.rows[node as usize];
         let entrance = entrance_kept(self.first, row);
         self.rows[node as usize] = Row {
-            key,
+            cost,
             parent,
             entrance,
             stamp: self.stamp,
@@ -194,14 +194,14 @@ impl<K: Key> Rows<K> {
     /// Puts down how the net enters a node.
     pub(crate) fn set_entrance(&mut self, node: u32, entrance: Entrance)
         requires there { node < length self.old.entrances }
-        requires kept { IsKept entrance }
+        requires kept { FitsRow entrance }
         ensures labels { self.new.labels ≡ self.old.labels }
         ensures entrances { self.new.entrances ≡
             slice_set self.old.entrances node (Some entrance) }
     {
         let row = self.rows[node as usize];
         self.rows[node as usize] = Row {
-            key: row.key,
+            cost: row.cost,
             parent: row.parent,
             entrance: keep(entrance),
             stamp: row.stamp.max(self.first),

@@ -8,10 +8,11 @@ ghost use Rattle.rr_graph.specs.declared.parts.Kind.{Kind};
 ghost use Rattle.std.specs.List.Sorted.{IsStrictlyIncreasing};
 ghost use Rattle.std.specs.Option.{option_map_or};
 ghost use Rattle.wavefront.specs.Boxes.{box_of_node, is_in_box};
-ghost use Rattle.wavefront.specs.Bounds.{IsWireAt};
-ghost use Rattle.wavefront.specs.Space.{IsSpace, IsInside, IsWanted, HasEdge, LeadsOnlyTo, entry_cost, node_count, base_cost};
+ghost use Rattle.wavefront.specs.kept.Bounds.{IsWireAt};
+ghost use Rattle.wavefront.specs.Space.{IsInside, IsWanted, HasEdge, entry_cost, base_cost};
+ghost use Rattle.wavefront.specs.kept.Spaces.{IsSpace, LeadsOnlyTo, node_count};
 ghost use Rattle.wavefront.specs.Growth.{space_of};
-ghost use Rattle.wavefront.specs.Entrances.{LeadsNowhere};
+ghost use Rattle.wavefront.specs.kept.Entrances.{LeadsNowhere};
 
 use crate::boxes::BoundingBox;
 use crate::targets::TargetPins;
@@ -38,14 +39,14 @@ impl<'a> Model for SearchSpace<'a> {
 
     ghost Value = { Space };
 
-    ghost use Rattle.wavefront.specs.Fields.{space_inside, IsSearchSpace};
+    ghost use Rattle.wavefront.specs.kept.Fields.{space_inside, IsSearchSpace};
 
     ghost view = { space_inside };
 
     ghost invariant = { IsSearchSpace };
 }
 
-/// A wire's kind, the places that it passes, and over how many steps the wires of its track go on at most behind the places
+/// A wire's kind, the places that it passes, and over how many steps the wires of its track go on at most after the places
 /// where they begin.
 #[derive(Clone, Copy, Debug, PartialEq, Eq)]
 pub(crate) struct Wire {
@@ -137,7 +138,7 @@ impl<'a> SearchSpace<'a> {
         self.problem.sinks(self.net)
     }
 
-    /// Whether the node is one of the net's sinks. Wires, which are asked for most, stand behind all sinks.
+    /// Whether the node is one of the net's sinks. Wires, which are asked for most, stand after all sinks.
     pub(crate) fn wants(&self, node: u32) -> bool
         requires { IsSpace self.now }
         ensures { IsTrue result ↔ IsWanted self.now node }

@@ -2,9 +2,9 @@
 
 ghost use Rattle.std.specs.Prelude.{◌≡◌, ℕ, ◌<◌, ◌≤◌, Contains, IfOk, OnOk, IsTrue, length, ◌↔◌};
 ghost use Rattle.rr_graph.specs.Fabric.{Fabric};
-ghost use Rattle.rr_graph.specs.InputPins.{IsWithin, IsPinOf};
+ghost use Rattle.rr_graph.specs.InputPins.{IsInRange, IsPinOf};
 ghost use Rattle.rr_graph.specs.Problems.{net_in};
-ghost use Rattle.wavefront.specs.Targets.{AreTargets, IsAmong, KeepsPins, KnowsPins, TellsPins};
+ghost use Rattle.wavefront.specs.kept.Targets.{AreTargets, IsAmong, KeepsPins, KnowsPins, TellsPins};
 
 use rr_graph::{Device, NodeRange, Problem};
 use smallvec::SmallVec;
@@ -24,7 +24,7 @@ pub(crate) struct TargetPins {
 
 /// Whether a number is one of the range's.
 fn is_within(range: NodeRange, node: u32) -> bool
-    ensures { IsTrue result ↔ IsWithin range node }
+    ensures { IsTrue result ↔ IsInRange range node }
 {
     range.first <= node && node < range.end
 }
@@ -88,7 +88,7 @@ impl TargetPins {
 
     /// Whether it is an input pin that leads to none of the net's sinks, as far as they are told apart.
     pub(crate) fn rule_out(&self, node: u32) -> bool
-        ensures pin { IsTrue result → IsWithin self.now.pins node }
+        ensures pin { IsTrue result → IsInRange self.now.pins node }
         ensures other { IsTrue result → IsAmong self.now.targets.items node → ⊥ }
     {
         is_within(self.pins, node) && !is_among(&self.targets, node)

@@ -27,11 +27,11 @@ pub(crate) struct Wave<K: Key> {
 }
 
 impl<K: Key> Model for Wave<K> {
-    ghost use Rattle.wavefront.specs.WaveState.{Wave};
+    ghost use Rattle.wavefront.specs.kept.WaveState.{Wave};
 
     ghost Value = { Wave };
 
-    ghost use Rattle.wavefront.specs.WaveState.{wave_of, IsWaveState};
+    ghost use Rattle.wavefront.specs.kept.WaveState.{wave_of, IsWaveState};
 
     ghost view = { wave_of };
 
@@ -40,11 +40,12 @@ impl<K: Key> Model for Wave<K> {
 
 impl<K: Key> Wave<K> {
     ghost use Rattle.std.specs.Prelude.{length, replicate, [], ◌==◌, ◌⊎◌, ◌↔◌, OnOk, IfOk, IfSome, IsTrue, eqb, false, not};
-    ghost use Rattle.wavefront.specs.Bounds.{IsFewest, IsWireAt};
-    ghost use Rattle.wavefront.specs.Label.{unreached};
-    ghost use Rattle.wavefront.specs.Space.{IsSpace, HasEdge, node_count};
-    ghost use Rattle.wavefront.specs.Wave.{IsWave, IsComplete, IsDead, IsOrigin, IsOpen, StillComplete, IsBound, key_of, label_at};
-    ghost use Rattle.wavefront.specs.Steps.{IsPopped, IsLowered, IsPreferred, LeavesOut, MoreOrigins, NoOrigins};
+    ghost use Rattle.wavefront.specs.kept.Bounds.{IsFewest, IsWireAt};
+    ghost use Rattle.wavefront.specs.kept.Label.{unreached};
+    ghost use Rattle.wavefront.specs.Space.{HasEdge};
+    ghost use Rattle.wavefront.specs.kept.Spaces.{IsSpace, node_count};
+    ghost use Rattle.wavefront.specs.kept.Wave.{IsWave, IsComplete, IsDead, IsOrigin, IsOpen, StillComplete, IsBound, cost_at, label_at};
+    ghost use Rattle.wavefront.specs.kept.Steps.{IsPopped, IsLowered, IsPreferred, LeavesOut, MoreOrigins, NoOrigins};
 
     /// A wave over so many nodes.
     pub(crate) fn new(alloc: Global, nodes: usize) -> Result<Wave<K>, AllocError>
@@ -176,17 +177,17 @@ impl<K: Key> Wave<K> {
 
     /// A node's label and what a way from it costs at least, or the label alone where that doesn't fit.
     #[inline(always)]
-    fn nearest_by(&self, space: &SearchSpace<'_>, node: u32, key: K, fewest: Option<u64>) -> K
+    fn nearest_by(&self, space: &SearchSpace<'_>, node: u32, cost: K, fewest: Option<u64>) -> K
         requires space { IsSpace space.now }
         requires wave { IsWave space.now self.now }
         requires fewest { IfSome fewest (IsFewest space.now.device self.now.boxes node) }
-        ensures above { K.value key ≤ K.value result }
-        ensures low { IsBound space.now self.now node (K.value result - K.value key) }
+        ensures above { K.value cost ≤ K.value result }
+        ensures low { IsBound space.now self.now node (K.value result - K.value cost) }
     {
         let bound = self.bound(space, node, fewest);
-        match K::fit(key.wide().saturating_add(bound)) {
+        match K::fit(cost.wide().saturating_add(bound)) {
             Some(nearest) => nearest,
-            None => key,
+            None => cost,
         }
     }
 
@@ -196,7 +197,7 @@ impl<K: Key> Wave<K> {
         &mut self,
         space: &SearchSpace<'_>,
         node: u32,
-        key: K,
+        cost: K,
         parent: u32,
         wire: Option<Wire>,
     ) -> Result<(), AllocError>
@@ -205,21 +206,21 @@ impl<K: Key> Wave<K> {
         requires node_in { node < length self.old.labels }
         requires wire { IfSome wire (IsWireAt space.now.device node) }
         ensures lowered { OnOk result (IsLowered space.now self.old self.new node
-            (record { key = K.value key; parent = parent })) }
+            (record { cost = K.value cost; parent = parent })) }
         ensures rows { length self.new.labels ≡ length self.old.labels }
     {
         let fewest = self.fewest(space, node, wire);
-        let nearest = self.nearest_by(space, node, key, fewest);
-        self.rows.set_label(node, key, parent);
-        self.queue.push(nearest, key, node)
+        let nearest = self.nearest_by(space, node, cost, fewest);
+        self.rows.set_label(node, cost, parent);
+        self.queue.push(nearest, cost, node)
     }
 
     /// Leaves out what costs so much or more.
-    fn leave_out(&mut self, key: u128)
-        requires { K.range ≤ key }
-        ensures { LeavesOut self.old self.new key }
+    fn leave_out(&mut self, cost: u128)
+        requires { K.range ≤ cost }
+        ensures { LeavesOut self.old self.new cost }
     {
-        self.limit = self.limit.min(key);
+        self.limit = self.limit.min(cost);
     }
 
     /// Lowers a node's label, or leaves it out where it doesn't fit.
@@ -236,28 +237,28 @@ impl<K: Key> Wave<K> {
         requires node_in { node < length self.old.labels }
         requires wire { IfSome wire (IsWireAt space.now.device node) }
         ensures lowered { OnOk result (IsLowered space.now self.old self.new node label ⊎
-            LeavesOut self.old self.new label.key) }
+            LeavesOut self.old self.new label.cost) }
         ensures rows { length self.new.labels ≡ length self.old.labels }
     {
-        match K::fit(label.key) {
-            Some(key) => self.put(space, node, key, label.parent, wire),
+        match K::fit(label.cost) {
+            Some(cost) => self.put(space, node, cost, label.parent, wire),
             None => {
-                self.leave_out(label.key);
+                self.leave_out(label.cost);
                 Ok(())
             }
         }
     }
 
-    /// Puts another parent on a node whose key is the label's.
+    /// Puts another parent on a node whose cost is the label's.
     fn set(&mut self, node: u32, label: Label)
         requires there { node < length self.old.labels }
-        requires same { label.key ≡ key_of self.old node }
-        requires reached { label.key < FAR }
+        requires same { label.cost ≡ cost_at self.old node }
+        requires reached { label.cost < FAR }
         requires later { IsOrigin self.old node → ⊥ }
         ensures { (self.new ≡ self.old) ⊎ IsPreferred self.old self.new node label }
     {
-        if let Some(key) = K::fit(label.key) {
-            self.rows.set_label(node, key, label.parent);
+        if let Some(cost) = K::fit(label.cost) {
+            self.rows.set_label(node, cost, label.parent);
         }
     }
 
@@ -289,7 +290,7 @@ impl<K: Key> Wave<K> {
         ensures { IsTrue result ↔ IsOrigin self.now node }
     {
         let label = self.label(node);
-        label.key == 0 && label.parent == node
+        label.cost == 0 && label.parent == node
     }
 
     /// Whether it is a sink that the wave has yet to take.

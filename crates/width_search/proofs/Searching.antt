@@ -12,8 +12,9 @@ use Rattle.iteration.specs.declared.outcome.Outcome.{Outcome}
 use Rattle.iteration.specs.declared.outcome.Outcome.TheVariants.{Success, NotRouted}
 use Rattle.width_search.specs.declared.report.LeastWidth.{LeastWidth}
 use Rattle.width_search.specs.declared.trial.Trial.{Trial}
-use Rattle.width_search.specs.Widths.{IsSequence, greatest_unrouted, least_routed, next_width, width_behind, with_routed, with_unrouted}
-use Rattle.width_search.specs.Reports.{IsLeast, IsTold, Report, is_success, with_trial}
+use Rattle.width_search.specs.Widths.{IsSequence, greatest_unrouted, least_routed, next_width, width_after, with_routed, with_unrouted}
+use Rattle.width_search.specs.Reports.{IsOfLeastWidth, IsReported, Report, is_success}
+use Rattle.width_search.specs.kept.Trials.{with_trial}
 
 abbrev pub last_of : List Trial → Option Trial
 last_of trials = slice_get trials (length trials - 1)
@@ -88,17 +89,17 @@ halved_is unrouted routed w next =
     let is = some_if (nat_lt 1 (routed - unrouted)) ((unrouted + routed) / 2) w next in grind (arith, nat_tests, is.0, is.1)
 
 -- how far a search is from its end
-abbrev left_behind : Option Trial → (routed : Option ℕ) → (unrouted : ℕ) → ℕ
-left_behind None routed unrouted = 513
-left_behind (Some last) None unrouted = 512 - last.width
-left_behind (Some last) (Some routed) unrouted = routed - unrouted
+abbrev left_after : Option Trial → (routed : Option ℕ) → (unrouted : ℕ) → ℕ
+left_after None routed unrouted = 513
+left_after (Some last) None unrouted = 512 - last.width
+left_after (Some last) (Some routed) unrouted = routed - unrouted
 
 -- what is so of the next width, whether it is routed or not
 record IsNext (last : Option Trial) (routed : Option ℕ) (unrouted w : ℕ) : Type 0 where
   pub is_width : IsWidth w
   pub least : with_routed routed (trial_of w true) ≡ Some w
   pub within : (b : Bool) → AreWithin (Some (trial_of w b)) (with_routed routed (trial_of w b))
-  pub fewer : (b : Bool) → left_behind (Some (trial_of w b)) (with_routed routed (trial_of w b)) (with_unrouted unrouted (trial_of w b)) < left_behind last routed unrouted
+  pub fewer : (b : Bool) → left_after (Some (trial_of w b)) (with_routed routed (trial_of w b)) (with_unrouted unrouted (trial_of w b)) < left_after last routed unrouted
 
 some_eq : (x y : ℕ) → x ≡ y → ◌≡◌ {A = Option ℕ} (Some x) (Some y)
 some_eq x y e = ap Some e
@@ -112,22 +113,22 @@ within_then routed w is was true = (grind (arith, is.0, was.0), grind (arith, is
 within_then routed w is was false = was
 
 fewer_start : (unrouted w : ℕ) → IsWidth w → (b : Bool)
-    → left_behind (Some (trial_of w b)) (with_routed None (trial_of w b)) (with_unrouted unrouted (trial_of w b)) < 513
+    → left_after (Some (trial_of w b)) (with_routed None (trial_of w b)) (with_unrouted unrouted (trial_of w b)) < 513
 fewer_start unrouted w is true = grind (arith, is.1)
 fewer_start unrouted w is false = grind (arith, is.1)
 
 fewer_doubled : (last unrouted w : ℕ) → last < 256 → last < w → w ≤ 256 → (b : Bool)
-    → left_behind (Some (trial_of w b)) (with_routed None (trial_of w b)) (with_unrouted unrouted (trial_of w b)) < 512 - last
+    → left_after (Some (trial_of w b)) (with_routed None (trial_of w b)) (with_unrouted unrouted (trial_of w b)) < 512 - last
 fewer_doubled last unrouted w few more most true = grind (arith, few, most)
 fewer_doubled last unrouted w few more most false = grind (arith, few, more)
 
 fewer_halved : (routed unrouted w : ℕ) → unrouted < w → w < routed → (b : Bool)
-    → left_behind (Some (trial_of w b)) (with_routed (Some routed) (trial_of w b)) (with_unrouted unrouted (trial_of w b)) < routed - unrouted
+    → left_after (Some (trial_of w b)) (with_routed (Some routed) (trial_of w b)) (with_unrouted unrouted (trial_of w b)) < routed - unrouted
 fewer_halved routed unrouted w low high true = grind (arith, low, high)
 fewer_halved routed unrouted w low high false = grind (arith, low, high)
 
 module _ (start : ℕ) (is_start : IsWidth start) where
-  is_next : (last : Option Trial) (routed : Option ℕ) (unrouted w : ℕ) → AreWithin last routed → width_behind start last routed unrouted ≡ Some w
+  is_next : (last : Option Trial) (routed : Option ℕ) (unrouted w : ℕ) → AreWithin last routed → width_after start last routed unrouted ≡ Some w
       → IsNext last routed unrouted w
   is_next None None unrouted w were next =
       let is = start_is start w next in
@@ -157,14 +158,14 @@ module _ (start : ℕ) (is_start : IsWidth start) where
 
 -- how many trials are left, at most
 abbrev pub trials_left : List Trial → ℕ
-trials_left trials = left_behind (last_of trials) (least_routed trials) (greatest_unrouted trials)
+trials_left trials = left_after (last_of trials) (least_routed trials) (greatest_unrouted trials)
 
 -- what has been tried from a start on, each trial being what its negotiation came to
 pub record IsSearch (comes_to : ℕ → Outcome → Type 0) (start : ℕ) (r : Report) : Type 0 where
   pub widths : IsSequence start r.trials
   pub within : AreWithin (last_of r.trials) (least_routed r.trials)
-  pub told : All (IsTold comes_to) r.trials
-  pub least : IsLeast comes_to r.trials r.least
+  pub reported : All (IsReported comes_to) r.trials
+  pub least : IsOfLeastWidth comes_to r.trials r.least
 
 module _ (comes_to : ℕ → Outcome → Type 0) (start : ℕ) where
   none_yet : (i : ℕ) (t : Trial) → slice_get [] i ≡ Some t → next_width start (take i []) ≡ Some t.width
@@ -172,7 +173,7 @@ module _ (comes_to : ℕ → Outcome → Type 0) (start : ℕ) where
 
   pub search_begun : IsSearch comes_to start (record { trials = []; least = None })
   unfolding least_routed
-  search_begun = record { widths = none_yet; within = refl; told = All-nil (IsTold comes_to); least = refl }
+  search_begun = record { widths = none_yet; within = refl; reported = All-nil (IsReported comes_to); least = refl }
 
   module _ (is_start : IsWidth start) (r : Report) (w : ℕ) (was : IsSearch comes_to start r) (next : next_width start r.trials ≡ Some w) where
     is : IsNext (last_of r.trials) (least_routed r.trials) (greatest_unrouted r.trials) w
@@ -186,11 +187,11 @@ module _ (comes_to : ℕ → Outcome → Type 0) (start : ℕ) where
         let t = trial_of w (is_success outcome) in
         rw (last_more r.trials t, least_more r.trials t, greatest_more r.trials t) (is.fewer (is_success outcome))
 
-    least_kept : (least : Option LeastWidth) → IsLeast comes_to r.trials least → IsLeast comes_to (r.trials ++ trial_of w false ∷ []) least
+    least_kept : (least : Option LeastWidth) → IsOfLeastWidth comes_to r.trials least → IsOfLeastWidth comes_to (r.trials ++ trial_of w false ∷ []) least
     least_kept None none = least_more r.trials (trial_of w false) ∙ none
     least_kept (Some found) is = (is.0, is.1, least_more r.trials (trial_of w false) ∙ is.2)
 
-    least_then : (outcome : Outcome) → comes_to w outcome → IsLeast comes_to (with_trial r w outcome).trials (with_trial r w outcome).least
+    least_then : (outcome : Outcome) → comes_to w outcome → IsOfLeastWidth comes_to (with_trial r w outcome).trials (with_trial r w outcome).least
     least_then (Success routing iterations) came = (iterations, came, least_more r.trials (trial_of w true) ∙ is.least)
     least_then (NotRouted unrouted overused iterations) came = least_kept r.least was.least
 
@@ -200,6 +201,6 @@ module _ (comes_to : ℕ → Outcome → Type 0) (start : ℕ) where
         record {
           widths = sequence_more r.trials t start was.widths next;
           within = rw (last_more r.trials t, least_more r.trials t) (is.within (is_success outcome));
-          told = All-push (IsTold comes_to) r.trials t was.told (outcome, came, refl);
+          reported = All-push (IsReported comes_to) r.trials t was.reported (outcome, came, refl);
           least = least_then outcome came;
         }

@@ -1,2 +1,3 @@
 pub mod Widths
 pub mod Reports
+pub mod kept

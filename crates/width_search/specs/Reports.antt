@@ -1,5 +1,5 @@
 -- What a search of widths comes to (ours).
-use Rattle.std.specs.Prelude.{◌≡◌, ℕ, Bool, true, false, List, [], ◌∷◌, ◌++◌, Option, None, Some}
+use Rattle.std.specs.Prelude.{◌≡◌, ℕ, Bool, true, false, List, Option, None, Some}
 use Rattle.std.specs.List.{All}
 use Rattle.arch_file.specs.Architecture.{Architecture}
 use Rattle.net_file.specs.Netlist.{Netlist}
@@ -10,8 +10,7 @@ use Rattle.rr_graph.specs.Problems.{RoutingProblem}
 use Rattle.node_cost.specs.Options.{RouterOptions}
 use Rattle.iteration.specs.declared.outcome.Outcome.{Outcome}
 use Rattle.iteration.specs.declared.outcome.Outcome.TheVariants.{Success, NotRouted}
-use Rattle.iteration.specs.Outcomes.{Ends, IsOutcome}
-use Rattle.net_workers.specs.declared.gate.TrialEnd.{TrialEnd}
+use Rattle.iteration.specs.Outcomes.{EndsNegotiation, IsOutcome}
 use Rattle.net_workers.specs.declared.gate.TrialEnd.TheVariants as ended
 use Rattle.width_search.specs.declared.report.LeastWidth.{LeastWidth}
 use Rattle.width_search.specs.declared.trial.Trial.{Trial}
@@ -28,22 +27,6 @@ abbrev pub is_success : Outcome → Bool
 is_success (Success lists iterations) = true
 is_success (NotRouted unrouted overused iterations) = false
 
--- what the gate is told of a trial
-abbrev pub end_of : Outcome → TrialEnd
-end_of (Success lists iterations) = ended.Routed iterations
-end_of (NotRouted unrouted overused iterations) = ended.NotRouted unrouted overused iterations
-
--- the routing of a success at this width, else the one that was found before
-abbrev pub found_at : (width : ℕ) → Outcome → Option LeastWidth → Option LeastWidth
-found_at width (Success lists iterations) before = Some (record { width = width; routing = lists })
-found_at width (NotRouted unrouted overused iterations) before = before
-
-abbrev pub with_trial : Report → (width : ℕ) → Outcome → Report
-with_trial r width outcome = record {
-  trials = r.trials ++ record { width = width; routed = is_success outcome } ∷ [];
-  least = found_at width outcome r.least;
-}
-
 -- ---- a search
 
 -- the problem of a placed netlist on a device of each width
@@ -52,24 +35,24 @@ problem_at mode a netlist p width = problem_with width mode a netlist p
 
 -- what a negotiation at this width may come to
 abbrev pub Negotiates : (problem : ℕ → RoutingProblem) → RouterOptions → (workers : ℕ) → (width : ℕ) → Outcome → Type 0
-Negotiates problem o workers width outcome = IsOutcome (problem width) o outcome × Ends (problem width) o workers outcome
+Negotiates problem o workers width outcome = IsOutcome (problem width) o outcome × EndsNegotiation (problem width) o workers outcome
 
 -- a trial tells whether a negotiation at its width succeeded
-abbrev pub IsTold : (comes_to : ℕ → Outcome → Type 0) → Trial → Type 0
-IsTold comes_to t = (outcome : Outcome) × comes_to t.width outcome × (t.routed ≡ is_success outcome)
+abbrev pub IsReported : (comes_to : ℕ → Outcome → Type 0) → Trial → Type 0
+IsReported comes_to t = (outcome : Outcome) × comes_to t.width outcome × (t.routed ≡ is_success outcome)
 
 -- the routing is that of a success at the least width that was routed; there is none where no width was
-abbrev pub IsLeast : (comes_to : ℕ → Outcome → Type 0) → List Trial → Option LeastWidth → Type 0
-IsLeast comes_to trials None = least_routed trials ≡ None
-IsLeast comes_to trials (Some least) =
+abbrev pub IsOfLeastWidth : (comes_to : ℕ → Outcome → Type 0) → List Trial → Option LeastWidth → Type 0
+IsOfLeastWidth comes_to trials None = least_routed trials ≡ None
+IsOfLeastWidth comes_to trials (Some least) =
     (iterations : ℕ) × comes_to least.width (Success least.routing iterations) × (least_routed trials ≡ Some least.width)
 
 pub record IsWidthReport (comes_to : ℕ → Outcome → Type 0) (start : ℕ) (r : Report) : Type 0 where
-  -- each trial is of the width that is next behind those before it
+  -- each trial is of the width that is next after those before it
   pub widths : IsSequence start r.trials
-  -- and behind the last one none is next
+  -- and after the last one none is next
   pub ended : next_width start r.trials ≡ None
   -- each tells what its negotiation came to
-  pub told : All (IsTold comes_to) r.trials
+  pub reported : All (IsReported comes_to) r.trials
   -- the routing is that of the least width that was routed
-  pub least : IsLeast comes_to r.trials r.least
+  pub least : IsOfLeastWidth comes_to r.trials r.least

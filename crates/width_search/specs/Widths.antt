@@ -2,40 +2,43 @@
 -- gap between the greatest that was not and the least that was.
 use Rattle.std.specs.Prelude.{◌≡◌, ℕ, ◌+◌, ◌-◌, ◌*◌, ◌/◌, min, max, nat_lt, if◌then◌else◌, List, length, take, slice_get, Option, None, Some, unwrap_or}
 use Rattle.std.specs.List.{fold}
+use Rattle.rr_graph.specs.Fabric.{most_tracks}
 use Rattle.width_search.specs.declared.trial.Trial.{Trial}
 
--- the least width that was routed, where one was
+-- the least routed width with one trial more
 abbrev pub with_routed : Option ℕ → Trial → Option ℕ
 with_routed least t = if t.routed then Some (min (unwrap_or least t.width) t.width) else least
 
+-- the least width that was routed, where one was
 unfoldable pub least_routed : List Trial → Option ℕ
 least_routed = fold with_routed None
 
--- the greatest width that was not routed; 0 where there is none
+-- the greatest width that was not routed with one trial more
 abbrev pub with_unrouted : ℕ → Trial → ℕ
 with_unrouted greatest t = if t.routed then greatest else max greatest t.width
 
+-- the greatest width that was not routed; 0 where there is none
 unfoldable pub greatest_unrouted : List Trial → ℕ
 greatest_unrouted = fold with_unrouted 0
 
--- twice the last width, or 256 where that is less; behind 256 there is none
+-- twice the last width, or the greatest there is where that is less; after that one there is none
 abbrev pub doubled : (last : ℕ) → Option ℕ
-doubled last = if nat_lt last 256 then Some (min (2 * last) 256) else None
+doubled last = if nat_lt last most_tracks then Some (min (2 * last) most_tracks) else None
 
 -- half way between the greatest width that was not routed and the least that was, where a width lies between them
 abbrev pub halved : (unrouted routed : ℕ) → Option ℕ
 halved unrouted routed = if nat_lt 1 (routed - unrouted) then Some ((unrouted + routed) / 2) else None
 
--- behind some trials, by the last of them, the least width that was routed, and the greatest that was not
-abbrev pub width_behind : (start : ℕ) → (last : Option Trial) → (routed : Option ℕ) → (unrouted : ℕ) → Option ℕ
-width_behind start None routed unrouted = Some start
-width_behind start (Some last) None unrouted = doubled last.width
-width_behind start (Some last) (Some routed) unrouted = halved unrouted routed
+-- after some trials, by the last of them, the least width that was routed, and the greatest that was not
+abbrev pub width_after : (start : ℕ) → (last : Option Trial) → (routed : Option ℕ) → (unrouted : ℕ) → Option ℕ
+width_after start None routed unrouted = Some start
+width_after start (Some last) None unrouted = doubled last.width
+width_after start (Some last) (Some routed) unrouted = halved unrouted routed
 
--- the width that is tried behind these trials, where another one is
+-- the width that is tried after these trials, where another one is
 abbrev pub next_width : (start : ℕ) → List Trial → Option ℕ
-next_width start trials = width_behind start (slice_get trials (length trials - 1)) (least_routed trials) (greatest_unrouted trials)
+next_width start trials = width_after start (slice_get trials (length trials - 1)) (least_routed trials) (greatest_unrouted trials)
 
--- each trial is of the width that is next behind the trials before it
+-- each trial is of the width that is next after the trials before it
 abbrev pub IsSequence : (start : ℕ) → List Trial → Type 0
 IsSequence start trials = (i : ℕ) (t : Trial) → slice_get trials i ≡ Some t → next_width start (take i trials) ≡ Some t.width

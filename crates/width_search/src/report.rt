@@ -1,7 +1,9 @@
 //! What a search of widths comes to.
 
 ghost use Rattle.std.specs.Prelude.{◌≡◌, ◌≤◌, IfSome, None, OnOk, [], option_copied};
-ghost use Rattle.width_search.specs.Reports.{is_success, with_trial};
+ghost use Rattle.rr_graph.specs.Fabric.{most_tracks};
+ghost use Rattle.width_search.specs.Reports.{is_success};
+ghost use Rattle.width_search.specs.kept.Trials.{with_trial};
 
 use crate::trial::Trial;
 use iteration::Outcome;
@@ -32,7 +34,8 @@ impl Model for WidthReport {
 
     ghost view = { λ r. record { trials = r.trials.items; least = r.least } };
 
-    ghost invariant = { λ r. IfSome r.least (λ least. (1 ≤ least.width) × (least.width ≤ 256)) };
+    ghost invariant = { λ r. IfSome r.least
+        (λ least. (1 ≤ least.width) × (least.width ≤ most_tracks)) };
 }
 
 /// Whether a negotiation found a routing.
@@ -63,14 +66,14 @@ impl WidthReport {
     /// The least width at which a routing was found, with that routing; None where none was found.
     pub fn least(&self) -> Option<&LeastWidth>
         ensures least { option_copied result ≡ self.now.least }
-        ensures tracks { IfSome result (λ l. (1 ≤ l.now.width) × (l.now.width ≤ 256)) }
+        ensures tracks { IfSome result (λ l. (1 ≤ l.now.width) × (l.now.width ≤ most_tracks)) }
     {
         self.least.as_ref()
     }
 
     /// Adds the trial of a width, whose negotiation came to this outcome. A routing takes the place of the one before.
     pub(crate) fn add(&mut self, width: u32, outcome: Outcome) -> Result<(), AllocError>
-        requires { (1 ≤ width) × (width ≤ 256) }
+        requires { (1 ≤ width) × (width ≤ most_tracks) }
         ensures { OnOk result (self.new ≡ with_trial self.old width outcome) }
     {
         let routed = is_success(&outcome);

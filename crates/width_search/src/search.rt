@@ -3,7 +3,10 @@
 ghost use Rattle.std.specs.Prelude.{◌≡◌, ℕ, ◌≤◌, List, IfOk};
 ghost use Rattle.net_file.specs.Reads.{ReadsBytes};
 ghost use Rattle.place_file.specs.Placement.{IsPlaced};
-ghost use Rattle.width_search.specs.Reports.{IsWidthReport, Negotiates, end_of, problem_at};
+ghost use Rattle.rr_graph.specs.Fabric.{most_tracks};
+ghost use Rattle.node_cost.specs.Options.{most_workers};
+ghost use Rattle.width_search.specs.Reports.{IsWidthReport, Negotiates, problem_at};
+ghost use Rattle.width_search.specs.kept.Trials.{end_of};
 
 use crate::report::WidthReport;
 use crate::trial::next_width;
@@ -18,7 +21,7 @@ use std::alloc::Global;
 use std::sync::Wait;
 use std::thread::Threads;
 
-/// What the gate is told of a trial.
+/// What the gate is reported of a trial.
 fn end_of(outcome: &Outcome) -> TrialEnd
     ensures { result ≡ end_of outcome.now }
 {
@@ -51,8 +54,8 @@ fn try_width<R: Threads + Wait + Sync, G: Gate + Sync>(
     workers: u32,
     gate: &G,
 ) -> Result<Outcome, WorkFault>
-    requires tracks { (1 ≤ width) × (width ≤ 256) }
-    requires workers { (1 ≤ workers) × (workers ≤ 16) }
+    requires tracks { (1 ≤ width) × (width ≤ most_tracks) }
+    requires workers { (1 ≤ workers) × (workers ≤ most_workers) }
     requires read { (bytes : List ℕ) × ReadsBytes arch.now.pins bytes netlist.now }
     requires placed { IsPlaced arch.now.io_rat netlist.now.blocks placement.now }
     ensures { IfOk result (Negotiates (problem_at mode arch.now netlist.now placement.now)
@@ -67,7 +70,7 @@ fn try_width<R: Threads + Wait + Sync, G: Gate + Sync>(
 
 /// Searches for the least channel width at which a netlist, read and placed for this architecture, is routed. The widths from `start`
 /// on double up to 256, until one is routed; from then on the gap between the greatest width that was not routed and the least that
-/// was is halved. Each trial is a negotiation on a new book, on a device of its own. The gate is told of each trial.
+/// was is halved. Each trial is a negotiation on a new book, on a device of its own. The gate is reported of each trial.
 ///
 /// The least width found is not the least possible: the search tries some widths alone, and a greater width may fail where a lesser
 /// one does not.
@@ -87,8 +90,8 @@ pub fn least_width<R: Threads + Wait + Sync, G: Gate + Sync>(
     workers: u32,
     gate: &G,
 ) -> Result<WidthReport, WorkFault>
-    requires start { (1 ≤ start) × (start ≤ 256) }
-    requires workers { (1 ≤ workers) × (workers ≤ 16) }
+    requires start { (1 ≤ start) × (start ≤ most_tracks) }
+    requires workers { (1 ≤ workers) × (workers ≤ most_workers) }
     requires read { (bytes : List ℕ) × ReadsBytes arch.now.pins bytes netlist.now }
     requires placed { IsPlaced arch.now.io_rat netlist.now.blocks placement.now }
     // The trials are those that the search makes, and the routing is that of the least width that was routed.

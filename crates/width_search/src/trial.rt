@@ -78,7 +78,7 @@ fn halved(unrouted: u32, routed: u32) -> Option<u32>
     }
 }
 
-/// The width that is tried behind these trials, where another one is.
+/// The width that is tried after these trials, where another one is.
 pub(crate) fn next_width(start: u32, trials: &[Trial]) -> Option<u32>
     ensures { result ≡ next_width start trials.now }
 {

@@ -9,11 +9,11 @@ use std::alloc::AllocError;
 
 impl<K: Key> Wave<K> {
     ghost use Rattle.std.specs.Prelude.{length, OnOk};
-    ghost use Rattle.wavefront.specs.Space.{IsSpace, node_count};
-    ghost use Rattle.wavefront.specs.Wave.{IsWave, IsOpen};
+    ghost use Rattle.wavefront.specs.kept.Spaces.{IsSpace, node_count};
+    ghost use Rattle.wavefront.specs.kept.Wave.{IsWave, IsOpen};
     ghost use Rattle.wavefront.specs.Boxes.{box_of_node};
-    ghost use Rattle.wavefront.specs.Bounds.{CoversMore, IsCovered};
-    ghost use Rattle.wavefront.specs.Steps.{IsAimed, Spreads};
+    ghost use Rattle.wavefront.specs.kept.Bounds.{CoversMore, IsCovered};
+    ghost use Rattle.wavefront.specs.kept.Steps.{IsAimed, Spreads};
 
     /// How many sinks the wave has yet to take.
     fn open_sinks(&self, space: &SearchSpace<'_>) -> usize
@@ -60,7 +60,7 @@ impl<K: Key> Wave<K> {
         Ok(())
     }
 
-    /// Bounds ways anew behind a sink that was taken, where enough were taken since they were bounded.
+    /// Bounds ways anew after a sink that was taken, where enough were taken since they were bounded.
     pub(crate) fn aim_again(&mut self, space: &SearchSpace<'_>) -> Result<(), AllocError>
         requires space { IsSpace space.now }
         requires wave { IsWave space.now self.old }

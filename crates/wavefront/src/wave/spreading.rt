@@ -14,11 +14,12 @@ use std::alloc::AllocError;
 
 impl<K: Key> Wave<K> {
     ghost use Rattle.std.specs.Prelude.{length, IfOk, OnOk, IfSome, IfNone, IsTrue, IsFalse, ◌↔◌, ◌⊎◌, Contains};
-    ghost use Rattle.wavefront.specs.Space.{IsSpace, HasEdge, IsInside, node_count};
-    ghost use Rattle.wavefront.specs.Wave.{IsWave, IsComplete, IsDead, WentOn, key_of, label_at};
-    ghost use Rattle.wavefront.specs.Bounds.{IsFewest, IsWireAt};
-    ghost use Rattle.wavefront.specs.Entrances.{IsClosed, IsStep, Knows, Tells};
-    ghost use Rattle.wavefront.specs.Steps.{IsNearest, IsNoted, IsLowered, IsPreferred, Spreads, SameOrigins, WentAlong, IsTaken, IsLeastKey};
+    ghost use Rattle.wavefront.specs.Space.{HasEdge, IsInside};
+    ghost use Rattle.wavefront.specs.kept.Spaces.{IsSpace, node_count};
+    ghost use Rattle.wavefront.specs.kept.Wave.{IsWave, IsComplete, IsDead, WentOn, cost_at, label_at};
+    ghost use Rattle.wavefront.specs.kept.Bounds.{IsFewest, IsWireAt};
+    ghost use Rattle.wavefront.specs.kept.Entrances.{IsClosed, IsStep, AreEntrances, IsEntranceOf};
+    ghost use Rattle.wavefront.specs.kept.Steps.{IsNearest, IsNoted, IsLowered, IsPreferred, Spreads, SameOrigins, WentAlong, IsTaken, IsLeastKey};
 
     /// How the net enters a node, worked out where the wave comes to it first, with the wire that it is.
     #[inline(always)]
@@ -26,9 +27,9 @@ impl<K: Key> Wave<K> {
         requires space { IsSpace space.now }
         requires wave { IsWave space.now self.old }
         requires node_in { node < node_count space.now }
-        ensures told { Tells space.now node result.0 }
+        ensures reported { IsEntranceOf space.now node result.0 }
         ensures wire { IfSome result.1 (IsWireAt space.now.device node) }
-        ensures known { Knows space.now self.new.entrances }
+        ensures known { AreEntrances space.now self.new.entrances }
         ensures noted { IsNoted self.old self.new }
     {
         if let Some(known) = self.rows.entrance(node) {
@@ -57,22 +58,22 @@ impl<K: Key> Wave<K> {
         }
     }
 
-    /// Whether the node has a lesser key.
-    fn has_less(&self, node: u32, key: u128) -> bool
+    /// Whether the node has a lesser cost.
+    fn has_less(&self, node: u32, cost: u128) -> bool
         requires { node < length self.now.labels }
-        ensures { IsTrue result ↔ (key_of self.now node < key) }
+        ensures { IsTrue result ↔ (cost_at self.now node < cost) }
     {
-        self.label(node).key < key
+        self.label(node).cost < cost
     }
 
-    /// Of ways that cost the same, keeps the one over the least node: no key changes.
+    /// Of ways that cost the same, keeps the one over the least node: no cost changes.
     fn prefer(&mut self, node: u32, label: Label)
         requires { node < length self.old.labels }
         ensures { (self.new ≡ self.old) ⊎ IsPreferred self.old self.new node label }
     {
         let old = self.label(node);
-        if label.key == old.key
-            && label.key < FAR
+        if label.cost == old.cost
+            && label.cost < FAR
             && label.parent < old.parent
             && old.parent != node
         {
@@ -80,34 +81,34 @@ impl<K: Key> Wave<K> {
         }
     }
 
-    /// Offers a node the way over `from`, whose key is given.
+    /// Offers a node the way over `from`, whose cost is given.
     #[inline(always)]
     fn offer(
         &mut self,
         space: &SearchSpace<'_>,
         from: u32,
-        key: u128,
+        cost: u128,
         to: u32,
     ) -> Result<(), AllocError>
         requires space { IsSpace space.now }
         requires wave { IsWave space.now self.old }
-        requires from { key_of self.old from ≤ key }
-        requires near { key < FAR }
+        requires from { cost_at self.old from ≤ cost }
+        requires near { cost < FAR }
         requires edge { HasEdge space.now from to }
         ensures wave { OnOk result (IsWave space.now self.new) }
         ensures spreads { OnOk result (Spreads space.now self.old self.new) }
-        ensures at { OnOk result (IsInside space.now to → WentOn space.now self.new key to) }
+        ensures at { OnOk result (IsInside space.now to → WentOn space.now self.new cost to) }
         ensures rows { length self.new.labels ≡ node_count space.now }
     {
         if space.is_idle_pin(to) {
             return Ok(());
         }
-        let least = key.saturating_add(space.least_cost(to));
+        let least = cost.saturating_add(space.least_cost(to));
         if self.has_less(to, least) {
             return Ok(());
         }
         match self.step(space, to) {
-            Some(step) => self.enter(space, from, key, to, step),
+            Some(step) => self.enter(space, from, cost, to, step),
             None => Ok(()),
         }
     }
@@ -118,26 +119,26 @@ impl<K: Key> Wave<K> {
         &mut self,
         space: &SearchSpace<'_>,
         from: u32,
-        key: u128,
+        cost: u128,
         to: u32,
         step: Step,
     ) -> Result<(), AllocError>
         requires space { IsSpace space.now }
         requires wave { IsWave space.now self.old }
-        requires from { key_of self.old from ≤ key }
-        requires near { key < FAR }
+        requires from { cost_at self.old from ≤ cost }
+        requires near { cost < FAR }
         requires edge { HasEdge space.now from to }
         requires step { IsStep space.now to step }
         ensures wave { OnOk result (IsWave space.now self.new) }
         ensures spreads { OnOk result (Spreads space.now self.old self.new) }
-        ensures at { OnOk result (WentOn space.now self.new key to) }
+        ensures at { OnOk result (WentOn space.now self.new cost to) }
         ensures rows { length self.new.labels ≡ node_count space.now }
     {
         let label = Label {
-            key: key.saturating_add(step.cost),
+            cost: cost.saturating_add(step.cost),
             parent: from,
         };
-        if label.key < self.label(to).key {
+        if label.cost < self.label(to).cost {
             return self.lower(space, to, label, step.wire);
         }
         self.prefer(to, label);
@@ -150,22 +151,22 @@ impl<K: Key> Wave<K> {
         space: &SearchSpace<'_>,
         next: &mut SmallVec<u32, 8>,
         node: u32,
-        key: u128,
+        cost: u128,
         fewest: Option<u64>,
     ) -> Result<(), AllocError>
         requires space { IsSpace space.now }
         requires wave { IsWave space.now self.old }
-        requires from { key_of self.old node ≤ key }
-        requires near { key < FAR }
+        requires from { cost_at self.old node ≤ cost }
+        requires near { cost < FAR }
         requires fewest { IfSome fewest (IsFewest space.now.device self.old.boxes node) }
         ensures wave { OnOk result (IsWave space.now self.new) }
         ensures spreads { OnOk result (Spreads space.now self.old self.new) }
-        ensures went { OnOk result (WentAlong space.now self.new node key) }
+        ensures went { OnOk result (WentAlong space.now self.new node cost) }
         ensures rows { length self.new.labels ≡ node_count space.now }
     {
         let first = self.first_useful(space, node, fewest);
         space.successors(node, next)?;
-        self.offer_all(space, node, key, next, first)
+        self.offer_all(space, node, cost, next, first)
     }
 
     /// Offers each node of a list the way over `node`, from the first number on that is of use.
@@ -173,28 +174,28 @@ impl<K: Key> Wave<K> {
         &mut self,
         space: &SearchSpace<'_>,
         node: u32,
-        key: u128,
+        cost: u128,
         next: &[u32],
         first: u32,
     ) -> Result<(), AllocError>
         requires space { IsSpace space.now }
         requires wave { IsWave space.now self.old }
-        requires from { key_of self.old node ≤ key }
-        requires near { key < FAR }
+        requires from { cost_at self.old node ≤ cost }
+        requires near { cost < FAR }
         requires first { (to : ℕ) → Contains next.now to → to < first →
             IsDead space.now self.old to }
         requires edges { (to : ℕ) → Contains next.now to → HasEdge space.now node to }
         ensures wave { OnOk result (IsWave space.now self.new) }
         ensures spreads { OnOk result (Spreads space.now self.old self.new) }
         ensures went { OnOk result ((to : ℕ) → Contains next.now to → IsInside space.now to →
-            WentOn space.now self.new key to) }
+            WentOn space.now self.new cost to) }
         ensures rows { length self.new.labels ≡ node_count space.now }
     {
         for to in next {
             if *to < first {
                 continue;
             }
-            self.offer(space, node, key, *to)?;
+            self.offer(space, node, cost, *to)?;
         }
         Ok(())
     }
@@ -210,7 +211,7 @@ impl<K: Key> Wave<K> {
     ) -> Result<bool, AllocError>
         requires space { IsSpace space.now }
         requires wave { IsWave space.now self.old }
-        requires label { entry.label ≡ key_of self.old entry.node }
+        requires label { entry.label ≡ cost_at self.old entry.node }
         requires fewest { IfSome fewest (IsFewest space.now.device self.old.boxes entry.node) }
         ensures waits { IfOk result (λ waits. IsTrue waits →
             IsLowered space.now self.old self.new entry.node (label_at self.old entry.node)) }
@@ -223,14 +224,14 @@ impl<K: Key> Wave<K> {
             return Ok(false);
         }
         *waited -= 1;
-        let Some(key) = K::fit(entry.label) else {
+        let Some(cost) = K::fit(entry.label) else {
             return Ok(false);
         };
-        let nearest = self.nearest_by(space, entry.node, key, fewest);
+        let nearest = self.nearest_by(space, entry.node, cost, fewest);
         if nearest.wide() <= entry.key {
             return Ok(false);
         }
-        self.queue.push(nearest, key, entry.node)?;
+        self.queue.push(nearest, cost, entry.node)?;
         Ok(true)
     }
 
@@ -265,7 +266,7 @@ impl<K: Key> Wave<K> {
         while !self.is_spent() {
             let entry = self.nearest(space);
             let label = self.label(entry.node);
-            if label.key < entry.label {
+            if label.cost < entry.label {
                 continue;
             }
             if self.is_open(space, entry.node) {
@@ -275,7 +276,7 @@ impl<K: Key> Wave<K> {
             if self.look_again(space, entry, fewest, &mut waited)? {
                 continue;
             }
-            self.expand(space, next, entry.node, label.key, fewest)?;
+            self.expand(space, next, entry.node, label.cost, fewest)?;
         }
         Ok(None)
     }

@@ -10,9 +10,9 @@ use std::alloc::AllocError;
 
 impl<K: Key> Wave<K> {
     ghost use Rattle.std.specs.Prelude.{IfOk, [], reverse};
-    ghost use Rattle.wavefront.specs.Space.{IsSpace};
-    ghost use Rattle.wavefront.specs.Wave.{IsWave, IsOpen, key_of};
-    ghost use Rattle.wavefront.specs.Steps.{IsTraced};
+    ghost use Rattle.wavefront.specs.kept.Spaces.{IsSpace};
+    ghost use Rattle.wavefront.specs.kept.Wave.{IsWave, IsOpen, cost_at};
+    ghost use Rattle.wavefront.specs.kept.Steps.{IsTraced};
 
     /// Puts the nodes of the way to a sink that was taken into the list, and answers the node from which it starts.
     pub(crate) fn trace(
@@ -24,7 +24,7 @@ impl<K: Key> Wave<K> {
         requires space { IsSpace space.now }
         requires wave { IsWave space.now self.now }
         requires sink { IsOpen space.now self.now sink }
-        requires reached { key_of self.now sink < FAR }
+        requires reached { cost_at self.now sink < FAR }
         ensures { IfOk result (λ a. IsTraced space.now self.now a way.new.items sink) }
     {
         way.clear();
@@ -43,7 +43,7 @@ impl<K: Key> Wave<K> {
         requires space { IsSpace space.now }
         requires wave { IsWave space.now self.now }
         requires sink { IsOpen space.now self.now sink }
-        requires reached { key_of self.now sink < FAR }
+        requires reached { cost_at self.now sink < FAR }
         requires empty { way.old.items ≡ [] }
         ensures { IfOk result (λ a. IsTraced space.now self.now a (reverse way.new.items) sink) }
     {

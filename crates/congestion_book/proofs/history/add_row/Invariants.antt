@@ -1,5 +1,5 @@
 use Rattle.std.specs.Prelude.{take}
-use Rattle.congestion_book.specs.Histories.{GrowsByRow}
+use Rattle.congestion_book.specs.kept.HistoryTables.{GrowsByRow}
 use Rattle.congestion_book.proofs.history.add_row.Given as goal
 
 abbrev pub invariant-loop-amount : goal.invariant-loop-amount

@@ -10,4 +10,4 @@ outcome-requires g c =
 pub returns-clause-run : goal.returns-clause-run
 returns-clause-run g c =
     let run = c.in_ok-negotiation.ensures in
-    record { last = c.in_ok-negotiation.negotiation; reached = run.reached; ended = run.ended; told = c.in_ok-outcome.ensures.told }
+    record { last = c.in_ok-negotiation.negotiation; reached = run.reached; ended = run.ended; reported = c.in_ok-outcome.ensures.reported }

@@ -1,7 +1,7 @@
 use Rattle.std.proofs.Common.{◌<◌, ◌≤◌, length, Ok, true, false, sym, ap, ◌∙◌, arith}
 use Rattle.vpr_text.specs.Words.{number_at}
 use Rattle.net_file.specs.Reading.{unless_faulty}
-use Rattle.net_file.specs.Seen.{seen_of}
+use Rattle.net_file.specs.kept.LinesSeen.{seen_of}
 use Rattle.net_file.proofs.Steps.{judged, stepped, refused, ended, fails_at}
 use Rattle.net_file.proofs.reading.seen_in.Goals as goal
 

@@ -1,6 +1,6 @@
 use Rattle.std.proofs.Common.{◌≡◌, [], take, drop}
 use Rattle.net_file.specs.Reading.{line_fault_from}
-use Rattle.net_file.specs.Seen.{IsSeen}
+use Rattle.net_file.specs.kept.LinesSeen.{IsSeen}
 use Rattle.net_file.proofs.reading.seen_in.Given as goal
 
 -- what the lines so far say is kept, and none of them is faulty

@@ -1,7 +1,7 @@
 use Rattle.std.proofs.Common.{◌≡◌, length, flat_map, subst, ◌∙◌, arith}
 use Rattle.std.specs.List.{range_with_len}
 use Rattle.net_file.specs.Connections.{connections_at, connections}
-use Rattle.net_file.specs.Rows.{IsFiled}
+use Rattle.net_file.specs.kept.Rows.{IsFiled}
 use Rattle.net_file.proofs.Filing.{none_filed, block_written, all_filed}
 use Rattle.net_file.proofs.rows.by_net.Goals as goal
 

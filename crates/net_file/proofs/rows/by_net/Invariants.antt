@@ -1,7 +1,7 @@
 use Rattle.std.proofs.Common.{◌≡◌, length, flat_map}
 use Rattle.net_file.specs.Blocks.{numbers_below}
 use Rattle.net_file.specs.Connections.{connections_at}
-use Rattle.net_file.specs.Rows.{IsFiled}
+use Rattle.net_file.specs.kept.Rows.{IsFiled}
 use Rattle.net_file.proofs.rows.by_net.Given as goal
 
 -- the rows have the connections of the blocks below b

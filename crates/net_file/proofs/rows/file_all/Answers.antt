@@ -1,5 +1,5 @@
 use Rattle.std.proofs.Common.{take, subst, sym}
-use Rattle.net_file.specs.Rows.{FilesAll}
+use Rattle.net_file.specs.kept.Rows.{FilesAll}
 use Rattle.net_file.proofs.Filing.{files_more}
 use Rattle.net_file.proofs.Ranges.{take_next}
 use Rattle.net_file.proofs.rows.file_all.Goals as goal

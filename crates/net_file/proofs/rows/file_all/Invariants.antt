@@ -1,5 +1,5 @@
 use Rattle.std.proofs.Common.{take}
-use Rattle.net_file.specs.Rows.{FilesAll}
+use Rattle.net_file.specs.kept.Rows.{FilesAll}
 use Rattle.net_file.proofs.rows.file_all.Given as goal
 
 -- the connections so far were added

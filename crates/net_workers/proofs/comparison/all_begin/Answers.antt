@@ -1,6 +1,6 @@
 use Rattle.std.proofs.Common.{◌≡◌, ℕ, rules, [], ◌∙◌, get_or, below_more}
 use Rattle.std.proofs.lemmas.List.{get_or_default}
-use Rattle.net_workers.specs.Agreement.{Begins}
+use Rattle.net_workers.specs.kept.ReportsSoFar.{Begins}
 use Rattle.net_workers.proofs.comparison.all_begin.Goals as goal
 
 pub loop-worker-preserved : goal.loop-worker-preserved

@@ -1,5 +1,5 @@
 use Rattle.std.specs.Prelude.{ℕ, [], ◌<◌, get_or}
-use Rattle.net_workers.specs.Agreement.{Begins}
+use Rattle.net_workers.specs.kept.ReportsSoFar.{Begins}
 use Rattle.net_workers.proofs.comparison.all_begin.Given as goal
 
 abbrev pub invariant-loop-worker : goal.invariant-loop-worker

@@ -1,5 +1,5 @@
 use Rattle.std.specs.Prelude.{take}
-use Rattle.net_workers.specs.Agreement.{Begins}
+use Rattle.net_workers.specs.kept.ReportsSoFar.{Begins}
 use Rattle.net_workers.proofs.comparison.begins.Given as goal
 
 abbrev pub invariant-loop-turn : goal.invariant-loop-turn

@@ -16,6 +16,6 @@ returns-clause-agrees g c =
       free = c.is_done.ensures.free (search rules);
       count = count;
       known = c.requires.known;
-      told = λ w low. all_tell c.args.book reports known c.requires.turns begin w (omega (arith, low, count));
+      reported = λ w low. all_tell c.args.book reports known c.requires.turns begin w (omega (arith, low, count));
       found = c.requires.found;
     }

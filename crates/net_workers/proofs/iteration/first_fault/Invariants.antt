@@ -1,5 +1,5 @@
 use Rattle.std.specs.Prelude.{◌≡◌, drop, None}
-use Rattle.net_workers.specs.Faults.{first_met}
+use Rattle.net_workers.specs.kept.Faults.{first_met}
 use Rattle.net_workers.proofs.iteration.first_fault.Given as goal
 
 abbrev pub invariant-loop-result : goal.invariant-loop-result

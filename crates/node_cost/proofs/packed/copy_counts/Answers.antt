@@ -1,5 +1,5 @@
 use Rattle.std.proofs.Common.{◌∙◌, ap, arith}
-use Rattle.node_cost.specs.Packed.{counts_of}
+use Rattle.node_cost.specs.kept.Packed.{counts_of}
 use Rattle.node_cost.proofs.Packing.{wide_copied}
 use Rattle.node_cost.proofs.packed.copy_counts.Goals as goal
 

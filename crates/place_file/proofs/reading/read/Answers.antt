@@ -1,5 +1,5 @@
 use Rattle.std.proofs.Common.{sym, subst, ◌∙◌}
-use Rattle.place_file.specs.Kept.{IsFit}
+use Rattle.place_file.specs.kept.OccupiedSites.{IsFit}
 use Rattle.place_file.proofs.Steps.{header_fit}
 use Rattle.place_file.proofs.reading.read.Goals as goal
 

@@ -1,7 +1,7 @@
 use Rattle.std.proofs.Common.{subst, ◌∙◌}
 use Rattle.std.proofs.lemmas.Result.{IfOk-weaker}
-use Rattle.route_check.proofs.RoutingFaults.{told_routed, told_first}
-use Rattle.route_check.specs.Answers.{JudgesRouting}
+use Rattle.route_check.proofs.RoutingFaults.{reported_routed, reported_first}
+use Rattle.route_check.specs.kept.Answers.{JudgesRouting}
 use Rattle.std.specs.Prelude.{IfOk}
 use Rattle.route_check.proofs.check.check_routing.Goals as goal
 
@@ -10,13 +10,13 @@ returns-clause-routed g c =
     let p = c.args.problem.now in
     let lists = c.args.routing.now in
     let answer = c.lists_fault.result in
-    IfOk-weaker answer _ _ (told_routed p lists)
-    (subst (λ ls. IfOk answer (JudgesRouting p ls)) (c.deref.ensures.value ∙ c.routing.view_is) c.lists_fault.ensures.told)
+    IfOk-weaker answer _ _ (reported_routed p lists)
+    (subst (λ ls. IfOk answer (JudgesRouting p ls)) (c.deref.ensures.value ∙ c.routing.view_is) c.lists_fault.ensures.reported)
 
 pub returns-clause-first : goal.returns-clause-first
 returns-clause-first g c = λ fault.
     let p = c.args.problem.now in
     let lists = c.args.routing.now in
     let answer = c.lists_fault.result in
-    IfOk-weaker answer _ _ (λ o is. told_first p lists o fault is)
-    (subst (λ ls. IfOk answer (JudgesRouting p ls)) (c.deref.ensures.value ∙ c.routing.view_is) c.lists_fault.ensures.told)
+    IfOk-weaker answer _ _ (λ o is. reported_first p lists o fault is)
+    (subst (λ ls. IfOk answer (JudgesRouting p ls)) (c.deref.ensures.value ∙ c.routing.view_is) c.lists_fault.ensures.reported)

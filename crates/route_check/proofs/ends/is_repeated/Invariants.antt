@@ -1,5 +1,5 @@
 use Rattle.std.proofs.Common.{◌≡◌, ℕ, ◌<◌, false}
-use Rattle.route_check.specs.Ends.{is_repeated_at}
+use Rattle.route_check.specs.kept.Ends.{is_repeated_at}
 use Rattle.route_check.proofs.ends.is_repeated.Given as goal
 
 abbrev pub invariant-loop-index : goal.invariant-loop-index

@@ -3,7 +3,7 @@ use Rattle.std.specs.Prelude.{nat_lt}
 use Rattle.std.proofs.lemmas.Bool.{ltb-true, ltb-false}
 use Rattle.std.proofs.lemmas.List.Sorted.{IsPartitionPoint-from_clause, IsPartitionedBy-ltb}
 use Rattle.route_check.specs.declared.ends.End.{End}
-use Rattle.route_check.specs.Ends.{no_end}
+use Rattle.route_check.specs.kept.Ends.{no_end}
 use Rattle.route_check.proofs.ends.place_of.Goals as goal
 
 pub returns : goal.returns

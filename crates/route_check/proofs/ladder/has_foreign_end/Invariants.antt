@@ -1,7 +1,7 @@
 use Rattle.std.proofs.Common.{◌≡◌, false}
 use Rattle.std.specs.Prelude.{take}
 use Rattle.std.specs.List.{list_any}
-use Rattle.route_check.specs.Judged.{is_foreign}
+use Rattle.route_check.specs.kept.Judged.{is_foreign}
 use Rattle.route_check.proofs.ladder.has_foreign_end.Given as goal
 
 abbrev pub invariant-loop-place : goal.invariant-loop-place

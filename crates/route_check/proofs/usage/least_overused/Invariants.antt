@@ -1,5 +1,5 @@
 use Rattle.std.proofs.Common.{◌≡◌, ℕ, ◌<◌}
-use Rattle.route_check.specs.Counted.{excess_of}
+use Rattle.route_check.specs.kept.Counted.{excess_of}
 use Rattle.route_check.proofs.usage.least_overused.Given as goal
 
 abbrev pub invariant-loop-node : goal.invariant-loop-node

@@ -1,5 +1,5 @@
 use Rattle.std.proofs.Common.{subst}
-use Rattle.route_check.specs.Answers.{TellsExcess}
+use Rattle.route_check.specs.kept.Answers.{TellsExcess}
 use Rattle.route_check.proofs.Answering.{judged_by_use}
 use Rattle.route_check.proofs.usage.overuse.Goals as goal
 

@@ -1,5 +1,5 @@
 use Rattle.std.proofs.Common.{◌+◌}
-use Rattle.route_check.specs.Walks.{AreWalked}
+use Rattle.route_check.specs.kept.Walks.{AreWalked}
 use Rattle.route_check.proofs.Walked.{AreLeft}
 use Rattle.route_check.proofs.walks.climb_from_all.Given as goal
 

@@ -1,7 +1,7 @@
 use Rattle.std.proofs.Common.{◌<◌, ◌≤◌, length, drop, Ok, sym, ap, ◌∙◌, arith}
 use Rattle.std.proofs.lemmas.List.{length-drop}
 use Rattle.route_file.specs.Reading.{unless_faulty}
-use Rattle.route_file.specs.Seen.{lists_by_net}
+use Rattle.route_file.specs.kept.LinesSeen.{lists_by_net}
 use Rattle.route_file.proofs.Steps.{row_number, row_words, stepped, refused, ended, fails_is}
 use Rattle.route_file.proofs.reading.lists_by_net.Goals as goal
 

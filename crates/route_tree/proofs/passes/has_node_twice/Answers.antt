@@ -1,7 +1,7 @@
 use Rattle.std.proofs.Common.{◌<◌, ◌+◌, false, length, get_or, take, sym, subst, ap, true, arith, ◌∙◌}
 use Rattle.std.proofs.lemmas.List.{length-replicate, length-set}
 use Rattle.route_tree.specs.Rows.{no_row}
-use Rattle.route_tree.specs.Marked.{IsMarked, nodes_of}
+use Rattle.route_tree.specs.kept.Marked.{IsMarked, nodes_of}
 use Rattle.route_tree.proofs.RowTests.{met_once, next_marked}
 use Rattle.route_tree.proofs.passes.has_node_twice.Goals as goal
 

@@ -1,6 +1,6 @@
 use Rattle.std.proofs.Common.{◌≡◌, ◌≤◌, length, take}
 use Rattle.std.specs.Prelude.{◌==◌}
-use Rattle.rr_graph.specs.Picks.{picks}
+use Rattle.rr_graph.specs.kept.Picks.{picks}
 use Rattle.rr_graph.proofs.terminals.count_equal.Given as goal
 
 abbrev pub invariant-loop-place : goal.invariant-loop-place

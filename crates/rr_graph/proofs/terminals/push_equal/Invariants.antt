@@ -1,7 +1,7 @@
 use Rattle.std.proofs.Common.{take}
 use Rattle.std.specs.Prelude.{◌==◌}
-use Rattle.rr_graph.specs.Picks.{picks}
-use Rattle.rr_graph.specs.Pushes.{Pushes}
+use Rattle.rr_graph.specs.kept.Picks.{picks}
+use Rattle.rr_graph.specs.kept.Pushes.{Pushes}
 use Rattle.rr_graph.proofs.terminals.push_equal.Given as goal
 
 abbrev pub invariant-loop-place : goal.invariant-loop-place

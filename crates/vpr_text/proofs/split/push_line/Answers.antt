@@ -1,6 +1,6 @@
 use Rattle.std.proofs.Common.{◌≡◌, length, subst, arith}
 use Rattle.std.specs.Prelude.{slice_range}
-use Rattle.vpr_text.specs.Split.{GivesUp}
+use Rattle.vpr_text.specs.kept.Split.{GivesUp}
 use Rattle.vpr_text.proofs.Splitting.{text_of_line, AddsLine-made, added_fit}
 use Rattle.vpr_text.proofs.split.push_line.Goals as goal
 

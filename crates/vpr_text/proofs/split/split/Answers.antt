@@ -1,5 +1,5 @@
 use Rattle.std.proofs.Common.{◌≡◌, ◌∙◌, ◌+◌, ◌++◌, length, sym, ap, subst, arith}
-use Rattle.vpr_text.specs.Split.{entry_if}
+use Rattle.vpr_text.specs.kept.Split.{entry_if}
 use Rattle.vpr_text.proofs.Joining.{IsJoined, IsJoined-begin, IsJoined-more, IsJoined-closed, IsJoined-ends, take_line}
 use Rattle.vpr_text.proofs.split.split.Goals as goal
 

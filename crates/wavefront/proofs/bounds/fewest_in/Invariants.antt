@@ -1,6 +1,6 @@
 use Rattle.std.proofs.Common.{ℕ, ◌≡◌, ◌<◌, ◌≤◌, ◌⊎◌, get_or, length}
 use Rattle.wavefront.specs.declared.boxes.BoundingBox.{BoundingBox}
-use Rattle.wavefront.specs.Bounds.{IsMet, wires_to}
+use Rattle.wavefront.specs.kept.Bounds.{IsMet, wires_to}
 use Rattle.wavefront.proofs.bounds.fewest_in.Given as goal
 
 abbrev pub invariant-loop-place : goal.invariant-loop-place

@@ -1,7 +1,7 @@
 use Rattle.std.proofs.Common.{◌≤◌, ◌+◌, ◌-◌, ◌++◌, take, vec_len}
 use Rattle.std.specs.BinaryHeap.{heap_items, heap_len, heap_capacity}
 use Rattle.std.specs.List.Sorted.{IsPermutation}
-use Rattle.wavefront.specs.Queues.{IsSplit}
+use Rattle.wavefront.specs.kept.Queues.{IsSplit}
 use Rattle.wavefront.proofs.queue.move_near.Given as goal
 
 abbrev pub invariant-loop-at : goal.invariant-loop-at

@@ -1,5 +1,5 @@
-use Rattle.wavefront.specs.Wave.{open_count}
-use Rattle.wavefront.specs.Growth.{IsGrowth}
+use Rattle.wavefront.specs.kept.Wave.{open_count}
+use Rattle.wavefront.specs.kept.Growing.{IsGrowth}
 use Rattle.wavefront.proofs.Whole.{TakenBelow}
 use Rattle.wavefront.proofs.route.grow_tree.Given as goal
 

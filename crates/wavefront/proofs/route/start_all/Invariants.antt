@@ -1,5 +1,5 @@
 use Rattle.std.specs.Prelude.{take}
-use Rattle.wavefront.specs.Growth.{IsStarted}
+use Rattle.wavefront.specs.kept.Growing.{IsStarted}
 use Rattle.wavefront.proofs.route.start_all.Given as goal
 
 abbrev pub invariant-loop-node : goal.invariant-loop-node

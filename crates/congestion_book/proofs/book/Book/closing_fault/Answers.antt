@@ -2,8 +2,8 @@ use Rattle.std.proofs.Common.{◌≡◌, Option, length, Some, None, nat_le, if�
 use Rattle.congestion_book.specs.declared.faults.CloseFault.{CloseFault}
 use Rattle.congestion_book.specs.declared.faults.CloseFault.TheVariants.{Unfinished, Full}
 use Rattle.congestion_book.specs.Contents.{Content}
-use Rattle.congestion_book.specs.Closing.{TellsClosing}
-use Rattle.congestion_book.specs.Fields.{content_of}
+use Rattle.congestion_book.specs.kept.Closing.{TellsClosing}
+use Rattle.congestion_book.specs.kept.Fields.{content_of}
 use Rattle.congestion_book.proofs.Stepping.{tells_unfinished, tells_full}
 use Rattle.congestion_book.proofs.book.Book.closing_fault.Goals as goal
 

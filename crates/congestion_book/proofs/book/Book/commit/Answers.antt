@@ -2,7 +2,7 @@ use Rattle.std.proofs.Common.{Err, refl, subst}
 use Rattle.route_tree.specs.Rows.{pairs_of}
 use Rattle.congestion_book.specs.declared.faults.CommitFault.TheVariants.{Illegal}
 use Rattle.congestion_book.specs.Steps.{Commits}
-use Rattle.congestion_book.specs.Fields.{content_of}
+use Rattle.congestion_book.specs.kept.Fields.{content_of}
 use Rattle.congestion_book.proofs.book.Book.commit.Goals as goal
 
 pub returns-in-Err-clause-step : goal.returns-in-Err-clause-step

@@ -1,8 +1,8 @@
 use Rattle.std.proofs.Common.{ℕ, List, Some, Ok, ap, subst, arith}
 use Rattle.rr_graph.specs.Nodes.{node_count_of}
 use Rattle.route_tree.specs.TreeLists.{lists_of_trees}
-use Rattle.congestion_book.specs.Recorded.{list_in}
-use Rattle.congestion_book.specs.Views.{SeesOthers}
+use Rattle.route_tree.specs.Usage.{list_in}
+use Rattle.congestion_book.specs.kept.Views.{SeesOthers}
 use Rattle.congestion_book.specs.Steps.{Draws}
 use Rattle.congestion_book.proofs.Stepping.{draws_net, with_turns}
 use Rattle.congestion_book.proofs.book.Book.draw.Goals as goal

@@ -1,9 +1,9 @@
 use Rattle.std.proofs.Common.{◌≡◌, ◌<◌, length, None, sym, subst}
 use Rattle.congestion_book.specs.Turns.{IsFirstWaiting}
 use Rattle.congestion_book.specs.Contents.{Content, net_count}
-use Rattle.congestion_book.specs.Closing.{IsNext}
+use Rattle.congestion_book.specs.kept.Closing.{IsNext}
 use Rattle.congestion_book.specs.Steps.{after_close}
-use Rattle.congestion_book.specs.Fields.{content_of}
+use Rattle.congestion_book.specs.kept.Fields.{content_of}
 use Rattle.congestion_book.proofs.Soundness.{closed_kept, closed_is, done_there}
 use Rattle.congestion_book.proofs.book.Book.open_next.Goals as goal
 

@@ -1,6 +1,6 @@
 use Rattle.std.proofs.Common.{◌≡◌, subst, ◌∙◌}
 use Rattle.congestion_book.specs.Recorded.{overused_in}
-use Rattle.congestion_book.specs.Fields.{content_of}
+use Rattle.congestion_book.specs.kept.Fields.{content_of}
 use Rattle.congestion_book.proofs.Rows.{overused_is}
 use Rattle.congestion_book.proofs.book.Book.overused.Goals as goal
 

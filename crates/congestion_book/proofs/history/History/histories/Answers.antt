@@ -1,8 +1,8 @@
 use Rattle.std.proofs.Common.{◌≡◌, ℕ, ◌<◌, ◌^◌, inl, inr, length, get_or, subst, arith}
 use Rattle.std.proofs.lemmas.Bool.{cases_lt}
 use Rattle.std.proofs.lemmas.List.{get_or_past}
-use Rattle.congestion_book.specs.Histories.{HistoryTable}
-use Rattle.congestion_book.specs.Fields.{history_table}
+use Rattle.congestion_book.specs.kept.HistoryTables.{HistoryTable}
+use Rattle.congestion_book.specs.kept.Fields.{history_table}
 use Rattle.congestion_book.proofs.Growing.{small_history}
 use Rattle.congestion_book.proofs.history.History.histories.Goals as goal
 

@@ -1,7 +1,8 @@
 use Rattle.std.proofs.Common.{◌≤◌, ℕ, length, All, ap, sym, subst, ◌∙◌, arith}
 use Rattle.std.proofs.lemmas.List.Elements.{All-nil}
 use Rattle.std.specs.Arc.{arc_value}
-use Rattle.congestion_book.specs.Histories.{AreHistories, amount_in}
+use Rattle.congestion_book.specs.Histories.{amount_in}
+use Rattle.congestion_book.specs.kept.HistoryTables.{AreHistories}
 use Rattle.congestion_book.proofs.Growing.{none_yet}
 use Rattle.congestion_book.proofs.history.History.new.Goals as goal
 

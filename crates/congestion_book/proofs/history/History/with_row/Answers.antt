@@ -1,7 +1,7 @@
 use Rattle.std.proofs.Common.{◌<◌, ◌++◌, ◌∷◌, [], length, sym, subst, ◌∙◌}
 use Rattle.std.specs.Arc.{arc_value}
-use Rattle.congestion_book.specs.Histories.{HistoryTable, AreHistories}
-use Rattle.congestion_book.specs.Fields.{history_table}
+use Rattle.congestion_book.specs.kept.HistoryTables.{HistoryTable, AreHistories}
+use Rattle.congestion_book.specs.kept.Fields.{history_table}
 use Rattle.congestion_book.proofs.Growing.{room_for_row, row_added}
 use Rattle.congestion_book.proofs.history.History.with_row.Goals as goal
 

@@ -1,6 +1,6 @@
 use Rattle.std.proofs.Common.{◌≤◌, ℕ, sym, ap, subst, ◌∙◌}
 use Rattle.route_tree.specs.TreeLists.{lists_of_trees}
-use Rattle.congestion_book.specs.Usage.{row_by}
+use Rattle.congestion_book.specs.kept.Usage.{row_by}
 use Rattle.congestion_book.specs.Histories.{amount_in}
 use Rattle.congestion_book.proofs.Rows.{row_bounded}
 use Rattle.congestion_book.proofs.routes.Routes.row.Goals as goal

@@ -1,6 +1,6 @@
 use Rattle.std.proofs.Common.{sym, subst}
 use Rattle.std.specs.Arc.{arc_value}
-use Rattle.congestion_book.specs.Views.{SeesOthers}
+use Rattle.congestion_book.specs.kept.Views.{SeesOthers}
 use Rattle.congestion_book.proofs.Recording.{old_routes, used, listed}
 use Rattle.congestion_book.proofs.routes.Routes.show.Goals as goal
 

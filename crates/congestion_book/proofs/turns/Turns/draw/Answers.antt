@@ -1,5 +1,5 @@
 use Rattle.std.proofs.Common.{◌<◌, length, Some, arith, length-set}
-use Rattle.congestion_book.specs.Fields.{table_of}
+use Rattle.congestion_book.specs.kept.Fields.{table_of}
 use Rattle.congestion_book.proofs.Turning.{draw_in_order, draw_all}
 use Rattle.congestion_book.proofs.turns.Turns.draw.Goals as goal
 

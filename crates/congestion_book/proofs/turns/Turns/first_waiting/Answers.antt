@@ -1,6 +1,6 @@
 use Rattle.std.proofs.Common.{◌≡◌, ◌<◌, length, Some, None, ℕ, Option, true, is_some, subst, sym, ◌∙◌, arith}
 use Rattle.congestion_book.specs.Turns.{TurnTable, holder_in, IsFirstWaiting}
-use Rattle.congestion_book.specs.Fields.{table_of}
+use Rattle.congestion_book.specs.kept.Fields.{table_of}
 use Rattle.congestion_book.proofs.Turning.{waits_held, waits_undrawn, none_waits}
 use Rattle.congestion_book.proofs.turns.Turns.first_waiting.Goals as goal
 

@@ -1,5 +1,5 @@
 use Rattle.std.proofs.Common.{◌≡◌, length, sym, ap₂, ◌∙◌, ◌++◌, arith}
-use Rattle.congestion_book.specs.Usage.{excess_of, entry_of}
+use Rattle.congestion_book.specs.kept.Usage.{excess_of, entry_of}
 use Rattle.congestion_book.proofs.Rows.{row_next, row_is}
 use Rattle.congestion_book.proofs.usage.Usage.row.Goals as goal
 

@@ -1,5 +1,5 @@
 use Rattle.std.proofs.Common.{◌≡◌}
-use Rattle.congestion_book.specs.Usage.{excess_of}
+use Rattle.congestion_book.specs.kept.Usage.{excess_of}
 use Rattle.congestion_book.proofs.Rows.{entries}
 use Rattle.congestion_book.proofs.usage.Usage.row.Given as goal
 

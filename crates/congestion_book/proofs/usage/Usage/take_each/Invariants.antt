@@ -1,7 +1,7 @@
 use Rattle.std.proofs.Common.{◌≡◌}
 use Rattle.std.specs.Prelude.{take}
-use Rattle.route_tree.specs.Marked.{nodes_of}
-use Rattle.congestion_book.specs.Usage.{overused_by, TakesEach}
+use Rattle.route_tree.specs.kept.Marked.{nodes_of}
+use Rattle.congestion_book.specs.kept.Usage.{overused_by, TakesEach}
 use Rattle.congestion_book.proofs.usage.Usage.take_each.Given as goal
 
 abbrev pub invariant-loop-row : goal.invariant-loop-row

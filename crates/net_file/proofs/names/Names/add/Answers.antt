@@ -1,5 +1,5 @@
 use Rattle.std.proofs.Common.{◌≡◌, [], ◌∷◌, ◌++◌, sym, ap, ◌∙◌, true, false}
-use Rattle.net_file.specs.Kept.{names_in}
+use Rattle.net_file.specs.kept.NameNumbers.{names_in}
 use Rattle.net_file.specs.Names.{is_among}
 use Rattle.net_file.proofs.Numbered.{numbered_push, numbered_still, names_pushed, kept}
 use Rattle.net_file.proofs.names.Names.add.Goals as goal

@@ -1,6 +1,6 @@
 use Rattle.std.proofs.Common.{◌≡◌, false, replicate, sym, subst}
 use Rattle.std.specs.List.{range_with_len}
-use Rattle.place_file.specs.Kept.{IsTable, table_size}
+use Rattle.place_file.specs.kept.OccupiedSites.{IsTable, table_size}
 use Rattle.place_file.proofs.Placing.{none_taken}
 use Rattle.place_file.proofs.sites.Sites.new.Goals as goal
 

@@ -1,7 +1,7 @@
 use Rattle.std.proofs.Common.{◌≡◌, length, false, replicate, map, None, refl, ap, ◌∙◌}
 use Rattle.std.specs.List.{range_with_len}
 use Rattle.rr_graph.specs.Nodes.{node_count_of}
-use Rattle.route_file.specs.Seen.{no_owner}
+use Rattle.route_file.specs.kept.LinesSeen.{no_owner}
 use Rattle.route_file.proofs.Start.{nothing_seen}
 use Rattle.route_file.proofs.seen.Seen.new.Goals as goal
 

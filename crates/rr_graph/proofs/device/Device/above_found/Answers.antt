@@ -1,6 +1,6 @@
 use Rattle.std.proofs.Common.{◌+◌, refl, sym, ap, ◌∙◌, arith}
 use Rattle.std.specs.Prelude.{slice_get}
-use Rattle.rr_graph.specs.Tables.{beginnings_of}
+use Rattle.rr_graph.specs.kept.Tables.{beginnings_of}
 use Rattle.rr_graph.proofs.NodesFound.{row_of_number, index_above}
 use Rattle.rr_graph.proofs.device.Device.above_found.Goals as goal
 

@@ -1,6 +1,6 @@
 use Rattle.std.proofs.Common.{◌==◌, sym, arith}
 use Rattle.std.proofs.lemmas.List.Sums.{prefix_len_is}
-use Rattle.rr_graph.specs.Channels.{first_of}
+use Rattle.rr_graph.specs.kept.Channels.{first_of}
 use Rattle.rr_graph.proofs.device.Device.count_begun.Goals as goal
 
 pub returns : goal.returns

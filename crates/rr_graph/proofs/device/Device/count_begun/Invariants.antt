@@ -1,6 +1,6 @@
 use Rattle.std.proofs.Common.{◌≡◌, ℕ, ◌<◌, true, get_or}
 use Rattle.std.specs.Prelude.{◌==◌}
-use Rattle.rr_graph.specs.Channels.{first_of}
+use Rattle.rr_graph.specs.kept.Channels.{first_of}
 use Rattle.rr_graph.proofs.device.Device.count_begun.Given as goal
 
 abbrev pub invariant-loop-count : goal.invariant-loop-count

@@ -1,6 +1,6 @@
 use Rattle.std.proofs.Common.{◌*◌, length, ap, ◌∙◌, sym, subst}
 use Rattle.arch_file.specs.declared.parts.Sides.{Sides}
-use Rattle.rr_graph.specs.Terminals.{wires_on, AreSides, opin_sides}
+use Rattle.rr_graph.specs.kept.Terminals.{wires_on, AreSides, opin_sides}
 use Rattle.rr_graph.proofs.OpinDegrees.{tapped, wires_on-length, opin_wires, opin_sides_are}
 use Rattle.rr_graph.proofs.device.Device.count_wires_of_opin.Goals as goal
 

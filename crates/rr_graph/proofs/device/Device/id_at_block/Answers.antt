@@ -1,7 +1,7 @@
 use Rattle.std.proofs.Common.{◌≡◌, ℕ, ◌+◌, List, Option, Some, sym, ap, ◌∙◌, arith}
 use Rattle.std.specs.Prelude.{◌==◌}
 use Rattle.std.specs.List.{position}
-use Rattle.rr_graph.specs.Numbering.{block_numbers}
+use Rattle.rr_graph.specs.kept.Numbering.{block_numbers}
 use Rattle.rr_graph.proofs.NodeNumbers.{found_at, some_at_block, none_at_block}
 use Rattle.rr_graph.proofs.PlaceStarts.{few_numbers}
 use Rattle.rr_graph.proofs.device.Device.id_at_block.Goals as goal

@@ -1,6 +1,6 @@
 use Rattle.std.proofs.Common.{arith}
 use Rattle.rr_graph.specs.declared.parts.Kind.TheVariants.{Source, Sink, Opin, Ipin, Chanx, Chany}
-use Rattle.rr_graph.specs.Starts.{kind_start}
+use Rattle.rr_graph.specs.kept.Starts.{kind_start}
 use Rattle.rr_graph.proofs.Pieces.{kind_within, node_count_by_kinds}
 use Rattle.rr_graph.proofs.device.Device.kind_below.Goals as goal
 

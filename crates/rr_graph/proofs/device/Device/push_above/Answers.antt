@@ -1,4 +1,4 @@
-use Rattle.rr_graph.specs.Terminals.{above_wire}
+use Rattle.rr_graph.specs.kept.Terminals.{above_wire}
 use Rattle.rr_graph.proofs.Pushes.{room_each}
 use Rattle.rr_graph.proofs.device.Device.push_above.Goals as goal
 

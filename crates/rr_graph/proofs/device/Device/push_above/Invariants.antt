@@ -1,7 +1,7 @@
 use Rattle.std.proofs.Common.{take}
 use Rattle.std.specs.List.{flat_map}
-use Rattle.rr_graph.specs.Pushes.{Pushes}
-use Rattle.rr_graph.specs.Terminals.{above_wire}
+use Rattle.rr_graph.specs.kept.Pushes.{Pushes}
+use Rattle.rr_graph.specs.kept.Terminals.{above_wire}
 use Rattle.rr_graph.proofs.device.Device.push_above.Given as goal
 
 abbrev pub invariant-loop-track : goal.invariant-loop-track

@@ -3,10 +3,10 @@ use Rattle.std.specs.List.{flat_map}
 use Rattle.std.proofs.lemmas.List.{take_all}
 use Rattle.smallvec.specs.SmallVec.{HasRoomFor}
 use Rattle.rr_graph.specs.Fabric.{Fabric}
-use Rattle.rr_graph.specs.PinSuccessors.{tapped_column}
-use Rattle.rr_graph.specs.Tables.{tracks_through}
-use Rattle.rr_graph.specs.Pushes.{Pushes}
-use Rattle.rr_graph.specs.Terminals.{right_wire}
+use Rattle.rr_graph.specs.kept.PinSuccessors.{tapped_column}
+use Rattle.rr_graph.specs.kept.Tables.{tracks_through}
+use Rattle.rr_graph.specs.kept.Pushes.{Pushes}
+use Rattle.rr_graph.specs.kept.Terminals.{right_wire}
 use Rattle.rr_graph.proofs.Pushes.{room_each}
 use Rattle.rr_graph.proofs.OpinWires.{column_by_track}
 use Rattle.rr_graph.proofs.TrackOrder.{through_some}

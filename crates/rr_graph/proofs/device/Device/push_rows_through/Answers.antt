@@ -1,7 +1,7 @@
 use Rattle.std.proofs.Common.{◌≡◌, ◌+◌, ap, ◌∙◌, arith}
-use Rattle.rr_graph.specs.PinSuccessors.{tapped_rows}
-use Rattle.rr_graph.specs.Tables.{tracks_since}
-use Rattle.rr_graph.specs.Terminals.{rows_piece}
+use Rattle.rr_graph.specs.kept.PinSuccessors.{tapped_rows}
+use Rattle.rr_graph.specs.kept.Tables.{tracks_since}
+use Rattle.rr_graph.specs.kept.Terminals.{rows_piece}
 use Rattle.rr_graph.proofs.Pushes.{pushed_further, room_further}
 use Rattle.rr_graph.proofs.device.Device.push_rows_through.Goals as goal
 

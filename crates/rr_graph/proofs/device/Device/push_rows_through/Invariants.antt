@@ -1,8 +1,8 @@
 use Rattle.std.proofs.Common.{◌≡◌, ◌+◌}
 use Rattle.std.specs.List.{range_with_len, flat_map}
-use Rattle.rr_graph.specs.Pushes.{Pushes}
-use Rattle.rr_graph.specs.Tables.{tracks_since}
-use Rattle.rr_graph.specs.Terminals.{rows_piece}
+use Rattle.rr_graph.specs.kept.Pushes.{Pushes}
+use Rattle.rr_graph.specs.kept.Tables.{tracks_since}
+use Rattle.rr_graph.specs.kept.Terminals.{rows_piece}
 use Rattle.rr_graph.proofs.device.Device.push_rows_through.Given as goal
 
 abbrev pub invariant-loop-before : goal.invariant-loop-before

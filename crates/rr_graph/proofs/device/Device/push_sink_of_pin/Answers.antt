@@ -1,6 +1,6 @@
 use Rattle.std.proofs.Common.{sym, subst, ap, ◌∙◌}
-use Rattle.rr_graph.specs.Pushes.{Pushes}
-use Rattle.rr_graph.specs.PinSuccessors.{sink_of_pin}
+use Rattle.rr_graph.specs.kept.Pushes.{Pushes}
+use Rattle.rr_graph.specs.kept.PinSuccessors.{sink_of_pin}
 use Rattle.rr_graph.proofs.Pushes.{pushed_none}
 use Rattle.rr_graph.proofs.TerminalPlaces.{no_sink_of_pin}
 use Rattle.rr_graph.proofs.device.Device.push_sink_of_pin.Goals as goal

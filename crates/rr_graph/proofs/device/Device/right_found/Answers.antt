@@ -1,6 +1,6 @@
 use Rattle.std.proofs.Common.{sym, ap, ◌∙◌}
 use Rattle.std.specs.Prelude.{slice_get}
-use Rattle.rr_graph.specs.Tables.{beginnings_of}
+use Rattle.rr_graph.specs.kept.Tables.{beginnings_of}
 use Rattle.rr_graph.proofs.NodesFound.{column_of_number}
 use Rattle.rr_graph.proofs.device.Device.right_found.Goals as goal
 

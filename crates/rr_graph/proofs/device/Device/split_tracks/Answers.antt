@@ -1,7 +1,7 @@
 use Rattle.std.proofs.Common.{ℕ, List, ◌==◌, take, drop, ap, ◌∙◌, arith}
 use Rattle.std.specs.List.{prefix_len}
 use Rattle.std.proofs.lemmas.List.Sums.{prefix_len-le-length}
-use Rattle.rr_graph.specs.Channels.{first_of}
+use Rattle.rr_graph.specs.kept.Channels.{first_of}
 use Rattle.rr_graph.proofs.TrackOrder.{begun_front, begun_rest}
 use Rattle.rr_graph.proofs.device.Device.split_tracks.Goals as goal
 

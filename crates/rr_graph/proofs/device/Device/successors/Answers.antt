@@ -1,6 +1,6 @@
 use Rattle.std.proofs.Common.{◌++◌, sym, subst, ap, ◌∙◌}
 use Rattle.std.specs.List.Sorted.{IsStrictlyIncreasing}
-use Rattle.rr_graph.specs.NodeSuccessors.{node_successors}
+use Rattle.rr_graph.specs.kept.NodeSuccessors.{node_successors}
 use Rattle.rr_graph.proofs.Graph.{successors_ascend}
 use Rattle.rr_graph.proofs.NodeSuccessors.{node_listed}
 use Rattle.rr_graph.proofs.device.Device.successors.Goals as goal

@@ -1,6 +1,6 @@
 use Rattle.std.proofs.Common.{ℕ, List, length, sym, subst}
 use Rattle.smallvec.specs.SmallVec.{HasRoomFor}
-use Rattle.rr_graph.specs.Pushes.{Pushes}
+use Rattle.rr_graph.specs.kept.Pushes.{Pushes}
 use Rattle.rr_graph.proofs.Fanouts.{by_place_one}
 use Rattle.rr_graph.proofs.fanout.Meeting.push_by_place.Goals as goal
 

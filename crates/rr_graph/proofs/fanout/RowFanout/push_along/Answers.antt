@@ -1,5 +1,5 @@
 use Rattle.std.proofs.Common.{◌+◌, ◌++◌}
-use Rattle.rr_graph.specs.Fanouts.{numbers_of, by_place}
+use Rattle.rr_graph.specs.kept.Fanouts.{numbers_of, by_place}
 use Rattle.rr_graph.proofs.Pushes.{room_first, room_then}
 use Rattle.rr_graph.proofs.Fanouts.{row_room}
 use Rattle.rr_graph.proofs.fanout.RowFanout.push_along.Goals as goal

@@ -1,5 +1,5 @@
 use Rattle.std.proofs.Common.{arith}
-use Rattle.rr_graph.specs.Fanouts.{number_in}
+use Rattle.rr_graph.specs.kept.Fanouts.{number_in}
 use Rattle.rr_graph.proofs.Pushes.{pushed_mapped}
 use Rattle.rr_graph.proofs.fanout.Run.push.Goals as goal
 

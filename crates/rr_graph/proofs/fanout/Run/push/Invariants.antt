@@ -1,6 +1,6 @@
 use Rattle.std.proofs.Common.{◌≡◌, ◌+◌, ◌*◌, ◌≤◌}
-use Rattle.rr_graph.specs.Fanouts.{number_in, run_list}
-use Rattle.rr_graph.specs.Pushes.{Pushes}
+use Rattle.rr_graph.specs.kept.Fanouts.{number_in, run_list}
+use Rattle.rr_graph.specs.kept.Pushes.{Pushes}
 use Rattle.rr_graph.proofs.fanout.Run.push.Given as goal
 
 abbrev pub invariant-loop-place : goal.invariant-loop-place

@@ -1,5 +1,5 @@
 use Rattle.std.proofs.Common.{[], ◌∷◌, length, refl, ap, arith, length-append}
-use Rattle.rr_graph.specs.Fanouts.{number_in}
+use Rattle.rr_graph.specs.kept.Fanouts.{number_in}
 use Rattle.rr_graph.proofs.Pushes.{pushed_two, room_more}
 use Rattle.rr_graph.proofs.fanout.Run.push_with.Goals as goal
 

@@ -1,7 +1,7 @@
 use Rattle.std.proofs.Common.{◌+◌, ◌*◌, map, arith, subst}
 use Rattle.std.proofs.lemmas.List.{length-map}
-use Rattle.rr_graph.specs.Fanouts.{pins_at}
-use Rattle.rr_graph.specs.Pushes.{Pushes}
+use Rattle.rr_graph.specs.kept.Fanouts.{pins_at}
+use Rattle.rr_graph.specs.kept.Pushes.{Pushes}
 use Rattle.rr_graph.proofs.Pushes.{pushed_more, room_more}
 use Rattle.rr_graph.proofs.fanout.Taps.push.Goals as goal
 

@@ -1,5 +1,5 @@
 use Rattle.std.proofs.Common.{◌+◌, map, take}
-use Rattle.rr_graph.specs.Pushes.{Pushes}
+use Rattle.rr_graph.specs.kept.Pushes.{Pushes}
 use Rattle.rr_graph.proofs.fanout.Taps.push_from.Given as goal
 
 abbrev pub invariant-loop-place : goal.invariant-loop-place

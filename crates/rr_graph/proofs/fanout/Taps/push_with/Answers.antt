@@ -1,6 +1,6 @@
 use Rattle.std.proofs.Common.{◌+◌, ◌*◌, ◌++◌, map, ap, arith, length, length-append, refl}
 use Rattle.std.proofs.lemmas.List.{length-map}
-use Rattle.rr_graph.specs.Fanouts.{pins_at}
+use Rattle.rr_graph.specs.kept.Fanouts.{pins_at}
 use Rattle.rr_graph.proofs.Pushes.{pushed_both, room_more}
 use Rattle.rr_graph.proofs.fanout.Taps.push_with.Goals as goal
 

@@ -1,6 +1,6 @@
 use Rattle.std.proofs.Common.{◌≡◌, ◌*◌, ◌≤◌, map}
 use Rattle.rr_graph.specs.Fabric.{numbers_below}
-use Rattle.rr_graph.specs.Tables.{wires_before}
+use Rattle.rr_graph.specs.kept.Tables.{wires_before}
 use Rattle.rr_graph.proofs.layout.Layout.before.Given as goal
 
 abbrev pub invariant-loop-place : goal.invariant-loop-place

@@ -3,7 +3,7 @@ use Rattle.std.specs.Prelude.{slice_get}
 use Rattle.std.proofs.lemmas.Option.{slice_get-get_or}
 use Rattle.rr_graph.specs.declared.channel.Beginning.{Beginning}
 use Rattle.rr_graph.specs.Fabric.{Fabric}
-use Rattle.rr_graph.specs.Tables.{wires_before, beginnings_of}
+use Rattle.rr_graph.specs.kept.Tables.{wires_before, beginnings_of}
 use Rattle.rr_graph.proofs.NodesFound.{beginnings_length}
 use Rattle.rr_graph.proofs.layout.Layout.beginning_at.Goals as goal
 

@@ -1,7 +1,7 @@
 use Rattle.std.proofs.Common.{◌≡◌, map}
 use Rattle.std.specs.List.{flat_map}
 use Rattle.rr_graph.specs.Fabric.{numbers_below}
-use Rattle.rr_graph.specs.Tables.{starting_at, beginning_of}
+use Rattle.rr_graph.specs.kept.Tables.{starting_at, beginning_of}
 use Rattle.rr_graph.proofs.layout.Layout.beginnings.Given as goal
 
 abbrev pub invariant-loop-place : goal.invariant-loop-place

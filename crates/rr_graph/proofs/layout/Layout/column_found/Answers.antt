@@ -1,6 +1,6 @@
 use Rattle.std.proofs.Common.{◌≡◌, ℕ, ◌+◌, ◌-◌, ◌*◌, ◌/◌, ◌%◌, ◌≤◌, sym, ap, ◌∙◌, arith}
 use Rattle.rr_graph.specs.Fabric.{Fabric}
-use Rattle.rr_graph.specs.Numbering.{columns_length}
+use Rattle.rr_graph.specs.kept.Numbering.{columns_length}
 use Rattle.rr_graph.proofs.PlaceStarts.{column_passed}
 use Rattle.rr_graph.proofs.layout.Layout.column_found.Goals as goal
 

@@ -1,5 +1,5 @@
 use Rattle.std.proofs.Common.{◌+◌, sym, ap, ◌∙◌}
-use Rattle.rr_graph.specs.Numbering.{columns_length}
+use Rattle.rr_graph.specs.kept.Numbering.{columns_length}
 use Rattle.rr_graph.proofs.NodesFound.{terminal_column}
 use Rattle.rr_graph.proofs.layout.Layout.column_of.Goals as goal
 

@@ -1,7 +1,7 @@
 use Rattle.std.proofs.Common.{◌≡◌, ◌≤◌, length, take}
 use Rattle.std.specs.Prelude.{slice_get}
 use Rattle.rr_graph.specs.Pins.{has_class}
-use Rattle.rr_graph.specs.Picks.{picks}
+use Rattle.rr_graph.specs.kept.Picks.{picks}
 use Rattle.rr_graph.proofs.layout.Layout.count_class.Given as goal
 
 abbrev pub invariant-loop-place : goal.invariant-loop-place

@@ -3,7 +3,7 @@ use Rattle.std.proofs.lemmas.Bool.{cases_Bool}
 use Rattle.std.proofs.lemmas.Bool.Decides.{nat_tests}
 use Rattle.rr_graph.specs.Fabric.{is_between}
 use Rattle.rr_graph.specs.Nodes.{node_of}
-use Rattle.rr_graph.specs.Numbering.{inner_rows_length, block_numbers}
+use Rattle.rr_graph.specs.kept.Numbering.{inner_rows_length, block_numbers}
 use Rattle.rr_graph.proofs.NodesFound.{found_at_block, found_pad_of_row}
 use Rattle.rr_graph.proofs.layout.Layout.in_block_column.Goals as goal
 

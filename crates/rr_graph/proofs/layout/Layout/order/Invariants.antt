@@ -1,7 +1,7 @@
 use Rattle.std.proofs.Common.{◌≡◌}
 use Rattle.std.specs.List.{flat_map}
 use Rattle.rr_graph.specs.Fabric.{numbers_below}
-use Rattle.rr_graph.specs.Tables.{tracks_through}
+use Rattle.rr_graph.specs.kept.Tables.{tracks_through}
 use Rattle.rr_graph.proofs.layout.Layout.order.Given as goal
 
 abbrev pub invariant-loop-place : goal.invariant-loop-place

@@ -1,5 +1,5 @@
 use Rattle.std.proofs.Common.{◌∙◌}
-use Rattle.rr_graph.specs.Strides.{stride_at}
+use Rattle.rr_graph.specs.kept.Strides.{stride_at}
 use Rattle.rr_graph.proofs.Ranges.{mapped_next}
 use Rattle.rr_graph.proofs.layout.Layout.place_strides.Goals as goal
 

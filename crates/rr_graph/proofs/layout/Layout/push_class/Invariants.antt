@@ -1,8 +1,8 @@
 use Rattle.std.proofs.Common.{take}
 use Rattle.std.specs.Prelude.{slice_get}
 use Rattle.rr_graph.specs.Pins.{has_class}
-use Rattle.rr_graph.specs.Picks.{picks}
-use Rattle.rr_graph.specs.Pushes.{Pushes}
+use Rattle.rr_graph.specs.kept.Picks.{picks}
+use Rattle.rr_graph.specs.kept.Pushes.{Pushes}
 use Rattle.rr_graph.proofs.layout.Layout.push_class.Given as goal
 
 abbrev pub invariant-loop-place : goal.invariant-loop-place

@@ -2,7 +2,7 @@ use Rattle.std.proofs.Common.{◌+◌, ◌-◌, ◌*◌, map, ap, ◌∙◌, ari
 use Rattle.std.specs.Prelude.{slice_get}
 use Rattle.rr_graph.specs.Fabric.{numbers_below}
 use Rattle.rr_graph.specs.Wires.{tracks_in}
-use Rattle.rr_graph.specs.Tables.{wire_at}
+use Rattle.rr_graph.specs.kept.Tables.{wire_at}
 use Rattle.rr_graph.proofs.ChannelTables.{wire_read_before}
 use Rattle.rr_graph.proofs.layout.Layout.push_place.Goals as goal
 

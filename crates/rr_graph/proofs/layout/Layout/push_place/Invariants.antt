@@ -1,6 +1,6 @@
 use Rattle.std.proofs.Common.{◌≡◌, ◌++◌, map}
 use Rattle.rr_graph.specs.Fabric.{numbers_below}
-use Rattle.rr_graph.specs.Tables.{wire_number, wire_at}
+use Rattle.rr_graph.specs.kept.Tables.{wire_number, wire_at}
 use Rattle.rr_graph.proofs.layout.Layout.push_place.Given as goal
 
 abbrev pub invariant-loop-track : goal.invariant-loop-track

@@ -1,6 +1,6 @@
 use Rattle.std.proofs.Common.{◌≡◌, ◌+◌, ◌≤◌, ◌++◌, take, vec_len}
-use Rattle.rr_graph.specs.Picks.{picks}
-use Rattle.rr_graph.specs.TappingTables.{taps_from}
+use Rattle.rr_graph.specs.kept.Picks.{picks}
+use Rattle.rr_graph.specs.kept.TappingTables.{taps_from}
 use Rattle.rr_graph.proofs.layout.Layout.push_tapping.Given as goal
 
 abbrev pub invariant-loop-place : goal.invariant-loop-place

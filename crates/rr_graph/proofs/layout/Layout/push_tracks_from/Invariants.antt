@@ -2,7 +2,7 @@ use Rattle.std.proofs.Common.{◌≡◌, ◌++◌}
 use Rattle.std.specs.Prelude.{◌==◌}
 use Rattle.std.specs.List.{filter}
 use Rattle.rr_graph.specs.Fabric.{numbers_below}
-use Rattle.rr_graph.specs.Channels.{first_of}
+use Rattle.rr_graph.specs.kept.Channels.{first_of}
 use Rattle.rr_graph.proofs.layout.Layout.push_tracks_from.Given as goal
 
 abbrev pub invariant-loop-track : goal.invariant-loop-track

@@ -1,6 +1,6 @@
 use Rattle.std.proofs.Common.{◌≡◌, ◌++◌}
 use Rattle.std.specs.List.{range_with_len, flat_map}
-use Rattle.rr_graph.specs.Tables.{tracks_from}
+use Rattle.rr_graph.specs.kept.Tables.{tracks_from}
 use Rattle.rr_graph.proofs.layout.Layout.push_tracks_through.Given as goal
 
 abbrev pub invariant-loop-before : goal.invariant-loop-before

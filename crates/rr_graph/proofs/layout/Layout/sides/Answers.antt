@@ -1,8 +1,8 @@
 use Rattle.std.proofs.Common.{◌≡◌, ℕ, Bool, List, subst, ◌∙◌}
 use Rattle.rr_graph.specs.declared.sides.Tapping.{Tapping}
-use Rattle.rr_graph.specs.Picks.{picks}
-use Rattle.rr_graph.specs.Sides.{tapping_pins, tapping_pads}
-use Rattle.rr_graph.specs.TappingTables.{IsTapping}
+use Rattle.rr_graph.specs.kept.Picks.{picks}
+use Rattle.rr_graph.specs.kept.Sides.{tapping_pins, tapping_pads}
+use Rattle.rr_graph.specs.kept.TappingTables.{IsTapping}
 use Rattle.rr_graph.proofs.layout.Layout.sides.Goals as goal
 
 along : (test : ℕ → ℕ → Bool) (tracks : ℕ) (t : Tapping) {xs ys : List ℕ} → xs ≡ ys

@@ -1,5 +1,5 @@
 use Rattle.std.proofs.Common.{◌∷◌, [], ◌++◌, ap, ◌∙◌}
-use Rattle.rr_graph.specs.Tables.{stagger_of}
+use Rattle.rr_graph.specs.kept.Tables.{stagger_of}
 use Rattle.rr_graph.proofs.Ranges.{mapped_next}
 use Rattle.rr_graph.proofs.layout.Layout.staggers.Goals as goal
 

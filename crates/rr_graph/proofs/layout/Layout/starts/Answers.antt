@@ -1,5 +1,5 @@
 use Rattle.std.proofs.Common.{arith}
-use Rattle.rr_graph.specs.Starts.{kind_start}
+use Rattle.rr_graph.specs.kept.Starts.{kind_start}
 use Rattle.rr_graph.proofs.Pieces.{node_count_by_kinds}
 use Rattle.rr_graph.proofs.layout.Layout.starts.Goals as goal
 

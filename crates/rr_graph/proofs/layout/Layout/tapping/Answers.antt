@@ -2,8 +2,8 @@ use Rattle.std.proofs.Common.{◌≡◌, ℕ, List, ap, ◌∙◌, map, length, 
 use Rattle.std.specs.List.{flat_map}
 use Rattle.rr_graph.specs.Fabric.{numbers_below}
 use Rattle.rr_graph.specs.Wires.{tracks_in}
-use Rattle.rr_graph.specs.Picks.{picks}
-use Rattle.rr_graph.specs.TappingTables.{taps_from}
+use Rattle.rr_graph.specs.kept.Picks.{picks}
+use Rattle.rr_graph.specs.kept.TappingTables.{taps_from}
 use Rattle.rr_graph.proofs.TappingTables.{starts_more, places_more}
 use Rattle.rr_graph.proofs.layout.Layout.tapping.Goals as goal
 

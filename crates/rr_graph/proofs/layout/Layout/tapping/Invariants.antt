@@ -1,8 +1,8 @@
 use Rattle.std.proofs.Common.{◌≡◌, ℕ, List, ◌*◌, ◌≤◌, length, map, vec_len}
 use Rattle.std.specs.List.{flat_map}
 use Rattle.rr_graph.specs.Fabric.{numbers_below}
-use Rattle.rr_graph.specs.Picks.{picks}
-use Rattle.rr_graph.specs.TappingTables.{taps_from}
+use Rattle.rr_graph.specs.kept.Picks.{picks}
+use Rattle.rr_graph.specs.kept.TappingTables.{taps_from}
 use Rattle.rr_graph.proofs.layout.Layout.tapping.Given as goal
 
 abbrev pub invariant-loop-track : goal.invariant-loop-track

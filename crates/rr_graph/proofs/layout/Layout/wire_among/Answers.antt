@@ -4,7 +4,7 @@ use Rattle.std.specs.List.{flat_map}
 use Rattle.std.proofs.lemmas.Option.{slice_get_within, get_or_from_slice_get}
 use Rattle.rr_graph.specs.Fabric.{Fabric, numbers_below}
 use Rattle.rr_graph.specs.Wires.{tracks_in}
-use Rattle.rr_graph.specs.Tables.{wire_at, wires_at}
+use Rattle.rr_graph.specs.kept.Tables.{wire_at, wires_at}
 use Rattle.rr_graph.specs.declared.channel.Wire.{Wire}
 use Rattle.rr_graph.proofs.ChannelTables.{wire_stands}
 use Rattle.rr_graph.proofs.layout.Layout.wire_among.Goals as goal

@@ -4,7 +4,7 @@ use Rattle.std.proofs.lemmas.Bool.{cases_lt, false≢true}
 use Rattle.std.proofs.lemmas.Option.{slice_get_within, get_or_from_slice_get}
 use Rattle.rr_graph.specs.Fabric.{Fabric}
 use Rattle.rr_graph.specs.Wires.{tracks_in, begins}
-use Rattle.rr_graph.specs.Tables.{wire_at}
+use Rattle.rr_graph.specs.kept.Tables.{wire_at}
 use Rattle.rr_graph.specs.declared.channel.Wire.{Wire}
 use Rattle.rr_graph.proofs.ChannelTables.{wire_before}
 use Rattle.rr_graph.proofs.layout.Layout.wire_through.Goals as goal

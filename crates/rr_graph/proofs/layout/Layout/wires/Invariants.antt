@@ -1,7 +1,7 @@
 use Rattle.std.proofs.Common.{◌≡◌, ◌+◌}
 use Rattle.std.specs.List.{flat_map}
 use Rattle.rr_graph.specs.Fabric.{numbers_below}
-use Rattle.rr_graph.specs.Tables.{wires_at}
+use Rattle.rr_graph.specs.kept.Tables.{wires_at}
 use Rattle.rr_graph.proofs.layout.Layout.wires.Given as goal
 
 abbrev pub invariant-loop-earlier : goal.invariant-loop-earlier

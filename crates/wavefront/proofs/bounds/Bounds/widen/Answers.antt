@@ -1,5 +1,5 @@
 use Rattle.std.proofs.Common.{ap, arith, length, subst, sym}
-use Rattle.wavefront.specs.Bounds.{IsCovered}
+use Rattle.wavefront.specs.kept.Bounds.{IsCovered}
 use Rattle.wavefront.proofs.Covering.{widened_more, widened_place}
 use Rattle.wavefront.proofs.bounds.Bounds.widen.Goals as goal
 

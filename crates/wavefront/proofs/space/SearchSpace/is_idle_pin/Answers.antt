@@ -1,7 +1,7 @@
 use Rattle.std.proofs.Common.{sym, subst}
-use Rattle.wavefront.specs.Space.{IsSpace}
-use Rattle.wavefront.specs.Entrances.{LeadsNowhere}
-use Rattle.wavefront.specs.Fields.{space_inside}
+use Rattle.wavefront.specs.kept.Spaces.{IsSpace}
+use Rattle.wavefront.specs.kept.Entrances.{LeadsNowhere}
+use Rattle.wavefront.specs.kept.Fields.{space_inside}
 use Rattle.wavefront.proofs.DeadEnds.{idle_dead}
 use Rattle.wavefront.proofs.space.SearchSpace.is_idle_pin.Goals as goal
 

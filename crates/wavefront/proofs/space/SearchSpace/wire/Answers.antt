@@ -1,5 +1,5 @@
 use Rattle.std.proofs.Common.{◌∙◌, sym, ap, subst, arith}
-use Rattle.wavefront.specs.Bounds.{IsWireAt}
+use Rattle.wavefront.specs.kept.Bounds.{IsWireAt}
 use Rattle.wavefront.proofs.WiresFound.{wire_found}
 use Rattle.wavefront.proofs.space.SearchSpace.wire.Goals as goal
 

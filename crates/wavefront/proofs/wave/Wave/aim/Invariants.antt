@@ -1,4 +1,4 @@
-use Rattle.wavefront.specs.Steps.{IsAimed}
+use Rattle.wavefront.specs.kept.Steps.{IsAimed}
 use Rattle.wavefront.proofs.Aimed.{AreCovered}
 use Rattle.wavefront.proofs.wave.Wave.aim.Given as goal
 

@@ -3,8 +3,8 @@ use Rattle.std.proofs.lemmas.Result.{on_ok_weaker}
 use Rattle.wavefront.specs.declared.rows.Label.{Label}
 use Rattle.wavefront.specs.declared.rows.TheConstants.{FAR}
 use Rattle.wavefront.specs.Space.{HasEdge, entry_cost}
-use Rattle.wavefront.specs.Wave.{key_of}
-use Rattle.wavefront.specs.Steps.{IsPreferred}
+use Rattle.wavefront.specs.kept.Wave.{cost_at}
+use Rattle.wavefront.specs.kept.Steps.{IsPreferred}
 use Rattle.wavefront.proofs.Lower.{lowered_wave, lowered_here, offered_spreads, offered_entered, spreads_refl}
 use Rattle.wavefront.proofs.Preferred.{preferred_wave, preferred_spreads}
 use Rattle.wavefront.proofs.Unchanged.{left_wave, left_spreads}
@@ -13,16 +13,16 @@ use Rattle.wavefront.proofs.wave.Wave.enter.Goals.{After-lower, After-prefer}
 use Rattle.wavefront.proofs.wave.Wave.enter.Given.{Over}
 
 abbrev label : (g : Over) → After-lower g → Label
-label g c = record { key = c.saturating_add.result; parent = c.args.from }
+label g c = record { cost = c.saturating_add.result; parent = c.args.from }
 
 inside : (g : Over) → (c : After-lower g) → c.args.to < length c.args.self.now.labels
 inside g c = omega (arith, c.requires.wave.rows, c.requires.space.range c.args.from c.args.to c.requires.edge)
 
-cheaper : (g : Over) → (c : After-lower g) → c.saturating_add.result < key_of c.args.self.now c.args.to
-cheaper g c = let e = ap (λ l. l.key) c.label.ensures in omega (arith, e, c.if-label.true)
+cheaper : (g : Over) → (c : After-lower g) → c.saturating_add.result < cost_at c.args.self.now c.args.to
+cheaper g c = let e = ap (λ l. l.cost) c.label.ensures in omega (arith, e, c.if-label.true)
 
 -- since the sum is below a key, it is not cut off
-exact : (g : Over) → (c : After-lower g) → c.saturating_add.result ≡ c.args.key + entry_cost c.args.space.now c.args.to
+exact : (g : Over) → (c : After-lower g) → c.saturating_add.result ≡ c.args.cost + entry_cost c.args.space.now c.args.to
 exact g c =
     let near = c.requires.wave.near c.args.to in
     let less = cheaper g c in
@@ -33,7 +33,7 @@ returns-then-label-clause-wave g c = on_ok_weaker c.lower.result (λ h. elim h [
   | inl r ↦
       let near = c.requires.wave.near c.args.to in
       let less = cheaper g c in
-      let entered = offered_entered c.args.space.now c.args.self.now c.lower.new.self c.args.from c.args.to c.args.key (label g c) r (inside g c) refl less c.requires.from c.requires.near c.requires.edge (c.requires.step.entrance.inside) (exact g c) in
+      let entered = offered_entered c.args.space.now c.args.self.now c.lower.new.self c.args.from c.args.to c.args.cost (label g c) r (inside g c) refl less c.requires.from c.requires.near c.requires.edge (c.requires.step.entrance.inside) (exact g c) in
       lowered_wave c.args.space.now c.args.self.now c.lower.new.self c.args.to (label g c) r c.requires.wave (c.requires.space.range c.args.from c.args.to c.requires.edge) (omega (arith, less)) (omega (arith, near, less)) (λ o. absurd (omega (arith, o.0, less))) (inr entered)
   | inr left ↦ left_wave c.args.space.now c.args.self.now c.lower.new.self c.saturating_add.result left c.requires.wave
 ]) c.lower.ensures.lowered
@@ -51,12 +51,12 @@ returns-then-label-clause-at g c = on_ok_weaker c.lower.result (λ h. inr (elim 
 ])) c.lower.ensures.lowered
 
 abbrev other : (g : Over) → After-prefer g → Label
-other g c = record { key = c.saturating_add.result; parent = c.args.from }
+other g c = record { cost = c.saturating_add.result; parent = c.args.from }
 
 there : (g : Over) → (c : After-prefer g) → c.args.to < length c.args.self.now.labels
 there g c = omega (arith, c.requires.wave.rows, c.requires.space.range c.args.from c.args.to c.requires.edge)
 
-exact_other : (g : Over) → (c : After-prefer g) → c.saturating_add.result < FAR → c.saturating_add.result ≡ c.args.key + entry_cost c.args.space.now c.args.to
+exact_other : (g : Over) → (c : After-prefer g) → c.saturating_add.result < FAR → c.saturating_add.result ≡ c.args.cost + entry_cost c.args.space.now c.args.to
 exact_other g c near = omega (arith, near, c.requires.step.entrance.price, c.saturating_add.ensures)
 
 -- a node that leads to itself is no way to itself
@@ -64,13 +64,13 @@ apart : (g : Over) → (c : After-prefer g) → IsPreferred c.args.self.now c.pr
 apart g c r e =
     let loop = subst (λ x. HasEdge c.args.space.now x c.args.to) e c.requires.edge in
     let costs = c.requires.space.costly c.args.to c.args.to c.args.to loop loop in
-    let k = ap (key_of c.args.self.now) e in
+    let k = ap (cost_at c.args.self.now) e in
     omega (arith, costs, k, r.same, exact_other g c r.reached, c.requires.from)
 
 pub returns-clause-wave : goal.returns-clause-wave
 returns-clause-wave g c = elim c.prefer.ensures [
   | inl e ↦ rw e c.requires.wave
-  | inr r ↦ preferred_wave c.args.space.now c.args.self.now c.prefer.new.self c.args.to c.args.key (other g c) r c.requires.wave (there g c) c.requires.from c.requires.near c.requires.edge (c.requires.step.entrance.inside) (exact_other g c r.reached) (apart g c r)
+  | inr r ↦ preferred_wave c.args.space.now c.args.self.now c.prefer.new.self c.args.to c.args.cost (other g c) r c.requires.wave (there g c) c.requires.from c.requires.near c.requires.edge (c.requires.step.entrance.inside) (exact_other g c r.reached) (apart g c r)
 ]
 
 pub returns-clause-spreads : goal.returns-clause-spreads

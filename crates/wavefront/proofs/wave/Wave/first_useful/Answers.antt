@@ -1,5 +1,5 @@
 use Rattle.std.proofs.Common.{arith}
-use Rattle.wavefront.specs.Bounds.{IsFar}
+use Rattle.wavefront.specs.kept.Bounds.{IsFar}
 use Rattle.wavefront.proofs.Bounded.{far_dead}
 use Rattle.wavefront.proofs.wave.Wave.first_useful.Goals as goal
 use Rattle.wavefront.proofs.wave.Wave.first_useful.Given.{Over}

@@ -9,7 +9,7 @@ pub has_less-requires : goal.has_less-requires
 has_less-requires g c = omega (arith, c.requires.wave.rows, c.requires.space.range c.args.from c.args.to c.requires.edge)
 
 pub returns-then-is_idle_pin-clause-at : goal.returns-then-is_idle_pin-clause-at
-returns-then-is_idle_pin-clause-at g c = λ inside. closed_went c.args.space.now c.args.self.now c.args.key c.args.to (inr (c.is_idle_pin.ensures c.if-is_idle_pin.true)) inside
+returns-then-is_idle_pin-clause-at g c = λ inside. closed_went c.args.space.now c.args.self.now c.args.cost c.args.to (inr (c.is_idle_pin.ensures c.if-is_idle_pin.true)) inside
 
 -- a node that costs less needs no other way
 pub returns-then-has_less-clause-at : goal.returns-then-has_less-clause-at
@@ -19,7 +19,7 @@ pub returns-in-None-clause-spreads : goal.returns-in-None-clause-spreads
 returns-in-None-clause-spreads g c = noted_spreads c.args.space.now c.args.self.now c.step.new.self c.step.ensures.noted
 
 pub returns-in-None-clause-at : goal.returns-in-None-clause-at
-returns-in-None-clause-at g c = λ inside. closed_went c.args.space.now c.step.new.self c.args.key c.args.to (rw c.in-None.is at c.step.ensures.closed) inside
+returns-in-None-clause-at g c = λ inside. closed_went c.args.space.now c.step.new.self c.args.cost c.args.to (rw c.in-None.is at c.step.ensures.closed) inside
 
 pub enter-requires-clause-from : goal.enter-requires-clause-from
 enter-requires-clause-from g c = let same = noted_key c.args.space.now c.args.self.now c.step.new.self c.step.ensures.noted c.args.from in omega (arith, same, c.requires.from)

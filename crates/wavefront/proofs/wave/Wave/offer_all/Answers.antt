@@ -17,7 +17,7 @@ pub loop-to-preserved : goal.loop-to-preserved
 loop-to-preserved g c = record {
   wave = c.in_ok-offer.ensures.wave;
   spreads = spreads_trans c.args.space.now c.args.self.now c.loop-to.self c.offer.new.self c.loop-to.invariant.spreads c.in_ok-offer.ensures.spreads;
-  went = went_more c.args.space.now c.args.next.now c.loop-to.self c.offer.new.self c.args.key c.loop-to.to-index c.loop-to.invariant.went c.in_ok-offer.ensures.spreads.lowers c.in_ok-offer.ensures.at;
+  went = went_more c.args.space.now c.args.next.now c.loop-to.self c.offer.new.self c.args.cost c.loop-to.to-index c.loop-to.invariant.went c.in_ok-offer.ensures.spreads.lowers c.in_ok-offer.ensures.at;
 }
 
 -- a node that is passed over leads to no sink that is open
@@ -25,9 +25,9 @@ pub loop-to-preserved-then-to-first : goal.loop-to-preserved-then-to-first
 loop-to-preserved-then-to-first g c = record {
   wave = c.loop-to.invariant.wave;
   spreads = c.loop-to.invariant.spreads;
-  went = went_more c.args.space.now c.args.next.now c.loop-to.self c.loop-to.self c.args.key c.loop-to.to-index c.loop-to.invariant.went (lowers_refl c.args.space.now c.loop-to.self)
+  went = went_more c.args.space.now c.args.next.now c.loop-to.self c.loop-to.self c.args.cost c.loop-to.to-index c.loop-to.invariant.went (lowers_refl c.args.space.now c.loop-to.self)
       (λ _. inl (still_dead c.args.space.now c.args.self.now c.loop-to.self _ c.loop-to.invariant.spreads.lowers.starts (c.requires.first _ (Contains-get_or c.args.next.now c.loop-to.to-index 0 c.loop-to-test.true) c.if-to-first.true)));
 }
 
 pub returns-clause-went : goal.returns-clause-went
-returns-clause-went g c = went_all c.args.space.now c.args.next.now c.loop-to.self c.args.key c.loop-to.to-index c.loop-to-test.false c.loop-to.invariant.went
+returns-clause-went g c = went_all c.args.space.now c.args.next.now c.loop-to.self c.args.cost c.loop-to.to-index c.loop-to-test.false c.loop-to.invariant.went

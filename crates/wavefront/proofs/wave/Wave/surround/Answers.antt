@@ -1,5 +1,5 @@
 use Rattle.std.proofs.Common.{ap, sym, subst}
-use Rattle.wavefront.specs.Bounds.{IsCovered}
+use Rattle.wavefront.specs.kept.Bounds.{IsCovered}
 use Rattle.wavefront.proofs.wave.Wave.surround.Goals as goal
 
 pub returns-in_ok-surround-clause-kept : goal.returns-in_ok-surround-clause-kept

@@ -1,8 +1,8 @@
 use Rattle.std.proofs.Common.{◌∙◌, ap, arith, sym, subst, length}
 use Rattle.std.proofs.lemmas.Bool.{false≢true, eqb-true}
 use Rattle.wavefront.proofs.Lower.{expanded_complete, same_origins_trans}
-use Rattle.wavefront.specs.Wave.{label_at}
-use Rattle.wavefront.specs.Steps.{IsLowered, Spreads}
+use Rattle.wavefront.specs.kept.Wave.{label_at}
+use Rattle.wavefront.specs.kept.Steps.{IsLowered, Spreads}
 use Rattle.wavefront.proofs.LeastEntry.{spent_least, taken}
 use Rattle.wavefront.proofs.WaitsAgain.{waits_complete, waits_origins, waits_wave, waits_work}
 use Rattle.wavefront.proofs.wave.Wave.take_sink.Goals as goal
@@ -10,7 +10,7 @@ use Rattle.wavefront.proofs.wave.Wave.take_sink.Given.{Over}
 
 pub loop-self-preserved-then-label-entry : goal.loop-self-preserved-then-label-entry
 loop-self-preserved-then-label-entry g c =
-    let at = ap (λ l. l.key) c.label-label.ensures in
+    let at = ap (λ l. l.cost) c.label-label.ensures in
     record {
       wave = c.nearest-entry.ensures.nearest.wave;
       complete = c.nearest-entry.ensures.nearest.late (omega (arith, at, c.if-label-entry.true));
@@ -25,11 +25,11 @@ returns-then-is_open-clause-taken g c = taken c.args.space.now c.loop-self.self 
 
 pub loop-self-preserved : goal.loop-self-preserved
 loop-self-preserved g c =
-    let at = ap (λ l. l.key) c.label-label.ensures in
+    let at = ap (λ l. l.cost) c.label-label.ensures in
     let s = subst (λ w. Spreads c.args.space.now w c.expand.new.self) (c.in_ok-look_again.ensures.same c.if-branch.false ∙ c.fewest-fewest.ensures.same) c.in_ok-expand.ensures.spreads in
     record {
       wave = c.in_ok-expand.ensures.wave;
-      complete = expanded_complete c.args.space.now c.nearest-entry.new.self c.expand.new.self c.nearest-entry.result.node c.label-label.result.key c.nearest-entry.ensures.nearest.others s.lowers at c.in_ok-expand.ensures.went (λ h. false≢true (sym c.if-is_open.false ∙ c.is_open.ensures.1 h));
+      complete = expanded_complete c.args.space.now c.nearest-entry.new.self c.expand.new.self c.nearest-entry.result.node c.label-label.result.cost c.nearest-entry.ensures.nearest.others s.lowers at c.in_ok-expand.ensures.went (λ h. false≢true (sym c.if-is_open.false ∙ c.is_open.ensures.1 h));
       origins = same_origins_trans c.args.self.now c.nearest-entry.new.self c.expand.new.self (same_origins_trans c.args.self.now c.loop-self.self c.nearest-entry.new.self c.loop-self.invariant.origins c.nearest-entry.ensures.nearest.origins) s.origins;
     }
 

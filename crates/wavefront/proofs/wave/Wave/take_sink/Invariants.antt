@@ -1,6 +1,6 @@
 use Rattle.std.proofs.Common.{◌+◌}
-use Rattle.wavefront.specs.Wave.{IsWave, IsComplete, work_of}
-use Rattle.wavefront.specs.Steps.{SameOrigins}
+use Rattle.wavefront.specs.kept.Wave.{IsWave, IsComplete, work_of}
+use Rattle.wavefront.specs.kept.Steps.{SameOrigins}
 use Rattle.wavefront.proofs.wave.Wave.take_sink.Given as goal
 
 abbrev pub invariant-loop-self : goal.invariant-loop-self

@@ -1,5 +1,5 @@
 use Rattle.std.proofs.Common.{reverse}
-use Rattle.wavefront.specs.Wave.{key_of}
+use Rattle.wavefront.specs.kept.Wave.{cost_at}
 use Rattle.wavefront.proofs.Traced.{IsTracing}
 use Rattle.wavefront.proofs.wave.Wave.trace_back.Given as goal
 
@@ -7,4 +7,4 @@ abbrev pub invariant-loop-way : goal.invariant-loop-way
 invariant-loop-way g l = IsTracing l.space l.self l.node (reverse l.way.items) l.sink
 
 abbrev pub decreases-loop-way : goal.decreases-loop-way
-decreases-loop-way g l = key_of l.self l.node
+decreases-loop-way g l = cost_at l.self l.node

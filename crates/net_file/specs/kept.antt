@@ -1,0 +1,4 @@
+pub mod Fields
+pub mod NameNumbers
+pub mod Rows
+pub mod LinesSeen

@@ -1,0 +1,7 @@
+pub mod Answers
+pub mod Counted
+pub mod Ends
+pub mod Judged
+pub mod Listed
+pub mod Nets
+pub mod Walks

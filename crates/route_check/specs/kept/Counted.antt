@@ -1,0 +1,25 @@
+-- How often nodes were counted.
+use Rattle.std.specs.Prelude.{◌≡◌, ℕ, ◌+◌, ◌-◌, ◌<◌, ◌≤◌, ◌==◌, List, length, get_or, take, count_by, All}
+use Rattle.rr_graph.specs.Fabric.{Fabric}
+use Rattle.rr_graph.specs.Nodes.{node_at, node_count_of}
+use Rattle.rr_graph.specs.Problems.{RoutingProblem}
+use Rattle.route_tree.specs.Usage.{use_of, room_of, Lists}
+
+-- each of these nodes was counted once more, as often as it stands among them
+pub record Counts (old : List ℕ) (nodes : List ℕ) (new : List ℕ) : Type 0 where
+  pub size : length new ≡ length old
+  pub each : (a : ℕ) → get_or new a 0 ≡ get_or old a 0 + count_by (λ b. b == a) nodes
+
+-- the uses of the nodes by the first nets
+pub record AreUses (p : RoutingProblem) (lists : Lists) (nets : ℕ) (counts : List ℕ) : Type 0 where
+  pub size : length counts ≡ node_count_of p.device
+  pub each : (a : ℕ) → get_or counts a 0 ≡ use_of (take nets p.nets) (take nets lists) a
+
+-- by how much the count of a node is above its capacity
+abbrev pub excess_of : Fabric → (counts : List ℕ) → ℕ → ℕ
+excess_of f counts a = get_or counts a 0 - room_of f (node_at f a)
+
+-- each of these nodes has a count, which can grow as often as it stands among them
+pub record HasRoom (counts : List ℕ) (nodes : List ℕ) : Type 0 where
+  pub there : All (λ a. a < length counts) nodes
+  pub room : (a : ℕ) → get_or counts a 0 + count_by (λ b. b == a) nodes ≤ 65535

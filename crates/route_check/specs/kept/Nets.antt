@@ -1,0 +1,18 @@
+-- What the judging of one net of a routing tells, and of the first nets.
+use Rattle.std.specs.Prelude.{◌≡◌, ℕ, Option, Some, None}
+use Rattle.rr_graph.specs.Problems.{RoutingProblem}
+use Rattle.route_check.specs.declared.fault.RouteFault.{RouteFault}
+use Rattle.route_check.specs.Routed.{IsNetRouted}
+use Rattle.route_tree.specs.Usage.{Lists}
+use Rattle.route_check.specs.Faults.{HasRouteFault, stage_of, place_of}
+
+-- the fault is one of net i
+pub record IsNetFault (p : RoutingProblem) (lists : Lists) (i : ℕ) (fault : RouteFault) : Type 0 where
+  pub there : HasRouteFault p lists fault
+  pub stage : stage_of fault ≡ 2
+  pub place : place_of fault ≡ i
+
+-- the answer for net i: none where it is routed, else its fault
+abbrev pub JudgesNet : RoutingProblem → Lists → ℕ → Option RouteFault → Type 0
+JudgesNet p lists i None = IsNetRouted p lists i
+JudgesNet p lists i (Some fault) = IsNetFault p lists i fault

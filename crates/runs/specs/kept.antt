@@ -1,0 +1,4 @@
+pub mod Stages
+pub mod ReaderFaults
+pub mod Reading
+pub mod Routing

@@ -1,0 +1,25 @@
+-- What a run does with a problem.
+use Rattle.std.specs.Prelude.{ℕ, List, Option, None, Some}
+use Rattle.rr_graph.specs.Problems.{RoutingProblem}
+use Rattle.route_check.specs.Routed.{IsRouted}
+use Rattle.iteration.specs.declared.outcome.Outcome.{Outcome}
+use Rattle.iteration.specs.declared.outcome.Outcome.TheVariants.{Success, NotRouted}
+use Rattle.iteration.specs.Outcomes as negotiation
+use Rattle.runs.specs.RouteRun.{routed_text, left_text}
+use Rattle.rr_graph.specs.declared.parts.Mode.{Mode}
+use Rattle.width_search.specs.declared.report.LeastWidth.{LeastWidth}
+use Rattle.runs.specs.Inputs.{PlacedNetlist, placed_problem}
+
+abbrev pub outcome_text : Outcome → List ℕ
+outcome_text (Success lists iterations) = routed_text iterations
+outcome_text (NotRouted unrouted overused iterations) = left_text unrouted overused iterations
+
+-- a success is a routing of the problem
+abbrev pub RoutesProblem : RoutingProblem → Outcome → Type 0
+RoutesProblem p (Success lists iterations) = IsRouted p lists
+RoutesProblem p (NotRouted unrouted overused iterations) = Unit {0}
+
+-- the routing of the least width routes the problem on a device of that width
+abbrev pub RoutesLeast : Mode → PlacedNetlist → Option LeastWidth → Type 0
+RoutesLeast mode p (Some least) = IsRouted (placed_problem mode p least.width) least.routing
+RoutesLeast mode p None = Unit {0}
