@@ -32,6 +32,7 @@ struct Negotiation {
 
 impl Model for Negotiation {
     ghost use Rattle.std.specs.Prelude.{◌≤◌};
+    ghost use Rattle.node_cost.specs.Options.{most_workers};
     ghost use Rattle.congestion_book.specs.Contents.{IsFresh};
     ghost use Rattle.iteration.specs.Progress.{NegotiationState};
 

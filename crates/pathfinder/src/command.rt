@@ -4,6 +4,7 @@ ghost use Rattle.std.specs.Prelude.{◌≤◌, IfSome};
 ghost use Rattle.rr_graph.specs.Fabric.{longest_side, most_tracks};
 ghost use Rattle.node_cost.specs.Options.{most_workers};
 
+use crate::help;
 use clap::{Arg, ArgAction, ArgMatches, Command, value_parser};
 use node_cost::Settings;
 use std::alloc::{AllocError, Global};
@@ -20,19 +21,6 @@ const MOST_WORKERS: u32 = 16;
 /// The greatest present-congestion factor.
 const GREATEST_PRESENT: u32 = 1_048_576;
 
-/// What the help ends with, to be tried in `examples/uart`.
-const EXAMPLE: &str = "Example, in examples/uart:
-  pathfinder route uart.net k4n1.arch uart.place new.route --width 6
-  pathfinder check uart.net k4n1.arch uart.place new.route --width 6";
-
-/// What the help of `width` ends with, to be tried in `examples/uart`.
-const WIDTH_NOTE: &str =
-    "From the first width on it doubles until one is routed, and then halves the gap between
-the greatest that was not and the least that was. The width found is not the least possible.
-
-Example, in examples/uart:
-  pathfinder width uart.net k4n1.arch uart.place new.route";
-
 fn number<'a>(alloc: Global, name: &'a str, most: u32, help: &'a str) -> Arg<'a> {
     Arg::new(alloc, name)
         .required(true)
@@ -48,13 +36,18 @@ fn global_flag<'a>(alloc: Global) -> Arg<'a> {
     Arg::new(alloc, "global")
         .long("global")
         .action(ArgAction::SetTrue)
-        .help("Global routing: one node for each channel place")
+        .help("Global routing: each place of a channel is one node with room for W nets")
 }
 
 fn width<'a>(alloc: Global) -> Arg<'a> {
-    number(alloc, "width", MOST_TRACKS, "Tracks in a channel")
-        .long("width")
-        .value_name("W")
+    number(
+        alloc,
+        "width",
+        MOST_TRACKS,
+        "Tracks in each channel, 1 to 256",
+    )
+    .long("width")
+    .value_name("W")
 }
 
 /// A number of a negotiation, which need not be given.
@@ -77,22 +70,22 @@ fn setting<'a>(
 /// A command with the numbers of a negotiation.
 fn with_settings<'a>(alloc: Global, command: Command<'a>) -> Result<Command<'a>, AllocError> {
     command
+        .arg(setting(alloc, "workers", 1, MOST_WORKERS, "1", help::WORKERS))?
         .arg(setting(
             alloc,
-            "workers",
+            "iterations",
             1,
-            MOST_WORKERS,
-            "1",
-            "Threads that route at once",
+            500,
+            "30",
+            "Iterations at most, 1 to 500",
         ))?
-        .arg(setting(alloc, "iterations", 1, 500, "30", "The most iterations"))?
         .arg(setting(
             alloc,
             "first-pres",
             0,
             GREATEST_PRESENT,
             "8",
-            "The present-congestion factor of the first iteration",
+            help::FIRST_PRES,
         ))?
         .arg(setting(
             alloc,
@@ -100,41 +93,26 @@ fn with_settings<'a>(alloc: Global, command: Command<'a>) -> Result<Command<'a>,
             0,
             GREATEST_PRESENT,
             "8",
-            "The present-congestion factor of the second iteration",
+            "That of the second iteration, in sixteenths; 0 to 1048576",
         ))?
-        .arg(setting(
-            alloc,
-            "mult",
-            16,
-            256,
-            "32",
-            "By how many sixteenths the factor grows from then on",
-        ))?
-        .arg(setting(
-            alloc,
-            "acc",
-            0,
-            65_535,
-            "20",
-            "How much an overused node's cost grows with each iteration",
-        ))?
-        .arg(setting(
-            alloc,
-            "bb",
-            1,
-            255,
-            "3",
-            "How far from its terminals a net may be routed",
-        ))
+        .arg(setting(alloc, "mult", 16, 256, "32", help::MULT))?
+        .arg(setting(alloc, "acc", 0, 65_535, "20", help::ACC))?
+        .arg(setting(alloc, "bb", 1, 255, "3", help::BB))
+}
+
+/// A command with the three files of a placed design.
+fn with_design<'a>(alloc: Global, command: Command<'a>) -> Result<Command<'a>, AllocError> {
+    command
+        .arg(input(alloc, "NET", "The netlist, a .net file of VPR 4.30"))?
+        .arg(input(alloc, "ARCH", "The architecture file, .arch"))?
+        .arg(input(alloc, "PLACE", "The placement of the netlist"))
 }
 
 fn route_command<'a>(alloc: Global) -> Result<Command<'a>, AllocError> {
     let command = Command::new(alloc, "route")
-        .about("Route a placed netlist")
-        .after_help(EXAMPLE)
-        .arg(input(alloc, "NET", "The netlist"))?
-        .arg(input(alloc, "ARCH", "The architecture file"))?
-        .arg(input(alloc, "PLACE", "The placement"))?
+        .about("Route a placed netlist at a channel width")
+        .after_help(help::ROUTE);
+    let command = with_design(alloc, command)?
         .arg(input(
             alloc,
             "ROUTE",
@@ -147,11 +125,9 @@ fn route_command<'a>(alloc: Global) -> Result<Command<'a>, AllocError> {
 
 fn width_command<'a>(alloc: Global) -> Result<Command<'a>, AllocError> {
     let command = Command::new(alloc, "width")
-        .about("Search for the least channel width of a placed netlist")
-        .after_help(WIDTH_NOTE)
-        .arg(input(alloc, "NET", "The netlist"))?
-        .arg(input(alloc, "ARCH", "The architecture file"))?
-        .arg(input(alloc, "PLACE", "The placement"))?
+        .about("Search for the least channel width at which a placed netlist is routed")
+        .after_help(help::WIDTH);
+    let command = with_design(alloc, command)?
         .arg(input(
             alloc,
             "ROUTE",
@@ -163,7 +139,7 @@ fn width_command<'a>(alloc: Global) -> Result<Command<'a>, AllocError> {
             1,
             MOST_TRACKS,
             "12",
-            "The width that is tried first",
+            "The width that is tried first, in tracks, 1 to 256",
         ))?
         .arg(global_flag(alloc))?;
     with_settings(alloc, command)
@@ -172,33 +148,44 @@ fn width_command<'a>(alloc: Global) -> Result<Command<'a>, AllocError> {
 fn check_command<'a>(alloc: Global) -> Result<Command<'a>, AllocError> {
     let command = Command::new(alloc, "check")
         .about("Judge a routing of a placed netlist")
-        .arg(input(alloc, "NET", "The netlist"))?
-        .arg(input(alloc, "ARCH", "The architecture file"))?
-        .arg(input(alloc, "PLACE", "The placement"))?
+        .after_help(help::CHECK);
+    with_design(alloc, command)?
         .arg(input(alloc, "ROUTE", "The routing file that is judged"))?
-        .arg(width(alloc))?;
-    command.arg(global_flag(alloc))
+        .arg(width(alloc))?
+        .arg(global_flag(alloc))
 }
 
 fn graph_command<'a>(alloc: Global) -> Result<Command<'a>, AllocError> {
-    let command = Command::new(alloc, "graph")
+    Command::new(alloc, "graph")
         .about("Print the nodes and edges of a device's routing-resource graph")
+        .after_help(help::GRAPH)
         .arg(input(
             alloc,
             "ARCH",
-            "The architecture file; `stdin` is standard input",
+            "The architecture file, .arch; `stdin` is standard input",
         ))?
-        .arg(number(alloc, "NX", GREATEST_SIDE, "Logic blocks in a row"))?
-        .arg(number(alloc, "NY", GREATEST_SIDE, "Logic blocks in a column"))?
-        .arg(number(alloc, "W", MOST_TRACKS, "Tracks in a channel"))?;
-    command.arg(global_flag(alloc))
+        .arg(number(
+            alloc,
+            "NX",
+            GREATEST_SIDE,
+            "Logic blocks in a row, 1 to 100",
+        ))?
+        .arg(number(
+            alloc,
+            "NY",
+            GREATEST_SIDE,
+            "Logic blocks in a column, 1 to 100",
+        ))?
+        .arg(number(alloc, "W", MOST_TRACKS, "Tracks in each channel, 1 to 256"))?
+        .arg(global_flag(alloc))
 }
 
 /// The command line of the program.
 pub fn command<'a>(alloc: Global) -> Result<Command<'a>, AllocError> {
     Command::new(alloc, "pathfinder")
-        .about("Routes placed designs in the text formats of VPR 4.30")
-        .after_help(EXAMPLE)
+        .about("Routes placed designs in the text formats of VPR 4.30, and judges routings")
+        .version(help::VERSION)
+        .after_help(help::PROGRAM)
         .subcommand_required(true)
         .arg_required_else_help(true)
         .subcommand(route_command(alloc)?)?
@@ -207,13 +194,19 @@ pub fn command<'a>(alloc: Global) -> Result<Command<'a>, AllocError> {
         .subcommand(graph_command(alloc)?)
 }
 
-/// What the `route` command was given.
+/// The names of a design's files and of its routing.
 #[derive(Clone, Copy)]
-pub struct RouteWords<'a> {
+pub struct FileWords<'a> {
     pub net: &'a str,
     pub arch: &'a str,
     pub place: &'a str,
     pub route: &'a str,
+}
+
+/// What the `route` command was given.
+#[derive(Clone, Copy)]
+pub struct RouteWords<'a> {
+    pub files: FileWords<'a>,
     pub width: u32,
     pub global: bool,
     pub workers: u32,
@@ -223,10 +216,7 @@ pub struct RouteWords<'a> {
 /// What the `width` command was given.
 #[derive(Clone, Copy)]
 pub struct WidthWords<'a> {
-    pub net: &'a str,
-    pub arch: &'a str,
-    pub place: &'a str,
-    pub route: &'a str,
+    pub files: FileWords<'a>,
     pub start: u32,
     pub global: bool,
     pub workers: u32,
@@ -236,10 +226,7 @@ pub struct WidthWords<'a> {
 /// What the `check` command was given.
 #[derive(Clone, Copy)]
 pub struct CheckWords<'a> {
-    pub net: &'a str,
-    pub arch: &'a str,
-    pub place: &'a str,
-    pub route: &'a str,
+    pub files: FileWords<'a>,
     pub width: u32,
     pub global: bool,
 }
@@ -266,6 +253,16 @@ fn number_within(matches: &ArgMatches<'_>, name: &str, most: u32) -> Option<u32>
     }
 }
 
+/// The names of the files, all of which the parser asks for.
+fn file_words<'a>(matches: &ArgMatches<'a>) -> Option<FileWords<'a>> {
+    Some(FileWords {
+        net: matches.get_str("NET")?,
+        arch: matches.get_str("ARCH")?,
+        place: matches.get_str("PLACE")?,
+        route: matches.get_str("ROUTE")?,
+    })
+}
+
 /// The numbers of a negotiation; None where one is out of its range, which the parser refuses.
 fn settings(matches: &ArgMatches<'_>) -> Option<Settings> {
     let first = matches.get_one::<u32>("first-pres")?;
@@ -283,10 +280,7 @@ pub fn route_words<'a>(matches: &ArgMatches<'a>) -> Option<RouteWords<'a>>
     ensures workers { IfSome result (λ r. (1 ≤ r.workers) × (r.workers ≤ most_workers)) }
 {
     Some(RouteWords {
-        net: matches.get_str("NET")?,
-        arch: matches.get_str("ARCH")?,
-        place: matches.get_str("PLACE")?,
-        route: matches.get_str("ROUTE")?,
+        files: file_words(matches)?,
         width: number_within(matches, "width", MOST_TRACKS)?,
         global: matches.get_flag("global"),
         workers: number_within(matches, "workers", MOST_WORKERS)?,
@@ -300,10 +294,7 @@ pub fn width_words<'a>(matches: &ArgMatches<'a>) -> Option<WidthWords<'a>>
     ensures workers { IfSome result (λ w. (1 ≤ w.workers) × (w.workers ≤ most_workers)) }
 {
     Some(WidthWords {
-        net: matches.get_str("NET")?,
-        arch: matches.get_str("ARCH")?,
-        place: matches.get_str("PLACE")?,
-        route: matches.get_str("ROUTE")?,
+        files: file_words(matches)?,
         start: number_within(matches, "start", MOST_TRACKS)?,
         global: matches.get_flag("global"),
         workers: number_within(matches, "workers", MOST_WORKERS)?,
@@ -316,10 +307,7 @@ pub fn check_words<'a>(matches: &ArgMatches<'a>) -> Option<CheckWords<'a>>
     ensures { IfSome result (λ c. (1 ≤ c.width) × (c.width ≤ most_tracks)) }
 {
     Some(CheckWords {
-        net: matches.get_str("NET")?,
-        arch: matches.get_str("ARCH")?,
-        place: matches.get_str("PLACE")?,
-        route: matches.get_str("ROUTE")?,
+        files: file_words(matches)?,
         width: number_within(matches, "width", MOST_TRACKS)?,
         global: matches.get_flag("global"),
     })

@@ -3,6 +3,9 @@
 
 mod command;
 mod files;
+mod help;
+mod terminal;
+mod warning;
 
 ghost use Rattle.std.specs.Prelude.{◌≤◌};
 ghost use Rattle.rr_graph.specs.Fabric.{longest_side, most_tracks};
@@ -10,7 +13,7 @@ ghost use Rattle.node_cost.specs.Options.{most_workers};
 
 use clap::error::ErrorKind;
 use clap::{ArgMatches, Error as ClapError};
-use command::{CheckWords, GraphWords, RouteWords, WidthWords};
+use command::{CheckWords, FileWords, GraphWords, RouteWords, WidthWords};
 use files::{BehindProgress, NewFile};
 use iteration::Outcome;
 use route_check::RouteFault;
@@ -25,7 +28,9 @@ use std::rt::Runtime;
 use std::sync::Wait;
 use std::thread::Threads;
 use std::{env, fs, io};
+use terminal::{columns, takes_lines_back};
 use vpr_text::Adapted;
+use warning::doubt_of;
 use width_search::WidthReport;
 
 /// The status of words that the command line may not have.
@@ -75,7 +80,7 @@ fn run_route(
     let Some(given) = command::route_words(given) else {
         return BAD_WORDS;
     };
-    let progress = Progress::new(rt, is_watched);
+    let progress = progress_on(rt, is_watched);
     let answer = route(rt, given, &progress);
     progress.end();
     match answer {
@@ -93,7 +98,7 @@ fn run_width(
     let Some(given) = command::width_words(given) else {
         return BAD_WORDS;
     };
-    let progress = Progress::new(rt, is_watched);
+    let progress = progress_on(rt, is_watched);
     let answer = width(rt, given, &progress);
     progress.end();
     match answer {
@@ -135,16 +140,32 @@ fn refused(rt: &(impl Runtime + AllocGlobal), fault: AppFault) -> u8 {
     status(&fault)
 }
 
-/// Prints what clap says of the words, and answers the status: 0 for help that was asked for.
+/// Prints what clap says of the words, and answers the status: 0 for help and for the version where
+/// they were asked for.
 fn explained(rt: &(impl Runtime + AllocGlobal), error: &ClapError) -> u8 {
     if error.kind() == ErrorKind::OutOfMemory {
         return refused(rt, AppFault::Memory);
     }
     let printed = print!(rt; "{error}");
     match error.kind() {
-        ErrorKind::DisplayHelp if printed.is_err() => status(&AppFault::Unwritten),
-        ErrorKind::DisplayHelp => 0,
+        ErrorKind::DisplayHelp | ErrorKind::DisplayVersion if printed.is_err() => {
+            status(&AppFault::Unwritten)
+        }
+        ErrorKind::DisplayHelp | ErrorKind::DisplayVersion => 0,
         _ => BAD_WORDS,
+    }
+}
+
+/// What shows how far a run is, where standard error is watched and what is shown can be taken back.
+fn progress_on<R: Runtime>(rt: &R, is_watched: bool) -> Progress<'_, R> {
+    Progress::new(rt, is_watched && takes_lines_back(rt)).within(columns(rt))
+}
+
+/// Tells what is wrong with the name of the routing file, before anything is routed.
+fn warn(rt: &impl Runtime, files: &FileWords<'_>) {
+    if let Some(doubt) = doubt_of(rt, files) {
+        let route = files.route;
+        let _ = eprintln!(rt; "warning: {route} {doubt}");
     }
 }
 
@@ -171,10 +192,12 @@ fn route<R: Runtime + Threads + Wait + Sync + AllocGlobal>(
     requires tracks { (1 ≤ given.width) × (given.width ≤ most_tracks) }
     requires workers { (1 ≤ given.workers) × (given.workers ≤ most_workers) }
 {
-    let mut arch = open(rt, given.arch, InputFile::Arch)?;
-    let mut net = open(rt, given.net, InputFile::Net)?;
-    let mut place = open(rt, given.place, InputFile::Place)?;
-    let mut route = Adapted::new(NewFile::new(rt, given.route));
+    let mut arch = open(rt, given.files.arch, InputFile::Arch)?;
+    let mut net = open(rt, given.files.net, InputFile::Net)?;
+    let mut place = open(rt, given.files.place, InputFile::Place)?;
+    warn(rt, &given.files);
+    let file = NewFile::new(rt, given.files.route);
+    let mut route = Adapted::new(BehindProgress::new(file, progress));
     let mut out = Adapted::new(BehindProgress::new(io::writer(rt), progress));
     let (width, mode, settings) = (given.width, mode_of(given.global), given.settings);
     route_run(
@@ -201,10 +224,12 @@ fn width<R: Runtime + Threads + Wait + Sync + AllocGlobal>(
     requires start { (1 ≤ given.start) × (given.start ≤ most_tracks) }
     requires workers { (1 ≤ given.workers) × (given.workers ≤ most_workers) }
 {
-    let mut arch = open(rt, given.arch, InputFile::Arch)?;
-    let mut net = open(rt, given.net, InputFile::Net)?;
-    let mut place = open(rt, given.place, InputFile::Place)?;
-    let mut route = Adapted::new(NewFile::new(rt, given.route));
+    let mut arch = open(rt, given.files.arch, InputFile::Arch)?;
+    let mut net = open(rt, given.files.net, InputFile::Net)?;
+    let mut place = open(rt, given.files.place, InputFile::Place)?;
+    warn(rt, &given.files);
+    let file = NewFile::new(rt, given.files.route);
+    let mut route = Adapted::new(BehindProgress::new(file, progress));
     let mut out = Adapted::new(BehindProgress::new(io::writer(rt), progress));
     let (start, mode, settings) = (given.start, mode_of(given.global), given.settings);
     width_run(
@@ -229,10 +254,10 @@ fn check(
 ) -> Result<Option<RouteFault>, AppFault>
     requires { (1 ≤ given.width) × (given.width ≤ most_tracks) }
 {
-    let mut arch = open(rt, given.arch, InputFile::Arch)?;
-    let mut net = open(rt, given.net, InputFile::Net)?;
-    let mut place = open(rt, given.place, InputFile::Place)?;
-    let mut route = open(rt, given.route, InputFile::Route)?;
+    let mut arch = open(rt, given.files.arch, InputFile::Arch)?;
+    let mut net = open(rt, given.files.net, InputFile::Net)?;
+    let mut place = open(rt, given.files.place, InputFile::Place)?;
+    let mut route = open(rt, given.files.route, InputFile::Route)?;
     let mut out = Adapted::new(io::writer(rt));
     let (width, mode) = (given.width, mode_of(given.global));
     check_run(

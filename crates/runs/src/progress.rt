@@ -2,6 +2,7 @@
 
 use net_workers::{Gate, TrialEnd};
 use std::fmt;
+use std::fmt::Write;
 use std::io::Eprint;
 use std::sync::atomic::{AtomicBool, AtomicU32, AtomicU64, Ordering};
 use std::time::{Clock, Duration};
@@ -12,6 +13,14 @@ const PAUSE: u64 = 100;
 /// What clears the line of a terminal, from its beginning on.
 const CLEAR: &str = "\r\x1b[K";
 
+/// What stops a terminal from going on in the next row at the end of one, and what lets it again.
+const CUT: &str = "\x1b[?7l";
+
+const WRAP: &str = "\x1b[?7h";
+
+/// How many columns a terminal has of which nothing is known.
+const COLUMNS: u32 = 80;
+
 /// A time, printed in seconds.
 #[derive(Clone, Copy, Debug)]
 struct Seconds {
@@ -19,7 +28,7 @@ struct Seconds {
 }
 
 impl fmt::Display for Seconds {
-    fn fmt<W: fmt::Write>(&self, f: &mut fmt::Formatter<W>) -> fmt::Result {
+    fn fmt<W: Write>(&self, f: &mut fmt::Formatter<W>) -> fmt::Result {
         let (seconds, tenths) = (self.milliseconds / 1000, self.milliseconds % 1000 / 100);
         write!(f, "{seconds}.{tenths} s")
     }
@@ -40,7 +49,7 @@ struct Standing {
 }
 
 impl fmt::Display for Standing {
-    fn fmt<W: fmt::Write>(&self, f: &mut fmt::Formatter<W>) -> fmt::Result {
+    fn fmt<W: Write>(&self, f: &mut fmt::Formatter<W>) -> fmt::Result {
         let Standing {
             width,
             iteration,
@@ -51,21 +60,65 @@ impl fmt::Display for Standing {
         if width > 0 {
             write!(f, "width {width}, ")?;
         }
-        write!(f, "iteration {iteration}: {turns} of {nets} nets")?;
+        let (net, node) = (plural(nets), plural(overused));
+        write!(f, "iteration {iteration}: {turns} of {nets} net{net}")?;
         if iteration > 1 {
-            write!(f, ", {overused} nodes overused before")?;
+            write!(f, ", {overused} node{node} overused before")?;
         }
         Ok(())
     }
 }
 
+/// The end of a word of which there are so many.
+fn plural(count: u32) -> &'static str {
+    if count == 1 { "" } else { "s" }
+}
+
+/// Passes on the front of a text, for which there is room, and drops the rest.
+#[derive(Drop)]
+struct Front<'a, W> {
+    out: &'a mut W,
+    room: usize,
+}
+
+impl<W: Write> Write for Front<'_, W> {
+    fn write_str(&mut self, text: &str) -> fmt::Result {
+        let front = text.get(..self.room).unwrap_or(text);
+        self.room = self.room.saturating_sub(front.len());
+        self.out.write_str(front)
+    }
+}
+
+/// The line as it is shown, so far as there is room for it.
+#[derive(Clone, Copy, Debug)]
+struct Line {
+    standing: Standing,
+    time: Seconds,
+    room: usize,
+}
+
+impl fmt::Display for Line {
+    fn fmt<W: Write>(&self, f: &mut fmt::Formatter<W>) -> fmt::Result {
+        let Line {
+            standing,
+            time,
+            room,
+        } = *self;
+        let mut front = Front { out: f, room };
+        write!(front, "{standing}, {time}")
+    }
+}
+
 /// A gate that keeps a line on standard error up to date, for people who look at a terminal: the width, where widths are tried, the
 /// iteration, how many nets had their turn in it of all, how many nodes were overused after the last close, and the time since it was
-/// made. The line ends by `end`; after each trial of a width one stays that tells what it came to.
+/// made. It is no longer than the terminal's row. The line ends by `end`; after each trial of a width one stays that tells what it
+/// came to.
 #[derive(Drop)]
 pub struct Progress<'a, R> {
     rt: &'a R,
     is_wanted: bool,
+    /// How many columns the terminal has.
+    columns: u32,
     begin: Duration,
     /// The width that is tried; 0 where there is no search of widths.
     width: AtomicU32,
@@ -79,11 +132,12 @@ pub struct Progress<'a, R> {
 }
 
 impl<'a, R: Eprint + Clock> Progress<'a, R> {
-    /// One that begins now; where it isn't wanted it never writes.
+    /// One that begins now, on a terminal of 80 columns; where it isn't wanted it never writes.
     pub fn new(rt: &'a R, is_wanted: bool) -> Progress<'a, R> {
         Progress {
             rt,
             is_wanted,
+            columns: COLUMNS,
             begin: rt.monotonic().unwrap_or(Duration::ZERO),
             width: AtomicU32::new(0),
             iteration: AtomicU32::new(1),
@@ -93,6 +147,12 @@ impl<'a, R: Eprint + Clock> Progress<'a, R> {
             due: AtomicU64::new(PAUSE),
             is_shown: AtomicBool::new(false),
         }
+    }
+
+    /// The same on a terminal of so many columns.
+    pub fn within(mut self, columns: u32) -> Progress<'a, R> {
+        self.columns = columns;
+        self
     }
 
     /// The milliseconds since it was made.
@@ -114,10 +174,14 @@ impl<'a, R: Eprint + Clock> Progress<'a, R> {
             nets: self.nets.load(Ordering::SeqCst),
             overused: self.overused.load(Ordering::SeqCst),
         };
-        let time = Seconds {
-            milliseconds: elapsed,
+        let line = Line {
+            standing,
+            time: Seconds {
+                milliseconds: elapsed,
+            },
+            room: self.columns.saturating_sub(1) as usize,
         };
-        let _ = eprint!(self.rt; "{CLEAR}{standing}, {time}");
+        let _ = eprint!(self.rt; "{CLEAR}{CUT}{line}{WRAP}");
     }
 
     /// Takes the line away, where it was written.

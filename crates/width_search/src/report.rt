@@ -28,6 +28,7 @@ pub struct WidthReport {
 
 impl Model for WidthReport {
     ghost use Rattle.std.specs.Prelude.{◌≤◌, IfSome};
+    ghost use Rattle.rr_graph.specs.Fabric.{most_tracks};
     ghost use Rattle.width_search.specs.Reports.{Report};
 
     ghost Value = { Report };

@@ -1,0 +1,125 @@
+//! What the helps and the version say in more than a line.
+
+/// What `--version` prints after the name: the version, and what the program routes by.
+pub const VERSION: &str = "1.0.0 (formats of VPR 4.30, negotiated congestion)";
+
+/// The end of the program's help.
+pub const PROGRAM: &str = "\
+Example, in examples/uart:
+  $ pathfinder route uart.net k4n1.arch uart.place new.route --width 6
+  routed, iterations 5
+  $ pathfinder check uart.net k4n1.arch uart.place new.route --width 6
+  legal
+
+Exit status, of all commands:
+  0  done: routed, a routed width was found, legal, or the listing was printed
+  2  words that the command line may not have
+  3  not routed, no routed width, or not legal
+  4  bad input, as `error: arch line 10: Unsupported`; docs/FORMATS.md has all faults
+  5  reading or writing failed
+  6  memory ran out, or a thread could not be started
+
+All answers and errors are printed on standard output. On standard error stand warnings of a
+ROUTE that can't be written or is an input too, and, on a terminal, how far the routing is.";
+
+/// The end of the help of `route`.
+pub const ROUTE: &str = "\
+It prints one of
+  routed, iterations 3
+  not routed: unrouted 0, overused 1, iterations 30
+where `unrouted` counts the nets that found no path, and `overused` the nodes that too many use.
+
+Example, in examples/uart:
+  $ pathfinder route uart.net k4n1.arch uart.place new.route --width 6
+  routed, iterations 5
+
+Exit status:
+  0  routed
+  2  words that the command line may not have
+  3  not routed; ROUTE is left alone
+  4  bad input, as `error: arch line 10: Unsupported`
+  5  reading or writing failed
+  6  memory ran out, or a thread could not be started";
+
+/// The end of the help of `width`.
+pub const WIDTH: &str = "\
+From the first width on it doubles until one is routed, up to 256, and then halves the gap between
+the greatest that was not and the least that was. It prints a line for each width that it tried,
+and a last one. A lesser width than the one found may be routable all the same.
+
+Example, in examples/uart:
+  $ pathfinder width uart.net k4n1.arch uart.place new.route
+  width 12: routed
+  width 6: routed
+  width 3: not routed
+  width 4: routed
+  least routed width: 4
+
+Exit status:
+  0  a width was routed
+  2  words that the command line may not have
+  3  no width was routed; ROUTE is left alone
+  4  bad input, as `error: arch line 10: Unsupported`
+  5  reading or writing failed
+  6  memory ran out, or a thread could not be started";
+
+/// The end of the help of `check`.
+pub const CHECK: &str = "\
+It prints `legal`, or what is wrong first, as
+  not legal: net 0 (a): NoSwitch
+  not legal: node 39 CHANY (0,1) Track: 0 overused by 1
+docs/FORMATS.md has the cause of each fault, and what to do.
+
+Example, in examples/uart:
+  $ pathfinder check uart.net k4n1.arch uart.place uart.route --width 6
+  legal
+
+Exit status:
+  0  legal
+  2  words that the command line may not have
+  3  not legal
+  4  bad input, as `error: route line 10: NoNode`
+  5  reading or writing failed
+  6  memory ran out, or a thread could not be started";
+
+/// The end of the help of `graph`.
+pub const GRAPH: &str = "\
+It prints how many nodes and edges there are, a line for each node, and a line for each edge.
+
+Example, in examples/uart:
+  $ pathfinder graph k4n1.arch 1 1 1
+  45 nodes, 51 edges
+  0 SOURCE (0,1) Pad: 0 cap 1
+  ..
+
+Exit status:
+  0  printed
+  2  words that the command line may not have
+  4  bad input, as `error: arch line 10: Unsupported`
+  5  reading or writing failed
+  6  memory ran out";
+
+/// The help of `--workers`.
+pub const WORKERS: &str = "\
+Threads that route at once, 1 to 16; with more than one the routing
+differs from run to run";
+
+/// The help of `--first-pres`.
+pub const FIRST_PRES: &str = "\
+The present-congestion factor of the first iteration, in sixteenths:
+8 is 0.5; 0 to 1048576";
+
+/// The help of `--mult`.
+pub const MULT: &str = "\
+What it is multiplied by in each later iteration, in sixteenths:
+32 doubles it; 16 to 256";
+
+/// The help of `--acc`.
+pub const ACC: &str = "\
+What a node costs more after each iteration that overuses it, for each
+net too many: 20 is what one wire costs at first; 0 to 65535";
+
+/// The help of `--bb`.
+pub const BB: &str = "\
+How many places outside the box of its terminals a net may be routed,
+1 to 255";

@@ -1,0 +1,116 @@
+//! What is reported of ROUTE before anything is routed: that it can't be written, or shouldn't be.
+//! To find that out nothing is created and nothing is written.
+
+use crate::command::FileWords;
+use std::fmt;
+use std::fs::{Files, Metadata, OpenOptions};
+use std::os::unix::fs::MetadataExt;
+use std::path::Path;
+
+/// The bits of a mode by which a file's owner may write it, and those by which anybody else may.
+const OWNER_WRITES: u32 = 0o200;
+
+const OTHERS_WRITE: u32 = 0o022;
+
+/// What is wrong with the name of a routing file.
+#[derive(Clone, Copy, Debug, PartialEq, Eq)]
+pub enum Doubt<'a> {
+    /// It is the name of a folder.
+    Folder,
+    /// The folder in which it would stand isn't there.
+    NoFolder(&'a str),
+    /// It would be made in this folder, in which we may make no file.
+    ClosedFolder(&'a str),
+    /// It is there, and we may not write it.
+    Closed,
+    /// It is the input of this name too.
+    Input(&'a str),
+}
+
+impl fmt::Display for Doubt<'_> {
+    fn fmt<W: fmt::Write>(&self, f: &mut fmt::Formatter<W>) -> fmt::Result {
+        match *self {
+            Doubt::Folder => write!(f, "cannot be written: it is a folder"),
+            Doubt::NoFolder(folder) => {
+                write!(f, "cannot be written: there is no folder {folder}")
+            }
+            Doubt::ClosedFolder(folder) => {
+                write!(
+                    f,
+                    "cannot be written: no file may be made in the folder {folder}"
+                )
+            }
+            Doubt::Closed => write!(f, "cannot be written: it may not be"),
+            Doubt::Input(name) => {
+                write!(f, "is the input {name} too, and would be written over it")
+            }
+        }
+    }
+}
+
+/// What is wrong with ROUTE, so far as it can be known; a device, a pipe and the like aren't asked.
+pub fn doubt_of<'a, R: Files>(rt: &R, files: &FileWords<'a>) -> Option<Doubt<'a>> {
+    let route = files.route;
+    match rt.metadata(route) {
+        Ok(found) if found.is_dir() => Some(Doubt::Folder),
+        Ok(found) if found.is_file() => doubt_of_file(rt, files, &found),
+        Ok(_) => None,
+        Err(_) if route.ends_with('/') => Some(Doubt::Folder),
+        Err(_) if rt.symlink_metadata(route).is_ok() => None,
+        Err(_) => doubt_of_place(rt, route),
+    }
+}
+
+/// What is wrong with a ROUTE that is there.
+fn doubt_of_file<'a, R: Files>(
+    rt: &R,
+    files: &FileWords<'a>,
+    found: &Metadata,
+) -> Option<Doubt<'a>> {
+    if !may_be_written(rt, files.route) {
+        return Some(Doubt::Closed);
+    }
+    [files.arch, files.net, files.place]
+        .into_iter()
+        .find(|input| is_same_file(rt, input, found))
+        .map(|input| Doubt::Input(input))
+}
+
+/// Whether a file that is there can be opened for writing, which leaves it as it is.
+fn may_be_written<R: Files>(rt: &R, name: &str) -> bool {
+    OpenOptions::new().write(true).open(rt, name).is_ok()
+}
+
+/// Whether a name leads to a file that was found by another one.
+fn is_same_file<R: Files>(rt: &R, name: &str, found: &Metadata) -> bool {
+    match rt.metadata(name) {
+        Ok(other) => other.dev() == found.dev() && other.ino() == found.ino(),
+        Err(_) => false,
+    }
+}
+
+/// What is wrong with the place of a file that isn't there.
+fn doubt_of_place<'a, R: Files>(rt: &R, name: &'a str) -> Option<Doubt<'a>> {
+    let folder = match Path::new(name).parent() {
+        Some(folder) if !folder.as_str().is_empty() => folder.as_str(),
+        _ => ".",
+    };
+    match rt.metadata(folder) {
+        Ok(found) if found.is_dir() => is_closed(rt, &found).then_some(Doubt::ClosedFolder(folder)),
+        _ => Some(Doubt::NoFolder(folder)),
+    }
+}
+
+/// Whether a folder's mode lets us make no file in it. A process owns its entry in /proc; which
+/// groups it is in can't be asked, so one that its group may write is taken for open.
+fn is_closed<R: Files>(rt: &R, folder: &Metadata) -> bool {
+    let Ok(own) = rt.metadata("/proc/self") else {
+        return false;
+    };
+    let bits = if own.uid() == folder.uid() {
+        OWNER_WRITES
+    } else {
+        OTHERS_WRITE
+    };
+    own.uid() != 0 && folder.mode() & bits == 0
+}
