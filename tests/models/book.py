@@ -40,6 +40,24 @@ class Book:
         view.others, view.histories = self.uses(net), list(self.histories)
         return str(net)
 
+    def look(self, net, view):
+        if net >= len(self.nets):
+            return "refused: there is no such net"
+        if len(view) != len(self.device.nodes):
+            return "ViewSize"
+        view.others, view.histories = self.uses(net), list(self.histories)
+        return "looked"
+
+    def has_filled(self, net, rows, view):
+        """Whether a node is full now by the other nets, and was not by those in the view."""
+        if net >= len(self.nets):
+            return "refused: there is no such net"
+        if len(view) != len(self.device.nodes):
+            return "refused: the view is of other nodes"
+        now, room = self.uses(net), [self.device.capacity(node) for node in self.device.nodes]
+        filled = any(view.others[a] < room[a] <= now[a] for a, _ in rows if a < len(room))
+        return "true" if filled else "false"
+
     def commit(self, worker, net, rows):
         if self.holders.get(net) != worker:
             return "NotHeld"

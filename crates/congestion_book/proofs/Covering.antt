@@ -15,6 +15,7 @@ use Rattle.route_tree.specs.Usage.{covers, use_by}
 use Rattle.route_tree.proofs.LegalLists.{counts_covered, covers_nodes, leaves_source}
 use Rattle.route_tree.proofs.Trees.{covers_rows}
 use Rattle.route_tree.proofs.Members.{one_passes}
+use Rattle.congestion_book.specs.Turns.{one_if}
 use Rattle.congestion_book.specs.kept.Usage.{times_in, AddsEach, TakesEach}
 use Rattle.congestion_book.specs.kept.Counts.{GainsNet, LosesNet}
 
@@ -57,6 +58,10 @@ module _ (p : RoutingProblem) (i : ℕ) (rows : List Row) (tree : IsTree rows) (
       let n = net_in p.nets i in
       let nodes : nodes_of rows ≡ n.source ∷ ends_of (pairs_of rows) = nodes_are rows tree ∙ ap (λ b. b ∷ ends_of (pairs_of rows)) start in
       sym (ap (λ ns. times_in ns a) nodes ∙ counts_covered p.device n (pairs_of rows) route.legal a)
+
+  -- and 1 where the tree covers the node
+  pub use_covers : (a : ℕ) → one_if (covers (node_in rows 0) (pairs_of rows) a) ≡ use_by (net_in p.nets i) (Some (pairs_of rows)) a
+  use_covers a = ap (λ s. one_if (covers s (pairs_of rows) a)) start
 
   pub rows_there : All (λ r. r.node < node_count_of p.device) rows
   rows_there k d l =

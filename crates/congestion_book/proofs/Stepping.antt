@@ -8,6 +8,7 @@ use Rattle.route_tree.specs.Usage.{list_in}
 use Rattle.congestion_book.specs.kept.Views.{SeesOthers}
 use Rattle.congestion_book.specs.Contents.{Content}
 use Rattle.congestion_book.specs.Steps.{Draws}
+use Rattle.congestion_book.specs.Looks.{Looks}
 use Rattle.node_cost.specs.Views.{NetView}
 use Rattle.congestion_book.specs.kept.Closing.{TellsClosing}
 use Rattle.congestion_book.specs.declared.faults.CloseFault.TheVariants.{Unfinished, Full}
@@ -32,6 +33,12 @@ draws_net b kept seen view worker net t size gives sees =
       ap (with_turns b) gives.2,
       view_is (content_of b) kept.sound net low view sees,
     )
+
+pub looks_net : (b : Inside) (kept : IsBookInside b) (seen view : NetView) (net : ℕ) (done : Unit {0}) → length seen ≡ node_count_of b.problem.device →
+    net < length b.problem.nets →
+    SeesOthers b.problem net (list_in (lists_of_trees b.routes.trees.items) net) b.routes.usage.counts b.history.histories view →
+    Looks (content_of b) seen net (Ok done) view
+looks_net b kept seen view net done size low sees = (size, view_is (content_of b) kept.sound net low view sees)
 
 -- ---- a close
 module _ (b : Inside) (kept : IsBookInside b) where

@@ -5,6 +5,7 @@
 mod book;
 mod events;
 mod faults;
+mod filling;
 mod history;
 mod look_ups;
 mod routes;

@@ -7,11 +7,14 @@ ghost use Rattle.route_tree.specs.Usage.{use_of, list_in};
 ghost use Rattle.node_cost.specs.Options.{most_iterations};
 ghost use Rattle.congestion_book.specs.Recorded.{unrouted_in, overused_in};
 ghost use Rattle.congestion_book.specs.Histories.{history_of};
-ghost use Rattle.congestion_book.specs.Contents.{IsSound, IsFresh, node_total, turns_of};
+ghost use Rattle.congestion_book.specs.Contents.{IsSound, IsFresh, net_count, node_total, turns_of};
+ghost use Rattle.congestion_book.specs.Looks.{Looks, have_filled};
 
 use crate::book::Book;
+use crate::faults::DrawFault;
 use crate::history::OveruseRow;
 use crate::turn::Turn;
+use node_cost::View;
 use route_tree::Tree;
 use rr_graph::Problem;
 
@@ -90,6 +93,29 @@ impl Book {
         ensures { result ≡ unrouted_in self.now.lists }
     {
         self.routes.unrouted
+    }
+
+    /// Fills the view of a net as a draw does, by the trees as they are now. A view of another size is refused, and stays as it was.
+    pub fn look(&self, net: u32, view: &mut View) -> Result<(), DrawFault>
+        requires { net < net_count self.now }
+        ensures { Looks self.now view.old net result view.new }
+    {
+        if view.len() != self.problem.device().node_count() as usize {
+            return Err(DrawFault::ViewSize);
+        }
+        let histories = self.history.histories();
+        self.routes.show(view, &self.problem, net, histories);
+        Ok(())
+    }
+
+    /// Whether a node of a tree is full now by the nets but this one, and was not by those in the view.
+    pub fn has_filled(&self, net: u32, tree: &Tree, view: &View) -> bool
+        requires net { net < net_count self.now }
+        requires size { length view.now ≡ node_total self.now }
+        ensures { result ≡ have_filled self.now net view.now tree.now }
+    {
+        let rows = tree.as_slice();
+        self.routes.has_filled(&self.problem, net, rows, view)
     }
 
     /// Whether nothing was drawn in the open iteration.

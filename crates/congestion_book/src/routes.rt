@@ -4,6 +4,8 @@ ghost use Rattle.std.specs.Prelude.{◌≡◌, ◌<◌, ◌≤◌, ◌+◌, ℕ,
 ghost use Rattle.std.specs.Arc.{arc_value};
 ghost use Rattle.congestion_book.specs.Histories.{amount_in, row_of};
 ghost use Rattle.congestion_book.specs.kept.Views.{SeesOthers};
+ghost use Rattle.congestion_book.specs.Looks.{has_filled};
+ghost use Rattle.std.specs.List.{list_any};
 ghost use Rattle.rr_graph.specs.Nodes.{node_count_of};
 ghost use Rattle.rr_graph.specs.Problems.{net_in};
 ghost use Rattle.route_tree.specs.Faults.{IsRoute};
@@ -16,6 +18,7 @@ ghost use Rattle.congestion_book.specs.kept.Usage.{overused_by};
 ghost use Rattle.congestion_book.specs.Recorded.{occupancies_of};
 ghost use Rattle.congestion_book.specs.kept.Counts.{RoutesOrNone, HasRoom, HasRoomInPlace, IsCounted, GainsNet, LosesNet, ChangesNet};
 
+use crate::filling::any_filled;
 use crate::history::OveruseRow;
 use crate::showing::show;
 use crate::usage::{Usage, one_if};
@@ -184,6 +187,21 @@ impl Routes {
         let _limits = problem.nets();
         let tree = &self.trees[net as usize];
         show(view, problem, net, tree, &self.usage.counts, histories);
+    }
+}
+
+impl Routes {
+    /// Whether a node of the tree of these rows is full now by the nets but this one, and was not by those in the view.
+    pub(crate) fn has_filled(&self, problem: &Problem, net: u32, rows: &[Row], view: &View) -> bool
+        requires there { net < length problem.now.nets }
+        requires recorded { AreExact problem.now self.now }
+        requires size { length view.now ≡ node_count_of problem.now.device }
+        ensures { result ≡ list_any
+            (λ r. has_filled problem.now (lists_kept self.now) net view.now r.node) rows.now }
+    {
+        let _limits = problem.nets();
+        let tree = &self.trees[net as usize];
+        any_filled(view, problem, net, tree, &self.usage.counts, rows)
     }
 }
 

@@ -1,3 +1,2 @@
-pub mod Crews
 pub mod Progress
 pub mod Outcomes

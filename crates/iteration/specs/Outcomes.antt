@@ -9,7 +9,7 @@ use Rattle.congestion_book.specs.Contents.{Content, IsSound}
 use Rattle.net_workers.specs.Searches.{IsStuckNet}
 use Rattle.iteration.specs.declared.outcome.Outcome.{Outcome}
 use Rattle.iteration.specs.declared.outcome.Outcome.TheVariants.{Success, NotRouted}
-use Rattle.iteration.specs.Progress.{NegotiationState, IsReached, goes_on, unrouted_of, overused_of}
+use Rattle.iteration.specs.Progress.{IsReached, goes_on, unrouted_of, overused_of}
 
 -- The outcome tells what a book holds: its trees, where each net has one and no node is overused; else how many nets have none and how
 -- many nodes are overused. It tells of as many iterations as the book has rows.
@@ -18,12 +18,12 @@ IsOutcomeOf c (Success lists iterations) = (lists ≡ c.lists) × (iterations �
 IsOutcomeOf c (NotRouted unrouted overused iterations) =
     (unrouted ≡ unrouted_of c) × (overused ≡ overused_of c) × (iterations ≡ length c.rows) × (1 ≤ unrouted + overused)
 
--- the outcome is that of the first state of a negotiation from which it doesn't go on
+-- the outcome is that of the first book of a negotiation with which it doesn't go on
 pub record EndsNegotiation (p : RoutingProblem) (o : RouterOptions) (workers : ℕ) (outcome : Outcome) : Type 0 where
-  pub last : NegotiationState
+  pub last : Content
   pub reached : IsReached p o workers last
-  pub ended : goes_on o last.book ≡ false
-  pub reported : IsOutcomeOf last.book outcome
+  pub ended : goes_on o last ≡ false
+  pub reported : IsOutcomeOf last outcome
 
 -- a book of this problem, with these options, after so many iterations
 pub record IsBookAfter (p : RoutingProblem) (o : RouterOptions) (iterations : ℕ) (c : Content) : Type 0 where

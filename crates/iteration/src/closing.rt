@@ -35,17 +35,17 @@ pub(crate) fn make_iteration<R: Threads + Wait + Sync, G: Gate + Sync>(
     alloc: Global,
     book: Book,
     settings: &Settings,
-    crew: u32,
+    workers: u32,
     gate: &G,
 ) -> Result<Book, WorkFault>
     requires fresh { IsFresh book }
     requires few { length book.rows < most_iterations }
-    requires crew { (1 ≤ crew) × (crew ≤ most_workers) }
-    ensures { IfOk result (IsIteration settings.now crew book) }
+    requires workers { (1 ≤ workers) × (workers ≤ most_workers) }
+    ensures { IfOk result (IsIteration settings.now workers book) }
 {
     let iteration = book.rows().len() as u32 + 1;
     gate.opened(iteration, book.problem().nets());
-    let (mut book, _reports) = iterate(rt, alloc, book, settings, iteration, crew, gate)?;
+    let (mut book, _reports) = iterate(rt, alloc, book, settings, iteration, workers, gate)?;
     close(alloc, &mut book)?;
     let _sound = book.problem();
     gate.closed(iteration, book.unrouted(), book.overused());

@@ -2,7 +2,6 @@
 #![tactic(auto)]
 
 mod closing;
-mod crew;
 mod negotiation;
 mod outcome;
 mod routing;

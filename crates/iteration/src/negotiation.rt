@@ -2,12 +2,12 @@
 
 ghost use Rattle.std.specs.Prelude.{◌≡◌, ◌<◌, ◌≤◌, false, length, IfOk, IfErr};
 ghost use Rattle.node_cost.specs.Options.{most_workers};
+ghost use Rattle.congestion_book.specs.Contents.{opening};
 ghost use Rattle.net_workers.specs.declared.fault.WorkFault.TheVariants.{Memory};
-ghost use Rattle.iteration.specs.Progress.{IsNextState, IsReached, beginning, goes_on, unrouted_of, overused_of};
+ghost use Rattle.iteration.specs.Progress.{IsIteration, IsReached, goes_on, unrouted_of, overused_of};
 ghost use Rattle.iteration.specs.Outcomes.{IsOutcomeOf, EndsNegotiation, IsOutcome};
 
 use crate::closing::make_iteration;
-use crate::crew::{EndedIteration, largest_crew, next_crew};
 use crate::outcome::Outcome;
 use crate::routing::routing_of;
 use congestion_book::Book;
@@ -21,57 +21,47 @@ use std::marker::Model;
 use std::sync::Wait;
 use std::thread::Threads;
 
-/// Where a negotiation stands between two iterations. Contracts see the record of the book, of how many workers make the next iteration,
-/// and of how many nodes were overused after the last one.
+/// Where a negotiation stands between two iterations. Contracts see the content of its book.
 #[derive(Drop)]
 struct Negotiation {
     book: Book,
-    crew: u32,
-    overused: Option<u32>,
 }
 
 impl Model for Negotiation {
-    ghost use Rattle.std.specs.Prelude.{◌≤◌};
-    ghost use Rattle.node_cost.specs.Options.{most_workers};
-    ghost use Rattle.congestion_book.specs.Contents.{IsFresh};
-    ghost use Rattle.iteration.specs.Progress.{NegotiationState};
+    ghost use Rattle.congestion_book.specs.Contents.{Content, IsFresh};
 
-    ghost Value = { NegotiationState };
+    ghost Value = { Content };
 
-    ghost view = { λ n. record { book = n.book; crew = n.crew; overused = n.overused } };
+    ghost view = { λ n. n.book };
 
-    ghost invariant = { λ n. IsFresh n.book × (1 ≤ n.crew) × (n.crew ≤ most_workers) };
+    ghost invariant = { λ n. IsFresh n.book };
 }
 
 impl Negotiation {
-    /// Before the first iteration, which all workers make.
+    /// Before the first iteration.
     #[tactic(auto, using(crate::proofs::Advancing::fresh_opening))]
     fn begin(
         alloc: Global,
         problem: Problem,
         settings: &Settings,
-        workers: u32,
     ) -> Result<Negotiation, AllocError>
-        requires { (1 ≤ workers) × (workers ≤ most_workers) }
-        ensures { IfOk result (λ n. n ≡ beginning problem settings.now workers) }
+        ensures { IfOk result (λ n. n ≡ opening problem settings.now.acc) }
     {
         Ok(Negotiation {
             book: Book::new(alloc, problem, settings.acc())?,
-            crew: workers,
-            overused: None,
         })
     }
 
     /// Whether another iteration follows.
     fn goes_on(&self, settings: &Settings) -> bool
-        ensures { result ≡ goes_on settings.now self.now.book }
+        ensures { result ≡ goes_on settings.now self.now }
     {
         let limit = settings.iterations() as usize;
         let made = self.book.rows().len();
         made == 0 || (self.book.unrouted() == 0 && 0 < self.book.overused() && made < limit)
     }
 
-    /// Makes the next iteration.
+    /// Makes the next iteration, by all workers.
     #[tactic(auto, using(crate::proofs::Advancing::fresh_after))]
     fn advance<R: Threads + Wait + Sync, G: Gate + Sync>(
         self,
@@ -82,30 +72,13 @@ impl Negotiation {
         gate: &G,
     ) -> Result<Negotiation, WorkFault>
         requires workers { (1 ≤ workers) × (workers ≤ most_workers) }
-        requires few { length self.book.rows < settings.now.iterations }
-        ensures { IfOk result (IsNextState settings.now workers self) }
+        requires few { length self.rows < settings.now.iterations }
+        ensures { IfOk result (IsIteration settings.now workers self) }
     {
-        let Negotiation {
-            book,
-            crew,
-            overused: before,
-        } = self;
-        let iteration = book.rows().len() as u32 + 1;
-        let limit = settings.iterations();
-        let book = make_iteration(rt, alloc, book, settings, crew, gate)?;
-        let overused = book.overused();
-        let made = EndedIteration {
-            iteration,
-            crew,
-            before,
-            overused,
-        };
-        let largest = largest_crew(workers, book.problem().nets());
-        Ok(Negotiation {
-            book,
-            crew: next_crew(limit, largest, made),
-            overused: Some(overused),
-        })
+        let _limits = settings.iterations();
+        let Negotiation { book } = self;
+        let book = make_iteration(rt, alloc, book, settings, workers, gate)?;
+        Ok(Negotiation { book })
     }
 
     /// What it comes to where it ends here.
@@ -115,8 +88,8 @@ impl Negotiation {
         alloc: Global,
         problem: &Problem,
     ) -> Result<Outcome, WorkFault>
-        requires { problem.now ≡ self.now.book.problem }
-        ensures reported { IfOk result (IsOutcomeOf self.now.book) }
+        requires { problem.now ≡ self.now.problem }
+        ensures reported { IfOk result (IsOutcomeOf self.now) }
         ensures memory { IfErr result (λ fault. fault ≡ Memory) }
     {
         let unrouted = self.book.unrouted();
@@ -165,11 +138,11 @@ fn run<R: Threads + Wait + Sync, G: Gate + Sync>(
 ) -> Result<Negotiation, WorkFault>
     requires { (1 ≤ workers) × (workers ≤ most_workers) }
     ensures reached { IfOk result (IsReached problem settings.now workers) }
-    ensures ended { IfOk result (λ n. goes_on settings.now n.book ≡ false) }
+    ensures ended { IfOk result (λ n. goes_on settings.now n ≡ false) }
     ensures limit { 1 ≤ settings.now.iterations }
 {
     let _limits = settings.iterations();
-    let mut negotiation = Negotiation::begin(alloc, problem, settings, workers)?;
+    let mut negotiation = Negotiation::begin(alloc, problem, settings)?;
     while negotiation.goes_on(settings) {
         negotiation = negotiation.advance(rt, alloc, settings, workers, gate)?;
     }
@@ -196,10 +169,10 @@ fn outcome_of<R: Threads + Wait + Sync, G: Gate + Sync>(
     Ok(outcome)
 }
 
-/// Negotiates a routing of the problem. Iteration by iteration each net is routed anew by so many workers (the first iteration by all of
-/// them, the others by as many as `next_crew` says), on one congestion book, and the iteration is closed: nodes that stay overused cost
-/// more from then on. It ends where each net has a tree and no node is overused; else after the iteration in which a net found no path,
-/// and after the last one that the settings allow. The gate is reported before each iteration and after its close.
+/// Negotiates a routing of the problem. Iteration by iteration each net is routed anew by so many workers, on one congestion book, and the
+/// iteration is closed: nodes that stay overused cost more from then on. It ends where each net has a tree and no node is overused; else
+/// after the iteration in which a net found no path, and after the last one that the settings allow. The gate is reported before each
+/// iteration and after its close.
 ///
 /// `NoThread`, `Memory` and `Astray` as `iterate` answers them; `Memory` also where a copy, a close or the last check found none. The call
 /// waits for the workers.

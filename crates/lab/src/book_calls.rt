@@ -25,6 +25,7 @@ pub fn call(
     match call.name {
         "book" => make(rt.alloc(), session, call.given, out),
         "draw" => draw(session, call.given, out),
+        "look" => look(session, call.given, out),
         "commit" => commit(rt.alloc(), session, call.given, out),
         "pass" => pass(session, call.given, out),
         "close" => close(rt.alloc(), session, call.given, out),
@@ -37,6 +38,7 @@ fn read(session: &Session, call: Call<'_>, out: &mut String) -> Result<(), Unans
     match call.name {
         "book_tree" | "occupancy" | "history" | "turns" => read_at(session, call, out),
         "rows_of_overuse" | "overused" | "unrouted" | "fresh" => read_all(session, call, out),
+        "has_filled" => put_filled(session, call.given, out),
         "dump_book" => put_book(session, call.given, out),
         _ => Err(Unanswered::NoCall),
     }
@@ -138,6 +140,37 @@ fn draw(session: &mut Session, given: &[&str], out: &mut String) -> Result<(), U
         return Err(Unanswered::Refused("there is no view"));
     };
     put_drawn(book.draw(worker, view), out)
+}
+
+/// The session's view becomes that of a net.
+fn look(session: &mut Session, given: &[&str], out: &mut String) -> Result<(), Unanswered> {
+    let [net] = numbers::<1>(given)?;
+    let Some(book) = &session.book else {
+        return Err(Unanswered::Refused("there is no book"));
+    };
+    let Some(view) = &mut session.view else {
+        return Err(Unanswered::Refused("there is no view"));
+    };
+    if net >= book.problem().nets() {
+        return Err(Unanswered::Refused("there is no such net"));
+    }
+    match book.look(net, view) {
+        Ok(()) => put(out, "looked"),
+        Err(fault) => put_named(out, fault),
+    }
+}
+
+/// Adds whether others have filled a node of the session's tree since the view was seen.
+fn put_filled(session: &Session, given: &[&str], out: &mut String) -> Result<(), Unanswered> {
+    let [net] = numbers::<1>(given)?;
+    let (book, tree, view) = (session.book()?, session.tree()?, session.view()?);
+    if net >= book.problem().nets() {
+        return Err(Unanswered::Refused("there is no such net"));
+    }
+    if view.len() != book.problem().device().node_count() as usize {
+        return Err(Unanswered::Refused("the view is of other nodes"));
+    }
+    put(out, book.has_filled(net, tree, view))
 }
 
 /// Commits the tree that words tell, or the session's.

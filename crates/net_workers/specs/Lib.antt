@@ -1,4 +1,5 @@
 pub mod Parts
 pub mod Searches
+pub mod Looks
 pub mod Agreement
 pub mod kept

@@ -1,3 +1,4 @@
 pub mod Faults
 pub mod ReportsSoFar
 pub mod Evenness
+pub mod Attempts

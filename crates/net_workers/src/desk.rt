@@ -1,15 +1,17 @@
 //! What lies under the lock of an iteration: the book, and the total of the turns that the workers made.
 
-ghost use Rattle.std.specs.Prelude.{◌≡◌, ◌+◌, ◌<◌, ◌↔◌, [], length, vec_len, sum_by, All, Some, IfOk, IfErr, IsOk, OnOk, OnErr};
+ghost use Rattle.std.specs.Prelude.{◌≡◌, ◌+◌, ◌<◌, ◌↔◌, true, if◌then◌else◌, [], length, vec_len, sum_by, All, Some, IfOk, IfErr, IsOk, OnOk, OnErr};
 ghost use Rattle.route_tree.specs.Rows.{pairs_of};
 ghost use Rattle.route_tree.specs.Faults.{IsRoute};
 ghost use Rattle.congestion_book.specs.Turns.{holder_in};
-ghost use Rattle.congestion_book.specs.Contents.{IsSound, IsFresh};
+ghost use Rattle.congestion_book.specs.Contents.{IsSound, IsFresh, view_of};
 ghost use Rattle.congestion_book.specs.Steps.{Draws, Commits, Passes, fault_alone};
 ghost use Rattle.net_workers.specs.Parts.{AreParts, IsOfIteration, one_more};
-ghost use Rattle.net_workers.specs.Searches.{ShowsNet};
+ghost use Rattle.net_workers.specs.Searches.{IsSeenIn, ShowsNet};
+ghost use Rattle.net_workers.specs.Looks.{looks_again, CommitsOrLooks, part_with, ShowsAgain};
 
 use crate::share::{Round, Share};
+use crate::turn_or_look::TurnOrLook;
 use congestion_book::{Book, CommitFault, DrawFault, PassFault, Turn};
 use node_cost::View;
 use route_tree::Tree;
@@ -133,6 +135,46 @@ impl<L: Round> Desk<L> {
             }
             Err(refused) => Err(refused),
         }
+    }
+
+    /// Comes to commit the tree of a net, which was found with this view. Where a node of the tree is full now by the other nets, and was
+    /// not by those in the view, the view becomes that of the net as the book is now, and the tree is let go; else it is committed as
+    /// `commit` does.
+    pub fn commit_or_look(
+        &mut self,
+        share: &mut Share<L>,
+        net: u32,
+        tree: Tree,
+        view: &mut View,
+    ) -> Result<TurnOrLook, (CommitFault, Tree)>
+        ensures step { CommitsOrLooks self.old view.old share.old.worker net tree
+            (fault_alone result) self.new view.new }
+        ensures back { IfErr result (λ e. e.1 ≡ tree) }
+        ensures share { share.new ≡ part_with result share.old }
+        ensures shown { ShowsAgain L.opening net result view.new }
+    {
+        if self.looks_again(net, &tree, view) {
+            return Ok(TurnOrLook::Look);
+        }
+        match self.commit(share, net, tree) {
+            Ok(()) => Ok(TurnOrLook::Turn),
+            Err(back) => Err(back),
+        }
+    }
+
+    /// Fills the view of a net anew where the others have filled a node of its tree. Whether it did.
+    fn looks_again(&self, net: u32, tree: &Tree, view: &mut View) -> bool
+        ensures exact { result ≡ looks_again self.now net view.old tree.now }
+        ensures view { view.new ≡
+            (if looks_again self.now net view.old tree.now
+            then view_of self.now net else view.old) }
+        ensures shown { result ≡ true → IsSeenIn L.opening net view.new }
+    {
+        let problem = self.book.problem();
+        if net >= problem.nets() || view.len() != problem.device().node_count() as usize {
+            return false;
+        }
+        self.book.has_filled(net, tree, view) && self.book.look(net, view).is_ok()
     }
 
     /// Passes a net that the share's worker holds, as a turn of that worker.

@@ -23,7 +23,7 @@ pub trait Gate {
     /// After the draw of a net, before it is searched for.
     fn between(&self, worker: u32, net: u32);
 
-    /// After the search, before the turn is made.
+    /// After the first search for a net, before the worker comes to make its turn.
     fn searched(&self, worker: u32, net: u32);
 
     /// After an iteration was closed, with so many nets without a tree and so many overused nodes.

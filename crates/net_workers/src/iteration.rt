@@ -199,8 +199,9 @@ fn iterate_as<L: Round + Send + Sync, R: Threads + Wait + Sync, G: Gate + Sync>(
 }
 
 /// Iteration k of a negotiation: so many workers draw the nets of the book, in whose open iteration nothing was drawn yet, search for
-/// their trees and make a turn at each. The workers wait for one another at the book's lock, and the call waits for them all. The book
-/// comes back sound, with the iteration still open, and a report of each worker, whose turns and trees are those of the book.
+/// their trees and make a turn at each. After the first iteration a worker that comes to commit a tree of which the others have filled a
+/// node looks and searches again, up to four times. The workers wait for one another at the book's lock, and the call waits for them all.
+/// The book comes back sound, with the iteration still open, and a report of each worker, whose turns and trees are those of the book.
 ///
 /// `NoThread` where a thread couldn't be started, `Memory` where memory ran out, `Astray` where the book refused a call or a report
 /// disagrees with it. Of several the first is answered, and the book is let go.

@@ -9,6 +9,7 @@ mod iteration;
 mod report;
 mod share;
 mod threads;
+mod turn_or_look;
 mod worker;
 
 pub use desk::Desk;
@@ -17,3 +18,4 @@ pub use gate::{Gate, OpenGate, TrialEnd};
 pub use iteration::iterate;
 pub use report::{Entry, Report};
 pub use share::{Round, Share};
+pub use turn_or_look::TurnOrLook;

@@ -5,13 +5,17 @@ ghost use Rattle.rr_graph.specs.Nodes.{node_count_of};
 ghost use Rattle.node_cost.specs.Options.{greatest_present, present_of, most_iterations};
 ghost use Rattle.wavefront.specs.Growth.{space_of};
 ghost use Rattle.net_workers.specs.Parts.{one_more};
-ghost use Rattle.net_workers.specs.Searches.{AreFound, IsFoundIn};
+ghost use Rattle.net_workers.specs.Searches.{AreFound, IsFound, IsFoundIn};
+ghost use Rattle.net_workers.specs.Looks.{part_with, ShowsAgain};
+ghost use Rattle.net_workers.specs.kept.Attempts.{most_looks, GoesOn, part_going_on, IsFoundAgain, entry_with};
+ghost use Rattle.congestion_book.specs.Contents.{net_count};
 
 use crate::desk::Desk;
 use crate::fault::WorkFault;
 use crate::gate::Gate;
 use crate::report::{Entry, Report};
 use crate::share::{Round, Share};
+use crate::turn_or_look::TurnOrLook;
 use congestion_book::DrawFault;
 use node_cost::{Settings, View};
 use route_tree::Tree;
@@ -21,11 +25,16 @@ use std::marker::Model;
 use std::sync::{Mutex, Wait};
 use wavefront::{Found, Scratch, SearchFault, route_net};
 
-/// The present-congestion factor of an iteration, and by how much the boxes of nets are widened.
+/// How many times a worker may look again at a net that it holds, in an iteration after the first.
+const MOST_LOOKS: u32 = 4;
+
+/// The present-congestion factor of an iteration, by how much the boxes of nets are widened, and how many times a worker may look again at
+/// a net.
 #[derive(Clone, Copy)]
 pub(crate) struct SearchOptions {
     pub(crate) present: u32,
     pub(crate) bb: u32,
+    pub(crate) looks: u32,
     pub(crate) ghost present_within: { present ≤ greatest_present },
     pub(crate) ghost bb_within: { (1 ≤ bb) × (bb ≤ 255) },
 }
@@ -36,10 +45,12 @@ impl SearchOptions {
         requires { (1 ≤ iteration) × (iteration ≤ most_iterations) }
         ensures present { result.present ≡ present_of settings.now iteration }
         ensures bb { result.bb ≡ settings.now.bb }
+        ensures looks { result.looks ≡ most_looks iteration }
     {
         SearchOptions {
             present: settings.present(iteration),
             bb: settings.bb(),
+            looks: if iteration == 1 { 0 } else { MOST_LOOKS },
         }
     }
 }
@@ -98,6 +109,102 @@ fn end_turn<L: Round, R: Wait>(
         return Err(WorkFault::Astray);
     }
     Ok(())
+}
+
+/// Comes to commit the tree of a net that the worker drew, and passes the net where there is none. A look where the others have filled a
+/// node of the tree: then the view is filled anew.
+fn try_turn<L: Round, R: Wait>(
+    rt: &R,
+    desk: &Mutex<Desk<L>>,
+    share: &mut Share<L>,
+    net: u32,
+    tree: Option<Tree>,
+    view: &mut View,
+) -> Result<TurnOrLook, WorkFault>
+    ensures share { share.new ≡ part_with result share.old }
+    ensures shown { ShowsAgain L.opening net result view.new }
+{
+    let Some(tree) = tree else {
+        end_turn(rt, desk, share, net, None)?;
+        return Ok(TurnOrLook::Turn);
+    };
+    let made = desk.lock(rt).commit_or_look(share, net, tree, view);
+    match made {
+        Ok(made) => Ok(made),
+        Err(_) => Err(WorkFault::Astray),
+    }
+}
+
+/// Makes the worker's turn at a net with a tree, or with none. Where the others have filled a node of the tree it makes none, and searches
+/// again: then what it finds, and a copy of it.
+fn turn_or_search<L: Round, R: Wait>(
+    rt: &R,
+    alloc: Global,
+    desk: &Mutex<Desk<L>>,
+    problem: &Problem,
+    options: SearchOptions,
+    share: &mut Share<L>,
+    net: u32,
+    tree: Option<Tree>,
+    view: &mut View,
+    scratch: &mut Scratch,
+) -> Result<Option<(Option<Tree>, Option<Tree>)>, WorkFault>
+    requires problem { problem.now ≡ L.opening.problem }
+    requires options { (options.present ≡ L.present) × (options.bb ≡ L.bb) }
+    requires net { net < net_count L.opening }
+    requires fits { scratch.old ≡ node_count_of problem.now.device }
+    ensures found { GoesOn L.opening L.present L.bb net result view.new }
+    ensures share { share.new ≡ part_going_on result share.old }
+    ensures fits { scratch.new ≡ scratch.old }
+{
+    match try_turn(rt, desk, share, net, tree, view)? {
+        TurnOrLook::Turn => Ok(None),
+        TurnOrLook::Look => {
+            let next = search(alloc, problem, net, view, options, scratch)?;
+            Ok(Some(next))
+        }
+    }
+}
+
+/// Makes the worker's turn at a net with the tree that was found with this view, or with none. Where the others have filled a node of the
+/// tree, it looks and searches again, as often as the options allow. A copy of the tree with which it makes its turn.
+fn settle<L: Round, R: Wait>(
+    rt: &R,
+    alloc: Global,
+    desk: &Mutex<Desk<L>>,
+    problem: &Problem,
+    options: SearchOptions,
+    share: &mut Share<L>,
+    net: u32,
+    found: (Option<Tree>, Option<Tree>),
+    view: &mut View,
+    scratch: &mut Scratch,
+) -> Result<Option<Tree>, WorkFault>
+    requires problem { problem.now ≡ L.opening.problem }
+    requires options { (options.present ≡ L.present) × (options.bb ≡ L.bb) }
+    requires net { net < net_count L.opening }
+    requires fits { scratch.old ≡ node_count_of problem.now.device }
+    requires found { IsFoundAgain L.opening L.present L.bb net found view.old }
+    ensures found { IfOk result (λ copy. IsFound L.opening L.present L.bb (entry_with net copy)) }
+    ensures counted { OnOk result (share.new ≡ one_more share.old) }
+    ensures uncounted { OnErr result (share.new ≡ share.old) }
+    ensures fits { scratch.new ≡ scratch.old }
+{
+    let (mut tree, mut copy) = found;
+    for _ in 0..options.looks {
+        let next = turn_or_search(
+            rt, alloc, desk, problem, options, share, net, tree, view, scratch,
+        )?;
+        match next {
+            None => return Ok(copy),
+            Some((next_tree, next_copy)) => {
+                tree = next_tree;
+                copy = next_copy;
+            }
+        }
+    }
+    end_turn(rt, desk, share, net, tree)?;
+    Ok(copy)
 }
 
 /// What a worker hands back: its share, and its report, which has as many entries as it made turns, each of what a search found.
@@ -200,10 +307,12 @@ impl<L: Round> Worker<L> {
             Err(DrawFault::ViewSize) => return Err(WorkFault::Astray),
         };
         gate.between(worker, net);
-        let (tree, copy) = search(alloc, problem, net, view, options, scratch)?;
+        let found = search(alloc, problem, net, view, options, scratch)?;
         entries.reserve(1)?;
         gate.searched(worker, net);
-        end_turn(rt, desk, share, net, tree)?;
+        let copy = settle(
+            rt, alloc, desk, problem, options, share, net, found, view, scratch,
+        )?;
         entries.push_reserved(Entry { net, tree: copy });
         Ok(true)
     }

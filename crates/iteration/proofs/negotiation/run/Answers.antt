@@ -9,23 +9,23 @@ loop-alloc-init g c = subst (IsReached c.args.problem c.args.settings.now c.args
 pub advance-requires-clause-few : goal.advance-requires-clause-few
 advance-requires-clause-few g c κs within =
     let old = c.loop-alloc.negotiation in
-    let on : goes_on c.args.settings.now old.book ≡ true = sym c.goes_on.ensures ∙ c.loop-alloc-test.true in
+    let on : goes_on c.args.settings.now old ≡ true = sym c.goes_on.ensures ∙ c.loop-alloc-test.true in
     few_rows c.args.problem c.args.settings.now c.args.workers old c.iterations-limits.ensures.limits.iterations_least on
 
 pub loop-alloc-smaller : goal.loop-alloc-smaller
 loop-alloc-smaller g c =
     let old = c.loop-alloc.negotiation in
     let new = c.in_ok-negotiation-2.negotiation in
-    let on : goes_on c.args.settings.now old.book ≡ true = sym c.goes_on.ensures ∙ c.loop-alloc-test.true in
+    let on : goes_on c.args.settings.now old ≡ true = sym c.goes_on.ensures ∙ c.loop-alloc-test.true in
     let few = few_rows c.args.problem c.args.settings.now c.args.workers old c.iterations-limits.ensures.limits.iterations_least on in
     let follows = c.in_ok-negotiation-2.ensures in
-    let more = rows_after c.args.settings.now old.crew old.book new.book follows.made in
+    let more = rows_after c.args.settings.now c.args.workers old new follows in
     omega (arith, few, more)
 
 pub loop-alloc-preserved : goal.loop-alloc-preserved
 loop-alloc-preserved g c =
     let old = c.loop-alloc.negotiation in
-    let on : goes_on c.args.settings.now old.book ≡ true = sym c.goes_on.ensures ∙ c.loop-alloc-test.true in
+    let on : goes_on c.args.settings.now old ≡ true = sym c.goes_on.ensures ∙ c.loop-alloc-test.true in
     followed old c.in_ok-negotiation-2.negotiation c.loop-alloc.invariant on c.in_ok-negotiation-2.ensures
 
 pub returns-clause-ended : goal.returns-clause-ended

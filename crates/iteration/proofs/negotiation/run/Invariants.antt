@@ -6,4 +6,4 @@ abbrev pub invariant-loop-alloc : goal.invariant-loop-alloc
 invariant-loop-alloc g l = IsReached l.fn.problem l.settings l.workers l.negotiation
 
 abbrev pub decreases-loop-alloc : goal.decreases-loop-alloc
-decreases-loop-alloc g l = l.settings.iterations - length l.negotiation.book.rows
+decreases-loop-alloc g l = l.settings.iterations - length l.negotiation.rows

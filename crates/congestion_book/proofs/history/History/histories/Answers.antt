@@ -1,4 +1,4 @@
-use Rattle.std.proofs.Common.{◌≡◌, ℕ, ◌<◌, ◌^◌, inl, inr, length, get_or, subst, arith}
+use Rattle.std.proofs.Common.{ℕ, ◌<◌, ◌^◌, inl, inr, length, get_or, subst, arith}
 use Rattle.std.proofs.lemmas.Bool.{cases_lt}
 use Rattle.std.proofs.lemmas.List.{get_or_past}
 use Rattle.congestion_book.specs.kept.HistoryTables.{HistoryTable}

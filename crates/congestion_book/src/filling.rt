@@ -1,0 +1,114 @@
+//! Whether the others have filled a node since a net looked.
+
+ghost use Rattle.std.specs.Prelude.{◌≡◌, length, Some};
+ghost use Rattle.std.specs.List.{list_any};
+ghost use Rattle.rr_graph.specs.Nodes.{node_count_of};
+ghost use Rattle.rr_graph.specs.Problems.{net_in};
+ghost use Rattle.route_tree.specs.Rows.{pairs_of};
+ghost use Rattle.route_tree.specs.TreeLists.{list_of_tree};
+ghost use Rattle.route_tree.specs.Usage.{use_by};
+ghost use Rattle.congestion_book.specs.kept.Counts.{RoutesOrNone, IsCounted};
+ghost use Rattle.congestion_book.specs.kept.Views.{filled_by, HasCapacity};
+
+use crate::usage::one_if;
+use node_cost::{Counts, View};
+use route_tree::{Row, Tree};
+use rr_graph::Problem;
+
+/// What a net with the tree adds to the use of a node.
+#[tactic(auto, using(crate::proofs::Covering::use_covers))]
+fn use_of_tree(problem: &Problem, net: u32, tree: &Tree, id: u32) -> u32
+    requires { RoutesOrNone problem.now net (Some (pairs_of tree.now)) }
+    ensures { result ≡ use_by (net_in problem.now.nets net) (Some (pairs_of tree.now)) id }
+{
+    let _tree = tree.as_slice();
+    one_if(tree.covers(id))
+}
+
+/// What a net with this tree, or none, adds to the use of a node.
+fn own_use(problem: &Problem, net: u32, tree: &Option<Tree>, id: u32) -> u32
+    requires { RoutesOrNone problem.now net (list_of_tree tree.now) }
+    ensures { result ≡ use_by (net_in problem.now.nets net) (list_of_tree tree.now) id }
+{
+    match tree {
+        None => 0,
+        Some(tree) => use_of_tree(problem, net, tree, id),
+    }
+}
+
+/// Whether a node with so much room is full by these counts without the net's own, and was not by the view. The tree is gone over only where
+/// the counts with the net's own fill the node.
+#[tactic(auto, using(crate::proofs::Filled::is_there, crate::proofs::Filled::few_there, crate::proofs::Filled::was_filled, crate::proofs::Filled::filled_now))]
+fn fills_room(
+    view: &View,
+    problem: &Problem,
+    net: u32,
+    tree: &Option<Tree>,
+    counts: &Counts,
+    id: u32,
+    room: u32,
+) -> bool
+    requires routes { RoutesOrNone problem.now net (list_of_tree tree.now) }
+    requires size { length view.now ≡ node_count_of problem.now.device }
+    requires counts { length counts.now ≡ node_count_of problem.now.device }
+    requires used { IsCounted problem.now net (list_of_tree tree.now) counts.now }
+    requires room { HasCapacity problem.now.device id room }
+    ensures { result ≡
+        filled_by problem.now net (list_of_tree tree.now) counts.now view.now id }
+{
+    let count = counts.get(id);
+    if count < room {
+        return false;
+    }
+    if room <= view.others(id) {
+        return false;
+    }
+    room <= count - own_use(problem, net, tree, id)
+}
+
+/// Whether a node is full by these counts without the net's own, and was not by the view.
+#[tactic(auto, using(crate::proofs::Filled::not_filled))]
+fn is_filled(
+    view: &View,
+    problem: &Problem,
+    net: u32,
+    tree: &Option<Tree>,
+    counts: &Counts,
+    id: u32,
+) -> bool
+    requires routes { RoutesOrNone problem.now net (list_of_tree tree.now) }
+    requires size { length view.now ≡ node_count_of problem.now.device }
+    requires counts { length counts.now ≡ node_count_of problem.now.device }
+    requires used { IsCounted problem.now net (list_of_tree tree.now) counts.now }
+    ensures { result ≡
+        filled_by problem.now net (list_of_tree tree.now) counts.now view.now id }
+{
+    match problem.device().capacity(id) {
+        None => false,
+        Some(room) => fills_room(view, problem, net, tree, counts, id, room),
+    }
+}
+
+/// Whether some node of the tree of these rows is full by these counts without the net's own, and was not by the view.
+pub(crate) fn any_filled(
+    view: &View,
+    problem: &Problem,
+    net: u32,
+    tree: &Option<Tree>,
+    counts: &Counts,
+    rows: &[Row],
+) -> bool
+    requires routes { RoutesOrNone problem.now net (list_of_tree tree.now) }
+    requires size { length view.now ≡ node_count_of problem.now.device }
+    requires counts { length counts.now ≡ node_count_of problem.now.device }
+    requires used { IsCounted problem.now net (list_of_tree tree.now) counts.now }
+    ensures { result ≡ list_any (λ r. filled_by problem.now net (list_of_tree tree.now)
+        counts.now view.now r.node) rows.now }
+{
+    for row in rows {
+        if is_filled(view, problem, net, tree, counts, row.node) {
+            return true;
+        }
+    }
+    false
+}
