@@ -1,14 +1,28 @@
 # Completions of pathfinder for bash, to be sourced. tools/manual made them from its help.
 
 _pathfinder() {
-  local word=${COMP_WORDS[COMP_CWORD]} before=${COMP_WORDS[COMP_CWORD - 1]} words values=
+  local word=${COMP_WORDS[COMP_CWORD]} before=${COMP_WORDS[COMP_CWORD - 1]} words= values=
   case ${COMP_WORDS[1]} in
-    route) words='--width --global --workers --iterations --first-pres --init-pres --mult --acc --bb -h --help' values='--width --workers --iterations --first-pres --init-pres --mult --acc --bb' ;;
-    width) words='--start --global --workers --iterations --first-pres --init-pres --mult --acc --bb -h --help' values='--start --workers --iterations --first-pres --init-pres --mult --acc --bb' ;;
-    check) words='--width --global -h --help' values='--width' ;;
-    graph) words='--global -h --help' ;;
-    help) words='route width check graph' ;;
-    *) words='' ;;
+    route)
+      values='--width --workers --iterations --first-pres --init-pres --mult --acc --bb'
+      words="$values --global -h --help"
+      ;;
+    width)
+      values='--start --workers --iterations --first-pres --init-pres --mult --acc --bb'
+      words="$values --global -h --help"
+      ;;
+    check)
+      values='--width'
+      words="$values --global -h --help"
+      ;;
+    graph)
+      values=''
+      words="$values --global -h --help"
+      ;;
+    help)
+      values=''
+      words="$values route width check graph"
+      ;;
   esac
   if [ "$COMP_CWORD" -eq 1 ]; then
     words='route width check graph help -h --help -V --version'

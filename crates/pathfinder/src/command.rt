@@ -194,19 +194,13 @@ pub fn command<'a>(alloc: Global) -> Result<Command<'a>, AllocError> {
         .subcommand(graph_command(alloc)?)
 }
 
-/// The names of a design's files and of its routing.
+/// What the `route` command was given.
 #[derive(Clone, Copy)]
-pub struct FileWords<'a> {
+pub struct RouteWords<'a> {
     pub net: &'a str,
     pub arch: &'a str,
     pub place: &'a str,
     pub route: &'a str,
-}
-
-/// What the `route` command was given.
-#[derive(Clone, Copy)]
-pub struct RouteWords<'a> {
-    pub files: FileWords<'a>,
     pub width: u32,
     pub global: bool,
     pub workers: u32,
@@ -216,7 +210,10 @@ pub struct RouteWords<'a> {
 /// What the `width` command was given.
 #[derive(Clone, Copy)]
 pub struct WidthWords<'a> {
-    pub files: FileWords<'a>,
+    pub net: &'a str,
+    pub arch: &'a str,
+    pub place: &'a str,
+    pub route: &'a str,
     pub start: u32,
     pub global: bool,
     pub workers: u32,
@@ -226,7 +223,10 @@ pub struct WidthWords<'a> {
 /// What the `check` command was given.
 #[derive(Clone, Copy)]
 pub struct CheckWords<'a> {
-    pub files: FileWords<'a>,
+    pub net: &'a str,
+    pub arch: &'a str,
+    pub place: &'a str,
+    pub route: &'a str,
     pub width: u32,
     pub global: bool,
 }
@@ -253,16 +253,6 @@ fn number_within(matches: &ArgMatches<'_>, name: &str, most: u32) -> Option<u32>
     }
 }
 
-/// The names of the files, all of which the parser asks for.
-fn file_words<'a>(matches: &ArgMatches<'a>) -> Option<FileWords<'a>> {
-    Some(FileWords {
-        net: matches.get_str("NET")?,
-        arch: matches.get_str("ARCH")?,
-        place: matches.get_str("PLACE")?,
-        route: matches.get_str("ROUTE")?,
-    })
-}
-
 /// The numbers of a negotiation; None where one is out of its range, which the parser refuses.
 fn settings(matches: &ArgMatches<'_>) -> Option<Settings> {
     let first = matches.get_one::<u32>("first-pres")?;
@@ -280,7 +270,10 @@ pub fn route_words<'a>(matches: &ArgMatches<'a>) -> Option<RouteWords<'a>>
     ensures workers { IfSome result (λ r. (1 ≤ r.workers) × (r.workers ≤ most_workers)) }
 {
     Some(RouteWords {
-        files: file_words(matches)?,
+        net: matches.get_str("NET")?,
+        arch: matches.get_str("ARCH")?,
+        place: matches.get_str("PLACE")?,
+        route: matches.get_str("ROUTE")?,
         width: number_within(matches, "width", MOST_TRACKS)?,
         global: matches.get_flag("global"),
         workers: number_within(matches, "workers", MOST_WORKERS)?,
@@ -294,7 +287,10 @@ pub fn width_words<'a>(matches: &ArgMatches<'a>) -> Option<WidthWords<'a>>
     ensures workers { IfSome result (λ w. (1 ≤ w.workers) × (w.workers ≤ most_workers)) }
 {
     Some(WidthWords {
-        files: file_words(matches)?,
+        net: matches.get_str("NET")?,
+        arch: matches.get_str("ARCH")?,
+        place: matches.get_str("PLACE")?,
+        route: matches.get_str("ROUTE")?,
         start: number_within(matches, "start", MOST_TRACKS)?,
         global: matches.get_flag("global"),
         workers: number_within(matches, "workers", MOST_WORKERS)?,
@@ -307,7 +303,10 @@ pub fn check_words<'a>(matches: &ArgMatches<'a>) -> Option<CheckWords<'a>>
     ensures { IfSome result (λ c. (1 ≤ c.width) × (c.width ≤ most_tracks)) }
 {
     Some(CheckWords {
-        files: file_words(matches)?,
+        net: matches.get_str("NET")?,
+        arch: matches.get_str("ARCH")?,
+        place: matches.get_str("PLACE")?,
+        route: matches.get_str("ROUTE")?,
         width: number_within(matches, "width", MOST_TRACKS)?,
         global: matches.get_flag("global"),
     })

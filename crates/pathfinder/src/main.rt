@@ -13,7 +13,7 @@ ghost use Rattle.node_cost.specs.Options.{most_workers};
 
 use clap::error::ErrorKind;
 use clap::{ArgMatches, Error as ClapError};
-use command::{CheckWords, FileWords, GraphWords, RouteWords, WidthWords};
+use command::{CheckWords, GraphWords, RouteWords, WidthWords};
 use files::{BehindProgress, NewFile};
 use iteration::Outcome;
 use route_check::RouteFault;
@@ -41,8 +41,8 @@ fn main(rt: HostRuntime) -> ExitCode {
     ExitCode::from(run(&rt, is_watched))
 }
 
-/// Runs the command that the command line names, and answers its exit status. Where standard error is watched, on a terminal, it
-/// shows how far a negotiation is.
+/// Runs the command that the command line names, and answers its exit status. Where standard error
+/// is watched, on a terminal, it shows how far a negotiation is.
 fn run(rt: &(impl Runtime + Threads + Wait + Sync + AllocGlobal), is_watched: bool) -> u8 {
     let words = match words(rt) {
         Ok(words) => words,
@@ -156,15 +156,15 @@ fn explained(rt: &(impl Runtime + AllocGlobal), error: &ClapError) -> u8 {
     }
 }
 
-/// What shows how far a run is, where standard error is watched and what is shown can be taken back.
+/// What shows how far a run is, where standard error is watched and what is shown can be taken
+/// back.
 fn progress_on<R: Runtime>(rt: &R, is_watched: bool) -> Progress<'_, R> {
     Progress::new(rt, is_watched && takes_lines_back(rt)).within(columns(rt))
 }
 
 /// Tells what is wrong with the name of the routing file, before anything is routed.
-fn warn(rt: &impl Runtime, files: &FileWords<'_>) {
-    if let Some(doubt) = doubt_of(rt, files) {
-        let route = files.route;
+fn warn<'a>(rt: &impl Runtime, route: &'a str, inputs: [&'a str; 3]) {
+    if let Some(doubt) = doubt_of(rt, route, inputs) {
         let _ = eprintln!(rt; "warning: {route} {doubt}");
     }
 }
@@ -182,8 +182,9 @@ fn open<R: Runtime>(rt: &R, name: &str, file: InputFile) -> Result<Adapted<R::Fi
     }
 }
 
-/// The `route` command. The inputs are opened, in the order in which they are read, before one is read, and stay open to the end: so
-/// the routing file never gets the descriptor of a standard stream that was closed.
+/// The `route` command. The inputs are opened, in the order in which they are read, before one is
+/// read, and stay open to the end: so the routing file never gets the descriptor of a standard
+/// stream that was closed.
 fn route<R: Runtime + Threads + Wait + Sync + AllocGlobal>(
     rt: &R,
     given: RouteWords<'_>,
@@ -192,11 +193,11 @@ fn route<R: Runtime + Threads + Wait + Sync + AllocGlobal>(
     requires tracks { (1 ≤ given.width) × (given.width ≤ most_tracks) }
     requires workers { (1 ≤ given.workers) × (given.workers ≤ most_workers) }
 {
-    let mut arch = open(rt, given.files.arch, InputFile::Arch)?;
-    let mut net = open(rt, given.files.net, InputFile::Net)?;
-    let mut place = open(rt, given.files.place, InputFile::Place)?;
-    warn(rt, &given.files);
-    let file = NewFile::new(rt, given.files.route);
+    let mut arch = open(rt, given.arch, InputFile::Arch)?;
+    let mut net = open(rt, given.net, InputFile::Net)?;
+    let mut place = open(rt, given.place, InputFile::Place)?;
+    warn(rt, given.route, [given.arch, given.net, given.place]);
+    let file = NewFile::new(rt, given.route);
     let mut route = Adapted::new(BehindProgress::new(file, progress));
     let mut out = Adapted::new(BehindProgress::new(io::writer(rt), progress));
     let (width, mode, settings) = (given.width, mode_of(given.global), given.settings);
@@ -224,11 +225,11 @@ fn width<R: Runtime + Threads + Wait + Sync + AllocGlobal>(
     requires start { (1 ≤ given.start) × (given.start ≤ most_tracks) }
     requires workers { (1 ≤ given.workers) × (given.workers ≤ most_workers) }
 {
-    let mut arch = open(rt, given.files.arch, InputFile::Arch)?;
-    let mut net = open(rt, given.files.net, InputFile::Net)?;
-    let mut place = open(rt, given.files.place, InputFile::Place)?;
-    warn(rt, &given.files);
-    let file = NewFile::new(rt, given.files.route);
+    let mut arch = open(rt, given.arch, InputFile::Arch)?;
+    let mut net = open(rt, given.net, InputFile::Net)?;
+    let mut place = open(rt, given.place, InputFile::Place)?;
+    warn(rt, given.route, [given.arch, given.net, given.place]);
+    let file = NewFile::new(rt, given.route);
     let mut route = Adapted::new(BehindProgress::new(file, progress));
     let mut out = Adapted::new(BehindProgress::new(io::writer(rt), progress));
     let (start, mode, settings) = (given.start, mode_of(given.global), given.settings);
@@ -247,17 +248,18 @@ fn width<R: Runtime + Threads + Wait + Sync + AllocGlobal>(
     )
 }
 
-/// The `check` command. All files are opened, in the order in which they are read, before one is read.
+/// The `check` command. All files are opened, in the order in which they are read, before one is
+/// read.
 fn check(
     rt: &(impl Runtime + Threads + Sync + AllocGlobal),
     given: CheckWords<'_>,
 ) -> Result<Option<RouteFault>, AppFault>
     requires { (1 ≤ given.width) × (given.width ≤ most_tracks) }
 {
-    let mut arch = open(rt, given.files.arch, InputFile::Arch)?;
-    let mut net = open(rt, given.files.net, InputFile::Net)?;
-    let mut place = open(rt, given.files.place, InputFile::Place)?;
-    let mut route = open(rt, given.files.route, InputFile::Route)?;
+    let mut arch = open(rt, given.arch, InputFile::Arch)?;
+    let mut net = open(rt, given.net, InputFile::Net)?;
+    let mut place = open(rt, given.place, InputFile::Place)?;
+    let mut route = open(rt, given.route, InputFile::Route)?;
     let mut out = Adapted::new(io::writer(rt));
     let (width, mode) = (given.width, mode_of(given.global));
     check_run(

@@ -20,6 +20,8 @@ pub fn takes_lines_back(env: &impl Env) -> bool {
 pub fn columns(env: &impl Env) -> u32 {
     let mut text = [0; 16];
     let length = env.var("COLUMNS", &mut text).unwrap_or(0);
-    let columns = text.get(..length).and_then(number).unwrap_or(0);
-    if columns > 0 { columns } else { COLUMNS }
+    match text.get(..length).and_then(|text| number(text)) {
+        Some(columns) if columns > 0 => columns,
+        _ => COLUMNS,
+    }
 }

@@ -1,7 +1,6 @@
 //! What is reported of ROUTE before anything is routed: that it can't be written, or shouldn't be.
 //! To find that out nothing is created and nothing is written.
 
-use crate::command::FileWords;
 use std::fmt;
 use std::fs::{Files, Metadata, OpenOptions};
 use std::os::unix::fs::MetadataExt;
@@ -48,12 +47,12 @@ impl fmt::Display for Doubt<'_> {
     }
 }
 
-/// What is wrong with ROUTE, so far as it can be known; a device, a pipe and the like aren't asked.
-pub fn doubt_of<'a, R: Files>(rt: &R, files: &FileWords<'a>) -> Option<Doubt<'a>> {
-    let route = files.route;
+/// What is wrong with ROUTE in a run with these inputs, so far as it can be known; a device, a pipe
+/// and the like aren't asked.
+pub fn doubt_of<'a, R: Files>(rt: &R, route: &'a str, inputs: [&'a str; 3]) -> Option<Doubt<'a>> {
     match rt.metadata(route) {
         Ok(found) if found.is_dir() => Some(Doubt::Folder),
-        Ok(found) if found.is_file() => doubt_of_file(rt, files, &found),
+        Ok(found) if found.is_file() => doubt_of_file(rt, route, inputs, &found),
         Ok(_) => None,
         Err(_) if route.ends_with('/') => Some(Doubt::Folder),
         Err(_) if rt.symlink_metadata(route).is_ok() => None,
@@ -64,13 +63,14 @@ pub fn doubt_of<'a, R: Files>(rt: &R, files: &FileWords<'a>) -> Option<Doubt<'a>
 /// What is wrong with a ROUTE that is there.
 fn doubt_of_file<'a, R: Files>(
     rt: &R,
-    files: &FileWords<'a>,
+    route: &str,
+    inputs: [&'a str; 3],
     found: &Metadata,
 ) -> Option<Doubt<'a>> {
-    if !may_be_written(rt, files.route) {
+    if !may_be_written(rt, route) {
         return Some(Doubt::Closed);
     }
-    [files.arch, files.net, files.place]
+    inputs
         .into_iter()
         .find(|input| is_same_file(rt, input, found))
         .map(|input| Doubt::Input(input))

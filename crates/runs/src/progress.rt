@@ -44,7 +44,8 @@ struct Standing {
     turns: u32,
     /// How many nets there are.
     nets: u32,
-    /// How many nodes were overused after the last close; none was closed before the first iteration.
+    /// How many nodes were overused after the last close; none was closed before the first
+    /// iteration.
     overused: u32,
 }
 
@@ -109,10 +110,11 @@ impl fmt::Display for Line {
     }
 }
 
-/// A gate that keeps a line on standard error up to date, for people who look at a terminal: the width, where widths are tried, the
-/// iteration, how many nets had their turn in it of all, how many nodes were overused after the last close, and the time since it was
-/// made. It is no longer than the terminal's row. The line ends by `end`; after each trial of a width one stays that tells what it
-/// came to.
+/// A gate that keeps a line on standard error up to date, for people who look at a terminal: the
+/// width, where widths are tried, the iteration, how many nets had their turn in it of all, how
+/// many nodes were overused after the last close, and the time since it was made. It is no longer
+/// than the terminal's row. The line ends by `end`; after each trial of a width one stays that
+/// tells what it came to.
 #[derive(Drop)]
 pub struct Progress<'a, R> {
     rt: &'a R,
