@@ -1,0 +1,10 @@
+pub mod Covering
+pub mod Counting
+pub mod Overusing
+pub mod Lengths
+pub mod Sums
+pub mod Occupying
+pub mod TypesOfTracks
+pub mod Totals
+pub mod ChannelTotals
+pub mod TypeTotals

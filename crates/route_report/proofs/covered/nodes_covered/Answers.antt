@@ -1,0 +1,16 @@
+use Rattle.std.proofs.Common.{sym, ap, ◌∙◌}
+use Rattle.std.specs.List.{filter}
+use Rattle.rr_graph.specs.Fabric.{numbers_below}
+use Rattle.rr_graph.specs.Nodes.{node_count_of}
+use Rattle.rr_graph.specs.Problems.{net_in}
+use Rattle.route_tree.specs.Usage.{covers_by}
+use Rattle.route_report.specs.Covered.{nodes_covered}
+use Rattle.route_report.proofs.Covering.{none_covered, past_lists}
+use Rattle.route_report.proofs.covered.nodes_covered.Goals as goal
+
+pub returns-in-None : goal.returns-in-None
+unfolding nodes_covered
+returns-in-None c =
+    let net = net_in c.args.problem.now.nets c.args.net in
+    let nodes = numbers_below (node_count_of c.args.problem.now.device) in
+    c.new.ensures.items ∙ sym (ap (λ list. filter (covers_by net list) nodes) (past_lists c.args.lists.now c.args.net c.in-None.ensures.lookup.3) ∙ none_covered net nodes)

@@ -1,0 +1,8 @@
+use Rattle.std.proofs.Common.{◌≡◌, ◌==◌, ◌≤◌}
+use Rattle.std.specs.Prelude.{count_by}
+use Rattle.rr_graph.specs.Fabric.{numbers_below}
+use Rattle.route_report.specs.WireTypes.{track_type}
+use Rattle.route_report.proofs.wire_types.count_tracks.Given as goal
+
+abbrev pub invariant-loop-track : goal.invariant-loop-track
+invariant-loop-track l = (l.count ≡ count_by (λ t. track_type l.device t == l.kind) (numbers_below l.track)) × (l.count ≤ l.track)

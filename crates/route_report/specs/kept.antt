@@ -1,0 +1,4 @@
+pub mod Channels
+pub mod Counting
+pub mod Overused
+pub mod WireTypes
