@@ -124,7 +124,7 @@ fn text_again(
 }
 
 /// Whether the text of a legal routing is read as the routing, by law and when run.
-#[tactic(auto, using(route_file::proofs::RoutesTold::told_routing))]
+#[tactic(auto, using(route_file::proofs::RoutesReported::reported_routing))]
 fn is_again(
     alloc: Global,
     netlist: &Netlist<'_>,

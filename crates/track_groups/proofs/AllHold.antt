@@ -1,0 +1,37 @@
+-- From the tests of each wire and each track to what holds of all.
+use Rattle.std.proofs.Common.{◌≡◌, ℕ, ◌+◌, ◌<◌, ◌≤◌, true, false, inl, inr, sym, ap, ◌∙◌, subst, arith}
+use Rattle.std.specs.Prelude.{nat_le}
+use Rattle.std.specs.Option.{option_map, option_map_or}
+use Rattle.std.proofs.lemmas.Bool.{cases_lt, false≢true}
+use Rattle.std.proofs.lemmas.Bool.Decides.{nat_tests}
+use Rattle.std.proofs.lemmas.Option.{slice_get_past}
+use Rattle.rr_graph.specs.Fabric.{Fabric}
+use Rattle.rr_graph.specs.Nodes.{nodes_of, node_count_of, is_wire, is_wire_at}
+use Rattle.track_groups.specs.declared.group.GroupTrack.{GroupTrack}
+use Rattle.track_groups.specs.Groups.{Grouping, on_track, IsOn, IsTrack, HasPlace}
+use Rattle.track_groups.specs.kept.Parts.{HaveTracks}
+
+-- ---- wires
+no_wire_past : (f : Fabric) (w : ℕ) → node_count_of f ≤ w → is_wire_at f w ≡ false
+no_wire_past f w past = ap (λ o. option_map_or is_wire (option_map (λ n. n.kind) o) false) (slice_get_past (nodes_of f) w past)
+
+pub all_listed : (f : Fabric) (t : Grouping) → ((i : ℕ) → i < node_count_of f → is_wire_at f i ≡ nat_le t.first_wire i)
+    → ((w : ℕ) → t.first_wire ≤ w → w < node_count_of f → HasPlace t w) → (w : ℕ) → is_wire_at f w ≡ true → HasPlace t w
+all_listed f t wires each w wire = elim (cases_lt w (node_count_of f)) [
+  | inl below ↦ (
+      let test : nat_le t.first_wire w ≡ true = sym (wires w below) ∙ wire in
+      let from : t.first_wire ≤ w = grind (arith, nat_tests) in
+      each w from below)
+  | inr past ↦ absurd (false≢true (sym (no_wire_past f w past) ∙ wire))
+]
+
+-- ---- groups
+pub group_more : (f : Fabric) (t : Grouping) (g : ℕ) → ((p : GroupTrack) → p.group < g → IsOn t.groups p → IsTrack f t p) → HaveTracks f t g
+    → (p : GroupTrack) → p.group < g + 1 → IsOn t.groups p → IsTrack f t p
+group_more f t g before here p below on = elim (cases_lt p.group g) [
+  | inl l ↦ before p l on
+  | inr past ↦ (
+      let e : p.group ≡ g = omega arith in
+      let P : ℕ → Type 0 = λ n. IsOn t.groups (on_track n p.track) → IsTrack f t (on_track n p.track) in
+      subst P (sym e) (here p.track) on)
+]

@@ -1,0 +1,13 @@
+pub mod OnTracks
+mod AllHold
+pub mod WiresTold
+mod PushedRows
+mod SingleWires
+mod Tests
+pub mod MoreDriven
+mod AllNodes
+mod Tapped
+mod Matched
+mod Joined
+mod PinsListed
+pub mod EdgesTold

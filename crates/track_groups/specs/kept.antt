@@ -1,0 +1,6 @@
+pub mod Parts
+pub mod Fields
+pub mod Lone
+pub mod Merging
+pub mod Joining
+pub mod Listing

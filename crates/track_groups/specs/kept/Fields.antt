@@ -1,0 +1,18 @@
+-- What the fields of groups stand for.
+use Rattle.std.specs.Prelude.{◌≤◌, ◌<◌, ◌^◌, length, All}
+use Rattle.track_groups.specs.declared.group.Group.{Group}
+use Rattle.track_groups.specs.declared.wires.WireGroups.TheInside as inside
+use Rattle.track_groups.specs.Groups.{Grouping}
+
+-- numbers that fit their types also where a track is counted
+pub record IsSmall (g : Group) : Type 0 where
+  pub tracks : g.tracks ≤ 64
+  pub base : g.base < 2 ^ 23
+  pub stride : g.stride ≤ 2 ^ 23
+
+abbrev pub grouping_in : inside.Inside → Grouping
+grouping_in t = record { first_wire = t.first_wire; groups = t.groups.items; places = t.places.items }
+
+pub record AreSmall (t : inside.Inside) : Type 0 where
+  pub few : length t.groups.items ≤ 2 ^ 23
+  pub groups : All IsSmall t.groups.items

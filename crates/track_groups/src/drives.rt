@@ -1,0 +1,87 @@
+//! What output pins drive.
+
+ghost use Rattle.std.specs.Prelude.{◌≡◌, [], get_or, Some, IfOk, OnOk};
+ghost use Rattle.rr_graph.specs.Nodes.{kind_of_node};
+ghost use Rattle.track_groups.specs.Groups.{IsGrouped};
+ghost use Rattle.track_groups.specs.Drives.{AreDrivenBy, AreDrives};
+
+use crate::group::Drive;
+use crate::groups::TrackGroups;
+use crate::rows::Rows;
+use crate::wires::WireGroups;
+use rr_graph::{Device, Kind};
+use smallvec::SmallVec;
+use std::alloc::{AllocError, Global};
+use std::marker::Model;
+
+/// The groups that output pins drive, each with the tracks driven. Contracts see a list of these for each node before the first wire.
+#[derive(Debug, Drop)]
+pub struct PinDrives {
+    rows: Rows<Drive>,
+}
+
+impl Model for PinDrives {
+    ghost use Rattle.std.specs.Prelude.{List};
+    ghost use Rattle.track_groups.specs.declared.group.Drive.{Drive};
+
+    ghost Value = { List (List Drive) };
+
+    ghost view = { λ d. d.rows };
+}
+
+/// Lists that are filled for one node after the other.
+#[derive(Drop)]
+struct Scratch {
+    found: SmallVec<u32, 8>,
+    listed: Vec<Drive>,
+}
+
+impl Scratch {
+    /// Lists what a node drives, where it is an output pin.
+    #[tactic(auto, using(crate::proofs::MoreDriven::driven_by))]
+    fn list(&mut self, device: &Device, groups: &WireGroups, id: u32) -> Result<(), AllocError>
+        requires { IsGrouped device.now groups.now }
+        ensures { OnOk result (kind_of_node device.now id ≡ Some Kind.Opin
+            → AreDrivenBy device.now groups.now id self.new.listed.items) }
+    {
+        match device.kind(id) {
+            Some(Kind::Opin) => {
+                device.successors(id, &mut self.found)?;
+                groups.merge(device, self.found.as_slice(), &mut self.listed)?;
+            }
+            _ => self.listed.clear(),
+        }
+        Ok(())
+    }
+}
+
+impl PinDrives {
+    /// What all output pins of a device drive.
+    #[tactic(auto, using(crate::proofs::AllNodes::drives_next, crate::proofs::AllNodes::drives_all))]
+    pub fn new(
+        alloc: Global,
+        device: &Device,
+        groups: &TrackGroups,
+    ) -> Result<PinDrives, AllocError>
+        requires { IsGrouped device.now groups.now.wires }
+        ensures { IfOk result (AreDrives device.now groups.now.wires) }
+    {
+        let mut scratch = Scratch {
+            found: SmallVec::new(alloc),
+            listed: Vec::new(alloc),
+        };
+        let mut rows = Rows::new(alloc);
+        for id in 0..device.first_wire() {
+            scratch.list(device, &groups.wires, id)?;
+            rows.push(&scratch.listed)?;
+        }
+        Ok(PinDrives { rows })
+    }
+
+    /// What a pin drives: nothing, where it is no output pin.
+    pub fn of(&self, pin: u32) -> &[Drive]
+        ensures { result.now ≡ get_or self.now pin [] }
+    {
+        self.rows.row(pin)
+    }
+}

@@ -1,0 +1,22 @@
+//! The wires of a device in groups: what follows from the device alone, made once for all searches. Wires of tracks that begin at the
+//! same places have the same neighbours, each in its own track, so that a search can look at all of them at once.
+#![tactic(auto)]
+
+mod classes;
+mod drafts;
+mod drives;
+mod group;
+mod groups;
+mod holding;
+mod joining;
+mod lone;
+mod making;
+mod merging;
+mod rows;
+mod sink_pins;
+mod wires;
+
+pub use drives::PinDrives;
+pub use group::{Drive, Group, GroupTrack, Tap};
+pub use groups::TrackGroups;
+pub use sink_pins::SinkPins;

@@ -1,0 +1,66 @@
+//! Lists that stand one behind the other.
+
+ghost use Rattle.std.specs.Prelude.{◌≡◌, ◌++◌, [], ◌∷◌, get_or, OnOk};
+
+use std::alloc::{AllocError, Global};
+use std::marker::Model;
+
+/// From one place of a list to the one before another.
+#[derive(Clone, Copy, Debug)]
+pub(crate) struct Part {
+    pub(crate) start: usize,
+    pub(crate) end: usize,
+}
+
+/// A list of lists. Contracts see it so.
+#[derive(Debug, Drop)]
+pub(crate) struct Rows<T> {
+    parts: Vec<Part>,
+    items: Vec<T>,
+}
+
+impl<T> Model for Rows<T> {
+    ghost use Rattle.std.specs.Prelude.{List, map, length, All};
+    ghost use Rattle.track_groups.specs.kept.Parts.{part_of, IsPart};
+
+    ghost Value = { List (List T) };
+
+    ghost view = { λ r. map (part_of r.items.items) r.parts.items };
+
+    ghost invariant = { λ r. All (IsPart (length r.items.items)) r.parts.items };
+}
+
+impl<T: Copy> Rows<T> {
+    /// No list.
+    pub(crate) fn new(alloc: Global) -> Rows<T>
+        ensures { result ≡ [] }
+    {
+        Rows {
+            parts: Vec::new(alloc),
+            items: Vec::new(alloc),
+        }
+    }
+
+    /// Puts one more list behind the others.
+    pub(crate) fn push(&mut self, row: &[T]) -> Result<(), AllocError>
+        ensures { OnOk result (self.new ≡ self.old ++ row.now ∷ []) }
+    {
+        let start = self.items.len();
+        self.items.extend_from_slice(row)?;
+        self.parts.push(Part {
+            start,
+            end: self.items.len(),
+        })?;
+        Ok(())
+    }
+
+    /// One of the lists; an empty one past the last.
+    pub(crate) fn row(&self, index: u32) -> &[T]
+        ensures { result.now ≡ get_or self.now index [] }
+    {
+        match self.parts.get(index as usize) {
+            None => &[],
+            Some(part) => &self.items[part.start..part.end],
+        }
+    }
+}
