@@ -1,0 +1,66 @@
+-- What is offered to each track of a group.
+use Rattle.std.proofs.Common.{◌≡◌, ℕ, ◌+◌, ◌*◌, ◌-◌, ◌<◌, ◌≤◌, inl, inr, sym, ap, subst, arith}
+use Rattle.std.specs.Int.{bit_at}
+use Rattle.std.proofs.lemmas.Bool.{cases_eq}
+use Rattle.std.proofs.lemmas.Nat.Bits.{bit_at-zero}
+use Rattle.track_groups.specs.declared.group.Group.{Group}
+use Rattle.track_groups.specs.Groups.{IsOn, group_at, on_track}
+use Rattle.wavefront.specs.Space.{HasEdge, IsInside}
+use Rattle.wavefront.specs.kept.Bounds.{IsLow, left_over}
+use Rattle.group_wave.specs.kept.Bits.{PutsBit}
+use Rattle.group_wave.specs.kept.Grounds.{Ground, IsGround, groups_of}
+use Rattle.group_wave.specs.kept.Queues.{Waiting}
+use Rattle.group_wave.specs.kept.WaveState.{FAR, Wave}
+use Rattle.group_wave.specs.kept.Wave.{AreTracks, IsBound, IsOf, IsWave, wire_of}
+use Rattle.group_wave.specs.kept.Steps.{IsOffer, IsNoted, IsStep, IsTarget, Relaxes, RelaxesSome, fresh_entry}
+use Rattle.group_wave.proofs.Entered.{noted_spreads, spreads_then}
+use Rattle.group_wave.proofs.Grouped.{group_bound, is_wire_here, wire_within}
+
+-- an entry of one track
+pub one_track : (g : Ground) (e : Waiting) (track : ℕ) → PutsBit 0 e.tracks track → IsOn (groups_of g) (on_track e.group track) → AreTracks g e
+one_track g e track put on j one = elim (cases_eq j track) [
+  | inl same ↦ rw same on
+  | inr other ↦ absurd (let zero_bit = bit_at-zero j in let same = put.others j other in omega (arith, zero_bit, same, one))
+]
+
+module _ (g : Ground) (ok : IsGround g) (old s : Wave) (label least first step group tracks left fresh : ℕ) (is : Group) (at : is ≡ group_at (groups_of g) group)
+    (offer : IsOffer g old label first step group tracks) (some : RelaxesSome g old s label least group tracks left fresh) (track : ℕ) (bit : bit_at left track ≡ 1) where
+  abbrev wire : ℕ
+  wire = is.base + track * is.stride
+
+  pub offered_target : IsTarget g group track wire
+  offered_target = record { on = offer.on track (some.of track bit); is = ap (λ (x : Group). x.base + track * x.stride) (sym at) }
+
+  pub offered_step : label < FAR → IsStep g s label wire (first + track * step)
+  offered_step near =
+      let was = some.of track bit in
+      let on = offer.on track was in
+      let same = offered_target.is in
+      record {
+        edge = subst (HasEdge g.space (first + track * step)) same (offer.edge track was);
+        inside = subst (IsInside g.space) same (offer.inside track was);
+        from = let from = offer.from track was in let down = some.lowers.down (first + track * step) in omega (arith, from, down);
+        near = near;
+        is = rw same at (is_wire_here g ok (on_track group track) on);
+        within = rw same at (wire_within g ok (on_track group track) on);
+      }
+
+  pub offered_bound : (wires bound : ℕ) → IsLow old.boxes (wire_of is) wires → bound ≤ left_over wires → IsBound g s wire bound
+  offered_bound wires bound low up b way target walk =
+      let on = offer.on track (some.of track bit) in
+      let here : IsLow s.boxes (wire_of (group_at (groups_of g) group)) wires = rw (some.lowers.boxes, sym at) low in
+      let least = subst (λ v. IsBound g s v (left_over wires)) offered_target.is (group_bound g ok (on_track group track) on s some.wave.boxes wires here) b way target walk in
+      omega (arith, least, up)
+
+-- tracks that are yet to wait: no way over them costs less than what they and the ways on cost at least
+pub fresh_bound : (g : Ground) (ok : IsGround g) (old s : Wave) (label least group tracks left fresh : ℕ) (is : Group) → is ≡ group_at (groups_of g) group → RelaxesSome g old s label least group tracks left fresh
+    → (wires key : ℕ) → IsLow old.boxes (wire_of is) wires → key ≤ least + left_over wires → (v : ℕ) → IsOf g s (fresh_entry least group fresh) v → IsBound g s v (key - least)
+fresh_bound g ok old s label least group tracks left fresh is at some wires key low up v of b way target walk =
+    let on = some.on of.holds.track of.holds.bit in
+    let here : IsLow s.boxes (wire_of (group_at (groups_of g) group)) wires = rw (some.lowers.boxes, sym at) low in
+    let bound = subst (λ x. IsBound g s x (left_over wires)) of.holds.wire (group_bound g ok (on_track group of.holds.track) on s some.wave.boxes wires here) b way target walk in
+    omega (arith, bound, up)
+
+-- what is known of groups changes before the way is offered
+pub relaxed_after : (g : Ground) (old s t : Wave) (limit label group tracks : ℕ) → IsNoted old s limit → IsWave g s → Relaxes g s t label group tracks → Relaxes g old t label group tracks
+relaxed_after g old s t limit label group tracks noted wave step = record { spreads = spreads_then g old s t (noted_spreads g old s limit noted wave) step.spreads; went = step.went }

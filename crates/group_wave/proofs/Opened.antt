@@ -1,0 +1,59 @@
+-- Words of the crates below, opened.
+use Rattle.std.proofs.Common.{◌≡◌, ℕ, ◌+◌, ◌<◌, ◌/◌, true, false, Option, Some, None, inl, inr, refl, sym, ap, ◌∙◌}
+use Rattle.std.proofs.lemmas.Bool.{cases_lt, false≢true}
+use Rattle.std.proofs.lemmas.Option.{slice_get_past}
+use Rattle.std.specs.Option.{option_map, option_map_or}
+use Rattle.rr_graph.specs.declared.parts.Kind.{Kind}
+use Rattle.rr_graph.specs.declared.parts.Kind.TheVariants.{Source, Sink, Opin, Ipin, Chanx, Chany}
+use Rattle.rr_graph.specs.declared.parts.Node.{Node}
+use Rattle.rr_graph.specs.declared.parts.Span.{Span}
+use Rattle.rr_graph.specs.Fabric.{Fabric}
+use Rattle.rr_graph.specs.Nodes.{capacity_of, is_wire, is_wire_at, kind_of_node, node_at, node_count_of, nodes_of, span_of, wire_capacity}
+use Rattle.rr_graph.specs.Problems.{Net}
+use Rattle.node_cost.specs.Costs.{cost_of}
+use Rattle.node_cost.specs.Views.{history_in, others_in}
+use Rattle.route_tree.specs.Usage.{room_of}
+use Rattle.wavefront.specs.Boxes.{box_of_net, box_of_node, box_with, is_in_box, touches}
+use Rattle.wavefront.specs.Space.{Space, base_cost, entry_cost}
+use Rattle.wavefront.specs.kept.Bounds.{wires_over}
+
+pub net_box : (f : Fabric) (n : Net) → box_of_net f n ≡ box_with f (box_of_node f n.source) n.sinks
+unfolding box_of_net
+net_box f n = refl
+
+pub inside_is : (f : Fabric) (bb : ℕ) (n : Net) (v : ℕ) (o : Option Span) → option_map (span_of f) (node_at f v) ≡ o → is_in_box f bb n v ≡ option_map_or (touches bb (box_of_net f n)) o false
+unfolding is_in_box
+inside_is f bb n v o e = ap (λ p. option_map_or (touches bb (box_of_net f n)) p false) e
+
+pub cost_is : (s : Space) (v : ℕ) → entry_cost s v ≡ cost_of (option_map_or base_cost (kind_of_node s.device v) 0) (history_in s.view v) (room_of s.device (node_at s.device v)) (others_in s.view v) s.present
+unfolding entry_cost
+cost_is s v = refl
+
+-- a wire's cost is by the base cost and the room of wires
+by_kind : (f : Fabric) (n : Node) (k : Kind) → n.kind ≡ k → is_wire k ≡ true → (base_cost n.kind ≡ 20) × (capacity_of f n ≡ wire_capacity f.mode f.width)
+by_kind f n Source e is = absurd (false≢true is)
+by_kind f n Sink e is = absurd (false≢true is)
+by_kind f n Opin e is = absurd (false≢true is)
+by_kind f n Ipin e is = absurd (false≢true is)
+by_kind f n Chanx e is = rw e (refl, refl)
+by_kind f n Chany e is = rw e (refl, refl)
+
+by_node : (s : Space) (v : ℕ) (o : Option Node) → option_map_or is_wire (option_map (λ (n : Node). n.kind) o) false ≡ true
+    → cost_of (option_map_or base_cost (option_map (λ (n : Node). n.kind) o) 0) (history_in s.view v) (room_of s.device o) (others_in s.view v) s.present
+    ≡ cost_of 20 (history_in s.view v) (wire_capacity s.device.mode s.device.width) (others_in s.view v) s.present
+by_node s v None is = absurd (false≢true is)
+by_node s v (Some n) is = let told = by_kind s.device n n.kind refl is in ap (λ base. cost_of base (history_in s.view v) (capacity_of s.device n) (others_in s.view v) s.present) told.0 ∙ ap (λ room. cost_of 20 (history_in s.view v) room (others_in s.view v) s.present) told.1
+
+pub wire_paid : (s : Space) (v : ℕ) → is_wire_at s.device v ≡ true → entry_cost s v ≡ cost_of 20 (history_in s.view v) (wire_capacity s.device.mode s.device.width) (others_in s.view v) s.present
+wire_paid s v is = cost_is s v ∙ by_node s v (node_at s.device v) is
+
+-- a wire is a node
+pub wire_node : (f : Fabric) (v : ℕ) → is_wire_at f v ≡ true → v < node_count_of f
+wire_node f v is = elim (cases_lt v (node_count_of f)) [
+  | inl within ↦ within
+  | inr past ↦ absurd (false≢true (sym (ap (λ o. option_map_or is_wire (option_map (λ (n : Node). n.kind) o) false) (slice_get_past (nodes_of f) v past)) ∙ is))
+]
+
+pub over_is : (steps places : ℕ) → wires_over steps places ≡ (places + steps) / (steps + 1)
+unfolding wires_over
+over_is steps places = refl

@@ -1,0 +1,140 @@
+-- What offering a wire a way does.
+use Rattle.std.proofs.Common.{◌≡◌, ℕ, ◌+◌, ◌-◌, ◌<◌, ◌≤◌, true, false, length, sum_by, inl, inr, refl, ap, ◌∙◌, arith}
+use Rattle.std.proofs.lemmas.Bool.{false≢true}
+use Rattle.std.specs.Prelude.{cond, min}
+use Rattle.group_wave.specs.kept.WaveState.{FAR}
+use Rattle.wavefront.specs.Space.{entry_cost}
+use Rattle.wavefront.proofs.WaysLeft.{wire_paid}
+use Rattle.group_wave.specs.kept.Grounds.{Ground, IsGround}
+use Rattle.group_wave.specs.kept.Queues.{Waiting}
+use Rattle.group_wave.specs.kept.WaveState.{Wave}
+use Rattle.group_wave.specs.kept.Wave.{AreTracks, IsBound, IsOf, IsWave, WentOn, cost_at, weight_of, work_of}
+use Rattle.group_wave.specs.kept.Steps.{IsLabelled, IsNoted, IsPushed, IsStep, KeepsLabel, KeepsSinks, Lowers, RelaxesTrack}
+use Rattle.group_wave.proofs.Lower.{label_here, label_there, set_enters, set_keeps, set_lowers, set_same_work, set_wave, set_work}
+use Rattle.group_wave.proofs.Noted.{noted_label, noted_lowers, noted_sinks, noted_wave, noted_work}
+use Rattle.group_wave.proofs.Pushed.{new_wait, pushed_cost, pushed_label, pushed_wave, pushed_work}
+use Rattle.group_wave.proofs.Sinks.{sinks_then, wire_no_sink}
+
+module _ (g : Ground) (ok : IsGround g) (s : Wave) (wave : IsWave g s) (label wire parent : ℕ) (step : IsStep g s label wire parent) where
+  paid : 320 ≤ entry_cost g.space wire
+  paid = wire_paid g.space wire step.is
+
+  row_in : wire < length s.labels
+  row_in = let rows = wave.rows in let lt = step.within in omega (arith, rows, lt)
+
+  -- the way costs no less than what is there
+  pub relaxed_stays : (least : ℕ) → cost_at s wire ≤ label + entry_cost g.space wire → RelaxesTrack g s s label least wire false
+  relaxed_stays least low = record {
+    wave = wave;
+    lowers = record {
+      down = λ v. omega arith;
+      wait = λ v. inl refl;
+      origins = λ v. (λ o. o, λ o. o);
+      kept = λ e h. h;
+      limit = omega arith;
+      boxes = refl;
+    };
+    at = λ e. absurd (false≢true e);
+    went = inr (omega (arith, low));
+    work = omega arith;
+    sinks = record { best = refl; labels = λ b wanted. refl };
+  }
+
+  -- nor does any way over the node
+  pub relaxed_low : (least : ℕ) → cost_at s wire < least → least ≤ label + 320 → RelaxesTrack g s s label least wire false
+  relaxed_low least low up = relaxed_stays least (let c = paid in omega (arith, low, up, c))
+
+  -- what doesn't fit is left out
+  pub relaxed_out : (t : Wave) (greatest least : ℕ) → IsNoted s t greatest → IsWave g t → greatest ≤ label + entry_cost g.space wire → RelaxesTrack g s t label least wire false
+  relaxed_out t greatest least noted wave_then out = record {
+    wave = wave_then;
+    lowers =
+        let low = noted_lowers g s t greatest noted in
+        record { down = low.down; wait = λ v. inl (ap (λ l. l.cost) (noted_label g s t greatest noted v)); origins = low.origins; kept = low.kept; limit = low.limit; boxes = low.boxes };
+    at = λ e. absurd (false≢true e);
+    went = inr (let limit = noted.limit in omega (arith, limit, out));
+    work = let same = noted_work g s t greatest noted in omega (arith, same);
+    sinks = noted_sinks g s t greatest noted;
+  }
+
+  module _ (t : Wave) (cost : ℕ) (set : IsLabelled s t wire (record { cost = cost; parent = parent })) (best : t.best ≡ s.best) where
+    set_sinks : KeepsSinks g s t
+    set_sinks = record {
+      best = best;
+      labels = λ b wanted. label_there g s t wire _ set row_in b (λ e. let sink = ok.space.are_sinks b wanted in wire_no_sink g.space.device wire step.is (rw e at sink));
+    }
+
+    here : cost_at t wire ≡ cost
+    here = ap (λ l. l.cost) (label_here g s t wire _ set row_in)
+
+    module _ (less : cost < cost_at s wire) (near : cost < FAR) (above : label + entry_cost g.space wire ≤ cost) (below : cost ≤ label + entry_cost g.space wire) where
+      pub lowered : Lowers g s t (λ v. v ≡ wire)
+      lowered = let from = step.from in set_lowers g s t wire _ set row_in less (omega (arith, from, above))
+
+      lowered_wave : IsWave g t
+      lowered_wave = set_wave g s t wire _ set row_in wave (omega (arith, less)) near lowered.origins
+          (set_enters g s t wire _ set row_in label (omega (arith, less)) step.from step.near step.edge step.inside above)
+
+      lowered_work : work_of t + 3 ≤ work_of s
+      lowered_work = let a = set_work g s t wire _ set row_in less in let b = ap (λ q. sum_by weight_of q) set.queue in omega (arith, a, b)
+
+      went_here : WentOn g t label wire
+      went_here = inr (let h = here in omega (arith, h, below))
+
+      -- the label is the least there can be: its entry is yet to come
+      pub relaxed_fresh : (least : ℕ) → cost ≡ least → RelaxesTrack g s t label least wire true
+      relaxed_fresh least at = record {
+        wave = lowered_wave;
+        lowers = let low = lowered in record {
+          down = low.down;
+          wait = λ v. elim (low.wait v) [ inl e ↦ inl e | inr later ↦ elim later [ inl settled ↦ inr (inl settled) | inr new ↦ inr (inr (refl, new)) ] ];
+          origins = low.origins;
+          kept = low.kept;
+          limit = low.limit;
+          boxes = low.boxes;
+        };
+        at = λ e. here ∙ at;
+        went = went_here;
+        work = let w = lowered_work in omega (arith, w);
+        sinks = set_sinks;
+      }
+
+      -- else an entry of its own comes at once
+      pub relaxed_alone : (u : Wave) (e : Waiting) (least : ℕ) → IsPushed t u e → IsOf g t e wire → IsBound g t wire (e.key - e.label) → AreTracks g e → e.begun ≡ false → RelaxesTrack g s u label least wire false
+      relaxed_alone u e least push of bound tracks whole = record {
+        wave = pushed_wave g t u e push lowered_wave tracks;
+        lowers = let low = new_wait g t u e push s (λ v. v ≡ wire) lowered (λ v same. rw same of) (λ v same. rw same bound) in record {
+          down = low.down;
+          wait = λ v. elim (low.wait v) [ inl same ↦ inl same | inr later ↦ elim later [ inl settled ↦ inr (inl settled) | inr none ↦ absurd none ] ];
+          origins = low.origins;
+          kept = low.kept;
+          limit = low.limit;
+          boxes = low.boxes;
+        };
+        at = λ e. absurd (false≢true e);
+        went = inr (let h = here in let k = pushed_cost g t u e push wire in let limit = push.limit in omega (arith, h, k, below));
+        work = let w = lowered_work in let p = pushed_work g t u e push in let weight = ap {B = ℕ} (λ b. cond b 1 2) whole in omega (arith, w, p, weight);
+        sinks = sinks_then g s t u set_sinks (record { best = push.best; labels = λ b wanted. pushed_label g t u e push b });
+      }
+
+  -- no label goes down
+  pub relaxed_kept : (t : Wave) (cost greatest least : ℕ) → greatest ≤ FAR → cost ≡ min (label + entry_cost g.space wire) greatest → KeepsLabel s t wire cost parent greatest → RelaxesTrack g s t label least wire false
+  relaxed_kept t cost greatest least narrow sum (inl stays) = rw stays.0 (relaxed_stays least (let low = stays.1 in omega (arith, low, sum)))
+  relaxed_kept t cost greatest least narrow sum (inr (inl same)) =
+      let c = paid in
+      let e = same.same in
+      let fits = same.fits in
+      let low = set_keeps g s t wire _ same.set row_in e (omega (arith, sum, c, fits)) in
+      record {
+        wave = set_wave g s t wire _ same.set row_in wave (omega (arith, e)) (omega (arith, fits, narrow)) low.origins
+            (set_enters g s t wire _ same.set row_in label (omega (arith, e)) step.from step.near step.edge step.inside (omega (arith, sum, fits)));
+        lowers = record { down = low.down; wait = λ v. elim (low.wait v) [ inl f ↦ inl f | inr later ↦ elim later [ inl settled ↦ inr (inl settled) | inr none ↦ absurd none ] ]; origins = low.origins; kept = low.kept; limit = low.limit; boxes = low.boxes };
+        at = λ f. absurd (false≢true f);
+        went = inr (let h = ap (λ l. l.cost) (label_here g s t wire _ same.set row_in) in omega (arith, h, sum));
+        work = let a = set_same_work g s t wire _ same.set row_in e in let b = ap (λ q. sum_by weight_of q) same.set.queue in omega (arith, a, b);
+        sinks = set_sinks t cost same.set same.best;
+      }
+  relaxed_kept t cost greatest least narrow sum (inr (inr left)) =
+      relaxed_out t greatest least left.noted
+      (noted_wave g s t greatest left.noted wave (ap length left.known ∙ wave.sized) (rw (left.noted.boxes, left.known) wave.known))
+      (let out = left.out in omega (arith, out, sum))

@@ -1,0 +1,16 @@
+-- What all searches over a device share (ours; the device is that of `rr_graph`, its groups those of `track_groups`).
+use Rattle.std.specs.Prelude.{List}
+use Rattle.rr_graph.specs.Fabric.{Fabric}
+use Rattle.track_groups.specs.declared.group.Drive.{Drive}
+use Rattle.track_groups.specs.Drives.{AreDrives}
+use Rattle.track_groups.specs.Joints.{Tables, IsTabled}
+
+-- the groups of a device's wires with their edges, and what output pins drive
+pub record DeviceTables : Type 0 where
+  pub groups : Tables
+  pub drives : List (List Drive)
+
+-- the tables are those of a device
+pub record AreTablesOf (f : Fabric) (t : DeviceTables) : Type 0 where
+  pub groups : IsTabled f t.groups
+  pub drives : AreDrives f t.groups.wires t.drives

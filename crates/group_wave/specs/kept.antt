@@ -1,0 +1,14 @@
+pub mod Buckets
+pub mod Queues
+pub mod WaveState
+pub mod Grounds
+pub mod Boxes
+pub mod Wave
+pub mod Bits
+pub mod Labels
+pub mod Nearest
+pub mod Fields
+pub mod Steps
+pub mod Starts
+pub mod Growing
+pub mod WaveFields

@@ -1,0 +1,19 @@
+-- What the fields of a search's ground stand for.
+use Rattle.std.specs.Prelude.{◌≡◌, ◌<◌, ◌≤◌, length}
+use Rattle.rr_graph.specs.Nodes.{node_count_of}
+use Rattle.rr_graph.specs.Problems.{net_in}
+use Rattle.wavefront.specs.Boxes.{box_of_net}
+use Rattle.wavefront.specs.Growth.{space_of}
+use Rattle.group_wave.specs.declared.ground.Ground.TheInside.{Inside}
+use Rattle.group_wave.specs.kept.Boxes.{boxed}
+use Rattle.group_wave.specs.kept.Grounds.{Ground}
+
+abbrev pub ground_inside : Inside → Ground
+ground_inside g = record { space = space_of g.problem.now g.net g.view.now g.present g.bb; tables = g.groups.now; drives = g.drives.now }
+
+-- the net is there, the view is one of the device, and the box is that of the net
+pub record IsGroundInside (g : Inside) : Type 0 where
+  pub net : g.net < length g.problem.now.nets
+  pub view : length g.view.now ≡ node_count_of g.problem.now.device
+  pub present : g.present ≤ 1048576
+  pub terminals : boxed g.terminals ≡ box_of_net g.problem.now.device (net_in g.problem.now.nets g.net)

@@ -1,0 +1,86 @@
+-- How a wave begins, and starts at nodes.
+use Rattle.std.specs.Prelude.{◌≡◌, ℕ, ◌≤◌, ◌⊎◌, [], length, replicate, Some, None, true}
+use Rattle.std.specs.Int.{bit_at}
+use Rattle.rr_graph.specs.declared.parts.Kind.TheVariants.{Opin}
+use Rattle.rr_graph.specs.Nodes.{is_wire_at, kind_of_node}
+use Rattle.track_groups.specs.declared.group.Drive.{Drive}
+use Rattle.track_groups.specs.Groups.{on_track, wire_on}
+use Rattle.wavefront.specs.Space.{HasEdge, IsInside}
+use Rattle.wavefront.specs.kept.Bounds.{CoversMore}
+use Rattle.group_wave.specs.kept.Grounds.{Ground, groups_of}
+use Rattle.group_wave.specs.kept.WaveState.{FAR, Wave}
+use Rattle.group_wave.specs.kept.Wave.{IsComplete, IsDead, IsOpen, IsWave, Serves, WentOn, cost_at, unreached}
+use Rattle.group_wave.specs.kept.Steps.{MoreOrigins}
+
+-- no boxes are left, and nothing is known that was found in them
+pub record HasNoBoxes (old new : Wave) : Type 0 where
+  pub labels : new.labels ≡ old.labels
+  pub queue : new.queue ≡ old.queue
+  pub limit : new.limit ≡ old.limit
+  pub best : new.best ≡ old.best
+  pub boxes : new.boxes ≡ []
+  pub known : new.known ≡ replicate (length old.known) None
+
+-- what boxes covered is covered still, and nothing but boxes changes
+pub record Widens (old new : Wave) : Type 0 where
+  pub labels : new.labels ≡ old.labels
+  pub queue : new.queue ≡ old.queue
+  pub limit : new.limit ≡ old.limit
+  pub best : new.best ≡ old.best
+  pub known : new.known ≡ old.known
+  pub more : CoversMore old.boxes new.boxes
+
+-- boxes are put anew around each sink that the wave has yet to take, and nothing is known that was found in others
+pub record IsAimed (g : Ground) (old new : Wave) : Type 0 where
+  pub labels : new.labels ≡ old.labels
+  pub queue : new.queue ≡ old.queue
+  pub limit : new.limit ≡ old.limit
+  pub best : new.best ≡ old.best
+  pub known : new.known ≡ replicate (length old.known) None
+  pub serves : Serves g new
+
+-- no node is reached, and nothing waits
+pub record IsCleared (old new : Wave) : Type 0 where
+  pub labels : new.labels ≡ replicate (length old.labels) unreached
+  pub queue : new.queue ≡ []
+  pub limit : new.limit ≡ FAR
+  pub best : new.best ≡ FAR
+  pub known : new.known ≡ old.known
+
+-- another cost is kept as that of the nearest sink
+pub record IsBestPut (old new : Wave) (cost : ℕ) : Type 0 where
+  pub labels : new.labels ≡ old.labels
+  pub queue : new.queue ≡ old.queue
+  pub limit : new.limit ≡ old.limit
+  pub best : new.best ≡ cost
+  pub known : new.known ≡ old.known
+
+-- it is the cost of the nearest open sink, if one is reached
+pub record IsLeastCost (g : Ground) (w : Wave) (least : ℕ) : Type 0 where
+  pub low : (b : ℕ) → IsOpen g w b → least ≤ cost_at w b
+  pub met : (least ≡ FAR) ⊎ ((b : ℕ) × IsOpen g w b × (cost_at w b ≡ least))
+
+-- the lower of a cost and an open sink's
+pub record IsNearerOf (g : Ground) (w : Wave) (sink old new : ℕ) : Type 0 where
+  pub down : new ≤ old
+  pub low : IsOpen g w sink → new ≤ cost_at w sink
+  pub met : (new ≡ old) ⊎ (IsOpen g w sink × (cost_at w sink ≡ new))
+
+-- the tracks that are driven were offered the way
+abbrev pub TookDrive : Ground → Wave → (label : ℕ) → Drive → Type 0
+TookDrive g w label d =
+    (j : ℕ) → bit_at d.tracks j ≡ 1 → IsInside g.space (wire_on (groups_of g) (on_track d.group j)) → WentOn g w label (wire_on (groups_of g) (on_track d.group j))
+
+-- no way leads on from the node to an open sink
+abbrev pub IsEnd : Ground → Wave → ℕ → Type 0
+IsEnd g w node = (b : ℕ) → HasEdge g.space node b → IsDead g w b
+
+-- a wire, an output pin, or a node from which no way leads on
+abbrev pub MayStart : Ground → Wave → ℕ → Type 0
+MayStart g w node = (is_wire_at g.space.device node ≡ true) ⊎ ((kind_of_node g.space.device node ≡ Some Opin) ⊎ IsEnd g w node)
+
+-- the wave starts at the node too
+pub record StartsAt (g : Ground) (old new : Wave) (node : ℕ) : Type 0 where
+  pub wave : IsWave g new
+  pub complete : IsComplete g new
+  pub origins : MoreOrigins old new node

@@ -1,0 +1,26 @@
+-- What the fields of a wave stand for.
+use Rattle.std.specs.Prelude.{ℕ, ◌<◌, ◌≤◌, All, cond}
+use Rattle.group_wave.specs.declared.wave.Wave.TheInside.{Inside}
+use Rattle.group_wave.specs.kept.Labels.{widened}
+use Rattle.group_wave.specs.kept.Queues.{Waiting}
+use Rattle.group_wave.specs.kept.WaveState.{FAR, Wave}
+
+abbrev pub wave_of : {K : Type 0} → (value : K → ℕ) → (greatest : ℕ) → Inside K → Wave
+wave_of value greatest w = record {
+  labels = w.labels;
+  queue = w.queue;
+  limit = cond w.left_out greatest FAR;
+  best = widened greatest (value w.best);
+  boxes = w.nearest.boxes;
+  known = w.nearest.known;
+}
+
+-- an entry's label is below the greatest, and its key up to it
+pub record IsFitting (greatest : ℕ) (e : Waiting) : Type 0 where
+  pub label : e.label < greatest
+  pub key : e.key ≤ greatest
+
+-- costs are kept up to the greatest
+pub record IsWaveInside {K : Type 0} (value : K → ℕ) (greatest : ℕ) (w : Inside K) : Type 0 where
+  pub best : value w.best ≤ greatest
+  pub entries : All (IsFitting greatest) w.queue

@@ -1,0 +1,22 @@
+-- What a wave over groups is: labels of nodes, entries that wait, from what cost on ways may have been left out, the least cost of a way
+-- that was found to a sink, boxes around the sinks that it has yet to take, and what is known of how many wires lead on from a group.
+use Rattle.std.specs.Prelude.{ℕ, List, Option}
+use Rattle.wavefront.specs.declared.boxes.BoundingBox.{BoundingBox}
+use Rattle.group_wave.specs.kept.Queues.{Waiting}
+
+-- the cost of a node that the wave has not reached: more than any way costs
+abbrev pub FAR : ℕ
+FAR = 340282366920938463463374607431768211455
+
+-- the cost of a way to a node, and the node before it; at a start the cost is 0, and it is itself that node
+pub record Label : Type 0 where
+  pub cost : ℕ
+  pub parent : ℕ
+
+pub record Wave : Type 0 where
+  pub labels : List Label
+  pub queue : List Waiting
+  pub limit : ℕ
+  pub best : ℕ
+  pub boxes : List BoundingBox
+  pub known : List (Option ℕ)

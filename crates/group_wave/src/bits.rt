@@ -1,0 +1,36 @@
+//! Sets of tracks as bits.
+
+ghost use Rattle.std.specs.Prelude.{◌≡◌, ◌<◌};
+ghost use Rattle.std.specs.Int.{bit_at};
+ghost use Rattle.group_wave.specs.kept.Bits.{TakesBit, PutsBit};
+
+/// Takes the lowest bit that is 1 out of a set, and answers its place.
+#[inline(always)]
+pub(crate) fn take_bit(bits: &mut u64) -> u32
+    requires { 0 < bits.old }
+    ensures taken { TakesBit bits.old bits.new result }
+    ensures fewer { bits.new < bits.old }
+{
+    let bit = bits.trailing_zeros();
+    *bits &= !(1u64 << bit);
+    bit
+}
+
+/// A set with one bit more.
+#[inline(always)]
+pub(crate) fn with_bit(bits: u64, bit: u32) -> u64
+    requires { bit < 64 }
+    ensures { PutsBit bits result bit }
+{
+    bits | (1u64 << bit)
+}
+
+/// The place of the lowest bit that is 1.
+#[inline(always)]
+pub(crate) fn lowest_bit(bits: u64) -> u32
+    requires { 0 < bits }
+    ensures within { result < 64 }
+    ensures one { bit_at bits result ≡ 1 }
+{
+    bits.trailing_zeros()
+}

@@ -1,0 +1,306 @@
+//! What the search of one net goes over.
+
+ghost use Rattle.std.specs.Prelude.{◌≡◌, ◌<◌, ◌≤◌, ◌+◌, ◌*◌, ◌^◌, ◌↔◌, ℕ, Contains, IfSome, OnOk, IsTrue, length, get_or, true, []};
+ghost use Rattle.std.specs.List.Sorted.{IsStrictlyIncreasing};
+ghost use Rattle.std.specs.Option.{option_map_or};
+ghost use Rattle.node_cost.specs.Costs.{cost_of};
+ghost use Rattle.node_cost.specs.Views.{history_in, others_in};
+ghost use Rattle.rr_graph.specs.Nodes.{is_wire_at, kind_of_node, node_count_of, wire_capacity};
+ghost use Rattle.track_groups.specs.Drives.{AreDrives};
+ghost use Rattle.track_groups.specs.Groups.{group_at, place_of, HasPlace};
+ghost use Rattle.track_groups.specs.Joints.{IsTabled, neighbours_of, taps_of};
+ghost use Rattle.wavefront.specs.Boxes.{box_of_node, is_in_box, touches, box_of_net};
+ghost use Rattle.wavefront.specs.Growth.{space_of};
+ghost use Rattle.wavefront.specs.Space.{HasEdge, IsWanted, base_cost, entry_cost};
+ghost use Rattle.wavefront.specs.kept.Spaces.{LeadsOnlyTo, node_count};
+ghost use Rattle.group_wave.specs.kept.Boxes.{boxed};
+ghost use Rattle.group_wave.specs.kept.Grounds.{IsGround, groups_of};
+
+use crate::boxes::BoundingBox;
+use node_cost::{GREATEST_PRESENT, View, cost};
+use rr_graph::{Kind, Mode, Problem, Span};
+use smallvec::SmallVec;
+use std::alloc::AllocError;
+use std::marker::Model;
+use track_groups::{Drive, Group, GroupTrack, PinDrives, Tap, TrackGroups};
+
+/// A net of a problem, what it sees of the others, and the groups of the device's wires. Contracts
+/// see the record of what decides.
+#[derive(Drop)]
+pub(crate) struct Ground<'a> {
+    problem: &'a Problem,
+    groups: &'a TrackGroups,
+    drives: &'a PinDrives,
+    net: u32,
+    view: &'a View,
+    present: u32,
+    bb: u32,
+    terminals: BoundingBox,
+}
+
+impl<'a> Model for Ground<'a> {
+    ghost use Rattle.group_wave.specs.kept.Grounds.{Ground};
+
+    ghost Value = { Ground };
+
+    ghost use Rattle.group_wave.specs.kept.Fields.{ground_inside, IsGroundInside};
+
+    ghost view = { ground_inside };
+
+    ghost invariant = { IsGroundInside };
+}
+
+/// What a node of a kind costs where nobody else wants it.
+fn base_cost(kind: Option<Kind>) -> u32
+    ensures { result ≡ option_map_or base_cost kind 0 }
+{
+    match kind {
+        None | Some(Kind::Sink) => 0,
+        Some(Kind::Ipin) => 19,
+        Some(Kind::Source | Kind::Opin | Kind::Chanx | Kind::Chany) => 20,
+    }
+}
+
+/// Whether a number is one of these, which ascend.
+fn is_one_of(numbers: &[u32], number: u32) -> bool
+    requires { IsStrictlyIncreasing numbers.now }
+    ensures { IsTrue result ↔ Contains numbers.now number }
+{
+    numbers.binary_search(&number).is_ok()
+}
+
+impl<'a> Ground<'a> {
+    /// What the search of a net goes over.
+    pub(crate) fn new(
+        problem: &'a Problem,
+        groups: &'a TrackGroups,
+        drives: &'a PinDrives,
+        net: u32,
+        view: &'a View,
+        present: u32,
+        bb: u32,
+    ) -> Ground<'a>
+        requires net { net < length problem.now.nets }
+        requires groups { IsTabled problem.now.device groups.now }
+        requires drives { AreDrives problem.now.device groups.now.wires drives.now }
+        requires view { length view.now ≡ node_count_of problem.now.device }
+        requires present { present ≤ GREATEST_PRESENT }
+        ensures ground { result ≡ record {
+          space = space_of problem.now net view.now present bb;
+          tables = groups.now;
+          drives = drives.now;
+        } }
+        ensures facts { IsGround result }
+    {
+        let _nodes = problem.device().node_count();
+        let _limits = problem.device().nx();
+        let _nets = problem.nets();
+        let _bounds = view.len();
+        Ground {
+            problem,
+            groups,
+            drives,
+            net,
+            view,
+            present,
+            bb,
+            terminals: BoundingBox::of_net(problem, net),
+        }
+    }
+
+    /// How many nodes there are.
+    pub(crate) fn nodes(&self) -> usize
+        ensures { result ≡ node_count self.now.space }
+    {
+        self.problem.device().node_count() as usize
+    }
+
+    /// How many groups there are.
+    pub(crate) fn groups(&self) -> usize
+        ensures { result ≡ length (groups_of self.now) }
+    {
+        self.groups.len() as usize
+    }
+
+    /// The node at which the net begins.
+    pub(crate) fn source(&self) -> u32
+        ensures { result ≡ self.now.space.net.source }
+    {
+        self.problem.source(self.net)
+    }
+
+    /// The sinks of the net, ascending.
+    pub(crate) fn sinks(&self) -> &[u32]
+        ensures { result.now ≡ self.now.space.net.sinks }
+    {
+        self.problem.sinks(self.net)
+    }
+
+    /// Whether the node is one of the net's sinks.
+    pub(crate) fn wants(&self, node: u32) -> bool
+        requires { IsGround self.now }
+        ensures { IsTrue result ↔ IsWanted self.now.space node }
+    {
+        is_one_of(self.sinks(), node)
+    }
+
+    /// Whether one of the places of a span is inside the net's box.
+    #[inline(always)]
+    pub(crate) fn is_span_inside(&self, span: Span) -> bool
+        ensures { result ≡ touches self.now.space.bb
+            (box_of_net self.now.space.device self.now.space.net) span }
+    {
+        self.terminals.touches(self.bb, span)
+    }
+
+    /// Whether the node is inside the net's box.
+    #[tactic(auto, using(crate::proofs::Opened::inside_is))]
+    pub(crate) fn is_inside(&self, node: u32) -> bool
+        ensures { result ≡ is_in_box self.now.space.device self.now.space.bb self.now.space.net
+            node }
+    {
+        match self.problem.device().span(node) {
+            Some(span) => self.terminals.touches(self.bb, span),
+            None => false,
+        }
+    }
+
+    /// What it costs to enter a node of this base cost, which so many nets may use.
+    #[inline(always)]
+    fn cost_by(&self, base: u32, room: u32, node: u32) -> u128
+        requires base { base ≤ 20 }
+        requires room { 1 ≤ room }
+        requires node_in { node < node_count self.now.space }
+        ensures { result ≡ cost_of base (history_in self.now.space.view node) room
+            (others_in self.now.space.view node) self.now.space.present }
+    {
+        cost(
+            base,
+            self.view.history(node),
+            room,
+            self.view.others(node),
+            self.present,
+        )
+    }
+
+    /// What it costs to enter a node.
+    #[tactic(auto, using(crate::proofs::Opened::cost_is, wavefront::proofs::Spaces::room_is, wavefront::proofs::Spaces::some_room))]
+    pub(crate) fn cost(&self, node: u32) -> u128
+        requires { node < node_count self.now.space }
+        ensures { result ≡ entry_cost self.now.space node }
+    {
+        let device = self.problem.device();
+        let _limits = device.nx();
+        let base = base_cost(device.kind(node));
+        let capacity = device.capacity(node).unwrap_or(0);
+        self.cost_by(base, capacity, node)
+    }
+
+    /// How many nets may use a wire.
+    fn wire_room(&self) -> u32
+        ensures room { result ≡
+            wire_capacity self.now.space.device.mode self.now.space.device.width }
+        ensures some { 1 ≤ result }
+    {
+        let device = self.problem.device();
+        let width = device.width();
+        match device.mode() {
+            Mode::Detailed => 1,
+            Mode::Global => width,
+        }
+    }
+
+    /// What it costs to enter a wire.
+    #[inline(always)]
+    #[tactic(auto, using(crate::proofs::Opened::wire_paid))]
+    pub(crate) fn wire_cost(&self, wire: u32) -> u128
+        requires node_in { wire < node_count self.now.space }
+        requires is { is_wire_at self.now.space.device wire ≡ true }
+        ensures { result ≡ entry_cost self.now.space wire }
+    {
+        self.cost_by(20, self.wire_room(), wire)
+    }
+
+    /// The box of a node's places.
+    pub(crate) fn box_of(&self, node: u32) -> BoundingBox
+        ensures { boxed result ≡ box_of_node self.now.space.device node }
+    {
+        BoundingBox::of_node(self.problem.device(), node)
+    }
+
+    /// A node's kind; None for what is no node.
+    pub(crate) fn kind(&self, node: u32) -> Option<Kind>
+        ensures { result ≡ kind_of_node self.now.space.device node }
+    {
+        self.problem.device().kind(node)
+    }
+
+    /// The nodes to which an edge leads from a node.
+    pub(crate) fn successors(
+        &self,
+        node: u32,
+        list: &mut SmallVec<u32, 8>,
+    ) -> Result<(), AllocError>
+        ensures { OnOk result ((to : ℕ) → Contains list.new.items to
+            ↔ HasEdge self.now.space node to) }
+    {
+        self.problem.device().successors(node, list)
+    }
+
+    /// The sink to which an input pin leads, and to nothing else; None for what is no input pin.
+    #[tactic(auto, using(wavefront::proofs::Spaces::pin_leads))]
+    pub(crate) fn sink_of(&self, node: u32) -> Option<u32>
+        ensures { IfSome result (λ sink. LeadsOnlyTo self.now.space node sink) }
+    {
+        self.problem.device().sink_of(node)
+    }
+
+    /// A group.
+    #[inline(always)]
+    pub(crate) fn group(&self, group: u32) -> Group
+        requires { group < length (groups_of self.now) }
+        ensures group { result ≡ group_at (groups_of self.now) group }
+        ensures few { result.tracks ≤ 64 }
+        ensures small { result.base + 64 * result.stride < 2 ^ 30 }
+    {
+        self.groups.group(group)
+    }
+
+    /// The neighbours of a group.
+    #[inline(always)]
+    pub(crate) fn neighbours(&self, group: u32) -> &[u32]
+        ensures { result.now ≡ neighbours_of self.now.tables group }
+    {
+        self.groups.neighbours(group)
+    }
+
+    /// The input pins that tap a group.
+    #[inline(always)]
+    pub(crate) fn taps(&self, group: u32) -> &[Tap]
+        ensures { result.now ≡ taps_of self.now.tables group }
+    {
+        self.groups.taps(group)
+    }
+
+    /// What an output pin drives.
+    pub(crate) fn drives(&self, pin: u32) -> &[Drive]
+        ensures { result.now ≡ get_or self.now.drives pin [] }
+    {
+        self.drives.of(pin)
+    }
+
+    /// Whether a node is a wire.
+    pub(crate) fn is_wire(&self, node: u32) -> bool
+        ensures { IsTrue result ↔ HasPlace self.now.tables.wires node }
+    {
+        self.groups.is_wire(node)
+    }
+
+    /// The group and track of a wire.
+    pub(crate) fn place(&self, wire: u32) -> GroupTrack
+        requires { HasPlace self.now.tables.wires wire }
+        ensures { result ≡ place_of self.now.tables.wires wire }
+    {
+        self.groups.place(wire)
+    }
+}

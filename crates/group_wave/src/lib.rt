@@ -1,0 +1,20 @@
+//! The search of one net over groups of wires: what holds for all tracks of a group is done for all of them at once
+//! (McMurchie and Ebeling 1995; Dijkstra 1959).
+#![tactic(auto)]
+
+mod bits;
+mod boxes;
+mod ground;
+mod keys;
+mod labels;
+mod nearest;
+mod queue;
+mod route;
+mod scratch;
+mod tables;
+mod wave;
+mod wires_left;
+
+pub use route::route_net;
+pub use scratch::Scratch;
+pub use tables::SearchTables;

@@ -1,0 +1,146 @@
+//! A wave of labels that spreads from a tree over groups of wires.
+
+ghost use Rattle.std.specs.Prelude.{◌≡◌, ◌<◌, ◌≤◌};
+ghost use Rattle.wavefront.specs.kept.Bounds.{left_over};
+
+mod expanding;
+mod reaching;
+mod relaxing;
+mod spreading;
+mod starting;
+mod tracing;
+
+use crate::ground::Ground;
+use crate::keys::Key;
+use crate::labels::{Labels, Row};
+use crate::nearest::Nearest;
+use crate::queue::{Entry, Queue};
+use std::alloc::{AllocError, Global};
+use std::marker::Model;
+
+/// What a wire costs at least.
+pub(crate) const WIRE: u128 = 320;
+
+/// What an input pin costs at least.
+const PIN: u128 = 304;
+
+/// A label for each node, and the entries that wait. Contracts see the record of what counts.
+#[derive(Drop)]
+pub(crate) struct Wave<K: Key> {
+    labels: Labels<K>,
+    queue: Queue<K>,
+    nearest: Nearest,
+    /// The least cost of a way that was found to a sink that the wave has yet to take.
+    best: K,
+    /// Whether something may have been left out since its cost doesn't fit.
+    left_out: bool,
+}
+
+impl<K: Key> Model for Wave<K> {
+    ghost use Rattle.group_wave.specs.kept.WaveState.{Wave};
+
+    ghost Value = { Wave };
+
+    ghost use Rattle.group_wave.specs.kept.WaveFields.{wave_of, IsWaveInside};
+
+    ghost view = { wave_of K.value K.greatest };
+
+    ghost invariant = { IsWaveInside K.value K.greatest };
+}
+
+/// What a way on costs at least, over so many wires and an input pin.
+fn bound_over<K: Key>(wires: u32) -> K
+    ensures { K.value result ≤ left_over wires }
+{
+    K::cut(WIRE * u128::from(wires) + PIN)
+}
+
+impl<K: Key> Wave<K> {
+    ghost use Rattle.std.specs.Prelude.{length, OnOk};
+    ghost use Rattle.track_groups.specs.Groups.{group_at};
+    ghost use Rattle.wavefront.specs.kept.Bounds.{IsLow};
+    ghost use Rattle.group_wave.specs.kept.Grounds.{groups_of};
+    ghost use Rattle.group_wave.specs.kept.Queues.{entry_of};
+    ghost use Rattle.group_wave.specs.kept.WaveState.{FAR};
+    ghost use Rattle.group_wave.specs.kept.Labels.{label_of};
+    ghost use Rattle.group_wave.specs.kept.Wave.{IsWave, cost_at, label_at, wire_of};
+    ghost use Rattle.group_wave.specs.kept.Steps.{IsLabelled, IsNoted, IsPushed, KeepsLabel};
+
+    /// Puts a label on a node.
+    #[inline(always)]
+    fn set(&mut self, node: u32, cost: K, parent: u32) -> Result<(), AllocError>
+        requires there { node < length self.old.labels }
+        requires fits { K.value cost < K.greatest }
+        ensures set { OnOk result (IsLabelled self.old self.new node
+            (record { cost = K.value cost; parent = parent })) }
+        ensures best { self.new.best ≡ self.old.best }
+        ensures rows { length self.new.labels ≡ length self.old.labels }
+    {
+        self.labels.set(node, cost, parent)
+    }
+
+    /// Lets an entry wait.
+    #[inline(always)]
+    fn wait(&mut self, entry: Entry<K>) -> Result<(), AllocError>
+        requires label { K.value entry.label < K.greatest }
+        requires key { K.value entry.key ≤ K.greatest }
+        ensures pushed { OnOk result (IsPushed self.old self.new (entry_of K.value entry)) }
+        ensures rows { length self.new.labels ≡ length self.old.labels }
+    {
+        self.queue.push(entry)
+    }
+
+    /// Puts another node before one that is reached.
+    fn set_parent(&mut self, node: u32, parent: u32)
+        requires there { node < length self.old.labels }
+        requires reached { cost_at self.old node < FAR }
+        ensures set { IsLabelled self.old self.new node
+            (record { cost = cost_at self.old node; parent = parent }) }
+        ensures best { self.new.best ≡ self.old.best }
+    {
+        self.labels.set_parent(node, parent);
+    }
+
+    /// Of ways that cost the same keeps the one over the least node, where none costs less than the one that is offered; and notes
+    /// that it is left out where it doesn't fit.
+    fn keep_least(&mut self, node: u32, parent: u32, row: Row<K>, cost: K)
+        requires there { node < length self.old.labels }
+        requires row { label_of K.value K.greatest row ≡ label_at self.old node }
+        requires fits { K.value row.cost ≤ K.greatest }
+        requires cost { K.value cost ≤ K.greatest }
+        requires no_less { K.value row.cost ≤ K.value cost }
+        ensures { KeepsLabel self.old self.new node (K.value cost) parent K.greatest }
+    {
+        if !row.cost.is_below(K::greatest()) {
+            self.leave_out();
+        } else if !row.cost.is_below(cost) && parent < row.parent {
+            self.set_parent(node, parent);
+        }
+    }
+
+    /// Notes that something was left out.
+    fn leave_out(&mut self)
+        ensures noted { IsNoted self.old self.new K.greatest }
+        ensures known { self.new.known ≡ self.old.known }
+    {
+        self.left_out = true;
+    }
+
+    /// How many wires lead on from one of a group to the nearest sink, at least.
+    #[inline(always)]
+    fn wires_left(&mut self, ground: &Ground<'_>, group: u32) -> u32
+        requires wave { IsWave ground.now self.old }
+        requires group { group < length (groups_of ground.now) }
+        ensures low { IsLow self.new.boxes (wire_of (group_at (groups_of ground.now) group))
+            result }
+        ensures noted { IsNoted self.old self.new FAR }
+        ensures wave { IsWave ground.now self.new }
+    {
+        if let Some(wires) = self.nearest.known(group) {
+            return wires;
+        }
+        let wires = self.nearest.fewest(&ground.group(group));
+        self.nearest.keep(group, wires);
+        wires
+    }
+}

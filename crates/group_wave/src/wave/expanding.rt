@@ -1,0 +1,262 @@
+//! How a wave goes on from tracks of a group: first to those neighbours from which fewer wires lead on, later to all.
+
+ghost use Rattle.std.specs.Prelude.{◌≡◌, ◌+◌, ◌*◌, ◌^◌, ◌<◌, ◌↔◌, IsTrue, true, false};
+ghost use Rattle.group_wave.specs.kept.Bits.{PutsBit};
+
+use super::relaxing::Offer;
+use super::{WIRE, Wave, bound_over};
+use crate::bits::{take_bit, with_bit};
+use crate::ground::Ground;
+use crate::keys::Key;
+use crate::queue::Entry;
+use std::alloc::AllocError;
+use track_groups::Group;
+
+/// Whether costs are equal.
+#[inline(always)]
+fn is_same<K: Key>(cost: K, other: K) -> bool
+    ensures { IsTrue result ↔ (K.value cost ≡ K.value other) }
+{
+    !cost.is_below(other) && !other.is_below(cost)
+}
+
+/// A set with one bit more, if it is to have it.
+#[inline(always)]
+fn with_bit_if(bits: u64, bit: u32, has: bool) -> u64
+    requires few { bit < 64 }
+    ensures put { has ≡ true → PutsBit bits result bit }
+    ensures kept { has ≡ false → result ≡ bits }
+{
+    if has { with_bit(bits, bit) } else { bits }
+}
+
+impl<K: Key> Wave<K> {
+    ghost use Rattle.std.specs.Prelude.{length, Contains, OnOk};
+    ghost use Rattle.track_groups.specs.Groups.{group_at};
+    ghost use Rattle.track_groups.specs.Joints.{neighbours_of};
+    ghost use Rattle.wavefront.specs.kept.Bounds.{IsLow};
+    ghost use Rattle.group_wave.specs.kept.Grounds.{IsGround, groups_of};
+    ghost use Rattle.group_wave.specs.kept.Queues.{entry_of};
+    ghost use Rattle.group_wave.specs.kept.Wave.{AreTracks, IsCompleteBut, IsOf, IsWave, cost_at, wire_of};
+    ghost use Rattle.group_wave.specs.kept.Steps.{GoesOn, IsLeft, IsLive, Spreads, TookBefore, TookNearer, TookNearerBefore, TookPins, TookWires};
+
+    /// Whether a node's label has this cost.
+    #[inline(always)]
+    fn has_cost(&self, node: u32, cost: K) -> bool
+        requires there { node < length self.now.labels }
+        requires fits { K.value cost < K.greatest }
+        ensures { IsTrue result ↔ (cost_at self.now node ≡ K.value cost) }
+    {
+        is_same(self.labels.row(node).cost, cost)
+    }
+
+    /// Those tracks of an entry that still have its label: others have another entry too, or went on.
+    #[inline(always)]
+    pub(super) fn tracks_left(&self, entry: Entry<K>, group: &Group, ground: &Ground<'_>) -> u64
+        requires ground { IsGround ground.now }
+        requires wave { IsWave ground.now self.now }
+        requires group { group.now ≡ group_at (groups_of ground.now) entry.group }
+        requires small { group.now.base + 64 * group.now.stride < 2 ^ 30 }
+        requires tracks { AreTracks ground.now (entry_of K.value entry) }
+        requires fits { K.value entry.label < K.greatest }
+        ensures { IsLeft ground.now self.now (entry_of K.value entry) result }
+    {
+        let mut rest = entry.tracks;
+        let mut left = 0;
+        while rest != 0 {
+            let track = take_bit(&mut rest);
+            let has = self.has_cost(group.base + track * group.stride, entry.label);
+            left = with_bit_if(left, track, has);
+        }
+        left
+    }
+
+    /// Offers the wires of a neighbour the way from tracks of an entry, if it is inside the net's box.
+    #[inline(always)]
+    fn relax_beside(
+        &mut self,
+        ground: &Ground<'_>,
+        entry: Entry<K>,
+        group: &Group,
+        neighbour: u32,
+    ) -> Result<(), AllocError>
+        requires ground { IsGround ground.now }
+        requires wave { IsWave ground.now self.old }
+        requires group { group.now ≡ group_at (groups_of ground.now) entry.group }
+        requires small { group.now.base + 64 * group.now.stride < 2 ^ 30 }
+        requires entry { IsLive ground.now self.old (entry_of K.value entry) }
+        requires fits { K.value entry.label < K.greatest }
+        requires beside { Contains (neighbours_of ground.now.tables entry.group) neighbour }
+        ensures spreads { OnOk result (Spreads ground.now self.old self.new) }
+        ensures took { OnOk result
+            (TookWires ground.now self.new (entry_of K.value entry) neighbour) }
+    {
+        if !ground.is_span_inside(ground.group(neighbour).span) {
+            return Ok(());
+        }
+        let offer = Offer {
+            label: entry.label,
+            first: group.base,
+            step: group.stride,
+        };
+        self.relax(ground, offer, neighbour, entry.tracks)
+    }
+
+    /// Offers them the way if fewer wires lead on from the neighbour than from the entry's group.
+    #[inline(always)]
+    fn relax_nearer(
+        &mut self,
+        ground: &Ground<'_>,
+        entry: Entry<K>,
+        group: &Group,
+        wires: u32,
+        neighbour: u32,
+    ) -> Result<(), AllocError>
+        requires ground { IsGround ground.now }
+        requires wave { IsWave ground.now self.old }
+        requires group { group.now ≡ group_at (groups_of ground.now) entry.group }
+        requires small { group.now.base + 64 * group.now.stride < 2 ^ 30 }
+        requires entry { IsLive ground.now self.old (entry_of K.value entry) }
+        requires fits { K.value entry.label < K.greatest }
+        requires beside { Contains (neighbours_of ground.now.tables entry.group) neighbour }
+        ensures spreads { OnOk result (Spreads ground.now self.old self.new) }
+        ensures took { OnOk result
+            (TookNearer ground.now self.new (entry_of K.value entry) wires neighbour) }
+    {
+        if self.wires_left(ground, neighbour) >= wires {
+            return Ok(());
+        }
+        self.relax_beside(ground, entry, group, neighbour)
+    }
+
+    /// Offers the wires of all neighbours the way.
+    fn relax_all(
+        &mut self,
+        ground: &Ground<'_>,
+        entry: Entry<K>,
+        group: &Group,
+    ) -> Result<(), AllocError>
+        requires ground { IsGround ground.now }
+        requires wave { IsWave ground.now self.old }
+        requires group { group.now ≡ group_at (groups_of ground.now) entry.group }
+        requires small { group.now.base + 64 * group.now.stride < 2 ^ 30 }
+        requires entry { IsLive ground.now self.old (entry_of K.value entry) }
+        requires fits { K.value entry.label < K.greatest }
+        ensures spreads { OnOk result (Spreads ground.now self.old self.new) }
+        ensures took { OnOk result (TookBefore ground.now self.new (entry_of K.value entry)
+            (neighbours_of ground.now.tables entry.group)
+            (length (neighbours_of ground.now.tables entry.group))) }
+    {
+        let neighbours = ground.neighbours(entry.group);
+        for neighbour in neighbours {
+            self.relax_beside(ground, entry, group, *neighbour)?;
+        }
+        Ok(())
+    }
+
+    /// Offers the wires of those neighbours the way from which fewer wires lead on.
+    fn relax_all_nearer(
+        &mut self,
+        ground: &Ground<'_>,
+        entry: Entry<K>,
+        group: &Group,
+        wires: u32,
+    ) -> Result<(), AllocError>
+        requires ground { IsGround ground.now }
+        requires wave { IsWave ground.now self.old }
+        requires group { group.now ≡ group_at (groups_of ground.now) entry.group }
+        requires small { group.now.base + 64 * group.now.stride < 2 ^ 30 }
+        requires entry { IsLive ground.now self.old (entry_of K.value entry) }
+        requires fits { K.value entry.label < K.greatest }
+        ensures spreads { OnOk result (Spreads ground.now self.old self.new) }
+        ensures took { OnOk result (TookNearerBefore ground.now self.new (entry_of K.value entry)
+            wires (neighbours_of ground.now.tables entry.group)
+            (length (neighbours_of ground.now.tables entry.group))) }
+    {
+        let neighbours = ground.neighbours(entry.group);
+        for neighbour in neighbours {
+            self.relax_nearer(ground, entry, group, wires, *neighbour)?;
+        }
+        Ok(())
+    }
+
+    /// Offers input pins the way, where a sink may stand beside.
+    fn reach_if_beside(
+        &mut self,
+        ground: &Ground<'_>,
+        entry: Entry<K>,
+        group: &Group,
+        wires: u32,
+    ) -> Result<(), AllocError>
+        requires ground { IsGround ground.now }
+        requires wave { IsWave ground.now self.old }
+        requires group { group.now ≡ group_at (groups_of ground.now) entry.group }
+        requires small { group.now.base + 64 * group.now.stride < 2 ^ 30 }
+        requires entry { IsLive ground.now self.old (entry_of K.value entry) }
+        requires fits { K.value entry.label < K.greatest }
+        ensures spreads { OnOk result (Spreads ground.now self.old self.new) }
+        ensures took { OnOk result
+            (TookPins ground.now self.new (entry_of K.value entry) wires) }
+    {
+        if wires != 0 {
+            return Ok(());
+        }
+        self.reach_all(ground, entry, group)
+    }
+
+    /// Goes on from an entry that is new: to pins of sinks and to nearer neighbours. It waits again for the others.
+    pub(super) fn begin_at(
+        &mut self,
+        ground: &Ground<'_>,
+        entry: Entry<K>,
+        group: &Group,
+        wires: u32,
+    ) -> Result<(), AllocError>
+        requires ground { IsGround ground.now }
+        requires wave { IsWave ground.now self.old }
+        requires group { group.now ≡ group_at (groups_of ground.now) entry.group }
+        requires small { group.now.base + 64 * group.now.stride < 2 ^ 30 }
+        requires entry { IsLive ground.now self.old (entry_of K.value entry) }
+        requires fits { K.value entry.label < K.greatest }
+        requires first { entry.is_begun ≡ false }
+        requires low { IsLow self.old.boxes (wire_of group.now) wires }
+        requires but { IsCompleteBut ground.now self.old
+            (IsOf ground.now self.old (entry_of K.value entry)) }
+        ensures { OnOk result
+            (GoesOn ground.now self.old self.new (entry_of K.value entry)) }
+    {
+        self.reach_if_beside(ground, entry, group, wires)?;
+        self.relax_all_nearer(ground, entry, group, wires)?;
+        self.wait(Entry {
+            key: entry.label.plus(bound_over(wires)).plus(K::cut(WIRE)),
+            label: entry.label,
+            group: entry.group,
+            tracks: entry.tracks,
+            is_begun: true,
+        })
+    }
+
+    /// Goes on from an entry to all neighbours.
+    pub(super) fn finish(
+        &mut self,
+        ground: &Ground<'_>,
+        entry: Entry<K>,
+        group: &Group,
+        wires: u32,
+    ) -> Result<(), AllocError>
+        requires ground { IsGround ground.now }
+        requires wave { IsWave ground.now self.old }
+        requires group { group.now ≡ group_at (groups_of ground.now) entry.group }
+        requires small { group.now.base + 64 * group.now.stride < 2 ^ 30 }
+        requires entry { IsLive ground.now self.old (entry_of K.value entry) }
+        requires fits { K.value entry.label < K.greatest }
+        requires low { IsLow self.old.boxes (wire_of group.now) wires }
+        requires but { IsCompleteBut ground.now self.old
+            (IsOf ground.now self.old (entry_of K.value entry)) }
+        ensures { OnOk result
+            (GoesOn ground.now self.old self.new (entry_of K.value entry)) }
+    {
+        self.reach_if_beside(ground, entry, group, wires)?;
+        self.relax_all(ground, entry, group)
+    }
+}

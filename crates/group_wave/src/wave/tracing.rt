@@ -1,0 +1,67 @@
+//! The way on which a wave came to a sink.
+
+ghost use Rattle.std.specs.Prelude.{◌≡◌, ◌<◌};
+
+use super::Wave;
+use crate::ground::Ground;
+use crate::keys::Key;
+use std::alloc::AllocError;
+
+impl<K: Key> Wave<K> {
+    ghost use Rattle.std.specs.Prelude.{IfOk, [], length, reverse};
+    ghost use Rattle.group_wave.specs.kept.Grounds.{IsGround};
+    ghost use Rattle.group_wave.specs.kept.WaveState.{FAR};
+    ghost use Rattle.group_wave.specs.kept.Wave.{IsOpen, IsWave, cost_at, parent_of};
+    ghost use Rattle.group_wave.specs.kept.Steps.{IsTraced};
+
+    /// The node before a node.
+    fn parent(&self, node: u32) -> u32
+        requires { node < length self.now.labels }
+        ensures { result ≡ parent_of self.now node }
+    {
+        self.labels.row(node).parent
+    }
+
+    /// Puts the nodes of the way to a sink that was taken into the list, and answers the node from which it starts.
+    pub(crate) fn trace(
+        &self,
+        ground: &Ground<'_>,
+        sink: u32,
+        way: &mut Vec<u32>,
+    ) -> Result<u32, AllocError>
+        requires ground { IsGround ground.now }
+        requires wave { IsWave ground.now self.now }
+        requires sink { IsOpen ground.now self.now sink }
+        requires reached { cost_at self.now sink < FAR }
+        ensures { IfOk result (λ a. IsTraced ground.now self.now a way.new.items sink) }
+    {
+        way.clear();
+        let start = self.trace_back(ground, sink, way)?;
+        way.reverse();
+        Ok(start)
+    }
+
+    /// Puts the nodes of the way to a sink into the list, the sink first, and answers the node from which it starts.
+    fn trace_back(
+        &self,
+        ground: &Ground<'_>,
+        sink: u32,
+        way: &mut Vec<u32>,
+    ) -> Result<u32, AllocError>
+        requires ground { IsGround ground.now }
+        requires wave { IsWave ground.now self.now }
+        requires sink { IsOpen ground.now self.now sink }
+        requires reached { cost_at self.now sink < FAR }
+        requires empty { way.old.items ≡ [] }
+        ensures { IfOk result
+            (λ a. IsTraced ground.now self.now a (reverse way.new.items) sink) }
+    {
+        way.push(sink)?;
+        let mut node = self.parent(sink);
+        while !self.starts_at(node) {
+            way.push(node)?;
+            node = self.parent(node);
+        }
+        Ok(node)
+    }
+}
