@@ -217,7 +217,8 @@ impl<K: Key> Queue<K> {
     /// Where memory runs out, or there are as many as can be counted. Those that wait stay as they
     /// are then.
     pub(crate) fn push(&mut self, entry: Entry<K>) -> Result<(), AllocError>
-        ensures ok { OnOk result (IsPermutation (entry_of K.value entry ∷ self.old) self.new) }
+        ensures ok { OnOk result
+            (IsPermutation (entry_of K.value entry ∷ self.old) self.new) }
         ensures err { OnErr result (self.new ≡ self.old) }
     {
         if self.count == usize::MAX {
@@ -233,8 +234,10 @@ impl<K: Key> Queue<K> {
 
     /// Takes an entry of the lowest bucket out, unless that is above the bucket of a bound.
     pub(crate) fn pop_to(&mut self, bound: K) -> Option<Entry<K>>
-        ensures some { IfSome result (λ e. IsPermutation self.old (entry_of K.value e ∷ self.new)) }
-        ensures lowest { IfSome result (λ e. IsLowest self.old (K.value e.key) (K.value bound)) }
+        ensures some { IfSome result
+            (λ e. IsPermutation self.old (entry_of K.value e ∷ self.new)) }
+        ensures lowest { IfSome result
+            (λ e. IsLowest self.old (K.value e.key) (K.value bound)) }
         ensures none { IfNone result (IsPast self.old self.new (K.value bound)) }
     {
         let end = self.end.min(bound.bucket() + 1);

@@ -44,7 +44,7 @@ impl<K: Key> Wave<K> {
     ghost use Rattle.std.specs.Prelude.{length, OnOk, IfOk, IsTrue};
     ghost use Rattle.track_groups.specs.Groups.{group_at};
     ghost use Rattle.wavefront.specs.Space.{entry_cost};
-    ghost use Rattle.wavefront.specs.kept.Bounds.{IsLow, left_over};
+    ghost use Rattle.wavefront.specs.kept.Bounds.{IsLow, least_wire_cost, left_over};
     ghost use Rattle.group_wave.specs.kept.Grounds.{IsGround, groups_of};
     ghost use Rattle.group_wave.specs.kept.Labels.{label_of};
     ghost use Rattle.group_wave.specs.kept.Wave.{IsBound, IsWave, label_at, wire_of};
@@ -104,7 +104,8 @@ impl<K: Key> Wave<K> {
         requires to { IsTarget ground.now step.group to.track to.wire }
         requires few { to.track < 64 }
         requires bound { IsBound ground.now self.old to.wire (K.value step.bound) }
-        requires least { K.value step.least ≡ min (K.value step.label + 320) K.greatest }
+        requires least { K.value step.least ≡
+            min (K.value step.label + least_wire_cost) K.greatest }
         ensures relaxed { IfOk result (RelaxesTrack ground.now self.old self.new
             (K.value step.label) (K.value step.least) to.wire) }
         ensures fits { IfOk result (λ fresh. IsTrue fresh → K.value step.least < K.greatest) }
@@ -142,7 +143,8 @@ impl<K: Key> Wave<K> {
         requires label { K.value step.label ≡ K.value offer.label }
         requires wires { IsLow self.old.boxes (wire_of group.now) step.wires }
         requires bound { K.value step.bound ≤ left_over step.wires }
-        requires least { K.value step.least ≡ min (K.value step.label + 320) K.greatest }
+        requires least { K.value step.least ≡
+            min (K.value step.label + least_wire_cost) K.greatest }
         ensures relaxed { IfOk result (RelaxesSome ground.now self.old self.new
             (K.value offer.label) (K.value step.least) step.group tracks 0) }
         ensures fits { IfOk result (λ fresh. 0 < fresh → K.value step.least < K.greatest) }
