@@ -27,8 +27,9 @@ use smallvec::SmallVec;
 use std::alloc::{AllocError, Global};
 use wavefront::{Found, SearchFault};
 
-/// A tree from a net's source to all of its sinks inside its box, each way added to it one of least cost. A way costs what its nodes
-/// cost to enter, of equal ones the least-numbered nodes are taken first, and a node is entered from the least-numbered that leads there.
+/// A tree from a net's source to all of its sinks inside its box, each way added to it one of least
+/// cost. A way costs what its nodes cost to enter, of equal ones the least-numbered nodes are taken
+/// first, and a node is entered from the least-numbered that leads there.
 ///
 /// # Errors
 ///
@@ -91,7 +92,8 @@ fn grow_wide(
     Ok(found.unwrap())
 }
 
-/// The tree of a net in a scratch, which is made to fit. None where it isn't known whether there is one.
+/// The tree of a net in a scratch, which is made to fit. None where it isn't known whether there is
+/// one.
 fn grow_in<K: Key>(
     alloc: Global,
     ground: &Ground<'_>,
@@ -105,8 +107,8 @@ fn grow_in<K: Key>(
     grow_tree(alloc, ground, scratch)
 }
 
-/// A tree from the source to all of the sinks, each way added to it one of least cost. None where it isn't known whether there is one,
-/// since a way may have been left out.
+/// A tree from the source to all of the sinks, each way added to it one of least cost. None where
+/// it isn't known whether there is one, since a way may have been left out.
 pub(crate) fn grow_tree<K: Key>(
     alloc: Global,
     ground: &Ground<'_>,
@@ -141,8 +143,9 @@ fn first_sink(ground: &Ground<'_>) -> u32
     sinks[0]
 }
 
-/// Lets the wave start at the source. Where that leads to one output pin alone, adds the first way already: all ways lead over the
-/// pin, and the wave starts there, so that it needn't begin anew after the first way. False where there is no way.
+/// Lets the wave start at the source. Where that leads to one output pin alone, adds the first way
+/// already: all ways lead over the pin, and the wave starts there, so that it needn't begin anew
+/// after the first way. False where there is no way.
 fn begin<K: Key>(
     ground: &Ground<'_>,
     scratch: &mut WaveScratch<K>,
@@ -218,7 +221,8 @@ fn add_first_way<K: Key>(
     Ok(true)
 }
 
-/// Attaches the way to a sink that was taken to the source: the node from which the wave came to it, and the nodes on the way.
+/// Attaches the way to a sink that was taken to the source: the node from which the wave came to
+/// it, and the nodes on the way.
 fn attach_first<K: Key>(
     ground: &Ground<'_>,
     scratch: &mut WaveScratch<K>,
@@ -282,7 +286,8 @@ fn add_way<K: Key>(
     Ok(true)
 }
 
-/// After the first way the source is no start any more, and the wave begins anew where it started there.
+/// After the first way the source is no start any more, and the wave begins anew where it started
+/// there.
 fn leave_source<K: Key>(
     ground: &Ground<'_>,
     wave: &mut Wave<K>,

@@ -11,7 +11,8 @@ use smallvec::SmallVec;
 use std::alloc::{AllocError, Global};
 use std::marker::Model;
 
-/// What a search with keys of one width works in. It may be used again, whatever an earlier search left in it.
+/// What a search with keys of one width works in. It may be used again, whatever an earlier search
+/// left in it.
 #[derive(Drop)]
 pub(crate) struct WaveScratch<K: Key> {
     pub(crate) wave: Wave<K>,
@@ -55,7 +56,8 @@ pub(crate) fn make_fit<K: Key>(
     Ok(())
 }
 
-/// What a search works in: it may be used again, whatever an earlier search left in it. Contracts see for how many nodes it is.
+/// What a search works in: it may be used again, whatever an earlier search left in it. Contracts
+/// see for how many nodes it is.
 #[derive(Drop)]
 pub struct Scratch {
     nodes: usize,

@@ -8,8 +8,8 @@ use std::alloc::{AllocError, Global};
 use std::marker::Model;
 use track_groups::{PinDrives, TrackGroups};
 
-/// What all searches over a device share, made once and lent to them: the groups of its wires, and what its output pins drive.
-/// Contracts see both.
+/// What all searches over a device share, made once and lent to them: the groups of its wires, and
+/// what its output pins drive. Contracts see both.
 #[derive(Debug, Drop)]
 pub struct SearchTables {
     pub(crate) groups: TrackGroups,

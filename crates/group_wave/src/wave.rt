@@ -101,8 +101,8 @@ impl<K: Key> Wave<K> {
         self.labels.set_parent(node, parent);
     }
 
-    /// Of ways that cost the same keeps the one over the least node, where none costs less than the one that is offered; and notes
-    /// that it is left out where it doesn't fit.
+    /// Of ways that cost the same keeps the one over the least node, where none costs less than the
+    /// one that is offered; and notes that it is left out where it doesn't fit.
     fn keep_least(&mut self, node: u32, parent: u32, row: Row<K>, cost: K)
         requires there { node < length self.old.labels }
         requires row { label_of K.value K.greatest row ≡ label_at self.old node }

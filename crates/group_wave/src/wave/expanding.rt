@@ -1,4 +1,5 @@
-//! How a wave goes on from tracks of a group: first to those neighbours from which fewer wires lead on, later to all.
+//! How a wave goes on from tracks of a group: first to those neighbours from which fewer wires lead
+//! on, later to all.
 
 ghost use Rattle.std.specs.Prelude.{◌≡◌, ◌+◌, ◌*◌, ◌^◌, ◌<◌, ◌↔◌, IsTrue, true, false};
 ghost use Rattle.group_wave.specs.kept.Bits.{PutsBit};
@@ -50,7 +51,8 @@ impl<K: Key> Wave<K> {
         is_same(self.labels.row(node).cost, cost)
     }
 
-    /// Those tracks of an entry that still have its label: others have another entry too, or went on.
+    /// Those tracks of an entry that still have its label: others have another entry too, or went
+    /// on.
     #[inline(always)]
     pub(super) fn tracks_left(&self, entry: Entry<K>, group: &Group, ground: &Ground<'_>) -> u64
         requires ground { IsGround ground.now }
@@ -71,7 +73,8 @@ impl<K: Key> Wave<K> {
         left
     }
 
-    /// Offers the wires of a neighbour the way from tracks of an entry, if it is inside the net's box.
+    /// Offers the wires of a neighbour the way from tracks of an entry, if it is inside the net's
+    /// box.
     #[inline(always)]
     fn relax_beside(
         &mut self,
@@ -204,7 +207,8 @@ impl<K: Key> Wave<K> {
         self.reach_all(ground, entry, group)
     }
 
-    /// Goes on from an entry that is new: to pins of sinks and to nearer neighbours. It waits again for the others.
+    /// Goes on from an entry that is new: to pins of sinks and to nearer neighbours. It waits again
+    /// for the others.
     pub(super) fn begin_at(
         &mut self,
         ground: &Ground<'_>,

@@ -1,4 +1,5 @@
-//! How sinks are reached from wires beside them, over input pins: neither waits, since what comes after is known.
+//! How sinks are reached from wires beside them, over input pins: neither waits, since what comes
+//! after is known.
 
 ghost use Rattle.std.specs.Prelude.{◌≡◌, ◌+◌, ◌*◌, ◌^◌, ◌<◌, ◌≤◌};
 ghost use Rattle.track_groups.specs.Groups.{node_on};

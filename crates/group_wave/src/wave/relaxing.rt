@@ -1,5 +1,5 @@
-//! How wires of a group are offered a way: those that get the least label there can be wait as one entry, each other one by itself.
-//! What is done for each track is inlined.
+//! How wires of a group are offered a way: those that get the least label there can be wait as one
+//! entry, each other one by itself. What is done for each track is inlined.
 
 ghost use Rattle.std.specs.Prelude.{◌≡◌, ◌+◌, ◌*◌, ◌^◌, ◌<◌, ◌≤◌, false, min};
 
@@ -20,8 +20,8 @@ pub(crate) struct Offer<K> {
     pub(crate) step: u32,
 }
 
-/// What holds for all tracks of a group that are offered a way: the label of the nodes from which it comes, the least that there can
-/// be then, and what a way on costs at least.
+/// What holds for all tracks of a group that are offered a way: the label of the nodes from which
+/// it comes, the least that there can be then, and what a way on costs at least.
 #[derive(Clone, Copy, Drop)]
 struct Relaxing<K> {
     label: K,
@@ -90,7 +90,8 @@ impl<K: Key> Wave<K> {
         Ok(false)
     }
 
-    /// Offers a wire a way. Answers whether its label became the least there can be: then it is still to wait.
+    /// Offers a wire a way. Answers whether its label became the least there can be: then it is
+    /// still to wait.
     #[inline(always)]
     fn relax_track(
         &mut self,
@@ -122,7 +123,8 @@ impl<K: Key> Wave<K> {
         Ok(false)
     }
 
-    /// Offers the tracks of a group a way. Answers those whose labels became the least there can be: they are still to wait.
+    /// Offers the tracks of a group a way. Answers those whose labels became the least there can
+    /// be: they are still to wait.
     #[inline(always)]
     fn relax_tracks(
         &mut self,

@@ -30,7 +30,8 @@ impl<K: Key> Wave<K> {
         self.queue.pop_to(self.best)
     }
 
-    /// Lets an entry wait again whose key is lower than it has to be, now that sinks were taken, and that is not needed yet.
+    /// Lets an entry wait again whose key is lower than it has to be, now that sinks were taken,
+    /// and that is not needed yet.
     fn wait_again(&mut self, entry: Entry<K>, wires: u32) -> Result<bool, AllocError>
         requires fits { K.value entry.label < K.greatest }
         ensures waits { IfOk result (λ waits. IsTrue waits →
@@ -104,8 +105,8 @@ impl<K: Key> Wave<K> {
         }
     }
 
-    /// Goes on from those tracks of an entry that still have its label, or lets them wait again. So many entries are still looked at
-    /// for that.
+    /// Goes on from those tracks of an entry that still have its label, or lets them wait again. So
+    /// many entries are still looked at for that.
     fn go_on_from(
         &mut self,
         ground: &Ground<'_>,
@@ -183,8 +184,9 @@ impl<K: Key> Wave<K> {
         Ok(())
     }
 
-    /// Where an open sink stands in the order in which those of one cost are taken: first those that cost something themselves, by
-    /// number; then the others, by the number of the pin before them.
+    /// Where an open sink stands in the order in which those of one cost are taken: first those
+    /// that cost something themselves, by number; then the others, by the number of the pin before
+    /// them.
     fn rank(&self, ground: &Ground<'_>, sink: u32) -> u64
         requires ground { IsGround ground.now }
         requires wave { IsWave ground.now self.now }

@@ -146,7 +146,8 @@ impl<K: Key> Wave<K> {
         self.aim(ground)
     }
 
-    /// Offers tracks of a group that an output pin drives the way from it, if the group is inside the net's box.
+    /// Offers tracks of a group that an output pin drives the way from it, if the group is inside
+    /// the net's box.
     fn relax_driven(
         &mut self,
         ground: &Ground<'_>,
@@ -397,7 +398,8 @@ impl<K: Key> Wave<K> {
         self.best = best;
     }
 
-    /// Finds out anew how near the nearest sink is, and puts boxes around the sinks that the wave has yet to take.
+    /// Finds out anew how near the nearest sink is, and puts boxes around the sinks that the wave
+    /// has yet to take.
     pub(crate) fn renew(&mut self, ground: &Ground<'_>) -> Result<(), AllocError>
         requires ground { IsGround ground.now }
         requires wave { IsWave ground.now self.old }

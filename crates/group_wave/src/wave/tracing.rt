@@ -22,7 +22,8 @@ impl<K: Key> Wave<K> {
         self.labels.row(node).parent
     }
 
-    /// Puts the nodes of the way to a sink that was taken into the list, and answers the node from which it starts.
+    /// Puts the nodes of the way to a sink that was taken into the list, and answers the node from
+    /// which it starts.
     pub(crate) fn trace(
         &self,
         ground: &Ground<'_>,
@@ -41,7 +42,8 @@ impl<K: Key> Wave<K> {
         Ok(start)
     }
 
-    /// Puts the nodes of the way to a sink into the list, the sink first, and answers the node from which it starts.
+    /// Puts the nodes of the way to a sink into the list, the sink first, and answers the node from
+    /// which it starts.
     fn trace_back(
         &self,
         ground: &Ground<'_>,
