@@ -12,3 +12,4 @@ pub mod Steps
 pub mod Starts
 pub mod Growing
 pub mod WaveFields
+pub mod Tables

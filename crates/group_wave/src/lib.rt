@@ -17,4 +17,4 @@ mod wires_left;
 
 pub use route::route_net;
 pub use scratch::Scratch;
-pub use tables::SearchTables;
+pub use tables::PreparedProblem;

@@ -6,7 +6,6 @@ ghost use Rattle.route_tree.specs.Rows.{node_in, pairs_of};
 ghost use Rattle.rr_graph.specs.Nodes.{node_count_of};
 ghost use Rattle.wavefront.specs.Growth.{IsAnswer, IsShut, RoutesIfFound, space_of};
 ghost use Rattle.wavefront.specs.declared.found.SearchFault.TheVariants.{ViewSize};
-ghost use Rattle.group_wave.specs.Tables.{AreTablesOf};
 ghost use Rattle.wavefront.specs.Space.{IsWanted};
 ghost use Rattle.wavefront.specs.declared.found.Found.TheVariants.{NoPath};
 ghost use Rattle.group_wave.specs.kept.Grounds.{IsGround};
@@ -18,11 +17,10 @@ ghost use Rattle.group_wave.specs.kept.WaveState.{FAR};
 use crate::ground::Ground;
 use crate::keys::Key;
 use crate::scratch::{Scratch, WaveScratch, make_fit};
-use crate::tables::SearchTables;
+use crate::tables::PreparedProblem;
 use crate::wave::Wave;
 use node_cost::{GREATEST_PRESENT, View};
 use route_tree::{Row, Tree};
-use rr_graph::Problem;
 use smallvec::SmallVec;
 use std::alloc::{AllocError, Global};
 use wavefront::{Found, SearchFault};
@@ -36,28 +34,28 @@ use wavefront::{Found, SearchFault};
 /// ViewSize exactly where the view's length is not the node count; Memory.
 pub fn route_net(
     alloc: Global,
-    problem: &Problem,
-    tables: &SearchTables,
+    prepared: &PreparedProblem,
     net: u32,
     view: &View,
     present: u32,
     bb: u32,
     scratch: &mut Scratch,
 ) -> Result<Found, SearchFault>
-    requires net { net < length problem.now.nets }
-    requires tables { AreTablesOf problem.now.device tables.now }
-    requires fits { scratch.old ≡ node_count_of problem.now.device }
+    requires net { net < length prepared.now.nets }
+    requires fits { scratch.old ≡ node_count_of prepared.now.device }
     requires present { present ≤ GREATEST_PRESENT }
     requires bb { (1 ≤ bb) × (bb ≤ 255) }
-    ensures found { IfOk result (IsAnswer (space_of problem.now net view.now present bb)) }
-    ensures routed { IfOk result (RoutesIfFound problem.now net) }
+    ensures found { IfOk result (IsAnswer (space_of prepared.now net view.now present bb)) }
+    ensures routed { IfOk result (RoutesIfFound prepared.now net) }
     ensures view_size { (result ≡ Err ViewSize) ↔
-        (length view.now ≡ node_count_of problem.now.device → ⊥) }
-    ensures fits { scratch.new ≡ node_count_of problem.now.device }
+        (length view.now ≡ node_count_of prepared.now.device → ⊥) }
+    ensures fits { scratch.new ≡ node_count_of prepared.now.device }
 {
+    let problem = prepared.problem();
     if view.len() != problem.device().node_count() as usize {
         return Err(SearchFault::ViewSize);
     }
+    let tables = prepared.tables();
     let ground = Ground::new(
         problem,
         &tables.groups,

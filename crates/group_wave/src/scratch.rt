@@ -4,7 +4,7 @@ ghost use Rattle.std.specs.Prelude.{◌≡◌, ◌==◌, IfOk, OnOk, length};
 ghost use Rattle.rr_graph.specs.Nodes.{node_count_of};
 
 use crate::keys::Key;
-use crate::tables::SearchTables;
+use crate::tables::PreparedProblem;
 use crate::wave::Wave;
 use rr_graph::Problem;
 use smallvec::SmallVec;
@@ -75,22 +75,19 @@ impl Model for Scratch {
 }
 
 impl Scratch {
-    /// For the nets of a problem, over the tables of its device.
+    /// For the nets of a problem.
     ///
     /// # Errors
     ///
     /// Where memory runs out.
-    pub fn new(
-        alloc: Global,
-        problem: &Problem,
-        tables: &SearchTables,
-    ) -> Result<Scratch, AllocError>
-        ensures { IfOk result (λ scratch. scratch ≡ node_count_of problem.now.device) }
+    pub fn new(alloc: Global, prepared: &PreparedProblem) -> Result<Scratch, AllocError>
+        ensures { IfOk result (λ scratch. scratch ≡ node_count_of prepared.now.device) }
     {
-        let nodes = problem.device().node_count() as usize;
+        let nodes = prepared.problem().device().node_count() as usize;
+        let groups = prepared.tables().groups.len() as usize;
         Ok(Scratch {
             nodes,
-            narrow: WaveScratch::new(alloc, nodes, tables.groups.len() as usize)?,
+            narrow: WaveScratch::new(alloc, nodes, groups)?,
             wide: None,
         })
     }

@@ -1,23 +1,23 @@
-//! What all searches over a device share.
+//! A problem, prepared for searches.
 
-ghost use Rattle.std.specs.Prelude.{IfOk};
-ghost use Rattle.group_wave.specs.Tables.{AreTablesOf};
+ghost use Rattle.std.specs.Prelude.{◌≡◌, IfOk};
+ghost use Rattle.group_wave.specs.kept.Tables.{AreTablesOf};
 
-use rr_graph::Device;
+use rr_graph::{Device, Problem};
 use std::alloc::{AllocError, Global};
 use std::marker::Model;
 use track_groups::{PinDrives, TrackGroups};
 
-/// What all searches over a device share, made once and lent to them: the groups of its wires, and
-/// what its output pins drive. Contracts see both.
+/// What all searches over a device share: the groups of its wires, and what its output pins drive.
+/// Contracts see both.
 #[derive(Debug, Drop)]
-pub struct SearchTables {
+pub(crate) struct SearchTables {
     pub(crate) groups: TrackGroups,
     pub(crate) drives: PinDrives,
 }
 
 impl Model for SearchTables {
-    ghost use Rattle.group_wave.specs.Tables.{DeviceTables};
+    ghost use Rattle.group_wave.specs.kept.Tables.{DeviceTables};
 
     ghost Value = { DeviceTables };
 
@@ -30,11 +30,58 @@ impl SearchTables {
     /// # Errors
     ///
     /// Where memory runs out.
-    pub fn new(alloc: Global, device: &Device) -> Result<SearchTables, AllocError>
+    fn new(alloc: Global, device: &Device) -> Result<SearchTables, AllocError>
         ensures { IfOk result (AreTablesOf device.now) }
     {
         let groups = TrackGroups::new(alloc, device)?;
         let drives = PinDrives::new(alloc, device, &groups)?;
         Ok(SearchTables { groups, drives })
+    }
+}
+
+/// A problem with what all searches for its nets share, which depends on its device alone: made
+/// once, and lent to all of them. Contracts see the problem.
+#[derive(Drop)]
+pub struct PreparedProblem {
+    problem: Problem,
+    tables: SearchTables,
+}
+
+impl Model for PreparedProblem {
+    ghost use Rattle.rr_graph.specs.Problems.{RoutingProblem};
+    ghost use Rattle.group_wave.specs.kept.Tables.{AreTablesOf};
+
+    ghost Value = { RoutingProblem };
+
+    ghost view = { λ p. p.problem };
+
+    ghost invariant = { λ p. AreTablesOf p.problem.device p.tables };
+}
+
+impl PreparedProblem {
+    /// The problem, with the tables of its device.
+    ///
+    /// # Errors
+    ///
+    /// Where memory runs out.
+    pub fn new(alloc: Global, problem: Problem) -> Result<PreparedProblem, AllocError>
+        ensures { IfOk result (λ prepared. prepared ≡ problem) }
+    {
+        let tables = SearchTables::new(alloc, problem.device())?;
+        Ok(PreparedProblem { problem, tables })
+    }
+
+    /// The problem.
+    pub fn problem(&self) -> &Problem
+        ensures { result.now ≡ self.now }
+    {
+        &self.problem
+    }
+
+    /// The tables.
+    pub(crate) fn tables(&self) -> &SearchTables
+        ensures { AreTablesOf self.now.device result.now }
+    {
+        &self.tables
     }
 }
