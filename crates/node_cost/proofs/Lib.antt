@@ -3,3 +3,4 @@ pub mod Bounds
 pub mod Examples
 pub mod Shifts
 pub mod Packing
+pub mod Noting

@@ -79,12 +79,12 @@ bits_put words id n word l put = record {
   ];
 }
 
-nothing_at : (place : ℕ) → number_at 0 place ≡ 0
+pub nothing_at : (place : ℕ) → number_at 0 place ≡ 0
 unfolding number_at
 nothing_at zero = refl
 nothing_at (suc p) = nothing_at p
 
-zero_everywhere : (n i zero_here : ℕ) → zero_here ≡ 0 → get_or (replicate n zero_here) i zero_here ≡ zero_here
+pub zero_everywhere : (n i zero_here : ℕ) → zero_here ≡ 0 → get_or (replicate n zero_here) i zero_here ≡ zero_here
 zero_everywhere zero i z e = refl
 zero_everywhere (suc n) zero z e = refl
 zero_everywhere (suc n) (suc i) z e = zero_everywhere n i z e

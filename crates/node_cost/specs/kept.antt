@@ -1,3 +1,4 @@
 pub mod Fields
 pub mod Packed
 pub mod Words
+pub mod Noted

@@ -1,8 +1,9 @@
 //! The history of each node.
 
-ghost use Rattle.std.specs.Prelude.{◌≡◌, ℕ, ◌≤◌, ◌<◌, length, get_or, set, replicate, IfOk};
+ghost use Rattle.std.specs.Prelude.{◌≡◌, ℕ, ◌≤◌, ◌<◌, length, get_or, set, replicate, IfOk, IsTrue, ◌↔◌};
 
 use crate::entry_cost::GREATEST_HISTORY;
+use crate::packed::{narrow, put_narrow};
 use std::alloc::{AllocError, Global};
 use std::marker::Model;
 
@@ -10,16 +11,27 @@ use std::marker::Model;
 #[derive(Debug, Drop)]
 pub struct Histories {
     histories: Vec<u64>,
+    /// Four bits a node, which are 0 where its history is: most are, and the table needn't be looked at.
+    some: Vec<u64>,
 }
 
 impl Model for Histories {
-    ghost use Rattle.std.specs.Prelude.{List, ℕ, ◌≤◌, ◌^◌, All};
+    ghost use Rattle.std.specs.Prelude.{List, ℕ};
+    ghost use Rattle.node_cost.specs.kept.Noted.{AreHistories};
 
     ghost Value = { List ℕ };
 
     ghost view = { λ h. h.histories.items };
 
-    ghost invariant = { λ h. All (λ k. k ≤ 2 ^ 42) h.histories.items };
+    ghost invariant = { λ h. AreHistories h.histories.items h.some.items };
+}
+
+/// Four bits, which are 0 exactly where a history is.
+fn note_of(history: u64) -> u64
+    ensures few { result < 16 }
+    ensures none { (result ≡ 0) ↔ (history ≡ 0) }
+{
+    u64::from(history != 0)
 }
 
 impl Histories {
@@ -27,18 +39,18 @@ impl Histories {
     pub fn new(alloc: Global, nodes: usize) -> Result<Histories, AllocError>
         ensures { IfOk result (λ h. h ≡ replicate nodes 0) }
     {
-        Ok(Histories {
-            histories: vec![in alloc; 0; nodes]?,
-        })
+        let histories = vec![in alloc; 0; nodes]?;
+        let some = vec![in alloc; 0; nodes / 16 + 1]?;
+        Ok(Histories { histories, some })
     }
 
     /// A copy of these histories.
     pub fn copy(&self, alloc: Global) -> Result<Histories, AllocError>
         ensures { IfOk result (λ h. h ≡ self.now) }
     {
-        Ok(Histories {
-            histories: Vec::from_slice(alloc, &self.histories)?,
-        })
+        let histories = Vec::from_slice(alloc, &self.histories)?;
+        let some = Vec::from_slice(alloc, &self.some)?;
+        Ok(Histories { histories, some })
     }
 
     /// How many nodes there are.
@@ -49,21 +61,34 @@ impl Histories {
         self.histories.len()
     }
 
+    /// Whether a node's history is 0, which is told quicker than how much it is.
+    pub fn is_none(&self, id: u32) -> bool
+        requires { id < length self.now }
+        ensures { IsTrue result ↔ (get_or self.now id 0 ≡ 0) }
+    {
+        narrow(&self.some, id) == 0
+    }
+
     /// The history of a node.
     pub fn get(&self, id: u32) -> u64
         requires { id < length self.now }
         ensures exact { result ≡ get_or self.now id 0 }
         ensures bounded { result ≤ GREATEST_HISTORY }
     {
+        if self.is_none(id) {
+            return 0;
+        }
         self.histories[id as usize]
     }
 
     /// Gives a node a history.
+    #[tactic(auto, using(crate::proofs::Noting::noted_set))]
     pub fn set(&mut self, id: u32, history: u64)
         requires there { id < length self.old }
         requires bounded { history ≤ GREATEST_HISTORY }
         ensures { self.new ≡ set self.old id history }
     {
+        put_narrow(&mut self.some, id, note_of(history));
         self.histories[id as usize] = history;
     }
 
@@ -73,5 +98,6 @@ impl Histories {
         ensures { self.new ≡ other.now }
     {
         self.histories.copy_from_slice(&other.histories);
+        self.some.copy_from_slice(&other.some);
     }
 }

@@ -7,7 +7,7 @@ use crate::words::{number_at, put_number};
 
 /// The four bits of a node.
 #[tactic(auto, unfolding(crate::specs::kept::Packed::narrow_of))]
-fn narrow(words: &[u64], id: u32) -> u64
+pub(crate) fn narrow(words: &[u64], id: u32) -> u64
     requires { id < 16 * length words.now }
     ensures exact { result ≡ narrow_of words.now id }
     ensures bounded { result < 16 }
@@ -16,7 +16,7 @@ fn narrow(words: &[u64], id: u32) -> u64
 }
 
 /// Puts the four bits of a node.
-fn put_narrow(words: &mut [u64], id: u32, number: u64)
+pub(crate) fn put_narrow(words: &mut [u64], id: u32, number: u64)
     requires there { id < 16 * length words.old }
     requires bounded { number < 16 }
     ensures { PutsNarrow id number words.old words.new }

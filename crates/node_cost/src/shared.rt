@@ -1,6 +1,6 @@
 //! Histories that may be another's.
 
-ghost use Rattle.std.specs.Prelude.{◌≡◌, ℕ, ◌≤◌, ◌<◌, length, get_or, set, replicate, IfOk};
+ghost use Rattle.std.specs.Prelude.{◌≡◌, ℕ, ◌≤◌, ◌<◌, length, get_or, set, replicate, IfOk, IsTrue, ◌↔◌};
 ghost use Rattle.std.specs.Arc.{arc_value};
 
 use crate::entry_cost::GREATEST_HISTORY;
@@ -58,6 +58,17 @@ impl SharedHistories {
         match &self.shared {
             Some(shared) => shared.get(id),
             None => self.own.get(id),
+        }
+    }
+
+    /// Whether a node's history is 0.
+    pub(crate) fn is_none(&self, id: u32) -> bool
+        requires { id < length self.now }
+        ensures { IsTrue result ↔ (get_or self.now id 0 ≡ 0) }
+    {
+        match &self.shared {
+            Some(shared) => shared.is_none(id),
+            None => self.own.is_none(id),
         }
     }
 

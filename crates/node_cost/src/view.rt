@@ -1,6 +1,6 @@
 //! What a net sees of the others when it is routed.
 
-ghost use Rattle.std.specs.Prelude.{◌≡◌, ℕ, ◌≤◌, ◌<◌, ◌-◌, length, set, replicate, IfOk};
+ghost use Rattle.std.specs.Prelude.{◌≡◌, ℕ, ◌≤◌, ◌<◌, ◌-◌, length, set, replicate, IfOk, IsTrue, ◌↔◌};
 ghost use Rattle.std.specs.List.{zip};
 ghost use Rattle.std.specs.Arc.{arc_value};
 ghost use Rattle.node_cost.specs.Views.{others_in, history_in};
@@ -73,6 +73,17 @@ impl View {
         ensures bounded { result ≤ GREATEST_HISTORY }
     {
         self.histories.get(id)
+    }
+
+    /// Whether no other net uses a node, and its history is 0.
+    #[inline(always)]
+    #[tactic(auto, using(crate::proofs::Views::length_seen, crate::proofs::Views::others_at, crate::proofs::Views::history_at))]
+    pub fn is_free(&self, id: u32) -> bool
+        requires { id < length self.now }
+        ensures { IsTrue result ↔
+            ((others_in self.now id ≡ 0) × (history_in self.now id ≡ 0)) }
+    {
+        self.others.get(id) == 0 && self.histories.is_none(id)
     }
 
     /// Gives a node so many other nets and a history.
