@@ -13,7 +13,8 @@ use Rattle.track_groups.specs.Joints.{IsBeside, neighbours_of, tap_on, taps_of, 
 use Rattle.track_groups.proofs.EdgesTold.{edge_told}
 use Rattle.wavefront.specs.Space.{HasEdge, IsInside}
 use Rattle.wavefront.specs.Ways.{IsWay}
-use Rattle.wavefront.specs.kept.Bounds.{IsLow, left_over}
+use Rattle.wavefront.specs.kept.Bounds.{left_over}
+use Rattle.group_wave.specs.kept.Boxes.{IsLow}
 use Rattle.wavefront.proofs.Lists.{contains_none, contains_cases}
 use Rattle.wavefront.proofs.WaysLeft.{wire_paid}
 use Rattle.group_wave.specs.kept.Grounds.{Ground, IsGround, groups_of}

@@ -8,7 +8,7 @@ use Rattle.group_wave.specs.kept.Grounds.{Ground, groups_of}
 use Rattle.group_wave.specs.kept.Queues.{Waiting}
 use Rattle.group_wave.specs.kept.WaveState.{Wave}
 use Rattle.group_wave.specs.kept.Wave.{cost_at}
-use Rattle.group_wave.specs.kept.Steps.{IsLeft}
+use Rattle.group_wave.specs.kept.Steps.{AreTracksLeft}
 use Rattle.group_wave.proofs.RelaxedTracks.{no_bit}
 
 -- of the tracks that aren't in the rest, those that have its label
@@ -27,7 +27,7 @@ module _ (g : Ground) (w : Wave) (e : Waiting) where
     rest_of = λ j one. one;
   }
 
-  pub left_all : (tracks : ℕ) → AreLeft g w e 0 tracks → IsLeft g w e tracks
+  pub left_all : (tracks : ℕ) → AreLeft g w e 0 tracks → AreTracksLeft g w e tracks
   left_all tracks left = record { of = left.of; labels = left.labels; all = λ j one same. left.all j one (no_bit j) same }
 
   module _ (rest next tracks track : ℕ) (taken : TakesBit rest next track) (left : AreLeft g w e rest tracks) where

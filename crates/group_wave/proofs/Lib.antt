@@ -1,9 +1,12 @@
 pub mod KeysInOrder
 mod Rows
+mod Marked
 mod Bucketed
 mod TrackBits
 mod LabelRows
 mod SightRows
+mod Around
+mod Narrower
 pub mod Opened
 pub mod Kept
 pub mod Fitting

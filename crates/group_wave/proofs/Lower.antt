@@ -39,7 +39,7 @@ module _ (g : Ground) where
   still_dead s t v starts dead b way target walk = dead b way (still_open s t b starts target) walk
 
   pub still_serves : (s t : Wave) → t.boxes ≡ s.boxes → KeepsOrigins s t → Serves g s → Serves g t
-  still_serves s t boxes starts serves b target = rw boxes (serves b (still_open s t b starts target))
+  still_serves s t boxes starts serves p lt target = rw boxes (serves p lt (still_open s t _ starts target))
 
   pub went_up : (w : Wave) (label more b : ℕ) → label ≤ more → WentOn g w label b → WentOn g w more b
   went_up w label more b up (inl dead) = inl dead

@@ -6,7 +6,8 @@ use Rattle.std.proofs.lemmas.Nat.Bits.{bit_at-zero}
 use Rattle.track_groups.specs.declared.group.Group.{Group}
 use Rattle.track_groups.specs.Groups.{IsOn, group_at, on_track}
 use Rattle.wavefront.specs.Space.{HasEdge, IsInside}
-use Rattle.wavefront.specs.kept.Bounds.{IsLow, left_over}
+use Rattle.wavefront.specs.kept.Bounds.{left_over}
+use Rattle.group_wave.specs.kept.Boxes.{IsLow}
 use Rattle.group_wave.specs.kept.Bits.{PutsBit}
 use Rattle.group_wave.specs.kept.Grounds.{Ground, IsGround, groups_of}
 use Rattle.group_wave.specs.kept.Queues.{Waiting}

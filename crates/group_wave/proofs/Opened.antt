@@ -1,7 +1,8 @@
 -- Words of the crates below, opened.
-use Rattle.std.proofs.Common.{◌≡◌, ℕ, ◌+◌, ◌<◌, ◌/◌, true, false, Option, Some, None, inl, inr, refl, sym, ap, ◌∙◌}
+use Rattle.std.proofs.Common.{◌≡◌, ℕ, ◌+◌, ◌-◌, ◌*◌, ◌<◌, ◌≤◌, ◌/◌, arith, true, false, Option, Some, None, inl, inr, refl, sym, ap, ◌∙◌}
 use Rattle.std.proofs.lemmas.Bool.{cases_lt, false≢true}
 use Rattle.std.proofs.lemmas.Option.{slice_get_past}
+use Rattle.std.proofs.Math.Nat.{mul-zero}
 use Rattle.std.specs.Option.{option_map, option_map_or}
 use Rattle.rr_graph.specs.declared.parts.Kind.{Kind}
 use Rattle.rr_graph.specs.declared.parts.Kind.TheVariants.{Source, Sink, Opin, Ipin, Chanx, Chany}
@@ -15,7 +16,7 @@ use Rattle.node_cost.specs.Views.{history_in, others_in}
 use Rattle.route_tree.specs.Usage.{room_of}
 use Rattle.wavefront.specs.Boxes.{box_of_net, box_of_node, box_with, is_in_box, touches}
 use Rattle.wavefront.specs.Space.{Space, base_cost, entry_cost}
-use Rattle.wavefront.specs.kept.Bounds.{wires_over}
+use Rattle.wavefront.specs.kept.Bounds.{least_wire_cost, wires_over}
 
 pub net_box : (f : Fabric) (n : Net) → box_of_net f n ≡ box_with f (box_of_node f n.source) n.sinks
 unfolding box_of_net
@@ -46,6 +47,17 @@ by_node s v (Some n) is = let told = by_kind s.device n n.kind refl is in ap (λ
 
 pub wire_paid : (s : Space) (v : ℕ) → is_wire_at s.device v ≡ true → entry_cost s v ≡ cost_of 20 (history_in s.view v) (wire_capacity s.device.mode s.device.width) (others_in s.view v) s.present
 wire_paid s v is = cost_is s v ∙ by_node s v (node_at s.device v) is
+
+-- a wire that nobody else uses and that has no history
+pub free_paid : (s : Space) (v : ℕ) → is_wire_at s.device v ≡ true → 1 ≤ wire_capacity s.device.mode s.device.width → (others_in s.view v ≡ 0) × (history_in s.view v ≡ 0) → entry_cost s v ≡ least_wire_cost
+free_paid s v is some free =
+    let room = wire_capacity s.device.mode s.device.width in
+    let none : 0 + 1 - room ≡ 0 = omega (arith, some) in
+    wire_paid s v is
+    ∙ ap (λ history. cost_of 20 history room (others_in s.view v) s.present) (free.1)
+    ∙ ap (λ others. cost_of 20 0 room others s.present) (free.0)
+    ∙ ap (λ over. 20 * (16 + s.present * over)) none
+    ∙ ap (λ more. 20 * (16 + more)) (mul-zero s.present)
 
 -- a wire is a node
 pub wire_node : (f : Fabric) (v : ℕ) → is_wire_at f v ≡ true → v < node_count_of f

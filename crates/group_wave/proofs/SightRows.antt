@@ -1,18 +1,16 @@
--- What is known of groups, by stamps, and boxes that cover more.
+-- What is known of groups, by stamps, and boxes that come and go.
 use Rattle.std.proofs.Common.{◌≡◌, ℕ, ◌+◌, ◌<◌, ◌≤◌, ◌++◌, inl, inr, get_or, get_or-set_same, get_or-set_other, List, [], ◌∷◌, All, map, replicate, length, refl, sym, ap, subst, ◌∙◌, arith, slice_set, eq-eqb, false, ◌==◌, Option, Some, None}
-use Rattle.std.specs.List.{AllByRecursion}
+use Rattle.std.specs.List.{AllByRecursion, swap_remove}
+use Rattle.std.specs.List.Sorted.{IsPermutation}
 use Rattle.std.proofs.lemmas.Bool.{cases_eq}
 use Rattle.std.proofs.lemmas.Bool.Decides.{nat_tests}
 use Rattle.std.proofs.lemmas.List.{length-set, length-map, map-set, map-append, get_or-map}
-use Rattle.std.proofs.lemmas.List.Elements.{recursion_from_All, All-weaker, Contains-push, Contains-append_left}
-use Rattle.wavefront.specs.declared.boxes.BoundingBox as plain
-use Rattle.wavefront.specs.Boxes.{box_around}
-use Rattle.wavefront.specs.kept.Bounds.{CoversMore, IsCovered, IsInsideBox}
-use Rattle.wavefront.proofs.Covering.{widened_more, widened_place}
-use Rattle.group_wave.specs.declared.boxes.BoundingBox.{BoundingBox}
+use Rattle.std.proofs.lemmas.List.Elements.{recursion_from_All, All-weaker}
+use Rattle.std.proofs.lemmas.List.Sorted.{IsPermutation-map, IsPermutation-swap_remove}
 use Rattle.group_wave.specs.declared.nearest.Known.{Known}
-use Rattle.group_wave.specs.kept.Boxes.{boxed}
-use Rattle.group_wave.specs.kept.Nearest.{Sights, Surrounds, known_of}
+use Rattle.group_wave.specs.declared.nearest.SinkBox as kept
+use Rattle.group_wave.specs.kept.Boxes.{SinkBox}
+use Rattle.group_wave.specs.kept.Nearest.{known_of, sink_box}
 
 -- ---- stamps
 -- the first so many have the stamp 0
@@ -46,46 +44,26 @@ pub none_known : (now later count : ℕ) (ks : List Known) → now < later → A
 none_known now later count ks up old size = all_unknown now later ks up (recursion_from_All _ _ old) ∙ ap (λ n. replicate n None) size
 
 -- what is put is known
-pub known_put : (now : ℕ) (ks : List Known) (known : List (Option ℕ)) (group : ℕ) (k : Known) → k.stamp ≡ now → map (known_of now) ks ≡ known → map (known_of now) (slice_set ks group k) ≡ slice_set known group (Some k.wires)
+pub known_put : (now : ℕ) (ks : List Known) (known : List (Option ℕ)) (group : ℕ) (k : Known) → k.stamp ≡ now → map (known_of now) ks ≡ known → map (known_of now) (slice_set ks group k) ≡ slice_set known group (Some k.sight.wires)
 known_put now ks known group k at e = map-set (known_of now) ks group k ∙ rw (e, at, eq-eqb now now refl) refl
 
 -- ---- boxes
-itself : (a : plain.BoundingBox) → IsInsideBox a a
-itself a = record { left = omega arith; right = omega arith; bottom = omega arith; top = omega arith }
+module _ (boxes : List kept.SinkBox) (b : kept.SinkBox) where
+  -- one more box
+  pub pushed_box : (now : List kept.SinkBox) (old : List SinkBox) → map sink_box boxes ≡ old → now ≡ boxes ++ b ∷ [] → map sink_box now ≡ old ++ sink_box b ∷ []
+  pushed_box now old is more = rw more (map-append sink_box boxes (b ∷ []) ∙ ap (λ bs. bs ++ sink_box b ∷ []) is)
 
-pushed_place : (boxes : List BoundingBox) (place : BoundingBox) → IsCovered (map boxed (boxes ++ place ∷ [])) (boxed place)
-pushed_place boxes place = rw (map-append boxed boxes (place ∷ [])) (boxed place, Contains-push (map boxed boxes) (boxed place), itself (boxed place))
+  -- a box in the place of another
+  pub box_put : (old : List SinkBox) (at : ℕ) → map sink_box boxes ≡ old → map sink_box (slice_set boxes at b) ≡ slice_set old at (sink_box b)
+  box_put old at is = map-set sink_box boxes at b ∙ ap (λ bs. slice_set bs at (sink_box b)) is
 
-pushed_more : (boxes : List BoundingBox) (place : BoundingBox) → CoversMore (map boxed boxes) (map boxed (boxes ++ place ∷ []))
-pushed_more boxes place inner (outer, there, inside) =
-    rw (map-append boxed boxes (place ∷ [])) (outer, Contains-append_left (map boxed boxes) (boxed place ∷ []) outer there, inside)
+  module _ (old : List SinkBox) (at : ℕ) (is : map sink_box boxes ≡ old) (lt : at < length old) (found : b ≡ get_or boxes at b) where
+    within : at < length boxes
+    within = let size = length-map boxes sink_box in let same = ap length is in omega (arith, size, same, lt)
 
-pub pushed : (old : Sights) (boxes now : List BoundingBox) (known : List (Option ℕ)) (place : BoundingBox) → record { boxes = map boxed boxes; known = known } ≡ old → now ≡ boxes ++ place ∷ []
-    → Surrounds old (record { boxes = map boxed now; known = known }) (boxed place)
-pushed old boxes now known place is more = subst (λ (s : Sights). Surrounds s (record { boxes = map boxed now; known = known }) (boxed place)) is (rw more (record {
-  place = pushed_place boxes place;
-  more = pushed_more boxes place;
-  known = refl;
-}))
+    pub box_found : sink_box b ≡ get_or old at (sink_box b)
+    box_found = ap sink_box found ∙ sym (get_or-map sink_box boxes at b (sink_box b) within) ∙ ap (λ bs. get_or bs at (sink_box b)) is
 
-module _ (boxes : List BoundingBox) (last : ℕ) (d wide place : BoundingBox) (lt : last < length boxes) (is : boxed wide ≡ box_around (boxed (get_or boxes last d)) (boxed place)) where
-  widened_is : map boxed (slice_set boxes last wide) ≡ slice_set (map boxed boxes) last (box_around (get_or (map boxed boxes) last (boxed d)) (boxed place))
-  widened_is =
-      map-set boxed boxes last wide
-      ∙ ap (slice_set (map boxed boxes) last) (is ∙ ap (λ b. box_around b (boxed place)) (sym (get_or-map boxed boxes last d (boxed d) lt)))
-
-  within : last < length (map boxed boxes)
-  within = let size = length-map boxes boxed in omega (arith, size, lt)
-
-  wide_place : IsCovered (map boxed (slice_set boxes last wide)) (boxed place)
-  wide_place = rw widened_is (widened_place (map boxed boxes) last (boxed d) (boxed place) within)
-
-  wide_more : CoversMore (map boxed boxes) (map boxed (slice_set boxes last wide))
-  wide_more inner covered = rw widened_is (widened_more (map boxed boxes) last (boxed d) (boxed place) within inner covered)
-
-  pub widened : (old : Sights) (known : List (Option ℕ)) → record { boxes = map boxed boxes; known = known } ≡ old → Surrounds old (record { boxes = map boxed (slice_set boxes last wide); known = known }) (boxed place)
-  widened old known view = subst (λ (s : Sights). Surrounds s (record { boxes = map boxed (slice_set boxes last wide); known = known }) (boxed place)) view (record {
-    place = wide_place;
-    more = wide_more;
-    known = refl;
-  })
+    -- one box less
+    pub box_gone : (now : List kept.SinkBox) → now ≡ swap_remove boxes at b → IsPermutation old (sink_box b ∷ map sink_box now)
+    box_gone now left = subst (λ bs. IsPermutation bs (sink_box b ∷ map sink_box now)) is (rw left (IsPermutation-map sink_box boxes (b ∷ swap_remove boxes at b) (IsPermutation-swap_remove boxes at b within found)))

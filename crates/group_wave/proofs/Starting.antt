@@ -7,7 +7,8 @@ use Rattle.std.proofs.lemmas.Nat.Bits.{bit_at-zero}
 use Rattle.track_groups.specs.declared.group.GroupTrack.{GroupTrack}
 use Rattle.track_groups.specs.Groups.{HasPlace, group_at, on_track, place_of, wire_on}
 use Rattle.wavefront.specs.Space.{IsWanted}
-use Rattle.wavefront.specs.kept.Bounds.{IsLow, left_over}
+use Rattle.wavefront.specs.kept.Bounds.{left_over}
+use Rattle.group_wave.specs.kept.Boxes.{IsLow}
 use Rattle.wavefront.specs.kept.Spaces.{node_count}
 use Rattle.group_wave.specs.kept.Bits.{PutsBit}
 use Rattle.group_wave.specs.kept.Grounds.{Ground, IsGround, groups_of}

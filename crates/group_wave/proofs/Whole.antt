@@ -12,7 +12,7 @@ use Rattle.wavefront.specs.Space.{Space, IsWanted}
 use Rattle.wavefront.specs.kept.Spaces.{IsSpace}
 use Rattle.wavefront.specs.Growth.{IsGrown, IsPart, IsRouteSoFar, IsShut, IsStuck, IsWhole, net_reached}
 use Rattle.wavefront.specs.Growth.IsGrown.{alone}
-use Rattle.wavefront.proofs.Whole.{is_sink_at}
+use Rattle.wavefront.proofs.Wanted.{is_sink_at}
 use Rattle.group_wave.specs.kept.Grounds.{Ground, IsGround}
 use Rattle.group_wave.specs.kept.Growing.{IsGrowth, Matches}
 use Rattle.group_wave.specs.kept.WaveState.{Wave}

@@ -5,6 +5,7 @@ pub mod Grounds
 pub mod Boxes
 pub mod Wave
 pub mod Bits
+pub mod Marks
 pub mod Labels
 pub mod Nearest
 pub mod Fields

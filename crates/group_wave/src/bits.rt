@@ -2,7 +2,7 @@
 
 ghost use Rattle.std.specs.Prelude.{◌≡◌, ◌<◌};
 ghost use Rattle.std.specs.Int.{bit_at};
-ghost use Rattle.group_wave.specs.kept.Bits.{TakesBit, PutsBit};
+ghost use Rattle.group_wave.specs.kept.Bits.{TakesBit, PutsBit, DropsBit, NoneBelow};
 
 /// Takes the lowest bit that is 1 out of a set, and answers its place.
 #[inline(always)]
@@ -25,12 +25,22 @@ pub(crate) fn with_bit(bits: u64, bit: u32) -> u64
     bits | (1u64 << bit)
 }
 
+/// A set without a bit.
+#[inline(always)]
+pub(crate) fn without_bit(bits: u64, bit: u32) -> u64
+    requires { bit < 64 }
+    ensures { DropsBit bits result bit }
+{
+    bits & !(1u64 << bit)
+}
+
 /// The place of the lowest bit that is 1.
 #[inline(always)]
 pub(crate) fn lowest_bit(bits: u64) -> u32
     requires { 0 < bits }
     ensures within { result < 64 }
     ensures one { bit_at bits result ≡ 1 }
+    ensures first { NoneBelow bits result }
 {
     bits.trailing_zeros()
 }

@@ -3,7 +3,7 @@
 ghost use Rattle.std.specs.Prelude.{◌≡◌, ◌<◌, length};
 ghost use Rattle.wavefront.specs.Boxes.{box_around, box_of_net, box_of_node, box_of_span, box_with, touches};
 ghost use Rattle.rr_graph.specs.Problems.{net_in};
-ghost use Rattle.group_wave.specs.kept.Boxes.{boxed};
+ghost use Rattle.group_wave.specs.kept.Boxes.{box_shared, boxed};
 
 use rr_graph::{Device, Problem, Span};
 
@@ -17,6 +17,14 @@ pub(crate) struct BoundingBox {
 }
 
 impl BoundingBox {
+    /// A box of no places: the least one around it and another is the other.
+    pub(crate) const NOTHING: BoundingBox = BoundingBox {
+        left: u32::MAX,
+        right: 0,
+        bottom: u32::MAX,
+        top: 0,
+    };
+
     /// The places of a span.
     fn of_span(span: Span) -> BoundingBox
         ensures { boxed result ≡ box_of_span span }
@@ -53,6 +61,18 @@ impl BoundingBox {
             right: self.right.max(other.right),
             bottom: self.bottom.min(other.bottom),
             top: self.top.max(other.top),
+        }
+    }
+
+    /// What two boxes share.
+    pub(crate) fn shared_with(self, other: BoundingBox) -> BoundingBox
+        ensures { boxed result ≡ box_shared (boxed self) (boxed other) }
+    {
+        BoundingBox {
+            left: self.left.max(other.left),
+            right: self.right.min(other.right),
+            bottom: self.bottom.max(other.bottom),
+            top: self.top.min(other.top),
         }
     }
 

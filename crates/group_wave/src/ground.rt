@@ -1,6 +1,6 @@
 //! What the search of one net goes over.
 
-ghost use Rattle.std.specs.Prelude.{◌≡◌, ◌<◌, ◌≤◌, ◌+◌, ◌*◌, ◌^◌, ◌↔◌, ℕ, Contains, IfSome, OnOk, IsTrue, length, get_or, true, []};
+ghost use Rattle.std.specs.Prelude.{◌≡◌, ◌<◌, ◌≤◌, ◌+◌, ◌*◌, ◌^◌, ◌↔◌, ℕ, Contains, IfSome, OnOk, IsTrue, length, get_or, slice_index, true, []};
 ghost use Rattle.std.specs.List.Sorted.{IsStrictlyIncreasing};
 ghost use Rattle.std.specs.Option.{option_map_or};
 ghost use Rattle.node_cost.specs.Costs.{cost_of};
@@ -12,6 +12,7 @@ ghost use Rattle.track_groups.specs.Joints.{IsTabled, neighbours_of, taps_of};
 ghost use Rattle.wavefront.specs.Boxes.{box_of_node, is_in_box, touches, box_of_net};
 ghost use Rattle.wavefront.specs.Growth.{space_of};
 ghost use Rattle.wavefront.specs.Space.{HasEdge, IsWanted, base_cost, entry_cost};
+ghost use Rattle.wavefront.specs.kept.Bounds.{IsInsideBox, least_wire_cost};
 ghost use Rattle.wavefront.specs.kept.Spaces.{LeadsOnlyTo, node_count};
 ghost use Rattle.group_wave.specs.kept.Boxes.{boxed};
 ghost use Rattle.group_wave.specs.kept.Grounds.{IsGround, groups_of};
@@ -221,11 +222,40 @@ impl<'a> Ground<'a> {
         self.cost_by(20, self.wire_room(), wire)
     }
 
+    /// Whether a wire costs what any wire costs at least: nobody else uses it, and it was never
+    /// overused.
+    #[inline(always)]
+    #[tactic(auto, using(crate::proofs::Opened::free_paid))]
+    pub(crate) fn is_free(&self, wire: u32) -> bool
+        requires node_in { wire < node_count self.now.space }
+        requires is { is_wire_at self.now.space.device wire ≡ true }
+        ensures { IsTrue result → entry_cost self.now.space wire ≡ least_wire_cost }
+    {
+        let _some = self.wire_room();
+        self.view.is_free(wire)
+    }
+
     /// The box of a node's places.
     pub(crate) fn box_of(&self, node: u32) -> BoundingBox
         ensures { boxed result ≡ box_of_node self.now.space.device node }
     {
         BoundingBox::of_node(self.problem.device(), node)
+    }
+
+    /// The least box around the sinks from one place of their list to the one before another.
+    pub(crate) fn box_around(&self, from: usize, until: usize) -> BoundingBox
+        requires some { from < until }
+        requires there { until ≤ length self.now.space.net.sinks }
+        ensures { (p : ℕ) → from ≤ p → p < until → IsInsideBox
+            (box_of_node self.now.space.device (slice_index self.now.space.net.sinks p))
+            (boxed result) }
+    {
+        let sinks = self.sinks();
+        let mut around = self.box_of(sinks[from]);
+        for at in from + 1..until {
+            around = around.around(self.box_of(sinks[at]));
+        }
+        around
     }
 
     /// A node's kind; None for what is no node.

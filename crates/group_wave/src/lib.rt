@@ -4,9 +4,11 @@
 
 mod bits;
 mod boxes;
+mod buckets;
 mod ground;
 mod keys;
 mod labels;
+mod marks;
 mod nearest;
 mod queue;
 mod route;

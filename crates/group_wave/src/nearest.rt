@@ -1,9 +1,9 @@
 //! How many wires lead on from a group to the nearest sink, at least.
 
-ghost use Rattle.std.specs.Prelude.{◌≡◌, ◌<◌, ◌≤◌, [], All, Some, None, length, map, replicate, get_or, slice_set, IfOk, IfSome, OnOk};
-ghost use Rattle.wavefront.specs.kept.Bounds.{CoversMore, IsCovered, IsLow};
-ghost use Rattle.group_wave.specs.kept.Boxes.{boxed};
-ghost use Rattle.group_wave.specs.kept.Nearest.{Surrounds, known_of};
+ghost use Rattle.std.specs.Prelude.{◌≡◌, ◌<◌, ◌≤◌, ◌∷◌, ◌++◌, [], All, Some, None, length, map, replicate, get_or, slice_set, IfOk, IfSome, OnOk};
+ghost use Rattle.std.specs.List.Sorted.{IsPermutation};
+ghost use Rattle.group_wave.specs.kept.Boxes.{IsLow, boxed};
+ghost use Rattle.group_wave.specs.kept.Nearest.{known_of, sink_box};
 ghost use Rattle.group_wave.specs.kept.Wave.{wire_of};
 
 use crate::boxes::BoundingBox;
@@ -12,13 +12,27 @@ use std::alloc::{AllocError, Global};
 use std::marker::Model;
 use track_groups::Group;
 
-/// How many boxes there are at most.
-const MOST_BOXES: usize = 32;
+/// A box around sinks of a net: those from one place of their list to the one before another.
+#[derive(Clone, Copy, Drop)]
+pub(crate) struct SinkBox {
+    pub(crate) place: BoundingBox,
+    pub(crate) from: usize,
+    pub(crate) until: usize,
+    /// By which what was found for groups names the box.
+    number: u16,
+}
+
+/// How many wires lead on to the nearest box, and which that is.
+#[derive(Clone, Copy, Drop)]
+pub(crate) struct Sight {
+    pub(crate) wires: u16,
+    number: u16,
+}
 
 /// What was found for a group, and when.
 #[derive(Clone, Copy, Drop)]
 pub(crate) struct Known {
-    wires: u32,
+    sight: Sight,
     stamp: u32,
 }
 
@@ -29,7 +43,13 @@ fn nothing_known(alloc: Global, groups: usize) -> Result<Vec<Known>, AllocError>
 {
     let mut known = Vec::with_capacity(alloc, groups)?;
     for _ in 0..groups {
-        known.push(Known { wires: 0, stamp: 0 })?;
+        known.push(Known {
+            sight: Sight {
+                wires: 0,
+                number: 0,
+            },
+            stamp: 0,
+        })?;
     }
     Ok(known)
 }
@@ -44,13 +64,45 @@ fn take_stamps_off(known: &mut Vec<Known>)
     }
 }
 
-/// The fewest wires of which a box tells.
-fn fewest_in(boxes: &[BoundingBox], group: &Group) -> u64
-    ensures { IsLow (map boxed boxes.now) (wire_of group.now) result }
+/// Makes a number that of a box as it is now. Its last six bits say which of the boxes it is, the
+/// others how often that was made narrower.
+fn make_live(live: &mut Vec<u16>, number: u16) {
+    let which = usize::from(number % 64);
+    if which < live.len() {
+        live[which] = number;
+    }
+}
+
+/// Whether the number is that of a box as it is now.
+#[inline(always)]
+fn is_live(live: &[u16], number: u16) -> bool {
+    let which = usize::from(number % 64);
+    which < live.len() && live[which] == number
+}
+
+/// The fewer wires of two sights.
+fn fewer_of(sight: Sight, wires: u64, number: u16) -> Sight
+    ensures first { result.wires ≤ sight.wires }
+    ensures second { result.wires ≤ wires }
 {
-    let mut fewest = u64::MAX;
-    for place in boxes {
-        fewest = fewest.min(wires_to(*place, group));
+    let wires = wires.min(u64::from(u16::MAX)) as u16;
+    if wires < sight.wires {
+        Sight { wires, number }
+    } else {
+        sight
+    }
+}
+
+/// The fewest wires of which a box tells, or as many as are kept.
+fn fewest_in(boxes: &[SinkBox], group: &Group) -> Sight
+    ensures { IsLow (map sink_box boxes.now) (wire_of group.now) result.wires }
+{
+    let mut fewest = Sight {
+        wires: u16::MAX,
+        number: 0,
+    };
+    for around in boxes {
+        fewest = fewer_of(fewest, wires_to(around.place, group), around.number);
     }
     fewest
 }
@@ -59,12 +111,12 @@ fn fewest_in(boxes: &[BoundingBox], group: &Group) -> u64
 /// the nearest of them at least, where that was found. Contracts see both.
 #[derive(Drop)]
 pub(crate) struct Nearest {
-    boxes: Vec<BoundingBox>,
-    /// For how many sinks a box is, and how many the last one has.
-    share: usize,
-    filled: usize,
+    boxes: Vec<SinkBox>,
+    /// The numbers of the boxes as they are now. One that is taken away or made narrower has
+    /// another number from then on.
+    live: Vec<u16>,
     known: Vec<Known>,
-    /// What was found at an earlier stamp was found before boxes were last taken away.
+    /// What was found at an earlier stamp was found before all boxes were last taken away.
     stamp: u32,
 }
 
@@ -88,8 +140,7 @@ impl Nearest {
     {
         Ok(Nearest {
             boxes: Vec::new(alloc),
-            share: 1,
-            filled: 0,
+            live: vec![in alloc; 0; 64]?,
             known: nothing_known(alloc, groups)?,
             stamp: 1,
         })
@@ -102,8 +153,8 @@ impl Nearest {
         self.known.len()
     }
 
-    /// Takes all boxes away, and what was found in them. So many sinks are to share the next ones.
-    pub(crate) fn clear(&mut self, sinks: usize)
+    /// Takes all boxes away, and what was found in them.
+    pub(crate) fn clear(&mut self)
         ensures boxes { self.new.boxes ≡ [] }
         ensures known { self.new.known ≡ replicate (length self.old.known) None }
     {
@@ -113,76 +164,108 @@ impl Nearest {
         }
         self.stamp += 1;
         self.boxes.clear();
-        self.share = sinks / MOST_BOXES + 1;
-        self.filled = 0;
     }
 
-    /// Puts a sink's place into a box: of its own, or the last one while that has room. What was
+    /// Puts a box in for sinks from one place of their list to the one before another. What was
     /// found for groups stays, and may be too much with a box more: so all boxes are put in before
     /// anything is found.
-    pub(crate) fn surround(&mut self, place: BoundingBox) -> Result<(), AllocError>
-        ensures surrounds { OnOk result (Surrounds self.old self.new (boxed place)) }
-        ensures groups { length self.new.known ≡ length self.old.known }
+    pub(crate) fn push(
+        &mut self,
+        place: BoundingBox,
+        from: usize,
+        until: usize,
+    ) -> Result<(), AllocError>
+        ensures boxes { OnOk result (self.new.boxes ≡ self.old.boxes
+            ++ record { place = boxed place; from = from; until = until } ∷ []) }
+        ensures known { self.new.known ≡ self.old.known }
     {
-        if self.filled < self.share && !self.boxes.is_empty() {
-            self.filled = self.filled.saturating_add(1);
-            self.widen(place);
-            Ok(())
-        } else {
-            self.filled = 1;
-            self.push(place)
-        }
-    }
-
-    /// Puts a box in.
-    fn push(&mut self, place: BoundingBox) -> Result<(), AllocError>
-        ensures surrounds { OnOk result (Surrounds self.old self.new (boxed place)) }
-        ensures groups { length self.new.known ≡ length self.old.known }
-    {
-        self.boxes.push(place)?;
+        let number = (self.boxes.len() % 64) as u16;
+        make_live(&mut self.live, number);
+        self.boxes.push(SinkBox {
+            place,
+            from,
+            until,
+            number,
+        })?;
         Ok(())
     }
 
-    /// Widens the last box by a place.
-    fn widen(&mut self, place: BoundingBox)
-        requires { 0 < length self.old.boxes }
-        ensures surrounds { Surrounds self.old self.new (boxed place) }
-        ensures groups { length self.new.known ≡ length self.old.known }
+    /// How many boxes there are.
+    pub(crate) fn boxes(&self) -> usize
+        ensures { result ≡ length self.now.boxes }
     {
-        let last = self.boxes.len() - 1;
-        self.boxes[last] = self.boxes[last].around(place);
+        self.boxes.len()
     }
 
-    /// What was found for a group.
+    /// A box.
+    pub(crate) fn box_at(&self, at: usize) -> SinkBox
+        requires { at < length self.now.boxes }
+        ensures { sink_box result ≡ get_or self.now.boxes at (sink_box result) }
+    {
+        self.boxes[at]
+    }
+
+    /// Puts a box in the place of one that has all of it. What was found for groups stays, and is no
+    /// more than the boxes now tell.
+    pub(crate) fn put(&mut self, at: usize, around: SinkBox, place: BoundingBox)
+        requires { at < length self.old.boxes }
+        ensures boxes { self.new.boxes ≡ slice_set self.old.boxes at
+            (record { place = boxed place; from = around.from; until = around.until }) }
+        ensures known { self.new.known ≡ self.old.known }
+    {
+        let number = around.number.wrapping_add(64);
+        make_live(&mut self.live, number);
+        self.boxes[at] = SinkBox {
+            place,
+            from: around.from,
+            until: around.until,
+            number,
+        };
+    }
+
+    /// Takes a box away. What was found for groups stays, and is no more than the boxes that are
+    /// left tell.
+    pub(crate) fn remove(&mut self, at: usize) -> SinkBox
+        requires { at < length self.old.boxes }
+        ensures gone { sink_box result ≡ get_or self.old.boxes at (sink_box result) }
+        ensures boxes { IsPermutation self.old.boxes (sink_box result ∷ self.new.boxes) }
+        ensures known { self.new.known ≡ self.old.known }
+    {
+        let gone = self.boxes.swap_remove(at);
+        make_live(&mut self.live, gone.number.wrapping_add(64));
+        gone
+    }
+
+    /// What was found for a group, unless that is of a box that was taken away.
     #[inline(always)]
     pub(crate) fn known(&self, group: u32) -> Option<u32>
         requires { group < length self.now.known }
-        ensures { result ≡ get_or self.now.known group None }
+        ensures { IfSome result (λ wires. get_or self.now.known group None ≡ Some wires) }
     {
         let known = self.known[group as usize];
-        if known.stamp == self.stamp {
-            Some(known.wires)
+        if known.stamp == self.stamp && is_live(&self.live, known.sight.number) {
+            Some(u32::from(known.sight.wires))
         } else {
             None
         }
     }
 
     /// Keeps what was found for a group.
-    pub(crate) fn keep(&mut self, group: u32, wires: u32)
+    pub(crate) fn keep(&mut self, group: u32, sight: Sight)
         requires { group < length self.old.known }
         ensures boxes { self.new.boxes ≡ self.old.boxes }
-        ensures known { self.new.known ≡ slice_set self.old.known group (Some wires) }
+        ensures known { self.new.known ≡ slice_set self.old.known group (Some sight.wires) }
     {
         self.known[group as usize] = Known {
-            wires,
+            sight,
             stamp: self.stamp,
         };
     }
 
     /// How many wires lead on from one of a group to the nearest box, at least.
-    pub(crate) fn fewest(&self, group: &Group) -> u32
-        ensures { IsLow self.now.boxes (wire_of group.now) result }
+    pub(crate) fn fewest(&self, group: &Group) -> Sight
+        ensures { IsLow self.now.boxes (wire_of group.now) result.wires }
     {
-        fewest_in(&self.boxes, group).min(u64::from(u32::MAX)) as u32
+        fewest_in(&self.boxes, group)
     }
 }

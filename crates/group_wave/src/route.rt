@@ -239,7 +239,7 @@ fn attach_first<K: Key>(
     scratch.wave.start_way(ground, &scratch.way)?;
     scratch.way.insert(0, start)?;
     tree.attach(0, &scratch.way)?;
-    scratch.wave.renew(ground)?;
+    scratch.wave.renew(ground, sink);
     Ok(())
 }
 
@@ -280,7 +280,7 @@ fn add_way<K: Key>(
     leave_source(ground, &mut scratch.wave, tree)?;
     tree.attach(row_of(tree.as_slice(), start), &scratch.way)?;
     scratch.wave.start_way(ground, &scratch.way)?;
-    scratch.wave.renew(ground)?;
+    scratch.wave.renew(ground, sink);
     Ok(true)
 }
 

@@ -58,7 +58,7 @@ fn bound_over<K: Key>(wires: u32) -> K
 impl<K: Key> Wave<K> {
     ghost use Rattle.std.specs.Prelude.{length, OnOk};
     ghost use Rattle.track_groups.specs.Groups.{group_at};
-    ghost use Rattle.wavefront.specs.kept.Bounds.{IsLow};
+    ghost use Rattle.group_wave.specs.kept.Boxes.{IsLow};
     ghost use Rattle.group_wave.specs.kept.Grounds.{groups_of};
     ghost use Rattle.group_wave.specs.kept.Queues.{entry_of};
     ghost use Rattle.group_wave.specs.kept.WaveState.{FAR};
@@ -139,8 +139,8 @@ impl<K: Key> Wave<K> {
         if let Some(wires) = self.nearest.known(group) {
             return wires;
         }
-        let wires = self.nearest.fewest(&ground.group(group));
-        self.nearest.keep(group, wires);
-        wires
+        let sight = self.nearest.fewest(&ground.group(group));
+        self.nearest.keep(group, sight);
+        u32::from(sight.wires)
     }
 }

@@ -1,18 +1,9 @@
--- The sinks that the wave has yet to take are fewer after a path.
-use Rattle.std.proofs.Common.{◌≡◌, ℕ, ◌+◌, ◌<◌, ◌≤◌, List, [], ◌∷◌, Bool, true, false, not, count_by, cond, Contains, inl, inr, refl, sym, ◌∙◌, arith, rules, eq-eqb}
+-- Of two tests, which lets fewer numbers through.
+use Rattle.std.proofs.Common.{◌≡◌, ℕ, ◌+◌, ◌<◌, ◌≤◌, List, [], ◌∷◌, Bool, true, false, count_by, cond, Contains, inl, inr, refl, sym, ◌∙◌, arith, rules}
 use Rattle.std.proofs.lemmas.Grind.{common_steps}
 use Rattle.std.proofs.lemmas.Bool.{false≢true}
-use Rattle.wavefront.specs.kept.WaveState.{Wave}
-use Rattle.wavefront.specs.kept.Wave.{IsOrigin, is_origin, open_count}
-use Rattle.wavefront.specs.Space.{Space, IsWanted}
 use Rattle.std.proofs.lemmas.List.Sums.{sum_by-cons}
 use Rattle.wavefront.proofs.Lists.{contains_none, contains_first, contains_later, contains_cases}
-
-pub origin_test : (w : Wave) (v : ℕ) → IsOrigin w v → is_origin w v ≡ true
-origin_test w v o = rw (eq-eqb _ _ o.0, eq-eqb _ _ o.1) refl
-
-pub origin_tested : (w : Wave) (v : ℕ) → is_origin w v ≡ true → IsOrigin w v
-origin_tested w v e = grind (arith, common_steps)
 
 count_one : (p : ℕ → Bool) (x : ℕ) (xs : List ℕ) (b : Bool) → p x ≡ b → count_by p (x ∷ xs) ≡ cond b 1 0 + count_by p xs
 count_one p x xs b e = sum_by-cons _ x xs ∙ rw e refl
@@ -44,16 +35,3 @@ count_less p q (x ∷ xs) y h has fails passes = elim (contains_cases x y xs has
       let one = one_le p q x xs (p x) (q x) refl refl (h x (contains_first x xs)) in
       omega (arith, one, rest)
 ]
-
-untested : (w : Wave) (v : ℕ) (b : Bool) → is_origin w v ≡ b → (IsOrigin w v → ⊥) → b ≡ false
-untested w v true e apart = absurd (apart (origin_tested w v e))
-untested w v false e apart = refl
-
--- an open sink is taken, and no sink is lost
-pub fewer_open : (space : Space) (s t : Wave) (sink : ℕ) → IsWanted space sink → (IsOrigin s sink → ⊥) → IsOrigin t sink → ((v : ℕ) → IsWanted space v → IsOrigin s v → IsOrigin t v) → open_count space t < open_count space s
-fewer_open space s t sink wanted apart taken kept =
-    count_less (λ v. not (is_origin t v)) (λ v. not (is_origin s v)) space.net.sinks sink
-    (λ v h shut. rw (untested s v _ refl (λ o. false≢true (sym (rw (origin_test t v (kept v h o)) refl) ∙ shut))) refl)
-    wanted
-    (rw (origin_test t sink taken) refl)
-    (rw (untested s sink _ refl apart) refl)

@@ -10,7 +10,7 @@ use Rattle.rr_graph.specs.declared.parts.Span.{Span}
 use Rattle.rr_graph.specs.Fabric.{Fabric}
 use Rattle.rr_graph.specs.Nodes.{node_at, span_by, span_of}
 use Rattle.rr_graph.specs.Problems.{Net, is_source_kind, any_node, is_source}
-use Rattle.wavefront.specs.declared.boxes.BoundingBox.{BoundingBox}
+use Rattle.wavefront.specs.Boxes.{BoundingBox}
 use Rattle.wavefront.specs.Boxes.{box_of_span, box_of_node, box_around, box_with, box_of_net, touches, is_in_box}
 
 -- one box reaches at least as far as another

@@ -11,11 +11,10 @@ use Rattle.rr_graph.specs.Fabric.{Fabric, is_block, is_pad}
 use Rattle.rr_graph.specs.Nodes.{span_by, span_of}
 use Rattle.rr_graph.specs.Wires.{Place, last_of, runs_by, runs_through}
 use Rattle.rr_graph.specs.Pins.{belongs, channel_of_pad, channels_beside, channels_of_pin, is_global_pin, taps, when}
-use Rattle.wavefront.specs.declared.boxes.BoundingBox.{BoundingBox}
+use Rattle.wavefront.specs.Boxes.{BoundingBox}
 use Rattle.wavefront.specs.kept.Bounds.{gap, wires_by_kind}
 use Rattle.wavefront.proofs.WireSteps.{both}
 use Rattle.wavefront.proofs.WiresOver.{none_left}
-
 either : (a b : Bool) → (a || b) ≡ true → (a ≡ true) ⊎ (b ≡ true)
 either true b e = inl refl
 either false b e = inr e

@@ -1,10 +1,12 @@
--- What a search in numbers that ascend finds.
+-- The sinks of a net, which ascend.
 use Rattle.std.proofs.Common.{◌≡◌, ℕ, ◌+◌, ◌<◌, ◌≤◌, zero, suc, List, Bool, length, Contains, slice_index, Result, Ok, Err, MatchResult, ◌-◌, is_ok, IsTrue, refl, ap, ◌∙◌, ◌↔◌, arith, rules, inl, inr}
 use Rattle.std.proofs.lemmas.List.{get_or_default}
 use Rattle.std.proofs.lemmas.Bool.{cases_lt}
 use Rattle.std.specs.List.Sorted.{IsStrictlyIncreasing, IsBinarySearchResult}
 use Rattle.std.specs.Ordering.{nat_cmp}
 use Rattle.std.proofs.lemmas.List.Sorted.{searched}
+use Rattle.std.proofs.lemmas.List.Elements.{Contains-get_or}
+use Rattle.wavefront.specs.Space.{Space, IsWanted}
 
 -- numbers that ascend by one step ascend by any
 pub rises : (xs : List ℕ) → IsStrictlyIncreasing xs → (i k j : ℕ) → j ≡ i + k → j < length xs → slice_index xs i ≤ slice_index xs j
@@ -30,9 +32,6 @@ wanted sinks xs v r answer up same found e = rw (e, ← same) (by_answer r (sear
     by_answer (Ok i) h = (λ _. (i, h.0, get_or_default xs i v 0 h.0 ∙ h.1), λ _. search rules)
     by_answer (Err i) h = (λ t. absurd (search (rules, t)), λ (k, lt, at). absurd (apart xs v i h k lt (get_or_default xs k 0 v lt ∙ at)))
 
--- what is above the last of numbers that ascend is none of them
-pub beyond : (xs : List ℕ) (v : ℕ) → IsStrictlyIncreasing xs → slice_index xs (length xs - 1) < v → Contains xs v → ⊥
-beyond xs v up above (i, lt, at) =
-    let last : length xs - 1 < length xs = omega (arith, lt) in
-    let rise = rises xs up i (length xs - 1 - i) (length xs - 1) (omega (arith, lt)) last in
-    omega (arith, rise, above, get_or_default xs i v 0 lt, at)
+-- each sink of the net is wanted
+pub is_sink_at : (space : Space) (k : ℕ) → k < length space.net.sinks → IsWanted space (slice_index space.net.sinks k)
+is_sink_at space k lt = Contains-get_or space.net.sinks k 0 lt

@@ -17,7 +17,7 @@ use Rattle.rr_graph.proofs.EdgeEnds.{pin_enters_sink}
 use Rattle.rr_graph.proofs.TerminalPlaces.{terminal_node}
 use Rattle.node_cost.specs.Views.{others_in, history_in}
 use Rattle.route_tree.specs.Usage.{room_of}
-use Rattle.wavefront.specs.declared.boxes.BoundingBox.{BoundingBox}
+use Rattle.wavefront.specs.Boxes.{BoundingBox}
 use Rattle.wavefront.specs.Space.{Space, base_cost, entry_cost}
 use Rattle.wavefront.specs.kept.Spaces.{IsSpace}
 use Rattle.wavefront.specs.Ways.{IsWay, way_cost}

@@ -9,10 +9,9 @@ use Rattle.rr_graph.specs.Nodes.{node_of, is_wire, span_of}
 use Rattle.rr_graph.specs.Edges.{is_edge}
 use Rattle.rr_graph.proofs.WiresWithin.{column_within, row_within}
 use Rattle.rr_graph.proofs.Joins.{chanx_joins_chanx, chanx_joins_chany, chany_joins_chanx, chany_joins_chany}
-use Rattle.wavefront.specs.declared.boxes.BoundingBox.{BoundingBox}
+use Rattle.wavefront.specs.Boxes.{BoundingBox}
 use Rattle.wavefront.specs.kept.Bounds.{steps_within, wires_by_kind}
 use Rattle.wavefront.proofs.WiresOver.{next_across, next_along}
-
 pub both : (a b : Bool) → (a && b) ≡ true → (a ≡ true) × (b ≡ true)
 both true true e = (refl, refl)
 both true false e = absurd (false≢true e)

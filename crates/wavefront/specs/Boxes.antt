@@ -5,8 +5,14 @@ use Rattle.rr_graph.specs.declared.parts.Span.{Span}
 use Rattle.rr_graph.specs.Fabric.{Fabric}
 use Rattle.rr_graph.specs.Nodes.{node_at, span_of}
 use Rattle.rr_graph.specs.Problems.{Net}
-use Rattle.wavefront.specs.declared.boxes.BoundingBox.{BoundingBox}
+-- the columns and rows from one place to another, both included
+pub record BoundingBox : Type 0 where
+  pub left : ℕ
+  pub right : ℕ
+  pub bottom : ℕ
+  pub top : ℕ
 
+-- the places of a span
 abbrev pub box_of_span : Span → BoundingBox
 box_of_span s = record { left = s.x1; right = s.x2; bottom = s.y1; top = s.y2 }
 

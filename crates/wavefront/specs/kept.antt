@@ -1,14 +1,2 @@
 pub mod Bounds
-pub mod Entrances
-pub mod Entries
-pub mod Fields
-pub mod CachedBounds
-pub mod Label
-pub mod Queues
-pub mod Rows
-pub mod Steps
-pub mod Targets
-pub mod Wave
-pub mod WaveState
-pub mod Growing
 pub mod Spaces

@@ -13,3 +13,12 @@ pub record TakesBit (old new bit : ℕ) : Type 0 where
 pub record PutsBit (old new bit : ℕ) : Type 0 where
   pub here : bit_at new bit ≡ 1
   pub others : (i : ℕ) → i ≢ bit → bit_at new i ≡ bit_at old i
+
+-- a bit becomes 0, and no other changes
+pub record DropsBit (old new bit : ℕ) : Type 0 where
+  pub gone : bit_at new bit ≡ 0
+  pub others : (i : ℕ) → i ≢ bit → bit_at new i ≡ bit_at old i
+
+-- all bits below this one are 0
+abbrev pub NoneBelow : (bits bit : ℕ) → Type 0
+NoneBelow bits bit = (i : ℕ) → i < bit → bit_at bits i ≡ 0

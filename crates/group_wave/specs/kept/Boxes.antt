@@ -1,6 +1,23 @@
--- Boxes as they are kept.
-use Rattle.wavefront.specs.declared.boxes.BoundingBox as plain
+-- Boxes as they are kept, and what those around the sinks of a net tell.
+use Rattle.std.specs.Prelude.{ℕ, ◌≤◌, List, Contains, max, min}
+use Rattle.wavefront.specs.Boxes as plain
+use Rattle.wavefront.specs.kept.Bounds.{Wire}
+use Rattle.wavefront.specs.kept.Bounds.{wires_to}
 use Rattle.group_wave.specs.declared.boxes.BoundingBox.{BoundingBox}
 
 abbrev pub boxed : BoundingBox → plain.BoundingBox
 boxed b = record { left = b.left; right = b.right; bottom = b.bottom; top = b.top }
+
+-- what two boxes share
+abbrev pub box_shared : (a b : plain.BoundingBox) → plain.BoundingBox
+box_shared a b = record { left = max a.left b.left; right = min a.right b.right; bottom = max a.bottom b.bottom; top = min a.top b.top }
+
+-- a box around those of a net's sinks that stand from one place of their list to the one before another
+pub record SinkBox : Type 0 where
+  pub place : plain.BoundingBox
+  pub from : ℕ
+  pub until : ℕ
+
+-- none of the boxes tells of fewer wires that lead on from a wire
+abbrev pub IsLow : List SinkBox → Wire → ℕ → Type 0
+IsLow boxes wire wires = (box : SinkBox) → Contains boxes box → wires ≤ wires_to box.place wire

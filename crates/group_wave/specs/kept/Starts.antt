@@ -1,15 +1,19 @@
 -- How a wave begins, and starts at nodes.
-use Rattle.std.specs.Prelude.{◌≡◌, ℕ, ◌≤◌, ◌⊎◌, [], length, replicate, Some, None, true}
+use Rattle.std.specs.Prelude.{◌≡◌, ℕ, ◌<◌, ◌≤◌, ◌⊎◌, [], ◌∷◌, Contains, List, length, replicate, slice_index, slice_set, Some, None, true}
 use Rattle.std.specs.Int.{bit_at}
+use Rattle.std.specs.List.Sorted.{IsPermutation}
 use Rattle.rr_graph.specs.declared.parts.Kind.TheVariants.{Opin}
 use Rattle.rr_graph.specs.Nodes.{is_wire_at, kind_of_node}
 use Rattle.track_groups.specs.declared.group.Drive.{Drive}
 use Rattle.track_groups.specs.Groups.{on_track, wire_on}
 use Rattle.wavefront.specs.Space.{HasEdge, IsInside}
-use Rattle.wavefront.specs.kept.Bounds.{CoversMore}
+use Rattle.wavefront.specs.Boxes.{BoundingBox}
+use Rattle.wavefront.specs.Boxes.{box_of_node}
+use Rattle.wavefront.specs.kept.Bounds.{IsInsideBox}
+use Rattle.group_wave.specs.kept.Boxes.{SinkBox}
 use Rattle.group_wave.specs.kept.Grounds.{Ground, groups_of}
 use Rattle.group_wave.specs.kept.WaveState.{FAR, Wave}
-use Rattle.group_wave.specs.kept.Wave.{IsComplete, IsDead, IsOpen, IsWave, Serves, WentOn, cost_at, unreached}
+use Rattle.group_wave.specs.kept.Wave.{IsComplete, IsDead, IsOpen, IsServed, IsWave, Serves, WentOn, cost_at, unreached}
 use Rattle.group_wave.specs.kept.Steps.{MoreOrigins}
 
 -- no boxes are left, and nothing is known that was found in them
@@ -21,16 +25,56 @@ pub record HasNoBoxes (old new : Wave) : Type 0 where
   pub boxes : new.boxes ≡ []
   pub known : new.known ≡ replicate (length old.known) None
 
--- what boxes covered is covered still, and nothing but boxes changes
-pub record Widens (old new : Wave) : Type 0 where
+-- one more box is there, for the sinks from one place of the net's list to the one before another
+pub record ServesMore (g : Ground) (old new : Wave) (from until : ℕ) : Type 0 where
   pub labels : new.labels ≡ old.labels
   pub queue : new.queue ≡ old.queue
   pub limit : new.limit ≡ old.limit
   pub best : new.best ≡ old.best
   pub known : new.known ≡ old.known
-  pub more : CoversMore old.boxes new.boxes
+  pub more : (box : SinkBox) → Contains old.boxes box → Contains new.boxes box
+  pub part : (p : ℕ) → from ≤ p → p < until → IsServed g new.boxes p
 
--- boxes are put anew around each sink that the wave has yet to take, and nothing is known that was found in others
+-- a box is taken away
+pub record IsWithout (old new : Wave) (box : SinkBox) : Type 0 where
+  pub labels : new.labels ≡ old.labels
+  pub queue : new.queue ≡ old.queue
+  pub limit : new.limit ≡ old.limit
+  pub best : new.best ≡ old.best
+  pub known : new.known ≡ old.known
+  pub boxes : IsPermutation old.boxes (box ∷ new.boxes)
+
+-- a box is around those sinks from one place of the net's list to the one before another that the wave has yet to take
+abbrev pub IsAroundLeft : Ground → Wave → (from until : ℕ) → BoundingBox → Type 0
+IsAroundLeft g w from until box =
+    (p : ℕ) → from ≤ p → p < until → p < length g.space.net.sinks → IsOpen g w (slice_index g.space.net.sinks p) → IsInsideBox (box_of_node g.space.device (slice_index g.space.net.sinks p)) box
+
+-- one of the boxes has all of a box
+pub record IsWithin (boxes : List SinkBox) (box : SinkBox) : Type 0 where
+  pub outer : SinkBox
+  pub there : Contains boxes outer
+  pub inside : IsInsideBox box.place outer.place
+
+-- a box is put in the place of another
+pub record IsBoxPut (old new : Wave) (at : ℕ) (box : SinkBox) : Type 0 where
+  pub labels : new.labels ≡ old.labels
+  pub queue : new.queue ≡ old.queue
+  pub limit : new.limit ≡ old.limit
+  pub best : new.best ≡ old.best
+  pub known : new.known ≡ old.known
+  pub boxes : new.boxes ≡ slice_set old.boxes at box
+
+-- boxes are taken away or made narrower, and each sink that the wave has yet to take has its own still
+pub record IsNarrowed (g : Ground) (old new : Wave) : Type 0 where
+  pub labels : new.labels ≡ old.labels
+  pub queue : new.queue ≡ old.queue
+  pub limit : new.limit ≡ old.limit
+  pub best : new.best ≡ old.best
+  pub known : new.known ≡ old.known
+  pub within : (box : SinkBox) → Contains new.boxes box → IsWithin old.boxes box
+  pub serves : Serves g new
+
+-- boxes are put anew around the sinks, and nothing is known that was found in others
 pub record IsAimed (g : Ground) (old new : Wave) : Type 0 where
   pub labels : new.labels ≡ old.labels
   pub queue : new.queue ≡ old.queue
@@ -53,6 +97,7 @@ pub record IsBestPut (old new : Wave) (cost : ℕ) : Type 0 where
   pub queue : new.queue ≡ old.queue
   pub limit : new.limit ≡ old.limit
   pub best : new.best ≡ cost
+  pub boxes : new.boxes ≡ old.boxes
   pub known : new.known ≡ old.known
 
 -- it is the cost of the nearest open sink, if one is reached

@@ -9,7 +9,8 @@ use Rattle.track_groups.specs.Groups.{IsOn, group_at, on_track, wire_on}
 use Rattle.track_groups.specs.Joints.{taps_of, wire_beside}
 use Rattle.group_wave.specs.kept.WaveState.{FAR}
 use Rattle.wavefront.specs.Space.{HasEdge, IsInside, IsWanted, entry_cost}
-use Rattle.wavefront.specs.kept.Bounds.{IsLow, left_over}
+use Rattle.wavefront.specs.kept.Bounds.{left_over}
+use Rattle.group_wave.specs.kept.Boxes.{IsLow}
 use Rattle.wavefront.specs.kept.Spaces.{node_count}
 use Rattle.wavefront.specs.Ways.{AreDistinct, IsWay, way_cost}
 use Rattle.group_wave.specs.kept.Grounds.{Ground, groups_of}
@@ -223,7 +224,7 @@ pub record IsLive (g : Ground) (w : Wave) (e : Waiting) : Type 0 where
   pub some : (j : ℕ) × (bit_at e.tracks j ≡ 1)
 
 -- those tracks of an entry that still have its label
-pub record IsLeft (g : Ground) (w : Wave) (e : Waiting) (tracks : ℕ) : Type 0 where
+pub record AreTracksLeft (g : Ground) (w : Wave) (e : Waiting) (tracks : ℕ) : Type 0 where
   pub of : (j : ℕ) → bit_at tracks j ≡ 1 → bit_at e.tracks j ≡ 1
   pub labels : (j : ℕ) → bit_at tracks j ≡ 1 → cost_at w (wire_on (groups_of g) (on_track e.group j)) ≡ e.label
   pub all : (j : ℕ) → bit_at e.tracks j ≡ 1 → cost_at w (wire_on (groups_of g) (on_track e.group j)) ≡ e.label → bit_at tracks j ≡ 1

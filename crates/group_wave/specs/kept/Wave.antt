@@ -1,16 +1,16 @@
 -- What the wave over groups keeps true (Dijkstra 1959).
-use Rattle.std.specs.Prelude.{◌≡◌, ℕ, ◌+◌, ◌-◌, ◌*◌, ◌<◌, ◌≤◌, ◌⊎◌, List, length, slice_index_or, get_or, Contains, Some, None, min, cond}
+use Rattle.std.specs.Prelude.{◌≡◌, ℕ, ◌+◌, ◌-◌, ◌*◌, ◌<◌, ◌≤◌, ◌⊎◌, List, length, slice_index, slice_index_or, get_or, Contains, Some, None, min, cond}
 use Rattle.std.specs.Int.{bit_at}
 use Rattle.std.specs.List.{sum_by}
 use Rattle.track_groups.specs.declared.group.Group.{Group}
 use Rattle.track_groups.specs.Groups.{group_at, on_track, IsOn, wire_on}
-use Rattle.wavefront.specs.declared.boxes.BoundingBox.{BoundingBox}
-use Rattle.wavefront.specs.declared.space.Wire.{Wire}
+use Rattle.wavefront.specs.kept.Bounds.{Wire}
 use Rattle.group_wave.specs.kept.WaveState.{FAR}
 use Rattle.wavefront.specs.Space.{HasEdge, IsInside, IsWanted, entry_cost}
 use Rattle.wavefront.specs.kept.Spaces.{node_count}
-use Rattle.wavefront.specs.kept.Bounds.{IsLow, Surrounds}
+use Rattle.wavefront.specs.kept.Bounds.{Surrounds}
 use Rattle.wavefront.specs.Ways.{IsWay, way_cost}
+use Rattle.group_wave.specs.kept.Boxes.{IsLow, SinkBox}
 use Rattle.group_wave.specs.kept.Grounds.{Ground, groups_of}
 use Rattle.group_wave.specs.kept.Queues.{Waiting}
 use Rattle.group_wave.specs.kept.WaveState.{Label, Wave}
@@ -45,9 +45,17 @@ IsBound g w v k = (b : ℕ) (way : List ℕ) → IsOpen g w b → IsWay g.space 
 abbrev pub IsDead : Ground → Wave → ℕ → Type 0
 IsDead g w v = (b : ℕ) (way : List ℕ) → IsOpen g w b → IsWay g.space v way b → ⊥
 
--- each open sink stands in one of the boxes
+-- one of the boxes is around the sink in place p of the net's list, and is for it
+pub record IsServed (g : Ground) (boxes : List SinkBox) (p : ℕ) : Type 0 where
+  pub box : SinkBox
+  pub there : Contains boxes box
+  pub from : box.from ≤ p
+  pub until : p < box.until
+  pub around : Surrounds g.space.device box.place (slice_index g.space.net.sinks p)
+
+-- each open sink has a box that is for it
 abbrev pub Serves : Ground → Wave → Type 0
-Serves g w = (b : ℕ) → IsOpen g w b → (box : BoundingBox) × Contains w.boxes box × Surrounds g.space.device box b
+Serves g w = (p : ℕ) → p < length g.space.net.sinks → IsOpen g w (slice_index g.space.net.sinks p) → IsServed g w.boxes p
 
 -- a group's wire: what tells how many wires lead on from it
 abbrev pub wire_of : Group → Wire

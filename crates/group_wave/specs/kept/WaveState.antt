@@ -1,7 +1,7 @@
 -- What a wave over groups is: labels of nodes, entries that wait, from what cost on ways may have been left out, the least cost of a way
 -- that was found to a sink, boxes around the sinks that it has yet to take, and what is known of how many wires lead on from a group.
 use Rattle.std.specs.Prelude.{ℕ, List, Option}
-use Rattle.wavefront.specs.declared.boxes.BoundingBox.{BoundingBox}
+use Rattle.group_wave.specs.kept.Boxes.{SinkBox}
 use Rattle.group_wave.specs.kept.Queues.{Waiting}
 
 -- the cost of a node that the wave has not reached: more than any way costs
@@ -18,5 +18,5 @@ pub record Wave : Type 0 where
   pub queue : List Waiting
   pub limit : ℕ
   pub best : ℕ
-  pub boxes : List BoundingBox
+  pub boxes : List SinkBox
   pub known : List (Option ℕ)

@@ -35,11 +35,11 @@ impl<K: Key> Wave<K> {
     ghost use Rattle.std.specs.Prelude.{length, Contains, OnOk};
     ghost use Rattle.track_groups.specs.Groups.{group_at};
     ghost use Rattle.track_groups.specs.Joints.{neighbours_of};
-    ghost use Rattle.wavefront.specs.kept.Bounds.{IsLow};
+    ghost use Rattle.group_wave.specs.kept.Boxes.{IsLow};
     ghost use Rattle.group_wave.specs.kept.Grounds.{IsGround, groups_of};
     ghost use Rattle.group_wave.specs.kept.Queues.{entry_of};
     ghost use Rattle.group_wave.specs.kept.Wave.{AreTracks, IsCompleteBut, IsOf, IsWave, cost_at, wire_of};
-    ghost use Rattle.group_wave.specs.kept.Steps.{GoesOn, IsLeft, IsLive, Spreads, TookBefore, TookNearer, TookNearerBefore, TookPins, TookWires};
+    ghost use Rattle.group_wave.specs.kept.Steps.{GoesOn, AreTracksLeft, IsLive, Spreads, TookBefore, TookNearer, TookNearerBefore, TookPins, TookWires};
 
     /// Whether a node's label has this cost.
     #[inline(always)]
@@ -61,7 +61,7 @@ impl<K: Key> Wave<K> {
         requires small { group.now.base + 64 * group.now.stride < 2 ^ 30 }
         requires tracks { AreTracks ground.now (entry_of K.value entry) }
         requires fits { K.value entry.label < K.greatest }
-        ensures { IsLeft ground.now self.now (entry_of K.value entry) result }
+        ensures { AreTracksLeft ground.now self.now (entry_of K.value entry) result }
     {
         let mut rest = entry.tracks;
         let mut left = 0;

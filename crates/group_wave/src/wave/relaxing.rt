@@ -1,7 +1,11 @@
 //! How wires of a group are offered a way: those that get the least label there can be wait as one
 //! entry, each other one by itself. What is done for each track is inlined.
 
-ghost use Rattle.std.specs.Prelude.{◌≡◌, ◌+◌, ◌*◌, ◌^◌, ◌<◌, ◌≤◌, false, min};
+ghost use Rattle.std.specs.Prelude.{◌≡◌, ◌+◌, ◌*◌, ◌^◌, ◌<◌, ◌≤◌, true, false, min};
+ghost use Rattle.rr_graph.specs.Nodes.{is_wire_at};
+ghost use Rattle.wavefront.specs.Space.{entry_cost};
+ghost use Rattle.wavefront.specs.kept.Bounds.{least_wire_cost};
+ghost use Rattle.wavefront.specs.kept.Spaces.{node_count};
 
 use super::{WIRE, Wave, bound_over};
 use crate::bits::{take_bit, with_bit};
@@ -40,11 +44,27 @@ struct Target {
     parent: u32,
 }
 
+/// The label that a wire would get by the way.
+#[inline(always)]
+fn label_by<K: Key>(ground: &Ground<'_>, step: Relaxing<K>, wire: u32) -> K
+    requires node_in { wire < node_count ground.now.space }
+    requires is { is_wire_at ground.now.space.device wire ≡ true }
+    requires least { K.value step.least ≡
+        min (K.value step.label + least_wire_cost) K.greatest }
+    ensures { K.value result ≡
+        min (K.value step.label + entry_cost ground.now.space wire) K.greatest }
+{
+    if ground.is_free(wire) {
+        return step.least;
+    }
+    step.label.plus(K::cut(ground.wire_cost(wire)))
+}
+
 impl<K: Key> Wave<K> {
     ghost use Rattle.std.specs.Prelude.{length, OnOk, IfOk, IsTrue};
     ghost use Rattle.track_groups.specs.Groups.{group_at};
-    ghost use Rattle.wavefront.specs.Space.{entry_cost};
-    ghost use Rattle.wavefront.specs.kept.Bounds.{IsLow, least_wire_cost, left_over};
+    ghost use Rattle.wavefront.specs.kept.Bounds.{left_over};
+    ghost use Rattle.group_wave.specs.kept.Boxes.{IsLow};
     ghost use Rattle.group_wave.specs.kept.Grounds.{IsGround, groups_of};
     ghost use Rattle.group_wave.specs.kept.Labels.{label_of};
     ghost use Rattle.group_wave.specs.kept.Wave.{IsBound, IsWave, label_at, wire_of};
@@ -115,7 +135,7 @@ impl<K: Key> Wave<K> {
         if row.cost.is_below(step.least) {
             return Ok(false);
         }
-        let cost = step.label.plus(K::cut(ground.wire_cost(to.wire)));
+        let cost = label_by(ground, step, to.wire);
         if cost.is_below(row.cost) {
             return self.lower(ground, step, to, row, cost);
         }

@@ -13,7 +13,7 @@ impl<K: Key> Wave<K> {
     ghost use Rattle.std.specs.Prelude.{OnOk, IfOk, IfSome, IfNone, IsTrue, IsFalse, None, ◌↔◌};
     ghost use Rattle.track_groups.specs.Groups.{group_at};
     ghost use Rattle.wavefront.specs.Space.{IsWanted};
-    ghost use Rattle.wavefront.specs.kept.Bounds.{IsLow};
+    ghost use Rattle.group_wave.specs.kept.Boxes.{IsLow};
     ghost use Rattle.group_wave.specs.kept.WaveState.{FAR};
     ghost use Rattle.group_wave.specs.kept.Grounds.{IsGround, groups_of};
     ghost use Rattle.group_wave.specs.kept.Queues.{entry_of};

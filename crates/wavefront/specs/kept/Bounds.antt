@@ -1,5 +1,5 @@
 -- How many wires a way still has to enter, at least.
-use Rattle.std.specs.Prelude.{◌≡◌, ◌⊎◌, ℕ, ◌+◌, ◌-◌, ◌*◌, ◌/◌, ◌≤◌, true, List, [], Contains, Some, min, max}
+use Rattle.std.specs.Prelude.{◌≡◌, ℕ, ◌+◌, ◌-◌, ◌*◌, ◌/◌, ◌≤◌, true, Some, min, max}
 use Rattle.rr_graph.specs.declared.parts.Kind.{Kind}
 use Rattle.rr_graph.specs.declared.parts.Kind.TheVariants.{Source, Sink, Opin, Ipin, Chanx, Chany}
 use Rattle.rr_graph.specs.declared.parts.Node.{Node}
@@ -8,9 +8,15 @@ use Rattle.rr_graph.specs.Fabric.{Fabric}
 use Rattle.rr_graph.specs.Wires.{reach_of}
 use Rattle.rr_graph.specs.Nodes.{node_at, is_wire, span_of}
 use Rattle.node_cost.specs.Costs.{unit_factor}
-use Rattle.wavefront.specs.declared.boxes.BoundingBox.{BoundingBox}
-use Rattle.wavefront.specs.declared.space.Wire.{Wire}
+use Rattle.wavefront.specs.Boxes.{BoundingBox}
 use Rattle.wavefront.specs.Space.{wire_base, input_pin_base}
+
+-- a wire's kind, the places that it passes, and over how many steps the wires of its track go on at most after the places where
+-- they begin
+pub record Wire : Type 0 where
+  pub kind : Kind
+  pub span : Span
+  pub steps : ℕ
 
 -- by how much the numbers from first to last lie outside those from low to high
 abbrev pub gap : (low high first last : ℕ) → ℕ
@@ -76,42 +82,3 @@ pub record IsInsideBox (inner outer : BoundingBox) : Type 0 where
   pub right : inner.right ≤ outer.right
   pub bottom : outer.bottom ≤ inner.bottom
   pub top : inner.top ≤ outer.top
-
--- one of the boxes has all of this one
-abbrev pub IsCovered : List BoundingBox → BoundingBox → Type 0
-IsCovered boxes inner = (outer : BoundingBox) × Contains boxes outer × IsInsideBox inner outer
-
--- what the old boxes cover the new ones do
-abbrev pub CoversMore : (old new : List BoundingBox) → Type 0
-CoversMore old new = (inner : BoundingBox) → IsCovered old inner → IsCovered new inner
-
--- none of the boxes tells of fewer wires that lead on from a wire
-abbrev pub IsLow : List BoundingBox → Wire → ℕ → Type 0
-IsLow boxes wire wires = (box : BoundingBox) → Contains boxes box → wires ≤ wires_to box wire
-
--- one of the boxes tells of so many
-abbrev pub IsMet : List BoundingBox → Wire → ℕ → Type 0
-IsMet boxes wire wires = (box : BoundingBox) × Contains boxes box × (wires_to box wire ≡ wires)
-
--- the fewest of which the boxes tell, if there are any
-pub record IsFewestIfAny (boxes : List BoundingBox) (wire : Wire) (wires : ℕ) : Type 0 where
-  pub few : IsLow boxes wire wires
-  pub met : (boxes ≡ []) ⊎ IsMet boxes wire wires
-
--- there are boxes, and it is the fewest of which they tell
-pub record IsFewestFrom (boxes : List BoundingBox) (wire : Wire) (wires : ℕ) : Type 0 where
-  pub some : boxes ≡ [] → ⊥
-  pub few : IsLow boxes wire wires
-  pub met : IsMet boxes wire wires
-
--- the fewest of which the boxes tell that lead on from node v, which is a wire
-pub record IsFewest (f : Fabric) (boxes : List BoundingBox) (v wires : ℕ) : Type 0 where
-  pub wire : Wire
-  pub there : IsWireAt f v wire
-  pub fewest : IsFewestFrom boxes wire wires
-
--- from node v, a wire, another wire at least leads on to each of the boxes
-pub record IsFar (f : Fabric) (boxes : List BoundingBox) (v : ℕ) : Type 0 where
-  pub wires : ℕ
-  pub fewest : IsFewest f boxes v wires
-  pub some : 1 ≤ wires

@@ -25,7 +25,7 @@ start_way-requires-clause-walk g c = rw c.deref-2.ensures.value (record {
   wanted = (rw c.in-Some.is at c.in_ok-sink.ensures.taken).«open».0;
 })
 
-added : (g : Over) → (c : goal.In_ok-renew g) → IsAdded c.args.ground.now (pairs_of c.args.tree.now) c.trace.new.way.items c.args.scratch.now.wave c.take_sink.new.self c.leave_source.new.wave c.start_way.new.self c.in_ok-start.start c.in-Some.sink
+added : (g : Over) → (c : goal.After-renew g) → IsAdded c.args.ground.now (pairs_of c.args.tree.now) c.trace.new.way.items c.args.scratch.now.wave c.take_sink.new.self c.leave_source.new.wave c.start_way.new.self c.in_ok-start.start c.in-Some.sink
 added g c = record {
   ok = c.requires.ground;
   grown = c.requires.growth.grown;
@@ -41,13 +41,13 @@ pub returns-clause-growth : goal.returns-clause-growth
 returns-clause-growth g c _ = added_growth _ _ _ _ _ _ _ _ _ (added g c) c.attach.new.self c.renew.new.self
     (ap (λ rows. node_in rows 0) c.in_ok-attach.ensures.rows ∙ same_root c.args.tree.now _ c.as_slice.ensures.tree ∙ c.requires.growth.root)
     (c.in_ok-attach.ensures.pairs ∙ ap (λ a. pairs_of c.args.tree.now ++ pairs_along a c.deref.result.now) (ap (λ rows. node_in rows c.row_of.result) (sym c.as_slice.ensures.rows) ∙ c.row_of.ensures.node) ∙ ap (λ way. pairs_of c.args.tree.now ++ pairs_along c.in_ok-start.start way) c.deref.ensures.value)
-    c.in_ok-renew.ensures.wave c.in_ok-renew.ensures.complete c.in_ok-renew.ensures.best c.in_ok-renew.ensures.origins
+    c.renew.ensures.wave c.renew.ensures.complete c.renew.ensures.best c.renew.ensures.origins
 
 pub returns-clause-kept : goal.returns-clause-kept
-returns-clause-kept g c _ v wanted o = (c.in_ok-renew.ensures.origins v).1 (added_kept _ _ _ _ _ _ _ _ _ (added g c) v wanted o)
+returns-clause-kept g c _ v wanted o = (c.renew.ensures.origins v).1 (added_kept _ _ _ _ _ _ _ _ _ (added g c) v wanted o)
 
 pub returns-clause-less : goal.returns-clause-less
 returns-clause-less g c _ =
     let ends = added_taken _ _ _ _ _ _ _ _ _ (added g c) in
-    let same = c.in_ok-renew.ensures.origins in
+    let same = c.renew.ensures.origins in
     fewer_open c.args.ground.now c.args.scratch.now.wave c.renew.new.self c.in-Some.sink (added g c).taken.«open».0 ends.0 ((same c.in-Some.sink).1 ends.1) (λ v wanted o. (same v).1 (added_kept _ _ _ _ _ _ _ _ _ (added g c) v wanted o))

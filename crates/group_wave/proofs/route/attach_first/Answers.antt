@@ -16,4 +16,4 @@ attach-requires g c = rw c.requires.tree (omega arith)
 pub returns : goal.returns
 returns g c = first_growth c.args.ground.now c.args.scratch.now.wave c.start_way.new.self c.renew.new.self c.args.tree.now c.attach.new.self _ c.in_ok-start.start c.args.sink c.trace.new.way.items _ c.requires.ground c.requires.origins c.requires.taken c.in_ok-start.ensures
     (rw c.deref.ensures.value at c.in_ok-start_way.ensures.started) c.requires.tree c.in_ok-attach.ensures.rows c.in_ok-attach.ensures.pairs (c.deref-2.ensures.value ∙ c.in_ok-insert.ensures.items)
-    c.in_ok-renew.ensures.wave c.in_ok-renew.ensures.complete c.in_ok-renew.ensures.best c.in_ok-renew.ensures.origins
+    c.renew.ensures.wave c.renew.ensures.complete c.renew.ensures.best c.renew.ensures.origins

@@ -1,7 +1,7 @@
 use Rattle.std.proofs.Common.{arith, ap, sym, ◌∙◌, slice_index}
 use Rattle.std.proofs.lemmas.Bool.{false≢true}
 use Rattle.std.proofs.lemmas.Option.{IfSome_then}
-use Rattle.wavefront.proofs.Whole.{is_sink_at}
+use Rattle.wavefront.proofs.Wanted.{is_sink_at}
 use Rattle.group_wave.proofs.Whole.{stuck, stuck_first, taken_more, whole}
 use Rattle.group_wave.proofs.route.grow_tree.Goals as goal
 

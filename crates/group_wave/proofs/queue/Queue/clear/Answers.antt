@@ -4,14 +4,14 @@ use Rattle.group_wave.proofs.queue.Queue.clear.Goals as goal
 
 pub invariant_of-self : goal.invariant_of-self
 invariant_of-self g c =
-    let now = c.clear_buckets.new.buckets.items in
-    let emptied = c.clear_buckets.ensures in
-    let none = all_emptied g.K.Key.value c.self.inside.buckets.items now c.self.inside.low c.self.inside.end c.self.invariant.placed emptied.empty emptied.kept in
+    let now = c.clear.new.self in
+    let emptied = c.clear.ensures in
+    let none = all_emptied g.K.Key.value c.self.inside.buckets now c.self.inside.low c.self.inside.end c.self.invariant.placed emptied.empty emptied.kept in
     bucketed_none g.K.Key.value now 20481 (emptied.count ∙ c.self.invariant.whole) none
 
 pub returns : goal.returns
 returns g c =
-    let now = c.clear_buckets.new.buckets.items in
-    let emptied = c.clear_buckets.ensures in
-    let none = all_emptied g.K.Key.value c.self.inside.buckets.items now c.self.inside.low c.self.inside.end c.self.invariant.placed emptied.empty emptied.kept in
+    let now = c.clear.new.self in
+    let emptied = c.clear.ensures in
+    let none = all_emptied g.K.Key.value c.self.inside.buckets now c.self.inside.low c.self.inside.end c.self.invariant.placed emptied.empty emptied.kept in
     entries_none g.K.Key.value now none

@@ -1,7 +1,7 @@
 use Rattle.std.proofs.Common.{arith, refl, true}
 use Rattle.std.proofs.lemmas.Result.{on_ok_weaker}
 use Rattle.track_groups.specs.Groups.{group_at}
-use Rattle.wavefront.specs.kept.Bounds.{IsLow}
+use Rattle.group_wave.specs.kept.Boxes.{IsLow}
 use Rattle.group_wave.specs.kept.Grounds.{groups_of}
 use Rattle.group_wave.specs.kept.Queues.{Waiting, entry_of}
 use Rattle.group_wave.specs.kept.Wave.{wire_of}

@@ -1,5 +1,5 @@
 use Rattle.track_groups.specs.Groups.{group_at}
-use Rattle.wavefront.specs.kept.Bounds.{IsLow}
+use Rattle.group_wave.specs.kept.Boxes.{IsLow}
 use Rattle.group_wave.specs.kept.Grounds.{groups_of}
 use Rattle.group_wave.specs.kept.Queues.{entry_of}
 use Rattle.group_wave.specs.kept.Wave.{wire_of}

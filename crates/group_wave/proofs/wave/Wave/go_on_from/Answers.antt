@@ -2,7 +2,7 @@ use Rattle.std.proofs.Common.{◌+◌, ◌≤◌, subst, sym, arith}
 use Rattle.std.proofs.lemmas.Result.{on_ok_weaker}
 use Rattle.track_groups.specs.Groups.{on_track}
 use Rattle.track_groups.proofs.OnTracks.{on_within}
-use Rattle.wavefront.specs.kept.Bounds.{IsLow}
+use Rattle.group_wave.specs.kept.Boxes.{IsLow}
 use Rattle.group_wave.specs.kept.Grounds.{groups_of}
 use Rattle.group_wave.specs.kept.Queues.{entry_of}
 use Rattle.group_wave.specs.kept.WaveState.{FAR, Wave}

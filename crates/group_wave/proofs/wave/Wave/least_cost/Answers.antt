@@ -1,5 +1,5 @@
 use Rattle.std.proofs.Common.{ap, arith, slice_index, length}
-use Rattle.wavefront.proofs.Whole.{is_sink_at}
+use Rattle.wavefront.proofs.Wanted.{is_sink_at}
 use Rattle.group_wave.proofs.Aimed.{least_all, least_first, least_more}
 use Rattle.group_wave.proofs.Starts.{widened_most}
 use Rattle.group_wave.proofs.wave.Wave.least_cost.Goals as goal

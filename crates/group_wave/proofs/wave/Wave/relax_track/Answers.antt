@@ -19,15 +19,13 @@ pub lower-requires-clause-least : goal.lower-requires-clause-least
 lower-requires-clause-least g c =
     let least = c.requires.least in
     let paid = wire_paid c.args.ground.now.space c.args.to.wire c.requires.from.is in
-    let price = c.wire_cost.ensures in
-    let cut = c.cut.ensures in
-    let sum = c.plus-cost.ensures in
-    omega (arith, least, paid, price, cut, sum)
+    let sum = c.label_by-cost.ensures in
+    omega (arith, least, paid, sum)
 
 pub returns-clause-relaxed : goal.returns-clause-relaxed
 returns-clause-relaxed g c =
     let value = g.K.Key.value in
     let greatest = g.K.Key.greatest in
     relaxed_kept c.args.ground.now c.requires.ground c.args.self.now c.requires.wave (value c.args.step.label) c.args.to.wire c.args.to.parent c.requires.from
-    c.keep_least.new.self (value c.plus-cost.result) greatest (value c.args.step.least) g.met.K.Key.narrow
-    (let a = c.plus-cost.ensures in let b = c.cut.ensures in let d = c.wire_cost.ensures in omega (arith, a, b, d)) c.keep_least.ensures
+    c.keep_least.new.self (value c.label_by-cost.result) greatest (value c.args.step.least) g.met.K.Key.narrow
+    (let a = c.label_by-cost.ensures in omega (arith, a)) c.keep_least.ensures

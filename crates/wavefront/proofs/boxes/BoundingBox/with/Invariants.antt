@@ -1,7 +1,0 @@
-use Rattle.std.proofs.Common.{◌≡◌}
-use Rattle.std.specs.Prelude.{drop}
-use Rattle.wavefront.specs.Boxes.{box_with}
-use Rattle.wavefront.proofs.boxes.BoundingBox.with.Given as goal
-
-abbrev pub invariant-loop-node : goal.invariant-loop-node
-invariant-loop-node l = box_with l.device l.around (drop l.node-index l.nodes) ≡ box_with l.device l.fn.self l.nodes
