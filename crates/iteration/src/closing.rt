@@ -9,7 +9,7 @@ ghost use Rattle.net_workers.specs.declared.fault.WorkFault.TheVariants.{Memory}
 ghost use Rattle.iteration.specs.Progress.{IsIteration};
 
 use congestion_book::Book;
-use net_workers::{Gate, WorkFault, iterate};
+use net_workers::{Gate, WorkFault, Workspace, iterate_in};
 use node_cost::Settings;
 use std::alloc::Global;
 use std::sync::Wait;
@@ -29,23 +29,29 @@ fn close(alloc: Global, book: &mut Book) -> Result<(), WorkFault>
     }
 }
 
-/// Makes the next iteration of a book by so many workers and closes it. The gate is reported before and after.
+/// Makes the next iteration of a book by so many workers, which search in the workspace, and closes
+/// it. The gate is reported before and after.
 pub(crate) fn make_iteration<R: Threads + Wait + Sync, G: Gate + Sync>(
     rt: &R,
     alloc: Global,
+    workspace: &mut Workspace,
     book: Book,
     settings: &Settings,
     workers: u32,
     gate: &G,
 ) -> Result<Book, WorkFault>
+    requires problem { workspace.old ≡ book.problem }
     requires fresh { IsFresh book }
     requires few { length book.rows < most_iterations }
     requires workers { (1 ≤ workers) × (workers ≤ most_workers) }
-    ensures { IfOk result (IsIteration settings.now workers book) }
+    ensures made { IfOk result (IsIteration settings.now workers book) }
+    ensures workspace { workspace.new ≡ workspace.old }
 {
     let iteration = book.rows().len() as u32 + 1;
     gate.opened(iteration, book.problem().nets());
-    let (mut book, _reports) = iterate(rt, alloc, book, settings, iteration, workers, gate)?;
+    let (mut book, _reports) = iterate_in(
+        rt, alloc, workspace, book, settings, iteration, workers, gate,
+    )?;
     close(alloc, &mut book)?;
     let _sound = book.problem();
     gate.closed(iteration, book.unrouted(), book.overused());

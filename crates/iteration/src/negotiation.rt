@@ -11,7 +11,7 @@ use crate::closing::make_iteration;
 use crate::outcome::Outcome;
 use crate::routing::routing_of;
 use congestion_book::Book;
-use net_workers::{Gate, WorkFault};
+use net_workers::{Gate, WorkFault, Workspace};
 use node_cost::Settings;
 use route_check::check_routing;
 use route_tree::Routing;
@@ -21,20 +21,31 @@ use std::marker::Model;
 use std::sync::Wait;
 use std::thread::Threads;
 
-/// Where a negotiation stands between two iterations. Contracts see the content of its book.
+/// Where a negotiation stands between two iterations: its book, and what the workers of all its
+/// iterations search with, which is of the same problem. Contracts see the content of its book.
 #[derive(Drop)]
 struct Negotiation {
     book: Book,
+    workspace: Workspace,
 }
 
 impl Model for Negotiation {
+    ghost use Rattle.std.specs.Prelude.{◌≡◌};
     ghost use Rattle.congestion_book.specs.Contents.{Content, IsFresh};
 
     ghost Value = { Content };
 
     ghost view = { λ n. n.book };
 
-    ghost invariant = { λ n. IsFresh n.book };
+    ghost invariant = { λ n. IsFresh n.book × (n.workspace ≡ n.book.problem) };
+}
+
+/// A workspace of a copy of the problem.
+fn workspace_of(alloc: Global, problem: &Problem) -> Result<Workspace, AllocError>
+    ensures { IfOk result (λ workspace. workspace ≡ problem.now) }
+{
+    let own = problem.copy(alloc)?;
+    Workspace::new(alloc, own)
 }
 
 impl Negotiation {
@@ -47,8 +58,10 @@ impl Negotiation {
     ) -> Result<Negotiation, AllocError>
         ensures { IfOk result (λ n. n ≡ opening problem settings.now.acc) }
     {
+        let workspace = workspace_of(alloc, &problem)?;
         Ok(Negotiation {
             book: Book::new(alloc, problem, settings.acc())?,
+            workspace,
         })
     }
 
@@ -62,7 +75,7 @@ impl Negotiation {
     }
 
     /// Makes the next iteration, by all workers.
-    #[tactic(auto, using(crate::proofs::Advancing::fresh_after))]
+    #[tactic(auto, using(crate::proofs::Advancing::fresh_after, crate::proofs::Advancing::problem_after))]
     fn advance<R: Threads + Wait + Sync, G: Gate + Sync>(
         self,
         rt: &R,
@@ -76,19 +89,16 @@ impl Negotiation {
         ensures { IfOk result (IsIteration settings.now workers self) }
     {
         let _limits = settings.iterations();
-        let Negotiation { book } = self;
-        let book = make_iteration(rt, alloc, book, settings, workers, gate)?;
-        Ok(Negotiation { book })
+        let Negotiation {
+            book,
+            mut workspace,
+        } = self;
+        let book = make_iteration(rt, alloc, &mut workspace, book, settings, workers, gate)?;
+        Ok(Negotiation { book, workspace })
     }
 
     /// What it comes to where it ends here.
-    fn outcome<R: Threads + Wait + Sync>(
-        &self,
-        rt: &R,
-        alloc: Global,
-        problem: &Problem,
-    ) -> Result<Outcome, WorkFault>
-        requires { problem.now ≡ self.now.problem }
+    fn outcome<R: Threads + Wait + Sync>(&self, rt: &R, alloc: Global) -> Result<Outcome, WorkFault>
         ensures reported { IfOk result (IsOutcomeOf self.now) }
         ensures memory { IfErr result (λ fault. fault ≡ Memory) }
     {
@@ -102,7 +112,7 @@ impl Negotiation {
                 iterations,
             });
         }
-        let routing = success(rt, alloc, problem, &self.book)?;
+        let routing = success(rt, alloc, self.workspace.problem(), &self.book)?;
         Ok(Outcome::Success(routing, iterations))
     }
 }
@@ -153,19 +163,17 @@ fn run<R: Threads + Wait + Sync, G: Gate + Sync>(
 fn outcome_of<R: Threads + Wait + Sync, G: Gate + Sync>(
     rt: &R,
     alloc: Global,
-    own: &Problem,
     problem: Problem,
     settings: &Settings,
     workers: u32,
     gate: &G,
 ) -> Result<Outcome, WorkFault>
-    requires workers { (1 ≤ workers) × (workers ≤ most_workers) }
-    requires own { own.now ≡ problem }
+    requires { (1 ≤ workers) × (workers ≤ most_workers) }
     ensures run { IfOk result (EndsNegotiation problem settings.now workers) }
     ensures limit { 1 ≤ settings.now.iterations }
 {
     let negotiation = run(rt, alloc, problem, settings, workers, gate)?;
-    let outcome = negotiation.outcome(rt, alloc, own)?;
+    let outcome = negotiation.outcome(rt, alloc)?;
     Ok(outcome)
 }
 
@@ -190,7 +198,6 @@ pub fn negotiate<R: Threads + Wait + Sync, G: Gate + Sync>(
     // It is where iterations by these rules first end.
     ensures run { IfOk result (EndsNegotiation problem settings.now workers) }
 {
-    let own = problem.copy(alloc)?;
-    let outcome = outcome_of(rt, alloc, &own, problem, settings, workers, gate)?;
+    let outcome = outcome_of(rt, alloc, problem, settings, workers, gate)?;
     Ok(outcome)
 }

@@ -8,7 +8,6 @@ use Rattle.node_cost.specs.Views.{NetView}
 use Rattle.congestion_book.specs.declared.turn.Turn.{Turn}
 use Rattle.congestion_book.specs.declared.faults.DrawFault.{DrawFault}
 use Rattle.congestion_book.specs.Turns.{one_if, turns_at, turn_of}
-use Rattle.route_tree.specs.Usage.{list_in}
 use Rattle.congestion_book.specs.Contents.{Content, IsSound, net_count}
 use Rattle.congestion_book.specs.Steps.{Draws, after_turn}
 use Rattle.net_workers.specs.Parts.{IsOfIteration}

@@ -16,9 +16,10 @@ use crate::report::Report;
 use crate::share::{Round, Share};
 use crate::threads::run_all;
 use crate::worker::{Finished, SearchOptions};
+use crate::workspace::{Tools, Workspace};
 use congestion_book::Book;
+use group_wave::PreparedProblem;
 use node_cost::Settings;
-use rr_graph::Problem;
 use std::alloc::{AllocError, Global};
 use std::marker::Brand;
 use std::sync::ledger::Blank;
@@ -67,10 +68,12 @@ fn all_finished<L: Round>(
     Ok(all)
 }
 
-/// The shares and the reports, which have together as many entries as the shares have counted.
+/// The shares and the reports, which have together as many entries as the shares have counted. What
+/// the workers searched with is added to the tools.
 fn take_apart<L: Round>(
     alloc: Global,
     all: Vec<Finished<L>>,
+    tools: &mut Vec<Tools>,
 ) -> Result<(Vec<Share<L>>, Vec<Report>), AllocError>
     ensures shares { IfOk result (λ r. vec_len r.0 ≡ vec_len all) }
     ensures reports { IfOk result (λ r. vec_len r.1 ≡ vec_len all) }
@@ -79,40 +82,23 @@ fn take_apart<L: Round>(
 {
     let mut shares = Vec::with_capacity(alloc, all.len())?;
     let mut reports = Vec::with_capacity(alloc, all.len())?;
+    tools.reserve(all.len())?;
     for finished in all {
-        let (share, report) = finished.into_parts();
+        let (share, report, used) = finished.into_parts();
         shares.push_reserved(share);
         reports.push_reserved(report);
+        tools.push_reserved(used);
     }
     Ok((shares, reports))
 }
 
-/// A copy of the book's problem, which the workers share, the desk of the book, and a share for each worker.
-fn open<L: Round>(
-    alloc: Global,
-    book: Book,
-    workers: u32,
-    blank: Blank,
-) -> Result<(Problem, Desk<L>, Vec<Share<L>>), AllocError>
-    requires fresh { IsFresh book }
-    requires workers { workers ≡ L.workers }
-    requires book { book ≡ L.opening }
-    requires name { blank.name ≡ L.name }
-    requires parts { blank.parts ≡ L.parts }
-    requires one_each { blank.parts ≡ workers }
-    ensures problem { IfOk result (λ r. r.0 ≡ book.problem) }
-    ensures shares { IfOk result (λ r. AreParts r.2.items workers) }
-{
-    let problem = book.problem().copy(alloc)?;
-    let (desk, shares) = Desk::new(alloc, book, workers, blank)?;
-    Ok((problem, desk, shares))
-}
-
-/// The book and the reports, which have together as many entries as the book has open turns.
+/// The book and the reports, which have together as many entries as the book has open turns. What
+/// the workers searched with is added to the tools.
 fn settle<L: Round>(
     alloc: Global,
     desk: Desk<L>,
     results: Vec<Result<Finished<L>, WorkFault>>,
+    tools: &mut Vec<Tools>,
 ) -> Result<(Book, Vec<Report>), WorkFault>
     requires { vec_len results ≡ L.parts }
     ensures count { IfOk result (λ r. vec_len r.1 ≡ L.parts) }
@@ -123,7 +109,7 @@ fn settle<L: Round>(
     ensures within { IfOk result (λ r. IsOfIteration L.opening r.0) }
 {
     let all = all_finished(alloc, results)?;
-    let (shares, reports) = take_apart(alloc, all)?;
+    let (shares, reports) = take_apart(alloc, all, tools)?;
     Ok((desk.gather(shares), reports))
 }
 
@@ -145,30 +131,32 @@ fn compare<L: Round>(book: Book, reports: Vec<Report>) -> Result<(Book, Vec<Repo
     Ok((book, reports))
 }
 
-/// The workers of a round at a desk, until no net is left.
+/// The workers of a round at a desk, until no net is left. They take the tools that were left, and
+/// leave theirs.
 fn work_at<L: Round + Send + Sync, R: Threads + Wait + Sync, G: Gate + Sync>(
     rt: &R,
     alloc: Global,
     desk: Desk<L>,
-    problem: &Problem,
+    prepared: &PreparedProblem,
+    tools: &mut Vec<Tools>,
     options: SearchOptions,
     shares: Vec<Share<L>>,
     gate: &G,
 ) -> Result<(Book, Vec<Report>), WorkFault>
     requires shares { AreParts shares.items L.workers }
     requires workers { (L.parts ≡ L.workers) × (L.workers ≤ most_workers) }
-    requires problem { problem.now ≡ L.opening.problem }
+    requires problem { prepared.now ≡ L.opening.problem }
     requires options { (options.present ≡ L.present) × (options.bb ≡ L.bb) }
     ensures sound { IfOk result (λ r. IsSound r.0) }
     ensures agrees { IfOk result (λ r. Agrees L.opening r.0 L.present L.bb L.workers r.1.items) }
 {
     let workers = shares.len();
     let desk = Mutex::new(desk);
-    let results = run_all(rt, alloc, &desk, problem, options, shares, gate)?;
+    let results = run_all(rt, alloc, &desk, prepared, tools, options, shares, gate)?;
     if results.len() != workers {
         return Err(WorkFault::NoThread);
     }
-    let (book, reports) = settle(alloc, desk.into_inner(), results)?;
+    let (book, reports) = settle(alloc, desk.into_inner(), results, tools)?;
     compare::<L>(book, reports)
 }
 
@@ -176,12 +164,14 @@ fn work_at<L: Round + Send + Sync, R: Threads + Wait + Sync, G: Gate + Sync>(
 fn iterate_as<L: Round + Send + Sync, R: Threads + Wait + Sync, G: Gate + Sync>(
     rt: &R,
     alloc: Global,
+    workspace: &mut Workspace,
     book: Book,
     options: SearchOptions,
     workers: u32,
     blank: Blank,
     gate: &G,
 ) -> Result<(Book, Vec<Report>), WorkFault>
+    requires problem { workspace.old ≡ book.problem }
     requires fresh { IsFresh book }
     requires few { workers ≤ most_workers }
     requires workers { workers ≡ L.workers }
@@ -193,9 +183,11 @@ fn iterate_as<L: Round + Send + Sync, R: Threads + Wait + Sync, G: Gate + Sync>(
     ensures sound { IfOk result (λ r. IsSound r.0) }
     ensures agrees { IfOk result (λ r.
         Agrees book r.0 options.present options.bb workers r.1.items) }
+    ensures workspace { workspace.new ≡ workspace.old }
 {
-    let (problem, desk, shares) = open::<L>(alloc, book, workers, blank)?;
-    work_at(rt, alloc, desk, &problem, options, shares, gate)
+    let (desk, shares) = Desk::<L>::new(alloc, book, workers, blank)?;
+    let Workspace { prepared, tools } = workspace;
+    work_at(rt, alloc, desk, prepared, tools, options, shares, gate)
 }
 
 /// Iteration k of a negotiation: so many workers draw the nets of the book, in whose open iteration nothing was drawn yet, search for
@@ -203,8 +195,49 @@ fn iterate_as<L: Round + Send + Sync, R: Threads + Wait + Sync, G: Gate + Sync>(
 /// node looks and searches again, up to four times. The workers wait for one another at the book's lock, and the call waits for them all.
 /// The book comes back sound, with the iteration still open, and a report of each worker, whose turns and trees are those of the book.
 ///
+/// The workers search in the workspace, which is of the book's problem, and leave there what they
+/// searched with, so that the next iteration needn't make it anew. Contracts see no more of it than
+/// its problem.
+///
 /// `NoThread` where a thread couldn't be started, `Memory` where memory ran out, `Astray` where the book refused a call or a report
 /// disagrees with it. Of several the first is answered, and the book is let go.
+pub fn iterate_in<R: Threads + Wait + Sync, G: Gate + Sync>(
+    rt: &R,
+    alloc: Global,
+    workspace: &mut Workspace,
+    book: Book,
+    settings: &Settings,
+    iteration: u32,
+    workers: u32,
+    gate: &G,
+) -> Result<(Book, Vec<Report>), WorkFault>
+    requires problem { workspace.old ≡ book.problem }
+    requires fresh { IsFresh book }
+    requires iteration { (1 ≤ iteration) × (iteration ≤ most_iterations) }
+    requires workers { (1 ≤ workers) × (workers ≤ most_workers) }
+    ensures sound { IfOk result (λ r. IsSound r.0) }
+    ensures agrees { IfOk result (λ r. Agrees book r.0 (present_of settings.now iteration)
+        settings.now.bb workers r.1.items) }
+    ensures workspace { workspace.new ≡ workspace.old }
+{
+    let options = SearchOptions::of(settings, iteration);
+    let blank = Blank::new(workers as u64);
+    iterate_as::<Brand, R, G>(rt, alloc, workspace, book, options, workers, blank, gate)
+}
+
+/// A workspace of the book's problem, of which it makes a copy.
+fn workspace_of(alloc: Global, book: &Book) -> Result<Workspace, AllocError>
+    ensures { IfOk result (λ workspace. workspace ≡ book.now.problem) }
+{
+    let problem = book.problem().copy(alloc)?;
+    Workspace::new(alloc, problem)
+}
+
+/// An iteration as `iterate_in` makes it, in a workspace of its own: for a caller that makes no
+/// further one of the book.
+///
+/// `NoThread`, `Memory` and `Astray` as `iterate_in` answers them; `Memory` also where there was
+/// none for the workspace.
 pub fn iterate<R: Threads + Wait + Sync, G: Gate + Sync>(
     rt: &R,
     alloc: Global,
@@ -221,7 +254,15 @@ pub fn iterate<R: Threads + Wait + Sync, G: Gate + Sync>(
     ensures agrees { IfOk result (λ r. Agrees book r.0 (present_of settings.now iteration)
         settings.now.bb workers r.1.items) }
 {
-    let options = SearchOptions::of(settings, iteration);
-    let blank = Blank::new(workers as u64);
-    iterate_as::<Brand, R, G>(rt, alloc, book, options, workers, blank, gate)
+    let mut workspace = workspace_of(alloc, &book)?;
+    iterate_in(
+        rt,
+        alloc,
+        &mut workspace,
+        book,
+        settings,
+        iteration,
+        workers,
+        gate,
+    )
 }

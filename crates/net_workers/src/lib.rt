@@ -11,11 +11,13 @@ mod share;
 mod threads;
 mod turn_or_look;
 mod worker;
+mod workspace;
 
 pub use desk::Desk;
 pub use fault::WorkFault;
 pub use gate::{Gate, OpenGate, TrialEnd};
-pub use iteration::iterate;
+pub use iteration::{iterate, iterate_in};
 pub use report::{Entry, Report};
 pub use share::{Round, Share};
 pub use turn_or_look::TurnOrLook;
+pub use workspace::Workspace;

@@ -7,25 +7,28 @@ use crate::fault::WorkFault;
 use crate::gate::Gate;
 use crate::share::{Round, Share};
 use crate::worker::{Finished, SearchOptions, work_through};
-use rr_graph::Problem;
+use crate::workspace::Tools;
+use group_wave::PreparedProblem;
 use std::alloc::{AllocError, Global};
 use std::sync::{Mutex, Wait};
 use std::thread;
 use std::thread::Threads;
 
-/// Starts a thread for each share but the last, works with that one itself, and joins them all. The results are those of the threads that
-/// could be started, in their order, and then its own: so one worker takes no thread.
+/// Starts a thread for each share but the last, works with that one itself, and joins them all.
+/// Each worker takes tools that were left, as long as there are any. The results are those of the
+/// threads that could be started, in their order, and then its own: so one worker takes no thread.
 pub(crate) fn run_all<L: Round + Send + Sync, R: Threads + Wait + Sync, G: Gate + Sync>(
     rt: &R,
     alloc: Global,
     desk: &Mutex<Desk<L>>,
-    problem: &Problem,
+    prepared: &PreparedProblem,
+    left: &mut Vec<Tools>,
     options: SearchOptions,
     shares: Vec<Share<L>>,
     gate: &G,
 ) -> Result<Vec<Result<Finished<L>, WorkFault>>, AllocError>
     requires fresh { All (λ s. s.turns ≡ 0) shares.items }
-    requires problem { problem.now ≡ L.opening.problem }
+    requires problem { prepared.now ≡ L.opening.problem }
     requires options { (options.present ≡ L.present) × (options.bb ≡ L.bb) }
 {
     thread::scope(
@@ -33,7 +36,7 @@ pub(crate) fn run_all<L: Round + Send + Sync, R: Threads + Wait + Sync, G: Gate 
         rt,
         move |scope| -> Result<Vec<Result<Finished<L>, WorkFault>>, AllocError>
             requires fresh { All (λ s. s.turns ≡ 0) shares.items }
-            requires problem { problem.now ≡ L.opening.problem }
+            requires problem { prepared.now ≡ L.opening.problem }
             requires options { (options.present ≡ L.present) × (options.bb ≡ L.bb) }
         {
             let mut results = Vec::with_capacity(alloc, shares.len())?;
@@ -43,16 +46,17 @@ pub(crate) fn run_all<L: Round + Send + Sync, R: Threads + Wait + Sync, G: Gate 
                 return Ok(results);
             };
             for share in others {
+                let tools = left.pop();
                 let job = move || -> Result<Finished<L>, WorkFault>
                     requires fresh { share.turns ≡ 0 }
-                    requires problem { problem.now ≡ L.opening.problem }
+                    requires problem { prepared.now ≡ L.opening.problem }
                     requires options { (options.present ≡ L.present) × (options.bb ≡ L.bb) }
-                { work_through(rt, alloc, desk, problem, options, share, gate) };
+                { work_through(rt, alloc, desk, prepared, options, tools, share, gate) };
                 if let Ok(handle) = scope.spawn(job) {
                     handles.push_reserved(handle);
                 }
             }
-            let last = work_through(rt, alloc, desk, problem, options, own, gate);
+            let last = work_through(rt, alloc, desk, prepared, options, left.pop(), own, gate);
             for handle in handles {
                 results.push_reserved(handle.join(rt));
             }

@@ -16,14 +16,15 @@ use crate::gate::Gate;
 use crate::report::{Entry, Report};
 use crate::share::{Round, Share};
 use crate::turn_or_look::TurnOrLook;
+use crate::workspace::Tools;
 use congestion_book::DrawFault;
+use group_wave::{PreparedProblem, Scratch, route_net};
 use node_cost::{Settings, View};
 use route_tree::Tree;
-use rr_graph::Problem;
 use std::alloc::{AllocError, Global};
 use std::marker::Model;
 use std::sync::{Mutex, Wait};
-use wavefront::{Found, Scratch, SearchFault, route_net};
+use wavefront::{Found, SearchFault};
 
 /// How many times a worker may look again at a net that it holds, in an iteration after the first.
 const MOST_LOOKS: u32 = 4;
@@ -58,22 +59,22 @@ impl SearchOptions {
 /// A search for the tree of a net: the tree, and a copy of it; or none where the net is stuck.
 fn search(
     alloc: Global,
-    problem: &Problem,
+    prepared: &PreparedProblem,
     net: u32,
     view: &View,
     options: SearchOptions,
     scratch: &mut Scratch,
 ) -> Result<(Option<Tree>, Option<Tree>), WorkFault>
-    requires net { net < length problem.now.nets }
-    requires fits { scratch.old ≡ node_count_of problem.now.device }
+    requires net { net < length prepared.now.nets }
+    requires fits { scratch.old ≡ node_count_of prepared.now.device }
     ensures found { IfOk result (λ r.
-        IsFoundIn (space_of problem.now net view.now options.present options.bb) r.0) }
+        IsFoundIn (space_of prepared.now net view.now options.present options.bb) r.0) }
     ensures copy { IfOk result (λ r. r.1 ≡ r.0) }
     ensures fits { scratch.new ≡ scratch.old }
 {
     match route_net(
         alloc,
-        problem,
+        prepared,
         net,
         view,
         options.present,
@@ -141,7 +142,7 @@ fn turn_or_search<L: Round, R: Wait>(
     rt: &R,
     alloc: Global,
     desk: &Mutex<Desk<L>>,
-    problem: &Problem,
+    prepared: &PreparedProblem,
     options: SearchOptions,
     share: &mut Share<L>,
     net: u32,
@@ -149,10 +150,10 @@ fn turn_or_search<L: Round, R: Wait>(
     view: &mut View,
     scratch: &mut Scratch,
 ) -> Result<Option<(Option<Tree>, Option<Tree>)>, WorkFault>
-    requires problem { problem.now ≡ L.opening.problem }
+    requires problem { prepared.now ≡ L.opening.problem }
     requires options { (options.present ≡ L.present) × (options.bb ≡ L.bb) }
     requires net { net < net_count L.opening }
-    requires fits { scratch.old ≡ node_count_of problem.now.device }
+    requires fits { scratch.old ≡ node_count_of prepared.now.device }
     ensures found { GoesOn L.opening L.present L.bb net result view.new }
     ensures share { share.new ≡ part_going_on result share.old }
     ensures fits { scratch.new ≡ scratch.old }
@@ -160,7 +161,7 @@ fn turn_or_search<L: Round, R: Wait>(
     match try_turn(rt, desk, share, net, tree, view)? {
         TurnOrLook::Turn => Ok(None),
         TurnOrLook::Look => {
-            let next = search(alloc, problem, net, view, options, scratch)?;
+            let next = search(alloc, prepared, net, view, options, scratch)?;
             Ok(Some(next))
         }
     }
@@ -172,7 +173,7 @@ fn settle<L: Round, R: Wait>(
     rt: &R,
     alloc: Global,
     desk: &Mutex<Desk<L>>,
-    problem: &Problem,
+    prepared: &PreparedProblem,
     options: SearchOptions,
     share: &mut Share<L>,
     net: u32,
@@ -180,10 +181,10 @@ fn settle<L: Round, R: Wait>(
     view: &mut View,
     scratch: &mut Scratch,
 ) -> Result<Option<Tree>, WorkFault>
-    requires problem { problem.now ≡ L.opening.problem }
+    requires problem { prepared.now ≡ L.opening.problem }
     requires options { (options.present ≡ L.present) × (options.bb ≡ L.bb) }
     requires net { net < net_count L.opening }
-    requires fits { scratch.old ≡ node_count_of problem.now.device }
+    requires fits { scratch.old ≡ node_count_of prepared.now.device }
     requires found { IsFoundAgain L.opening L.present L.bb net found view.old }
     ensures found { IfOk result (λ copy. IsFound L.opening L.present L.bb (entry_with net copy)) }
     ensures counted { OnOk result (share.new ≡ one_more share.old) }
@@ -193,7 +194,7 @@ fn settle<L: Round, R: Wait>(
     let (mut tree, mut copy) = found;
     for _ in 0..options.looks {
         let next = turn_or_search(
-            rt, alloc, desk, problem, options, share, net, tree, view, scratch,
+            rt, alloc, desk, prepared, options, share, net, tree, view, scratch,
         )?;
         match next {
             None => return Ok(copy),
@@ -207,12 +208,13 @@ fn settle<L: Round, R: Wait>(
     Ok(copy)
 }
 
-/// What a worker hands back: its share, and its report, which has as many entries as it made turns, each of what a search found.
-/// Contracts see the report.
+/// What a worker hands back: its share, its report, which has as many entries as it made turns,
+/// each of what a search found, and what it searched with. Contracts see the report.
 #[derive(Drop)]
 pub(crate) struct Finished<L: Round> {
     share: Share<L>,
     report: Report,
+    tools: Tools,
 }
 
 impl<L: Round> Model for Finished<L> {
@@ -229,14 +231,18 @@ impl<L: Round> Model for Finished<L> {
 }
 
 impl<L: Round> Finished<L> {
-    /// The share and the report.
-    pub(crate) fn into_parts(self) -> (Share<L>, Report)
+    /// The share, the report, and what the worker searched with.
+    pub(crate) fn into_parts(self) -> (Share<L>, Report, Tools)
         ensures counted { result.0.turns ≡ length result.1 }
         ensures report { result.1 ≡ self }
         ensures found { AreFound L.opening L.present L.bb result.1 }
     {
-        let Finished { share, report } = self;
-        (share, report)
+        let Finished {
+            share,
+            report,
+            tools,
+        } = self;
+        (share, report, tools)
     }
 }
 
@@ -265,13 +271,17 @@ impl<L: Round> Model for Worker<L> {
 }
 
 impl<L: Round> Worker<L> {
-    /// A worker that made no turn.
-    fn new(alloc: Global, problem: &Problem, share: Share<L>) -> Result<Worker<L>, AllocError>
+    /// A worker that made no turn, with the tools that another left, if there are any.
+    fn new(
+        alloc: Global,
+        prepared: &PreparedProblem,
+        left: Option<Tools>,
+        share: Share<L>,
+    ) -> Result<Worker<L>, AllocError>
         requires fresh { share.turns ≡ 0 }
-        requires problem { problem.now ≡ L.opening.problem }
+        requires problem { prepared.now ≡ L.opening.problem }
     {
-        let view = View::new(alloc, problem.device().node_count() as usize)?;
-        let scratch = Scratch::new(alloc, problem)?;
+        let Tools { view, scratch } = Tools::fitting(alloc, prepared, left)?;
         Ok(Worker {
             share,
             entries: Vec::new(alloc),
@@ -286,11 +296,11 @@ impl<L: Round> Worker<L> {
         rt: &R,
         alloc: Global,
         desk: &Mutex<Desk<L>>,
-        problem: &Problem,
+        prepared: &PreparedProblem,
         options: SearchOptions,
         gate: &G,
     ) -> Result<bool, WorkFault>
-        requires problem { problem.now ≡ L.opening.problem }
+        requires problem { prepared.now ≡ L.opening.problem }
         requires options { (options.present ≡ L.present) × (options.bb ≡ L.bb) }
     {
         let Worker {
@@ -307,11 +317,11 @@ impl<L: Round> Worker<L> {
             Err(DrawFault::ViewSize) => return Err(WorkFault::Astray),
         };
         gate.between(worker, net);
-        let found = search(alloc, problem, net, view, options, scratch)?;
+        let found = search(alloc, prepared, net, view, options, scratch)?;
         entries.reserve(1)?;
         gate.searched(worker, net);
         let copy = settle(
-            rt, alloc, desk, problem, options, share, net, found, view, scratch,
+            rt, alloc, desk, prepared, options, share, net, found, view, scratch,
         )?;
         entries.push_reserved(Entry { net, tree: copy });
         Ok(true)
@@ -319,31 +329,39 @@ impl<L: Round> Worker<L> {
 
     /// What it hands back.
     fn finish(self) -> Finished<L> {
-        let Worker { share, entries, .. } = self;
+        let Worker {
+            share,
+            entries,
+            view,
+            scratch,
+        } = self;
         Finished {
             share,
             report: Report::of(entries),
+            tools: Tools { view, scratch },
         }
     }
 }
 
-/// Draws nets until there is none, and makes a turn at each. It stops at a refusal.
+/// Draws nets until there is none, and makes a turn at each, with the tools that another worker
+/// left, if there are any. It stops at a refusal.
 pub(crate) fn work_through<L: Round, R: Wait, G: Gate>(
     rt: &R,
     alloc: Global,
     desk: &Mutex<Desk<L>>,
-    problem: &Problem,
+    prepared: &PreparedProblem,
     options: SearchOptions,
+    left: Option<Tools>,
     share: Share<L>,
     gate: &G,
 ) -> Result<Finished<L>, WorkFault>
     requires fresh { share.turns ≡ 0 }
-    requires problem { problem.now ≡ L.opening.problem }
+    requires problem { prepared.now ≡ L.opening.problem }
     requires options { (options.present ≡ L.present) × (options.bb ≡ L.bb) }
 {
-    let mut worker = Worker::new(alloc, problem, share)?;
+    let mut worker = Worker::new(alloc, prepared, left, share)?;
     for _ in rt.forever() {
-        if !worker.make_turn(rt, alloc, desk, problem, options, gate)? {
+        if !worker.make_turn(rt, alloc, desk, prepared, options, gate)? {
             return Ok(worker.finish());
         }
     }

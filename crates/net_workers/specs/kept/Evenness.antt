@@ -1,6 +1,6 @@
 -- What lies under the lock of an iteration.
 use Rattle.std.specs.Prelude.{◌≡◌, ℕ, ◌<◌, length, All}
-use Rattle.congestion_book.specs.Contents.{Content, opening}
+use Rattle.congestion_book.specs.Contents.{Content}
 use Rattle.net_workers.specs.Parts.{IsOfIteration}
 
 -- Each turn of the open iteration is one of these workers', the total is the number of these turns, and the book is one of the

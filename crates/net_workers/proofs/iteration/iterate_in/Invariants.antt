@@ -1,4 +1,4 @@
-use Rattle.net_workers.proofs.iteration.iterate.Given as goal
+use Rattle.net_workers.proofs.iteration.iterate_in.Given as goal
 
 abbrev pub ghosts-iterate_as-L-Ledger : goal.ghosts-iterate_as-L-Ledger
 ghosts-iterate_as-L-Ledger g a = record { name = a.blank.name; parts = a.blank.parts }

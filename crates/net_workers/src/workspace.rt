@@ -1,0 +1,93 @@
+//! What the workers of a problem's iterations search with.
+
+ghost use Rattle.std.specs.Prelude.{◌≡◌, IfOk, IsTrue};
+ghost use Rattle.rr_graph.specs.Nodes.{node_count_of};
+
+use group_wave::{PreparedProblem, Scratch};
+use node_cost::View;
+use rr_graph::Problem;
+use std::alloc::{AllocError, Global};
+use std::marker::Model;
+
+/// What a worker searches with. It may be used again, whatever an earlier iteration left in it.
+#[derive(Drop)]
+pub(crate) struct Tools {
+    pub(crate) view: View,
+    pub(crate) scratch: Scratch,
+}
+
+impl Tools {
+    /// For the nets of a problem.
+    fn new(alloc: Global, prepared: &PreparedProblem) -> Result<Tools, AllocError>
+        ensures { IfOk result (λ tools. tools.scratch ≡ node_count_of prepared.now.device) }
+    {
+        let nodes = prepared.problem().device().node_count() as usize;
+        Ok(Tools {
+            view: View::new(alloc, nodes)?,
+            scratch: Scratch::new(alloc, prepared)?,
+        })
+    }
+
+    /// Whether they are for as many nodes as the problem's device has.
+    fn fits(&self, problem: &Problem) -> bool
+        ensures { IsTrue result → self.now.scratch ≡ node_count_of problem.now.device }
+    {
+        self.scratch.fits(problem) && self.view.len() == problem.device().node_count() as usize
+    }
+
+    /// Those that a worker left, where they fit the problem, else new ones.
+    pub(crate) fn fitting(
+        alloc: Global,
+        prepared: &PreparedProblem,
+        left: Option<Tools>,
+    ) -> Result<Tools, AllocError>
+        ensures { IfOk result (λ tools. tools.scratch ≡ node_count_of prepared.now.device) }
+    {
+        if let Some(tools) = left {
+            if tools.fits(prepared.problem()) {
+                return Ok(tools);
+            }
+        }
+        Tools::new(alloc, prepared)
+    }
+}
+
+/// What the workers of a problem's iterations search with: the problem, prepared for searches, and
+/// the tools that workers left, kept for those of the next iteration. Contracts see the problem.
+#[derive(Drop)]
+pub struct Workspace {
+    pub(crate) prepared: PreparedProblem,
+    pub(crate) tools: Vec<Tools>,
+}
+
+impl Model for Workspace {
+    ghost use Rattle.rr_graph.specs.Problems.{RoutingProblem};
+
+    ghost Value = { RoutingProblem };
+
+    ghost view = { λ w. w.prepared };
+}
+
+impl Workspace {
+    /// That of a problem, with which nobody worked yet.
+    ///
+    /// # Errors
+    ///
+    /// Where memory runs out.
+    pub fn new(alloc: Global, problem: Problem) -> Result<Workspace, AllocError>
+        ensures { IfOk result (λ workspace. workspace ≡ problem) }
+    {
+        let prepared = PreparedProblem::new(alloc, problem)?;
+        Ok(Workspace {
+            prepared,
+            tools: Vec::new(alloc),
+        })
+    }
+
+    /// The problem.
+    pub fn problem(&self) -> &Problem
+        ensures { result.now ≡ self.now }
+    {
+        self.prepared.problem()
+    }
+}
