@@ -49,6 +49,7 @@ fn exchange(session: &mut Session, kind: &str) -> Result<bool, Unanswered> {
         net,
         device,
         problem,
+        searching,
         tree,
         counts,
         view,
@@ -59,7 +60,10 @@ fn exchange(session: &mut Session, kind: &str) -> Result<bool, Unanswered> {
         "arch" => Ok(swap(arch, &mut others.arch)),
         "net" => Ok(swap(net, &mut others.net)),
         "device" => Ok(swap(device, &mut others.device)),
-        "problem" => Ok(swap(problem, &mut others.problem)),
+        "problem" => {
+            *searching = None;
+            Ok(swap(problem, &mut others.problem))
+        }
         "tree" => Ok(swap(tree, &mut others.tree)),
         "counts" => Ok(swap(counts, &mut others.counts)),
         "view" => Ok(swap(view, &mut others.view)),

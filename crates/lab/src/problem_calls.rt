@@ -62,6 +62,7 @@ fn make(
     };
     writeln!(out, "{} nets", problem.nets())?;
     session.problem = Some(problem);
+    session.searching = None;
     Ok(())
 }
 

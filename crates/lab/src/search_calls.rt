@@ -1,18 +1,18 @@
-//! Calls of `wavefront`: the search of a net.
+//! Calls of `group_wave`: the search of a net.
 
 ghost use Rattle.std.specs.Prelude.{◌≡◌};
 ghost use Rattle.rr_graph.specs.Nodes.{node_count_of};
 
-use crate::session::Session;
+use crate::session::{Searching, Session};
 use crate::tree_calls::put_tree;
 use crate::unanswered::Unanswered;
 use crate::words::{Call, nothing, numbers};
+use group_wave::{PreparedProblem, Scratch, route_net};
 use node_cost::{GREATEST_PRESENT, View};
 use route_tree::Tree;
-use rr_graph::Problem;
 use std::alloc::Global;
 use std::rt::Runtime;
-use wavefront::{Found, Scratch, SearchFault, route_net};
+use wavefront::{Found, SearchFault};
 
 /// Makes a call, and adds its answer.
 pub fn call(
@@ -56,7 +56,7 @@ fn search(
     asked: Asked,
     out: &mut String,
 ) -> Result<(), Unanswered> {
-    renew_scratch(alloc, session)?;
+    prepare(alloc, session)?;
     match found(alloc, session, asked)? {
         Found::Tree(tree) => keep_tree(session, tree, out),
         Found::NoPath(sink) => {
@@ -73,15 +73,15 @@ fn keep_tree(session: &mut Session, tree: Tree, out: &mut String) -> Result<(), 
     Ok(())
 }
 
-/// Makes anew what searches work in, unless what the last one worked in fits the problem.
-fn renew_scratch(alloc: Global, session: &mut Session) -> Result<(), Unanswered> {
-    let problem = session.problem()?;
-    if let Some(scratch) = &session.scratch {
-        if scratch.fits(problem) {
-            return Ok(());
-        }
+/// Prepares the session's problem for searches, unless that is done.
+fn prepare(alloc: Global, session: &mut Session) -> Result<(), Unanswered> {
+    if session.searching.is_some() {
+        return Ok(());
     }
-    session.scratch = Some(Scratch::new(alloc, problem)?);
+    let problem = session.problem()?.copy(alloc)?;
+    let prepared = PreparedProblem::new(alloc, problem)?;
+    let scratch = Scratch::new(alloc, &prepared)?;
+    session.searching = Some(Searching { prepared, scratch });
     Ok(())
 }
 
@@ -90,9 +90,9 @@ fn found(alloc: Global, session: &mut Session, asked: Asked) -> Result<Found, Un
     let Some(view) = &session.view else {
         return Err(Unanswered::Refused("there is no view"));
     };
-    match (&session.problem, &mut session.scratch) {
-        (Some(problem), Some(scratch)) if scratch.fits(problem) => {
-            search_in(alloc, problem, view, asked, scratch)
+    match &mut session.searching {
+        Some(Searching { prepared, scratch }) if scratch.fits(prepared.problem()) => {
+            search_in(alloc, prepared, view, asked, scratch)
         }
         _ => Err(Unanswered::Refused("there is no problem")),
     }
@@ -101,15 +101,15 @@ fn found(alloc: Global, session: &mut Session, asked: Asked) -> Result<Found, Un
 /// Searches for the tree of a net.
 fn search_in(
     alloc: Global,
-    problem: &Problem,
+    prepared: &PreparedProblem,
     view: &View,
     asked: Asked,
     scratch: &mut Scratch,
 ) -> Result<Found, Unanswered>
-    requires { scratch.old ≡ node_count_of problem.now.device }
+    requires { scratch.old ≡ node_count_of prepared.now.device }
 {
     let Asked { net, present, bb } = asked;
-    if net >= problem.nets() {
+    if net >= prepared.problem().nets() {
         return Err(Unanswered::Refused("there is no such net"));
     }
     if present > GREATEST_PRESENT {
@@ -118,5 +118,5 @@ fn search_in(
     if !(1..=255).contains(&bb) {
         return Err(Unanswered::Refused("a margin is one of 1 to 255"));
     }
-    Ok(route_net(alloc, problem, net, view, present, bb, scratch)?)
+    Ok(route_net(alloc, prepared, net, view, present, bb, scratch)?)
 }

@@ -3,10 +3,10 @@
 use crate::unanswered::Unanswered;
 use arch_file::Arch;
 use congestion_book::Book;
+use group_wave::{PreparedProblem, Scratch};
 use node_cost::{Counts, Histories, Range, Settings, View};
 use route_tree::{Marks, Routing, Tree};
 use rr_graph::{Device, Problem};
-use wavefront::Scratch;
 
 /// What was chosen of the settings, in the order of `Settings::new`.
 #[derive(Clone, Copy, Drop)]
@@ -88,6 +88,13 @@ pub struct DesignTexts<'a> {
     pub place: &'a [u8],
 }
 
+/// What searches of the session's problem go over and work in, made for the first of them.
+#[derive(Drop)]
+pub struct Searching {
+    pub prepared: PreparedProblem,
+    pub scratch: Scratch,
+}
+
 /// The values that calls made and later calls use. A netlist and a placement are kept as the texts
 /// that they were read from, and are read again where a call looks into them.
 #[derive(Drop)]
@@ -104,7 +111,7 @@ pub struct Session {
     pub counts: Option<Counts>,
     pub histories: Option<Histories>,
     pub view: Option<View>,
-    pub scratch: Option<Scratch>,
+    pub searching: Option<Searching>,
     pub book: Option<Book>,
     /// How many events of a list stand that memory ran out for.
     pub standing: usize,
@@ -127,7 +134,7 @@ impl Session {
             counts: None,
             histories: None,
             view: None,
-            scratch: None,
+            searching: None,
             book: None,
             standing: 0,
             files: RunFiles {

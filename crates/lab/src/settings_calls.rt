@@ -59,6 +59,10 @@ fn call_counts(
             let [id] = numbers::<1>(call.given)?;
             put(out, history(session.histories()?, id)?)
         }
+        "is_none" => {
+            let [id] = numbers::<1>(call.given)?;
+            put(out, is_none(session.histories()?, id)?)
+        }
         "set_count" | "add_one" | "take_one" => match &mut session.counts {
             Some(counts) => change_count(counts, call.name, call.given, out),
             None => Err(Unanswered::Refused("there are no counts")),
@@ -190,6 +194,15 @@ fn count(counts: &Counts, id: u32) -> Result<u32, Unanswered> {
 fn history(histories: &Histories, id: u32) -> Result<u64, Unanswered> {
     if (id as usize) < histories.len() {
         Ok(histories.get(id))
+    } else {
+        Err(NO_NODE)
+    }
+}
+
+/// Whether the history of a node is 0.
+fn is_none(histories: &Histories, id: u32) -> Result<bool, Unanswered> {
+    if (id as usize) < histories.len() {
+        Ok(histories.is_none(id))
     } else {
         Err(NO_NODE)
     }

@@ -1,5 +1,6 @@
 //! Calls of `node_cost`: what a net sees of the others.
 
+use crate::answer::put;
 use crate::session::Session;
 use crate::settings_calls::{NO_NODE, index_of, long_number};
 use crate::unanswered::Unanswered;
@@ -21,6 +22,10 @@ pub fn call(
         "seen" => {
             let [id] = numbers::<1>(call.given)?;
             put_seen(session.view()?, id, out)
+        }
+        "is_free" => {
+            let [id] = numbers::<1>(call.given)?;
+            put(out, is_free(session.view()?, id)?)
         }
         "set" | "leave_out" => match &mut session.view {
             Some(view) => change(view, call.name, call.given, out),
@@ -65,6 +70,15 @@ fn put_seen(view: &View, id: u32, out: &mut String) -> Result<(), Unanswered> {
     }
     writeln!(out, "{} {}", view.others(id), view.history(id))?;
     Ok(())
+}
+
+/// Whether no other net uses a node, and its history is 0.
+fn is_free(view: &View, id: u32) -> Result<bool, Unanswered> {
+    if (id as usize) < view.len() {
+        Ok(view.is_free(id))
+    } else {
+        Err(NO_NODE)
+    }
 }
 
 /// Changes what is seen of a node, and tells it.
