@@ -1,12 +1,14 @@
-"""Designs that are made to be measured: one at the limits of a netlist, one that fills the greatest array, and a routing of nearly 2^24 bytes.
+"""Designs that are made to be measured: one at the limits of a netlist, one that fills the greatest array, a routing of nearly 2^24 bytes, and arrays
+of look-up tables that take what blocks near them drive.
 
 The names of the first two have a hundred bytes that differ only at their ends.
 """
+import random
 from dataclasses import dataclass
 from pathlib import Path
 from typing import Optional
 
-from bundled import SMALL
+from bundled import SMALL, UART
 
 SIDE, PADS, PINS = 100, 16, 4
 MOST_BLOCKS, MOST_NETS = 20_000, 65_535
@@ -144,3 +146,32 @@ def make_large(folder):
         write_place(folder, "large", height, [f"b{x}_{y} {x} {y} 0\n" for x, y in places]),
         write(folder, "large.route", f"Array size: {SIDE} x {height} logic blocks.\n\nRouting:\n" + "".join(rows)),
         WIDTH)
+
+def block_beside(chance, x, y, side):
+    """Another block's place, mostly a near one: steps along both axes that get rarer with their length."""
+    while True:
+        steps = [chance.choice((-1, 1)) * int(chance.expovariate(1 / 3)) for _ in range(2)]
+        place = (x + steps[0], y + steps[1])
+        if place != (x, y) and all(1 <= at <= side for at in place):
+            return place
+
+
+def make_local(folder, side, seed):
+    """An array that is full of look-up tables, each of which takes the outputs of three others, mostly near ones."""
+    chance = random.Random(seed)
+    places = [(x, y) for y in range(1, side + 1) for x in range(1, side + 1)]
+    taken = {place: [block_beside(chance, *place, side) for _ in range(3)] for place in places}
+    driving = {place for sources in taken.values() for place in sources}
+
+    def name(place):
+        return "n{}_{}".format(*place)
+
+    def lines(place):
+        inputs = [name(source) for source in dict.fromkeys(taken[place])]
+        pins = inputs + ["open"] * (4 - len(inputs)) + [name(place) if place in driving else "open", "open"]
+        return f".clb {name(place)}\npinlist: {' '.join(pins)}\n"
+
+    net = write(folder, f"local{side}.net", "".join(map(lines, places)))
+    rows = "".join(f"{name((x, y))} {x} {y} 0\n" for x, y in places)
+    header = f"Netlist file: {net.name} Architecture file: {UART[1].name}\nArray size: {side} x {side} logic blocks\n"
+    return Design(UART[1], net, write(folder, f"local{side}.place", header + rows))
