@@ -15,6 +15,7 @@ use Rattle.wavefront.specs.Boxes.{BoundingBox}
 use Rattle.wavefront.specs.kept.Bounds.{gap, wires_by_kind}
 use Rattle.wavefront.proofs.WireSteps.{both}
 use Rattle.wavefront.proofs.WiresOver.{none_left}
+
 either : (a b : Bool) → (a || b) ≡ true → (a ≡ true) ⊎ (b ≡ true)
 either true b e = inl refl
 either false b e = inr e

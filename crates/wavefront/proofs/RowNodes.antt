@@ -13,6 +13,7 @@ use Rattle.route_tree.proofs.Members.{some_place}
 use Rattle.route_tree.proofs.Trees.{covers_rows}
 use Rattle.wavefront.specs.Space.{Space}
 use Rattle.wavefront.specs.Growth.{Covers}
+
 covered : (space : Space) (rows : List Row) (v : ℕ) → node_in rows 0 ≡ space.net.source → Covers space (pairs_of rows) v → covers (node_in rows 0) (pairs_of rows) v ≡ true
 covered space rows v root (inl e) = subst (λ u. covers (node_in rows 0) (pairs_of rows) u ≡ true) (root ∙ sym e) (covers_source (node_in rows 0) (pairs_of rows))
 covered space rows v root (inr h) = covers_end (node_in rows 0) (pairs_of rows) v h

@@ -22,6 +22,7 @@ use Rattle.wavefront.proofs.Lists.{contains_first, contains_none, contains_cases
 use Rattle.wavefront.proofs.Insides.{source_inside}
 use Rattle.wavefront.specs.Space.{Space, HasEdge, IsWanted, base_cost, entry_cost}
 use Rattle.wavefront.specs.kept.Spaces.{IsSpace, LeadsOnlyTo, node_count}
+
 source_node : (f : Fabric) (a : ℕ) → is_source f a ≡ true → a < node_count_of f
 unfolding is_source
 source_node f a e = elim (cases_lt a (node_count_of f)) [

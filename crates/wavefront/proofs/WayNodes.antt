@@ -6,6 +6,7 @@ use Rattle.wavefront.specs.Space.{Space, HasEdge, IsInside, entry_cost}
 use Rattle.wavefront.specs.kept.Spaces.{IsSpace, node_count}
 use Rattle.wavefront.specs.Ways.{IsWay, way_cost}
 use Rattle.wavefront.proofs.Lists.{contains_none, contains_first, contains_later, contains_cases}
+
 pub way_cost_more : (space : Space) (v : ℕ) (vs : List ℕ) → way_cost space (v ∷ vs) ≡ entry_cost space v + way_cost space vs
 way_cost_more space v vs = sum_by-cons _ v vs
 

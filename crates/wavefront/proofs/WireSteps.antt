@@ -12,6 +12,7 @@ use Rattle.rr_graph.proofs.Joins.{chanx_joins_chanx, chanx_joins_chany, chany_jo
 use Rattle.wavefront.specs.Boxes.{BoundingBox}
 use Rattle.wavefront.specs.kept.Bounds.{steps_within, wires_by_kind}
 use Rattle.wavefront.proofs.WiresOver.{next_across, next_along}
+
 pub both : (a b : Bool) → (a && b) ≡ true → (a ≡ true) × (b ≡ true)
 both true true e = (refl, refl)
 both true false e = absurd (false≢true e)

@@ -5,6 +5,7 @@ use Rattle.rr_graph.specs.declared.parts.Span.{Span}
 use Rattle.rr_graph.specs.Fabric.{Fabric}
 use Rattle.rr_graph.specs.Nodes.{node_at, span_of}
 use Rattle.rr_graph.specs.Problems.{Net}
+
 -- the columns and rows from one place to another, both included
 pub record BoundingBox : Type 0 where
   pub left : ℕ

@@ -5,6 +5,7 @@ use Rattle.rr_graph.specs.Fabric.{IsFabric}
 use Rattle.rr_graph.specs.Nodes.{node_count_of}
 use Rattle.rr_graph.specs.Problems.{is_sink}
 use Rattle.wavefront.specs.Space.{Space, entry_cost, HasEdge, IsInside, IsWanted}
+
 abbrev pub node_count : Space → ℕ
 node_count s = node_count_of s.device
 
