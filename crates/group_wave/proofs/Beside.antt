@@ -1,5 +1,5 @@
 -- What neighbours of a group are offered.
-use Rattle.std.proofs.Common.{◌≡◌, ℕ, ◌+◌, ◌<◌, List, [], ◌∷◌, length, map, get_or, Contains, true, false, inl, inr, sym, ap, ◌∙◌, subst, arith}
+use Rattle.std.proofs.Common.{◌≡◌, ℕ, ◌+◌, ◌*◌, ◌<◌, List, [], ◌∷◌, length, map, get_or, Contains, true, false, inl, inr, sym, ap, ◌∙◌, subst, arith}
 use Rattle.std.specs.Int.{bit_at}
 use Rattle.std.proofs.lemmas.Bool.{cases_lt, false≢true}
 use Rattle.std.proofs.lemmas.List.Elements.{All-contains}
@@ -8,13 +8,14 @@ use Rattle.track_groups.specs.Groups.{IsOn, group_at, on_track, wire_on}
 use Rattle.track_groups.specs.Joints.{IsBeside, neighbours_of, taps_of, wire_beside}
 use Rattle.track_groups.proofs.OnTracks.{on_within}
 use Rattle.wavefront.specs.Boxes.{box_of_net, touches}
+use Rattle.wavefront.specs.Space.{IsInside}
 use Rattle.wavefront.proofs.Lists.{contains_none, contains_first, contains_later, contains_cases}
 use Rattle.group_wave.specs.kept.Grounds.{Ground, IsGround, groups_of}
 use Rattle.group_wave.specs.kept.Queues.{Waiting}
-use Rattle.group_wave.specs.kept.WaveState.{Wave}
+use Rattle.group_wave.specs.kept.WaveState.{FAR, Wave}
 use Rattle.group_wave.specs.kept.Wave.{AreTracks}
-use Rattle.group_wave.specs.kept.Steps.{IsLive, IsOffer, Spreads, TookBefore, TookNearer, TookNearerBefore, TookPins, TookWires}
-use Rattle.group_wave.proofs.Grouped.{group_inside, is_wire_here}
+use Rattle.group_wave.specs.kept.Steps.{IsLive, IsOffer, IsStep, Spreads, TookBefore, TookNearer, TookNearerBefore, TookPins, TookWires}
+use Rattle.group_wave.proofs.Grouped.{group_inside, is_wire_here, wire_within}
 use Rattle.group_wave.proofs.Lower.{went_lower}
 
 in_map : {X Y : Type 0} (f : X → Y) (xs : List X) (x : X) → Contains xs x → Contains (map f xs) (f x)
@@ -59,7 +60,7 @@ module _ (g : Ground) (e : Waiting) where
 
   module _ (ok : IsGround g) (h : ℕ) (beside : Contains (neighbours_of g.tables e.group) h) (tracks : AreTracks g e) where
     -- a neighbour has each track of the entry
-    beside_on : (j : ℕ) → bit_at e.tracks j ≡ 1 → IsOn (groups_of g) (on_track h j)
+    pub beside_on : (j : ℕ) → bit_at e.tracks j ≡ 1 → IsOn (groups_of g) (on_track h j)
     beside_on j one = All-contains (IsBeside (groups_of g) j) (neighbours_of g.tables e.group) h ((ok.tabled.joined e.group).wires j (tracks j one)).beside beside
 
     pub beside_within : (w : Wave) → IsLive g w e → h < length (groups_of g)
@@ -78,4 +79,18 @@ module _ (g : Ground) (e : Waiting) where
           told.1 (in_map (wire_beside (groups_of g) j) (neighbours_of g.tables e.group) h beside);
       inside = λ j one. group_inside g ok (on_track h j) (beside_on j one) ∙ inside;
       from = live.labels;
+    })
+
+    -- from a track of the entry an edge leads to its wire of a neighbour
+    pub beside_step : (w : Wave) (is : Group) → is ≡ group_at (groups_of g) e.group → IsLive g w e → e.label < FAR → (j : ℕ) → bit_at e.tracks j ≡ 1 → IsInside g.space (wire_beside (groups_of g) j h)
+        → IsStep g w e.label (wire_beside (groups_of g) j h) (is.base + j * is.stride)
+    beside_step w is at live near j one inside = rw at (record {
+      edge =
+          let told = ((ok.tabled.joined e.group).wires j (tracks j one)).edges (wire_beside (groups_of g) j h) (is_wire_here g ok (on_track h j) (beside_on j one)) in
+          told.1 (in_map (wire_beside (groups_of g) j) (neighbours_of g.tables e.group) h beside);
+      inside = inside;
+      from = live.labels j one;
+      near = near;
+      is = is_wire_here g ok (on_track h j) (beside_on j one);
+      within = wire_within g ok (on_track h j) (beside_on j one);
     })

@@ -22,6 +22,7 @@ pub mod Sinks
 pub mod Grouped
 pub mod Relaxed
 pub mod RelaxedTracks
+pub mod PinsInside
 pub mod Entered
 pub mod Tapped
 mod Offered

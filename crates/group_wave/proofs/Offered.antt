@@ -1,10 +1,10 @@
 -- What is offered to each track of a group.
-use Rattle.std.proofs.Common.{◌≡◌, ℕ, ◌+◌, ◌*◌, ◌-◌, ◌<◌, ◌≤◌, inl, inr, sym, ap, subst, arith}
+use Rattle.std.proofs.Common.{◌≡◌, ℕ, ◌+◌, ◌*◌, ◌-◌, ◌<◌, ◌≤◌, inl, inr, refl, sym, ap, subst, arith}
 use Rattle.std.specs.Int.{bit_at}
 use Rattle.std.proofs.lemmas.Bool.{cases_eq}
 use Rattle.std.proofs.lemmas.Nat.Bits.{bit_at-zero}
 use Rattle.track_groups.specs.declared.group.Group.{Group}
-use Rattle.track_groups.specs.Groups.{IsOn, group_at, on_track}
+use Rattle.track_groups.specs.Groups.{IsOn, group_at, on_track, wire_on}
 use Rattle.wavefront.specs.Space.{HasEdge, IsInside}
 use Rattle.wavefront.specs.kept.Bounds.{left_over}
 use Rattle.group_wave.specs.kept.Boxes.{IsLow}
@@ -13,8 +13,11 @@ use Rattle.group_wave.specs.kept.Grounds.{Ground, IsGround, groups_of}
 use Rattle.group_wave.specs.kept.Queues.{Waiting}
 use Rattle.group_wave.specs.kept.WaveState.{FAR, Wave}
 use Rattle.group_wave.specs.kept.Wave.{AreTracks, IsBound, IsOf, IsWave, wire_of}
-use Rattle.group_wave.specs.kept.Steps.{IsOffer, IsNoted, IsStep, IsTarget, Relaxes, RelaxesSome, fresh_entry}
-use Rattle.group_wave.proofs.Entered.{noted_spreads, spreads_then}
+use Rattle.group_wave.specs.kept.Steps.{IsOffer, IsNoted, IsStep, IsTarget, Relaxes, RelaxesSome, WaitsFresh, fresh_entry}
+use Rattle.group_wave.proofs.Lower.{lowers_then, still_of, went_lower}
+use Rattle.group_wave.proofs.Noted.{noted_lowers, noted_sinks, noted_work}
+use Rattle.group_wave.proofs.RelaxedTracks.{relaxed_put}
+use Rattle.group_wave.proofs.Sinks.{sinks_then}
 use Rattle.group_wave.proofs.Grouped.{group_bound, is_wire_here, wire_within}
 
 -- an entry of one track
@@ -46,13 +49,6 @@ module _ (g : Ground) (ok : IsGround g) (old s : Wave) (label least first step g
         within = rw same at (wire_within g ok (on_track group track) on);
       }
 
-  pub offered_bound : (wires bound : ℕ) → IsLow old.boxes (wire_of is) wires → bound ≤ left_over wires → IsBound g s wire bound
-  offered_bound wires bound low up b way target walk =
-      let on = offer.on track (some.of track bit) in
-      let here : IsLow s.boxes (wire_of (group_at (groups_of g) group)) wires = rw (some.lowers.boxes, sym at) low in
-      let least = subst (λ v. IsBound g s v (left_over wires)) offered_target.is (group_bound g ok (on_track group track) on s some.wave.boxes wires here) b way target walk in
-      omega (arith, least, up)
-
 -- tracks that are yet to wait: no way over them costs less than what they and the ways on cost at least
 pub fresh_bound : (g : Ground) (ok : IsGround g) (old s : Wave) (label least group tracks left fresh : ℕ) (is : Group) → is ≡ group_at (groups_of g) group → RelaxesSome g old s label least group tracks left fresh
     → (wires key : ℕ) → IsLow old.boxes (wire_of is) wires → key ≤ least + left_over wires → (v : ℕ) → IsOf g s (fresh_entry least group fresh) v → IsBound g s v (key - least)
@@ -62,6 +58,23 @@ fresh_bound g ok old s label least group tracks left fresh is at some wires key 
     let bound = subst (λ x. IsBound g s x (left_over wires)) of.holds.wire (group_bound g ok (on_track group of.holds.track) on s some.wave.boxes wires here) b way target walk in
     omega (arith, bound, up)
 
--- what is known of groups changes before the way is offered
-pub relaxed_after : (g : Ground) (old s t : Wave) (limit label group tracks : ℕ) → IsNoted old s limit → IsWave g s → Relaxes g s t label group tracks → Relaxes g old t label group tracks
-relaxed_after g old s t limit label group tracks noted wave step = record { spreads = spreads_then g old s t (noted_spreads g old s limit noted wave) step.spreads; went = step.went }
+-- what is known of groups changes before they wait
+some_noted : (g : Ground) (old s t : Wave) (label least group tracks left fresh limit : ℕ) → RelaxesSome g old s label least group tracks left fresh → IsNoted s t limit → IsWave g t → RelaxesSome g old t label least group tracks left fresh
+some_noted g old s t label least group tracks left fresh limit some noted wave = record {
+  wave = wave;
+  lowers = lowers_then g old s t _ _ _ some.lowers (noted_lowers g s t limit noted) (λ v of same. still_of g s t (fresh_entry least group fresh) v same of) (λ v none. absurd none);
+  on = some.on;
+  of = some.of;
+  went = λ j one gone. went_lower g s t _ label (wire_on (groups_of g) (on_track group j)) (noted_lowers g s t limit noted) (some.went j one gone);
+  work = let a = some.work in let b = noted_work g s t limit noted in omega (arith, a, b);
+  sinks = sinks_then g old s t some.sinks (noted_sinks g s t limit noted);
+}
+
+-- those that are yet to wait are put in
+pub fresh_put : (g : Ground) (ok : IsGround g) (old s t : Wave) (label least group tracks fresh : ℕ) → RelaxesSome g old s label least group tracks 0 fresh → 0 < fresh → WaitsFresh g s t (fresh_entry least group fresh) → Relaxes g old t label group tracks
+fresh_put g ok old s t label least group tracks fresh some more put =
+    let now = some_noted g old s put.middle label least group tracks 0 fresh FAR some put.noted put.wave in
+    let low : IsLow old.boxes (wire_of (group_at (groups_of g) group)) put.wires = rw (sym now.lowers.boxes) put.low in
+    let key = put.key in
+    relaxed_put g old put.middle t label least group tracks fresh put.entry now more put.pushed put.label put.group put.tracks put.first
+    (rw put.label (fresh_bound g ok old put.middle label least group tracks 0 fresh (group_at (groups_of g) group) refl now put.wires put.entry.key low (omega (arith, key))))

@@ -1,8 +1,8 @@
 -- Words of the crates below, opened.
 use Rattle.std.proofs.Common.{◌≡◌, ℕ, ◌+◌, ◌-◌, ◌*◌, ◌<◌, ◌≤◌, ◌/◌, arith, true, false, Option, Some, None, inl, inr, refl, sym, ap, ◌∙◌}
 use Rattle.std.proofs.lemmas.Bool.{cases_lt, false≢true}
-use Rattle.std.proofs.lemmas.Option.{slice_get_past}
-use Rattle.std.proofs.Math.Nat.{mul-zero}
+use Rattle.std.proofs.lemmas.Option.{none-some, same_Some, slice_get_past}
+use Rattle.std.proofs.Math.Nat.{mul-zero, zero-mul}
 use Rattle.std.specs.Option.{option_map, option_map_or}
 use Rattle.rr_graph.specs.declared.parts.Kind.{Kind}
 use Rattle.rr_graph.specs.declared.parts.Kind.TheVariants.{Source, Sink, Opin, Ipin, Chanx, Chany}
@@ -10,7 +10,7 @@ use Rattle.rr_graph.specs.declared.parts.Node.{Node}
 use Rattle.rr_graph.specs.declared.parts.Span.{Span}
 use Rattle.rr_graph.specs.Fabric.{Fabric}
 use Rattle.rr_graph.specs.Nodes.{capacity_of, is_wire, is_wire_at, kind_of_node, node_at, node_count_of, nodes_of, span_of, wire_capacity}
-use Rattle.rr_graph.specs.Problems.{Net}
+use Rattle.rr_graph.specs.Problems.{Net, any_node, is_sink, is_sink_kind}
 use Rattle.node_cost.specs.Costs.{cost_of}
 use Rattle.node_cost.specs.Views.{history_in, others_in}
 use Rattle.route_tree.specs.Usage.{room_of}
@@ -47,6 +47,41 @@ by_node s v (Some n) is = let told = by_kind s.device n n.kind refl is in ap (λ
 
 pub wire_paid : (s : Space) (v : ℕ) → is_wire_at s.device v ≡ true → entry_cost s v ≡ cost_of 20 (history_in s.view v) (wire_capacity s.device.mode s.device.width) (others_in s.view v) s.present
 wire_paid s v is = cost_is s v ∙ by_node s v (node_at s.device v) is
+
+-- an input pin's cost is by its base cost, for one net
+pin_by_node : (s : Space) (v : ℕ) (o : Option Node) → option_map (λ (n : Node). n.kind) o ≡ Some Ipin
+    → cost_of (option_map_or base_cost (option_map (λ (n : Node). n.kind) o) 0) (history_in s.view v) (room_of s.device o) (others_in s.view v) s.present
+    ≡ cost_of 19 (history_in s.view v) 1 (others_in s.view v) s.present
+pin_by_node s v None is = absurd (none-some _ is)
+pin_by_node s v (Some n) is = let kind : n.kind ≡ Ipin = same_Some n.kind Ipin is in rw kind refl
+
+pub pin_paid : (s : Space) (v : ℕ) → kind_of_node s.device v ≡ Some Ipin → entry_cost s v ≡ cost_of 19 (history_in s.view v) 1 (others_in s.view v) s.present
+pin_paid s v is = cost_is s v ∙ pin_by_node s v (node_at s.device v) is
+
+-- one that nobody else uses and that has no history
+pub free_pin_paid : (s : Space) (v : ℕ) → kind_of_node s.device v ≡ Some Ipin → (others_in s.view v ≡ 0) × (history_in s.view v ≡ 0) → entry_cost s v ≡ 304
+free_pin_paid s v is free =
+    pin_paid s v is
+    ∙ ap (λ history. cost_of 19 history 1 (others_in s.view v) s.present) (free.1)
+    ∙ ap (λ others. cost_of 19 0 1 others s.present) (free.0)
+    ∙ ap (λ more. 19 * (16 + more)) (mul-zero s.present)
+
+no_base : (o : Option Node) → any_node is_sink_kind o ≡ true → option_map_or base_cost (option_map (λ (n : Node). n.kind) o) 0 ≡ 0
+no_base None is = refl
+no_base (Some n) is = by_kind_of n.kind is
+  where
+    by_kind_of : (k : Kind) → is_sink_kind k ≡ true → base_cost k ≡ 0
+    by_kind_of Sink is = refl
+    by_kind_of _ is = absurd (false≢true is)
+
+pub free_sink_paid : (s : Space) (v : ℕ) → is_sink s.device v ≡ true → (others_in s.view v ≡ 0) × (history_in s.view v ≡ 0) → entry_cost s v ≡ 0
+unfolding is_sink
+free_sink_paid s v is free =
+    let room = room_of s.device (node_at s.device v) in
+    cost_is s v
+    ∙ ap (λ base. cost_of base (history_in s.view v) room (others_in s.view v) s.present) (no_base (node_at s.device v) is)
+    ∙ ap (λ history. cost_of 0 history room (others_in s.view v) s.present) (free.1)
+    ∙ zero-mul (16 + s.present * (others_in s.view v + 1 - room))
 
 -- a wire that nobody else uses and that has no history
 pub free_paid : (s : Space) (v : ℕ) → is_wire_at s.device v ≡ true → 1 ≤ wire_capacity s.device.mode s.device.width → (others_in s.view v ≡ 0) × (history_in s.view v ≡ 0) → entry_cost s v ≡ least_wire_cost

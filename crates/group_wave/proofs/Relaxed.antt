@@ -9,11 +9,11 @@ use Rattle.group_wave.specs.kept.Grounds.{Ground, IsGround}
 use Rattle.group_wave.specs.kept.Queues.{Waiting}
 use Rattle.group_wave.specs.kept.WaveState.{Wave}
 use Rattle.group_wave.specs.kept.Wave.{AreTracks, IsBound, IsOf, IsWave, WentOn, cost_at, weight_of, work_of}
-use Rattle.group_wave.specs.kept.Steps.{IsLabelled, IsNoted, IsPushed, IsStep, KeepsLabel, KeepsSinks, Lowers, RelaxesTrack}
-use Rattle.group_wave.proofs.Lower.{label_here, label_there, set_enters, set_keeps, set_lowers, set_same_work, set_wave, set_work}
+use Rattle.group_wave.specs.kept.Steps.{IsLabelled, IsNoted, IsPushed, IsStep, KeepsLabel, KeepsSinks, Lowers, RelaxesTrack, Spreads}
+use Rattle.group_wave.proofs.Lower.{label_here, label_there, lowers_then, set_enters, set_keeps, set_lowers, set_same_work, set_wave, set_work}
 use Rattle.group_wave.proofs.Noted.{noted_label, noted_lowers, noted_sinks, noted_wave, noted_work}
 use Rattle.group_wave.proofs.Pushed.{new_wait, pushed_cost, pushed_label, pushed_wave, pushed_work}
-use Rattle.group_wave.proofs.Sinks.{sinks_then, wire_no_sink}
+use Rattle.group_wave.proofs.Sinks.{sinks_best, sinks_then, wire_no_sink}
 
 module _ (g : Ground) (ok : IsGround g) (s : Wave) (wave : IsWave g s) (label wire parent : ℕ) (step : IsStep g s label wire parent) where
   paid : 320 ≤ entry_cost g.space wire
@@ -138,3 +138,42 @@ module _ (g : Ground) (ok : IsGround g) (s : Wave) (wave : IsWave g s) (label wi
       relaxed_out t greatest least left.noted
       (noted_wave g s t greatest left.noted wave (ap length left.known ∙ wave.sized) (rw (left.noted.boxes, left.known) wave.known))
       (let out = left.out in omega (arith, out, sum))
+
+-- what is known of groups changes before a wire is offered the way
+pub track_after : (g : Ground) (old s t : Wave) (label least wire limit : ℕ) → IsNoted old s limit → RelaxesTrack g s t label least wire false → RelaxesTrack g old t label least wire false
+track_after g old s t label least wire limit noted step = record {
+  wave = step.wave;
+  lowers = lowers_then g old s t _ _ _ (noted_lowers g old s limit noted) step.lowers (λ v none. absurd none) (λ v none. none);
+  at = λ e. absurd (false≢true e);
+  went = step.went;
+  work = let a = noted_work g old s limit noted in let b = step.work in omega (arith, a, b);
+  sinks = sinks_then g old s t (noted_sinks g old s limit noted) step.sinks;
+}
+
+pub step_after : (g : Ground) (old s : Wave) (label wire parent limit : ℕ) → IsNoted old s limit → IsStep g old label wire parent → IsStep g s label wire parent
+step_after g old s label wire parent limit noted step = record {
+  edge = step.edge;
+  inside = step.inside;
+  from = let same = ap (λ l. l.cost) (noted_label g old s limit noted parent) in let from = step.from in omega (arith, same, from);
+  near = step.near;
+  is = step.is;
+  within = step.within;
+}
+
+-- no node is yet to wait
+pub track_spreads : (g : Ground) (s t : Wave) (label least wire : ℕ) → RelaxesTrack g s t label least wire false → Spreads g s t
+track_spreads g s t label least wire step = record {
+  wave = step.wave;
+  lowers =
+      let low = step.lowers in
+      record {
+        down = low.down;
+        wait = λ v. elim (low.wait v) [ inl same ↦ inl same | inr later ↦ elim later [ inl settled ↦ inr (inl settled) | inr none ↦ absurd (false≢true none.0) ] ];
+        origins = low.origins;
+        kept = low.kept;
+        limit = low.limit;
+        boxes = low.boxes;
+      };
+  work = let w = step.work in omega (arith, w);
+  best = sinks_best g s t step.lowers.origins step.sinks;
+}

@@ -1,8 +1,8 @@
 //! Sets of tracks as bits.
 
-ghost use Rattle.std.specs.Prelude.{◌≡◌, ◌<◌};
+ghost use Rattle.std.specs.Prelude.{◌≡◌, ◌<◌, IfSome};
 ghost use Rattle.std.specs.Int.{bit_at};
-ghost use Rattle.group_wave.specs.kept.Bits.{TakesBit, PutsBit, DropsBit, NoneBelow};
+ghost use Rattle.group_wave.specs.kept.Bits.{TakesBit, PutsBit, DropsBit, NoneBelow, IsOnlyBit};
 
 /// Takes the lowest bit that is 1 out of a set, and answers its place.
 #[inline(always)]
@@ -32,6 +32,19 @@ pub(crate) fn without_bit(bits: u64, bit: u32) -> u64
     ensures { DropsBit bits result bit }
 {
     bits & !(1u64 << bit)
+}
+
+/// The place of the one bit that is 1, if there is one alone.
+#[inline(always)]
+pub(crate) fn only_bit(bits: u64) -> Option<u32>
+    ensures { IfSome result (IsOnlyBit bits) }
+{
+    if bits == 0 {
+        return None;
+    }
+    let mut rest = bits;
+    let bit = take_bit(&mut rest);
+    if rest == 0 { Some(bit) } else { None }
 }
 
 /// The place of the lowest bit that is 1.

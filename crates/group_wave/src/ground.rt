@@ -1,6 +1,8 @@
 //! What the search of one net goes over.
 
-ghost use Rattle.std.specs.Prelude.{◌≡◌, ◌<◌, ◌≤◌, ◌+◌, ◌*◌, ◌^◌, ◌↔◌, ℕ, Contains, IfSome, OnOk, IsTrue, length, get_or, slice_index, true, []};
+ghost use Rattle.std.specs.Prelude.{◌≡◌, ◌<◌, ◌≤◌, ◌+◌, ◌*◌, ◌^◌, ◌↔◌, ℕ, Contains, IfSome, OnOk, IsTrue, length, get_or, slice_index, true, [], Some};
+ghost use Rattle.rr_graph.specs.declared.parts.Kind.TheVariants.{Ipin};
+ghost use Rattle.rr_graph.specs.Problems.{is_sink};
 ghost use Rattle.std.specs.List.Sorted.{IsStrictlyIncreasing};
 ghost use Rattle.std.specs.Option.{option_map_or};
 ghost use Rattle.node_cost.specs.Costs.{cost_of};
@@ -50,6 +52,9 @@ impl<'a> Model for Ground<'a> {
 
     ghost invariant = { IsGroundInside };
 }
+
+/// What an input pin costs where nobody else wants it.
+pub(crate) const PIN: u128 = 304;
 
 /// What a node of a kind costs where nobody else wants it.
 fn base_cost(kind: Option<Kind>) -> u32
@@ -220,6 +225,32 @@ impl<'a> Ground<'a> {
         ensures { result ≡ entry_cost self.now.space wire }
     {
         self.cost_by(20, self.wire_room(), wire)
+    }
+
+    /// What it costs to enter an input pin.
+    #[tactic(auto, using(crate::proofs::Opened::pin_paid, crate::proofs::Opened::free_pin_paid))]
+    pub(crate) fn pin_cost(&self, pin: u32) -> u128
+        requires node_in { pin < node_count self.now.space }
+        requires is { kind_of_node self.now.space.device pin ≡ Some Ipin }
+        ensures { result ≡ entry_cost self.now.space pin }
+    {
+        if self.view.is_free(pin) {
+            return PIN;
+        }
+        self.cost_by(19, 1, pin)
+    }
+
+    /// What it costs to enter a sink: nothing, where nobody else uses it and it was never overused.
+    #[tactic(auto, using(crate::proofs::Opened::free_sink_paid))]
+    pub(crate) fn sink_cost(&self, sink: u32) -> u128
+        requires node_in { sink < node_count self.now.space }
+        requires is { is_sink self.now.space.device sink ≡ true }
+        ensures { result ≡ entry_cost self.now.space sink }
+    {
+        if self.view.is_free(sink) {
+            return 0;
+        }
+        self.cost(sink)
     }
 
     /// Whether a wire costs what any wire costs at least: nobody else uses it, and it was never

@@ -10,7 +10,7 @@ mod spreading;
 mod starting;
 mod tracing;
 
-use crate::ground::Ground;
+use crate::ground::{Ground, PIN};
 use crate::keys::Key;
 use crate::labels::{Labels, Row};
 use crate::nearest::Nearest;
@@ -20,9 +20,6 @@ use std::marker::Model;
 
 /// What a wire costs at least.
 pub(crate) const WIRE: u128 = 320;
-
-/// What an input pin costs at least.
-const PIN: u128 = 304;
 
 /// A label for each node, and the entries that wait. Contracts see the record of what counts.
 #[derive(Drop)]

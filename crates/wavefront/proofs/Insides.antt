@@ -1,5 +1,5 @@
--- A net's source is inside its box.
-use Rattle.std.proofs.Common.{◌≡◌, ℕ, ◌+◌, ◌≤◌, true, false, List, [], ◌∷◌, Option, Some, None, arith}
+-- A net's terminals are inside its box, and what stands where they do.
+use Rattle.std.proofs.Common.{◌≡◌, ℕ, ◌+◌, ◌≤◌, true, false, List, [], ◌∷◌, Contains, Option, Some, None, inl, inr, ap, subst, arith}
 use Rattle.std.specs.Option.{option_map, option_map_or}
 use Rattle.std.proofs.lemmas.Bool.{false≢true}
 use Rattle.std.proofs.lemmas.Bool.Decides.{nat_tests}
@@ -10,6 +10,7 @@ use Rattle.rr_graph.specs.declared.parts.Span.{Span}
 use Rattle.rr_graph.specs.Fabric.{Fabric}
 use Rattle.rr_graph.specs.Nodes.{node_at, span_by, span_of}
 use Rattle.rr_graph.specs.Problems.{Net, is_source_kind, any_node, is_source}
+use Rattle.wavefront.proofs.Lists.{contains_cases, contains_none}
 use Rattle.wavefront.specs.Boxes.{BoundingBox}
 use Rattle.wavefront.specs.Boxes.{box_of_span, box_of_node, box_around, box_with, box_of_net, touches, is_in_box}
 
@@ -31,6 +32,21 @@ reaches_around b c d r =
 reaches_with : (f : Fabric) (b : BoundingBox) (vs : List ℕ) → Reaches b (box_with f b vs)
 reaches_with f b [] = record { left = omega arith; right = omega arith; bottom = omega arith; top = omega arith }
 reaches_with f b (v ∷ vs) = reaches_around b (box_of_node f v) _ (reaches_with f (box_around b (box_of_node f v)) vs)
+
+reaches_second : (b c d : BoundingBox) → Reaches (box_around b c) d → Reaches c d
+reaches_second b c d r =
+    let l = r.left in
+    let h = r.right in
+    let m = r.bottom in
+    let t = r.top in
+    record { left = omega (arith, l); right = omega (arith, h); bottom = omega (arith, m); top = omega (arith, t) }
+
+reaches_each : (f : Fabric) (b : BoundingBox) (vs : List ℕ) (v : ℕ) → Contains vs v → Reaches (box_of_node f v) (box_with f b vs)
+reaches_each f b [] v h = absurd (contains_none v h)
+reaches_each f b (u ∷ vs) v h = elim (contains_cases u v vs h) [
+  | inl e ↦ rw e (reaches_second b (box_of_node f u) _ (reaches_with f (box_around b (box_of_node f u)) vs))
+  | inr later ↦ reaches_each f (box_around b (box_of_node f u)) vs v later
+]
 
 -- the last place of a span is not before the first
 record IsForward (s : Span) : Type 0 where
@@ -66,3 +82,12 @@ inside_at f bb sinks (Some n) e = touched bb _ (span_of f n) (forward n.kind f n
 pub source_inside : (f : Fabric) (bb : ℕ) (n : Net) → is_source f n.source ≡ true → is_in_box f bb n n.source ≡ true
 unfolding is_source is_in_box box_of_net
 source_inside f bb n e = inside_at f bb n.sinks (node_at f n.source) e
+
+-- a node that has the places of one of the net's sinks
+pub sink_place_inside : (f : Fabric) (bb : ℕ) (n : Net) (v u : ℕ) (sink node : Node) → Contains n.sinks v → node_at f v ≡ Some sink → node_at f u ≡ Some node → span_of f node ≡ span_of f sink → is_in_box f bb n u ≡ true
+unfolding is_in_box box_of_net
+sink_place_inside f bb n v u sink node has at there same =
+    let corner : BoundingBox = record { left = 0; right = 0; bottom = 0; top = 0 } in
+    let places : box_of_node f v ≡ box_of_span (span_of f sink) = ap (λ o. option_map_or box_of_span (option_map (span_of f) o) corner) at in
+    let reaches = subst (λ b. Reaches b (box_with f (box_of_node f n.source) n.sinks)) places (reaches_each f (box_of_node f n.source) n.sinks v has) in
+    rw (there, same) (touched bb (box_with f (box_of_node f n.source) n.sinks) (span_of f sink) (forward sink.kind f sink) reaches)

@@ -106,11 +106,11 @@ pin_to : (k : Kind) (f : Fabric) (m n : Node) → edge_by Ipin k f m n ≡ true 
 pin_to Sink f m n e = e
 pin_to _ f m n e = absurd (false≢true e)
 
-pin_belongs : (f : Fabric) (m n : Node) → m.kind ≡ Ipin → is_edge f m n ≡ true → belongs f m n ≡ true
+pub pin_belongs : (f : Fabric) (m n : Node) → m.kind ≡ Ipin → is_edge f m n ≡ true → belongs f m n ≡ true
 unfolding is_edge
 pin_belongs f m n pin e = pin_to n.kind f m n (subst (λ k. edge_by k n.kind f m n ≡ true) pin e)
 
-sink_at : (f : Fabric) (b : ℕ) (node : Node) → node_at f b ≡ Some node → is_sink f b ≡ true → is_sink_kind node.kind ≡ true
+pub sink_at : (f : Fabric) (b : ℕ) (node : Node) → node_at f b ≡ Some node → is_sink f b ≡ true → is_sink_kind node.kind ≡ true
 unfolding is_sink
 sink_at f b node at e = rw at at e
 

@@ -22,3 +22,9 @@ pub record DropsBit (old new bit : ℕ) : Type 0 where
 -- all bits below this one are 0
 abbrev pub NoneBelow : (bits bit : ℕ) → Type 0
 NoneBelow bits bit = (i : ℕ) → i < bit → bit_at bits i ≡ 0
+
+-- this bit is 1, and no other
+pub record IsOnlyBit (bits bit : ℕ) : Type 0 where
+  pub within : bit < 64
+  pub has : bit_at bits bit ≡ 1
+  pub only : (i : ℕ) → bit_at bits i ≡ 1 → i ≡ bit

@@ -120,6 +120,21 @@ pub record RelaxesTrack (g : Ground) (old new : Wave) (label least wire : ℕ) (
 abbrev pub fresh_entry : (label group tracks : ℕ) → Waiting
 fresh_entry label group tracks = record { key = 0; label = label; group = group; tracks = tracks; begun = false }
 
+-- it is put in by a key that as many wires and a pin as lead on at least may add to its label
+pub record WaitsFresh (g : Ground) (old new : Wave) (e : Waiting) : Type 0 where
+  pub middle : Wave
+  pub noted : IsNoted old middle FAR
+  pub wave : IsWave g middle
+  pub wires : ℕ
+  pub low : IsLow middle.boxes (wire_of (group_at (groups_of g) e.group)) wires
+  pub entry : Waiting
+  pub pushed : IsPushed middle new entry
+  pub key : entry.key ≤ e.label + left_over wires
+  pub label : entry.label ≡ e.label
+  pub group : entry.group ≡ e.group
+  pub tracks : entry.tracks ≡ e.tracks
+  pub first : entry.begun ≡ false
+
 -- the tracks of a group that aren't left are offered a way; those that have the least label there can be are yet to wait
 pub record RelaxesSome (g : Ground) (old new : Wave) (label least group tracks left fresh : ℕ) : Type 0 where
   pub wave : IsWave g new

@@ -2,11 +2,11 @@
 //! on, later to all.
 
 ghost use Rattle.std.specs.Prelude.{◌≡◌, ◌+◌, ◌*◌, ◌^◌, ◌<◌, ◌↔◌, IsTrue, true, false};
-ghost use Rattle.group_wave.specs.kept.Bits.{PutsBit};
+ghost use Rattle.group_wave.specs.kept.Bits.{IsOnlyBit, PutsBit};
 
 use super::relaxing::Offer;
 use super::{WIRE, Wave, bound_over};
-use crate::bits::{take_bit, with_bit};
+use crate::bits::{only_bit, take_bit, with_bit};
 use crate::ground::Ground;
 use crate::keys::Key;
 use crate::queue::Entry;
@@ -157,6 +157,57 @@ impl<K: Key> Wave<K> {
         Ok(())
     }
 
+    /// Offers the wires of all neighbours the way from the one track of an entry.
+    fn relax_all_alone(
+        &mut self,
+        ground: &Ground<'_>,
+        entry: Entry<K>,
+        group: &Group,
+        track: u32,
+    ) -> Result<(), AllocError>
+        requires ground { IsGround ground.now }
+        requires wave { IsWave ground.now self.old }
+        requires group { group.now ≡ group_at (groups_of ground.now) entry.group }
+        requires small { group.now.base + 64 * group.now.stride < 2 ^ 30 }
+        requires entry { IsLive ground.now self.old (entry_of K.value entry) }
+        requires fits { K.value entry.label < K.greatest }
+        requires track { IsOnlyBit entry.tracks track }
+        ensures spreads { OnOk result (Spreads ground.now self.old self.new) }
+        ensures took { OnOk result (TookBefore ground.now self.new (entry_of K.value entry)
+            (neighbours_of ground.now.tables entry.group)
+            (length (neighbours_of ground.now.tables entry.group))) }
+    {
+        let neighbours = ground.neighbours(entry.group);
+        for neighbour in neighbours {
+            self.relax_one(ground, entry, group, track, *neighbour)?;
+        }
+        Ok(())
+    }
+
+    /// Offers the wires of all neighbours the way from the tracks of an entry.
+    fn relax_each(
+        &mut self,
+        ground: &Ground<'_>,
+        entry: Entry<K>,
+        group: &Group,
+    ) -> Result<(), AllocError>
+        requires ground { IsGround ground.now }
+        requires wave { IsWave ground.now self.old }
+        requires group { group.now ≡ group_at (groups_of ground.now) entry.group }
+        requires small { group.now.base + 64 * group.now.stride < 2 ^ 30 }
+        requires entry { IsLive ground.now self.old (entry_of K.value entry) }
+        requires fits { K.value entry.label < K.greatest }
+        ensures spreads { OnOk result (Spreads ground.now self.old self.new) }
+        ensures took { OnOk result (TookBefore ground.now self.new (entry_of K.value entry)
+            (neighbours_of ground.now.tables entry.group)
+            (length (neighbours_of ground.now.tables entry.group))) }
+    {
+        match only_bit(entry.tracks) {
+            Some(track) => self.relax_all_alone(ground, entry, group, track),
+            None => self.relax_all(ground, entry, group),
+        }
+    }
+
     /// Offers the wires of those neighbours the way from which fewer wires lead on.
     fn relax_all_nearer(
         &mut self,
@@ -261,6 +312,6 @@ impl<K: Key> Wave<K> {
             (GoesOn ground.now self.old self.new (entry_of K.value entry)) }
     {
         self.reach_if_beside(ground, entry, group, wires)?;
-        self.relax_all(ground, entry, group)
+        self.relax_each(ground, entry, group)
     }
 }

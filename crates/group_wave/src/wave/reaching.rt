@@ -65,7 +65,7 @@ impl<K: Key> Wave<K> {
         self.set(sink, cost, pin)
     }
 
-    /// Offers an open sink the way over an input pin of a label.
+    /// Offers an open sink the way over an input pin of a label. A sink of the net is inside its box.
     fn enter_sink(
         &mut self,
         ground: &Ground<'_>,
@@ -76,15 +76,13 @@ impl<K: Key> Wave<K> {
         requires ground { IsGround ground.now }
         requires wave { IsWave ground.now self.old }
         requires sink { IsOpen ground.now self.old sink }
+        requires pin { IsPinOf ground.now.space.device sink pin }
         requires from { IsFrom ground.now self.old (K.value label) pin sink }
         requires fits { K.value label < K.greatest }
         ensures { OnOk result (Enters ground.now self.old self.new (K.value label) sink) }
     {
-        if !ground.is_inside(sink) {
-            return Ok(());
-        }
         let row = self.labels.row(sink);
-        let cost = label.plus(K::cut(ground.cost(sink)));
+        let cost = label.plus(K::cut(ground.sink_cost(sink)));
         if cost.is_below(row.cost) {
             return self.lower_sink(sink, cost, pin);
         }
@@ -112,7 +110,8 @@ impl<K: Key> Wave<K> {
         self.enter_sink(ground, cost, tap.pin, tap.sink)
     }
 
-    /// Offers an input pin of an open sink the way from a wire.
+    /// Offers an input pin of an open sink the way from a wire. It stands where its sink does: inside
+    /// the net's box.
     fn enter_pin(
         &mut self,
         ground: &Ground<'_>,
@@ -129,11 +128,8 @@ impl<K: Key> Wave<K> {
         requires fits { K.value label < K.greatest }
         ensures { OnOk result (Enters ground.now self.old self.new (K.value label) tap.pin) }
     {
-        if !ground.is_inside(tap.pin) {
-            return Ok(());
-        }
         let row = self.labels.row(tap.pin);
-        let cost = label.plus(K::cut(ground.cost(tap.pin)));
+        let cost = label.plus(K::cut(ground.pin_cost(tap.pin)));
         if cost.is_below(row.cost) {
             return self.lower_pin(ground, wire, tap, cost);
         }

@@ -1,7 +1,7 @@
 //! How wires of a group are offered a way: those that get the least label there can be wait as one
 //! entry, each other one by itself. What is done for each track is inlined.
 
-ghost use Rattle.std.specs.Prelude.{◌≡◌, ◌+◌, ◌*◌, ◌^◌, ◌<◌, ◌≤◌, true, false, min};
+ghost use Rattle.std.specs.Prelude.{◌≡◌, ◌+◌, ◌*◌, ◌^◌, ◌<◌, ◌≤◌, true, min};
 ghost use Rattle.rr_graph.specs.Nodes.{is_wire_at};
 ghost use Rattle.wavefront.specs.Space.{entry_cost};
 ghost use Rattle.wavefront.specs.kept.Bounds.{least_wire_cost};
@@ -25,14 +25,11 @@ pub(crate) struct Offer<K> {
 }
 
 /// What holds for all tracks of a group that are offered a way: the label of the nodes from which
-/// it comes, the least that there can be then, and what a way on costs at least.
+/// it comes, and the least that there can be then.
 #[derive(Clone, Copy, Drop)]
 struct Relaxing<K> {
     label: K,
     least: K,
-    /// How many wires lead on at least, and what they and a pin cost.
-    wires: u32,
-    bound: K,
     group: u32,
 }
 
@@ -61,16 +58,80 @@ fn label_by<K: Key>(ground: &Ground<'_>, step: Relaxing<K>, wire: u32) -> K
 }
 
 impl<K: Key> Wave<K> {
-    ghost use Rattle.std.specs.Prelude.{length, OnOk, IfOk, IsTrue};
+    ghost use Rattle.std.specs.Prelude.{length, Contains, OnOk, IfOk, IsTrue, false};
     ghost use Rattle.track_groups.specs.Groups.{group_at};
-    ghost use Rattle.wavefront.specs.kept.Bounds.{left_over};
-    ghost use Rattle.group_wave.specs.kept.Boxes.{IsLow};
+    ghost use Rattle.track_groups.specs.Joints.{neighbours_of};
+    ghost use Rattle.group_wave.specs.kept.Bits.{IsOnlyBit};
     ghost use Rattle.group_wave.specs.kept.Grounds.{IsGround, groups_of};
     ghost use Rattle.group_wave.specs.kept.Labels.{label_of};
-    ghost use Rattle.group_wave.specs.kept.Wave.{IsBound, IsWave, label_at, wire_of};
-    ghost use Rattle.group_wave.specs.kept.Steps.{IsOffer, IsPushed, IsStep, IsTarget, Relaxes, RelaxesSome, RelaxesTrack};
+    ghost use Rattle.group_wave.specs.kept.Wave.{IsBound, IsWave, label_at};
+    ghost use Rattle.group_wave.specs.kept.Steps.{IsLive, IsOffer, IsStep, IsTarget, Relaxes, RelaxesSome, RelaxesTrack, Spreads, TookWires, WaitsFresh, fresh_entry};
+    ghost use Rattle.group_wave.specs.kept.Queues.{entry_of};
 
-    /// Lowers a wire's label. Where that is not the least there can be, the wire waits by itself.
+    /// Lowers a wire's label, and lets the wire wait by itself, where a way on costs so much at least.
+    #[inline(always)]
+    fn lower_with(
+        &mut self,
+        ground: &Ground<'_>,
+        step: Relaxing<K>,
+        to: Target,
+        row: Row<K>,
+        cost: K,
+        bound: K,
+    ) -> Result<(), AllocError>
+        requires ground { IsGround ground.now }
+        requires wave { IsWave ground.now self.old }
+        requires from { IsStep ground.now self.old (K.value step.label) to.wire to.parent }
+        requires to { IsTarget ground.now step.group to.track to.wire }
+        requires few { to.track < 64 }
+        requires bound { IsBound ground.now self.old to.wire (K.value bound) }
+        requires row { label_of K.value K.greatest row ≡ label_at self.old to.wire }
+        requires fits { K.value row.cost ≤ K.greatest }
+        requires cost { K.value cost ≡
+            min (K.value step.label + entry_cost ground.now.space to.wire) K.greatest }
+        requires less { K.value cost < K.value row.cost }
+        ensures { OnOk result (RelaxesTrack ground.now self.old self.new
+            (K.value step.label) (K.value step.least) to.wire false) }
+    {
+        self.set(to.wire, cost, to.parent)?;
+        self.wait(Entry {
+            key: cost.plus(bound),
+            label: cost,
+            group: step.group,
+            tracks: with_bit(0, to.track),
+            is_begun: false,
+        })
+    }
+
+    /// Lowers a wire's label, and lets the wire wait by itself.
+    #[inline(always)]
+    fn lower_alone(
+        &mut self,
+        ground: &Ground<'_>,
+        step: Relaxing<K>,
+        to: Target,
+        row: Row<K>,
+        cost: K,
+    ) -> Result<(), AllocError>
+        requires ground { IsGround ground.now }
+        requires wave { IsWave ground.now self.old }
+        requires from { IsStep ground.now self.old (K.value step.label) to.wire to.parent }
+        requires to { IsTarget ground.now step.group to.track to.wire }
+        requires few { to.track < 64 }
+        requires row { label_of K.value K.greatest row ≡ label_at self.old to.wire }
+        requires fits { K.value row.cost ≤ K.greatest }
+        requires cost { K.value cost ≡
+            min (K.value step.label + entry_cost ground.now.space to.wire) K.greatest }
+        requires less { K.value cost < K.value row.cost }
+        ensures { OnOk result (RelaxesTrack ground.now self.old self.new
+            (K.value step.label) (K.value step.least) to.wire false) }
+    {
+        let wires = self.wires_left(ground, step.group);
+        self.lower_with(ground, step, to, row, cost, bound_over(wires))
+    }
+
+    /// Lowers a wire's label. Where that is not the least there can be, the wire waits by itself;
+    /// else it is still to wait, which is answered.
     #[inline(always)]
     fn lower(
         &mut self,
@@ -85,7 +146,6 @@ impl<K: Key> Wave<K> {
         requires from { IsStep ground.now self.old (K.value step.label) to.wire to.parent }
         requires to { IsTarget ground.now step.group to.track to.wire }
         requires few { to.track < 64 }
-        requires bound { IsBound ground.now self.old to.wire (K.value step.bound) }
         requires row { label_of K.value K.greatest row ≡ label_at self.old to.wire }
         requires fits { K.value row.cost ≤ K.greatest }
         requires cost { K.value cost ≡
@@ -96,18 +156,12 @@ impl<K: Key> Wave<K> {
             (K.value step.label) (K.value step.least) to.wire) }
         ensures fits { IfOk result (λ fresh. IsTrue fresh → K.value step.least < K.greatest) }
     {
-        self.set(to.wire, cost, to.parent)?;
-        if !step.least.is_below(cost) {
-            return Ok(true);
+        if step.least.is_below(cost) {
+            self.lower_alone(ground, step, to, row, cost)?;
+            return Ok(false);
         }
-        self.wait(Entry {
-            key: cost.plus(step.bound),
-            label: cost,
-            group: step.group,
-            tracks: with_bit(0, to.track),
-            is_begun: false,
-        })?;
-        Ok(false)
+        self.set(to.wire, cost, to.parent)?;
+        Ok(true)
     }
 
     /// Offers a wire a way. Answers whether its label became the least there can be: then it is
@@ -124,7 +178,6 @@ impl<K: Key> Wave<K> {
         requires from { IsStep ground.now self.old (K.value step.label) to.wire to.parent }
         requires to { IsTarget ground.now step.group to.track to.wire }
         requires few { to.track < 64 }
-        requires bound { IsBound ground.now self.old to.wire (K.value step.bound) }
         requires least { K.value step.least ≡
             min (K.value step.label + least_wire_cost) K.greatest }
         ensures relaxed { IfOk result (RelaxesTrack ground.now self.old self.new
@@ -163,8 +216,6 @@ impl<K: Key> Wave<K> {
         requires first { offer.first + 64 * offer.step < 2 ^ 30 }
         requires near { K.value offer.label < K.greatest }
         requires label { K.value step.label ≡ K.value offer.label }
-        requires wires { IsLow self.old.boxes (wire_of group.now) step.wires }
-        requires bound { K.value step.bound ≤ left_over step.wires }
         requires least { K.value step.least ≡
             min (K.value step.label + least_wire_cost) K.greatest }
         ensures relaxed { IfOk result (RelaxesSome ground.now self.old self.new
@@ -206,40 +257,114 @@ impl<K: Key> Wave<K> {
         ensures { OnOk result (Relaxes ground.now self.old self.new (K.value offer.label)
             group tracks) }
     {
-        let wires = self.wires_left(ground, group);
         let step = Relaxing {
             label: offer.label,
             least: offer.label.plus(K::cut(WIRE)),
-            wires,
-            bound: bound_over(wires),
             group,
         };
         let fresh = self.relax_tracks(ground, step, offer, &ground.group(group), tracks)?;
-        self.put_fresh(step, fresh)
+        self.put_fresh(ground, step, fresh)
     }
 
     /// Lets those tracks wait whose labels are the least there can be.
     #[inline(always)]
-    fn put_fresh(&mut self, step: Relaxing<K>, fresh: u64) -> Result<(), AllocError>
+    fn put_fresh(
+        &mut self,
+        ground: &Ground<'_>,
+        step: Relaxing<K>,
+        fresh: u64,
+    ) -> Result<(), AllocError>
+        requires wave { IsWave ground.now self.old }
+        requires there { step.group < length (groups_of ground.now) }
         requires fits { 0 < fresh → K.value step.least < K.greatest }
         ensures none { fresh ≡ 0 → self.new ≡ self.old }
-        ensures some { 0 < fresh → OnOk result (IsPushed self.old self.new (record {
-          key = min (K.value step.least + K.value step.bound) K.greatest;
-          label = K.value step.least;
-          group = step.group;
-          tracks = fresh;
-          begun = false;
-        })) }
+        ensures some { 0 < fresh → OnOk result (WaitsFresh ground.now self.old self.new
+            (fresh_entry (K.value step.least) step.group fresh)) }
     {
         if fresh == 0 {
             return Ok(());
         }
+        let wires = self.wires_left(ground, step.group);
         self.wait(Entry {
-            key: step.least.plus(step.bound),
+            key: step.least.plus(bound_over(wires)),
             label: step.least,
             group: step.group,
             tracks: fresh,
             is_begun: false,
         })
+    }
+
+    /// Offers a wire a way, where its label is none below the least that there can be. It waits by
+    /// itself where its label goes down.
+    #[inline(always)]
+    fn relax_alone(
+        &mut self,
+        ground: &Ground<'_>,
+        step: Relaxing<K>,
+        to: Target,
+        row: Row<K>,
+    ) -> Result<(), AllocError>
+        requires ground { IsGround ground.now }
+        requires wave { IsWave ground.now self.old }
+        requires from { IsStep ground.now self.old (K.value step.label) to.wire to.parent }
+        requires to { IsTarget ground.now step.group to.track to.wire }
+        requires few { to.track < 64 }
+        requires row { label_of K.value K.greatest row ≡ label_at self.old to.wire }
+        requires fits { K.value row.cost ≤ K.greatest }
+        requires least { K.value step.least ≡
+            min (K.value step.label + least_wire_cost) K.greatest }
+        ensures { OnOk result (RelaxesTrack ground.now self.old self.new
+            (K.value step.label) (K.value step.least) to.wire false) }
+    {
+        let cost = label_by(ground, step, to.wire);
+        if cost.is_below(row.cost) {
+            return self.lower_alone(ground, step, to, row, cost);
+        }
+        self.keep_least(to.wire, to.parent, row, cost);
+        Ok(())
+    }
+
+    /// Offers the wire of a neighbour the way from the one track of an entry, if it is inside the
+    /// net's box.
+    #[inline(always)]
+    pub(super) fn relax_one(
+        &mut self,
+        ground: &Ground<'_>,
+        entry: Entry<K>,
+        group: &Group,
+        track: u32,
+        neighbour: u32,
+    ) -> Result<(), AllocError>
+        requires ground { IsGround ground.now }
+        requires wave { IsWave ground.now self.old }
+        requires group { group.now ≡ group_at (groups_of ground.now) entry.group }
+        requires small { group.now.base + 64 * group.now.stride < 2 ^ 30 }
+        requires entry { IsLive ground.now self.old (entry_of K.value entry) }
+        requires fits { K.value entry.label < K.greatest }
+        requires track { IsOnlyBit entry.tracks track }
+        requires beside { Contains (neighbours_of ground.now.tables entry.group) neighbour }
+        ensures spreads { OnOk result (Spreads ground.now self.old self.new) }
+        ensures took { OnOk result
+            (TookWires ground.now self.new (entry_of K.value entry) neighbour) }
+    {
+        let beside = ground.group(neighbour);
+        let to = Target {
+            track,
+            wire: beside.base + track * beside.stride,
+            parent: group.base + track * group.stride,
+        };
+        let step = Relaxing {
+            label: entry.label,
+            least: entry.label.plus(K::cut(WIRE)),
+            group: neighbour,
+        };
+        let row = self.labels.row(to.wire);
+        if row.cost.is_below(step.least) {
+            return Ok(());
+        }
+        if !ground.is_span_inside(beside.span) {
+            return Ok(());
+        }
+        self.relax_alone(ground, step, to, row)
     }
 }

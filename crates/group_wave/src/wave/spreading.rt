@@ -3,6 +3,7 @@
 ghost use Rattle.std.specs.Prelude.{◌≡◌, ◌+◌, ◌*◌, ◌^◌, ◌<◌, ◌≤◌, ℕ};
 
 use super::{WIRE, Wave, bound_over};
+use crate::bits::only_bit;
 use crate::ground::Ground;
 use crate::keys::Key;
 use crate::queue::Entry;
@@ -78,7 +79,8 @@ impl<K: Key> Wave<K> {
         self.wait_again(entry, wires)
     }
 
-    /// Goes on from tracks of a group.
+    /// Goes on from tracks of a group. From one track alone to all neighbours at once: to find which
+    /// are nearer takes as long as to offer them all the way.
     fn expand(
         &mut self,
         ground: &Ground<'_>,
@@ -98,7 +100,7 @@ impl<K: Key> Wave<K> {
         ensures { OnOk result
             (GoesOn ground.now self.old self.new (entry_of K.value entry)) }
     {
-        if entry.is_begun {
+        if entry.is_begun || only_bit(entry.tracks).is_some() {
             self.finish(ground, entry, group, wires)
         } else {
             self.begin_at(ground, entry, group, wires)

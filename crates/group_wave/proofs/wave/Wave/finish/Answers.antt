@@ -9,8 +9,8 @@ use Rattle.group_wave.proofs.Expanded.{rest_goes_on, rest_went}
 use Rattle.group_wave.proofs.Waited.{on_ok_both}
 use Rattle.group_wave.proofs.wave.Wave.finish.Goals as goal
 
-pub relax_all-requires-clause-entry : goal.relax_all-requires-clause-entry
-relax_all-requires-clause-entry g c = still_live c.args.ground.now (entry_of g.K.Key.value c.args.entry) c.args.self.now c.reach_if_beside.new.self c.in_ok-reach_if_beside.ensures.spreads c.requires.entry
+pub relax_each-requires-clause-entry : goal.relax_each-requires-clause-entry
+relax_each-requires-clause-entry g c = still_live c.args.ground.now (entry_of g.K.Key.value c.args.entry) c.args.self.now c.reach_if_beside.new.self c.in_ok-reach_if_beside.ensures.spreads c.requires.entry
 
 pub returns : goal.returns
 returns g c =
@@ -18,12 +18,12 @@ returns g c =
     let e = entry_of g.K.Key.value c.args.entry in
     let was = c.args.self.now in
     let reached = c.reach_if_beside.new.self in
-    let now = c.relax_all.new.self in
+    let now = c.relax_each.new.self in
     let first = c.in_ok-reach_if_beside.ensures.spreads in
-    on_ok_both c.relax_all.result (λ second took.
+    on_ok_both c.relax_each.result (λ second took.
     let spreads = spreads_then ground was reached now first second in
     let low : IsLow now.boxes (wire_of (group_at (groups_of ground) e.group)) c.args.wires = rw spreads.lowers.boxes (rw c.requires.group at c.requires.low) in
     rest_goes_on ground was now e c.requires.but spreads
     (rest_went ground c.requires.ground e (record { pin = 0; sink = 0; tracks = 0 }) now spreads.wave c.requires.entry.tracks c.args.wires low (pins_then ground e reached now c.args.wires second c.in_ok-reach_if_beside.ensures.took)
     (λ k lt. took k lt lt)))
-    c.relax_all.ensures.spreads c.relax_all.ensures.took
+    c.relax_each.ensures.spreads c.relax_each.ensures.took

@@ -1,5 +1,5 @@
 use Rattle.std.proofs.Common.{arith}
-use Rattle.group_wave.proofs.Offered.{offered_bound, offered_step, offered_target}
+use Rattle.group_wave.proofs.Offered.{offered_step, offered_target}
 use Rattle.group_wave.proofs.RelaxedTracks.{relaxed_fresh_more, relaxed_more}
 use Rattle.group_wave.proofs.wave.Wave.relax_tracks.Goals as goal
 
@@ -10,12 +10,6 @@ relax_track-requires-clause-from g c =
     let narrow = g.met.K.Key.narrow in
     rw c.requires.label (offered_step c.args.ground.now c.requires.ground c.args.self.now c.loop-left.self (value c.args.offer.label) (value c.args.step.least) c.args.offer.first c.args.offer.step c.args.step.group c.args.tracks c.loop-left.left c.loop-left.fresh
     c.args.group.now c.requires.group c.requires.offer c.loop-left.invariant.some c.take_bit-track.result c.take_bit-track.ensures.taken.was (omega (arith, near, narrow)))
-
-pub relax_track-requires-clause-bound : goal.relax_track-requires-clause-bound
-relax_track-requires-clause-bound g c =
-    let value = g.K.Key.value in
-    offered_bound c.args.ground.now c.requires.ground c.args.self.now c.loop-left.self (value c.args.offer.label) (value c.args.step.least) c.args.offer.first c.args.offer.step c.args.step.group c.args.tracks c.loop-left.left c.loop-left.fresh
-    c.args.group.now c.requires.group c.requires.offer c.loop-left.invariant.some c.take_bit-track.result c.take_bit-track.ensures.taken.was c.args.step.wires (value c.args.step.bound) c.requires.wires c.requires.bound
 
 pub loop-left-preserved-then-branch : goal.loop-left-preserved-then-branch
 loop-left-preserved-then-branch g c =

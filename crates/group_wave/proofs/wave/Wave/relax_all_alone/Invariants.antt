@@ -1,0 +1,10 @@
+use Rattle.group_wave.specs.kept.Queues.{entry_of}
+use Rattle.group_wave.specs.kept.Steps.{Spreads, TookBefore}
+use Rattle.group_wave.proofs.wave.Wave.relax_all_alone.Given as goal
+
+-- those so far were offered the way
+abbrev pub invariant-loop-neighbour : goal.invariant-loop-neighbour
+invariant-loop-neighbour g l = record {
+  spreads : Spreads l.ground l.fn.self l.self;
+  took : TookBefore l.ground l.self (entry_of g.K.Key.value l.fn.entry) l.neighbours l.neighbour-index;
+}
