@@ -4,6 +4,7 @@
 mod channels;
 mod device;
 mod figures;
+pub mod laws;
 mod map;
 mod named;
 mod overused;
