@@ -24,7 +24,8 @@ fn print_report<W: ByteSink>(
     is_map: bool,
 ) -> Result<(), AppFault>
     ensures { PrintsText (writing (W.taken out.old) (W.taken out.new) (W.failed out.new))
-        (route_report_text is_map design.now.netlist design.now.problem lines.now report.now) tt result }
+        (route_report_text is_map design.now.netlist design.now.problem lines.now report.now)
+        tt result }
 {
     let netlist = design.netlist();
     let problem = design.problem();
