@@ -15,17 +15,21 @@ _pathfinder() {
       values='--width'
       words="$values --global -h --help"
       ;;
+    report)
+      values='--width'
+      words="$values --global --map -h --help"
+      ;;
     graph)
       values=''
       words="$values --global -h --help"
       ;;
     help)
       values=''
-      words="$values route width check graph"
+      words="$values route width check report graph"
       ;;
   esac
   if [ "$COMP_CWORD" -eq 1 ]; then
-    words='route width check graph help -h --help -V --version'
+    words='route width check report graph help -h --help -V --version'
   elif [[ " $values " == *" $before "* ]]; then
     compopt +o default 2>/dev/null
     words=''

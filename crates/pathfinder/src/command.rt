@@ -155,6 +155,22 @@ fn check_command<'a>(alloc: Global) -> Result<Command<'a>, AllocError> {
         .arg(global_flag(alloc))
 }
 
+fn report_command<'a>(alloc: Global) -> Result<Command<'a>, AllocError> {
+    let command = Command::new(alloc, "report")
+        .about("Print the figures of a routing, legal or not")
+        .after_help(help::REPORT);
+    with_design(alloc, command)?
+        .arg(input(alloc, "ROUTE", "The routing file whose figures are printed"))?
+        .arg(width(alloc))?
+        .arg(global_flag(alloc))?
+        .arg(
+            Arg::new(alloc, "map")
+                .long("map")
+                .action(ArgAction::SetTrue)
+                .help("Also the array, with the occupancy of each place of its channels"),
+        )
+}
+
 fn graph_command<'a>(alloc: Global) -> Result<Command<'a>, AllocError> {
     Command::new(alloc, "graph")
         .about("Print the nodes and edges of a device's routing-resource graph")
@@ -191,6 +207,7 @@ pub fn command<'a>(alloc: Global) -> Result<Command<'a>, AllocError> {
         .subcommand(route_command(alloc)?)?
         .subcommand(width_command(alloc)?)?
         .subcommand(check_command(alloc)?)?
+        .subcommand(report_command(alloc)?)?
         .subcommand(graph_command(alloc)?)
 }
 
@@ -229,6 +246,18 @@ pub struct CheckWords<'a> {
     pub route: &'a str,
     pub width: u32,
     pub global: bool,
+}
+
+/// What the `report` command was given.
+#[derive(Clone, Copy)]
+pub struct ReportWords<'a> {
+    pub net: &'a str,
+    pub arch: &'a str,
+    pub place: &'a str,
+    pub route: &'a str,
+    pub width: u32,
+    pub global: bool,
+    pub map: bool,
 }
 
 /// What the `graph` command was given.
@@ -309,6 +338,21 @@ pub fn check_words<'a>(matches: &ArgMatches<'a>) -> Option<CheckWords<'a>>
         route: matches.get_str("ROUTE")?,
         width: number_within(matches, "width", MOST_TRACKS)?,
         global: matches.get_flag("global"),
+    })
+}
+
+/// The words of the `report` command; None where one is out of its range.
+pub fn report_words<'a>(matches: &ArgMatches<'a>) -> Option<ReportWords<'a>>
+    ensures { IfSome result (λ r. (1 ≤ r.width) × (r.width ≤ most_tracks)) }
+{
+    Some(ReportWords {
+        net: matches.get_str("NET")?,
+        arch: matches.get_str("ARCH")?,
+        place: matches.get_str("PLACE")?,
+        route: matches.get_str("ROUTE")?,
+        width: number_within(matches, "width", MOST_TRACKS)?,
+        global: matches.get_flag("global"),
+        map: matches.get_flag("map"),
     })
 }
 

@@ -1,7 +1,7 @@
 //! What the helps and the version say in more than a line.
 
 /// What `--version` prints after the name: the version, and what the program routes by.
-pub const VERSION: &str = "1.0.0 (formats of VPR 4.30, negotiated congestion)";
+pub const VERSION: &str = "1.1.0 (formats of VPR 4.30, negotiated congestion)";
 
 /// The end of the program's help.
 pub const PROGRAM: &str = "\
@@ -12,7 +12,7 @@ Example, in examples/uart:
   legal
 
 Exit status, of all commands:
-  0  done: routed, a routed width was found, legal, or the listing was printed
+  0  done: routed, a routed width was found, legal, or what was asked for was printed
   2  words that the command line may not have
   3  not routed, no routed width, or not legal
   4  bad input, as `error: arch line 10: Unsupported`; docs/FORMATS.md has all faults
@@ -81,6 +81,30 @@ Exit status:
   4  bad input, as `error: route line 10: NoNode`
   5  reading or writing failed
   6  memory ran out, or a thread could not be started";
+
+/// The end of the help of `report`.
+pub const REPORT: &str = "\
+It prints a figure a line, after its name: nets and trees; wires and places that are used, of all;
+the wirelength, its mean and the greatest of a net; so of each type of wire and of each channel; and
+what too many nets use, with these nets and the lines of ROUTE that name it. docs/FORMATS.md has
+each line.
+
+Example, in examples/uart:
+  $ pathfinder report uart.net k4n1.arch uart.place uart.route --width 6
+  array 11 x 11
+  ..
+  wirelength 602
+  mean 5.28
+  greatest 57 int_rst
+  ..
+  overused 0
+
+Exit status:
+  0  printed, whether the routing is legal or not
+  2  words that the command line may not have
+  4  bad input, as `error: route line 10: NoNode`
+  5  reading or writing failed
+  6  memory ran out";
 
 /// The end of the help of `graph`.
 pub const GRAPH: &str = "\

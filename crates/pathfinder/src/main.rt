@@ -13,9 +13,10 @@ ghost use Rattle.node_cost.specs.Options.{most_workers};
 
 use clap::error::ErrorKind;
 use clap::{ArgMatches, Error as ClapError};
-use command::{CheckWords, GraphWords, RouteWords, WidthWords};
+use command::{CheckWords, GraphWords, ReportWords, RouteWords, WidthWords};
 use files::{BehindProgress, NewFile};
 use iteration::Outcome;
+use report_run::report_run;
 use route_check::RouteFault;
 use rr_graph::Mode;
 use runs::{
@@ -66,6 +67,7 @@ fn run(rt: &(impl Runtime + Threads + Wait + Sync + AllocGlobal), is_watched: bo
         Some(("route", given)) => run_route(rt, given, is_watched),
         Some(("width", given)) => run_width(rt, given, is_watched),
         Some(("check", given)) => run_check(rt, given),
+        Some(("report", given)) => run_report(rt, given),
         Some(("graph", given)) => run_graph(rt, given),
         _ => BAD_WORDS,
     }
@@ -114,6 +116,17 @@ fn run_check(rt: &(impl Runtime + Threads + Sync + AllocGlobal), given: &ArgMatc
     };
     match check(rt, given) {
         Ok(verdict) => verdict_status(verdict),
+        Err(fault) => refused(rt, fault),
+    }
+}
+
+/// Runs `report`, and answers its status.
+fn run_report(rt: &(impl Runtime + AllocGlobal), given: &ArgMatches<'_>) -> u8 {
+    let Some(given) = command::report_words(given) else {
+        return BAD_WORDS;
+    };
+    match report(rt, given) {
+        Ok(()) => 0,
         Err(fault) => refused(rt, fault),
     }
 }
@@ -264,6 +277,29 @@ fn check(
     let (width, mode) = (given.width, mode_of(given.global));
     check_run(
         rt, &mut net, &mut arch, &mut place, &mut route, &mut out, width, mode,
+    )
+}
+
+/// The `report` command, which opens its files as `check` does.
+fn report(rt: &(impl Runtime + AllocGlobal), given: ReportWords<'_>) -> Result<(), AppFault>
+    requires { (1 ≤ given.width) × (given.width ≤ most_tracks) }
+{
+    let mut arch = open(rt, given.arch, InputFile::Arch)?;
+    let mut net = open(rt, given.net, InputFile::Net)?;
+    let mut place = open(rt, given.place, InputFile::Place)?;
+    let mut route = open(rt, given.route, InputFile::Route)?;
+    let mut out = Adapted::new(io::writer(rt));
+    let (width, mode) = (given.width, mode_of(given.global));
+    report_run(
+        rt.alloc(),
+        &mut net,
+        &mut arch,
+        &mut place,
+        &mut route,
+        &mut out,
+        width,
+        mode,
+        given.map,
     )
 }
 

@@ -9,6 +9,7 @@ mod header;
 mod judge;
 pub mod laws;
 mod lists;
+mod naming;
 mod net_line;
 mod node_line;
 mod node_words;
@@ -20,5 +21,6 @@ mod words;
 mod writing;
 
 pub use fault::RouteFileFault;
+pub use naming::node_named;
 pub use reading::parse;
 pub use writing::{WriteFault, write};

@@ -25,10 +25,10 @@ use Rattle.route_tree.specs.Legality.{is_among}
 use Rattle.route_tree.proofs.Members.{contains_among, among_contains}
 use Rattle.route_tree.specs.Usage.{use_of, overuse_of, covers_by, room_of, Lists, list_in}
 use Rattle.route_report.specs.Covered.{nodes_covered, uses_of}
-use Rattle.route_report.specs.Overused.{Overuse, is_overused}
+use Rattle.route_report.specs.Overused.{Overuse, is_over, is_overused}
 use Rattle.route_report.proofs.Covering.{same_filter}
 use Rattle.std.proofs.lemmas.List.FromFn.{length-range_with_len, get_or-range_with_len}
-use Rattle.route_report.specs.kept.Overused.{is_over, bare, with_net, entry_to}
+use Rattle.route_report.specs.kept.Overused.{bare, with_net, entry_to}
 
 -- ---- the room of a node
 pub room_is : (f : Fabric) (o : Option Node) (capacity : ℕ) → Some capacity ≡ option_map (capacity_of f) o → room_of f o ≡ capacity

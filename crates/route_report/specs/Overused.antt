@@ -1,7 +1,7 @@
 -- The overused nodes of a routing.
-use Rattle.std.specs.Prelude.{ℕ, Bool, nat_lt, List, length, map}
+use Rattle.std.specs.Prelude.{ℕ, Bool, nat_lt, List, length, map, get_or}
 use Rattle.std.specs.List.{filter}
-use Rattle.rr_graph.specs.Fabric.{numbers_below}
+use Rattle.rr_graph.specs.Fabric.{Fabric, numbers_below}
 use Rattle.rr_graph.specs.Nodes.{node_at, node_count_of}
 use Rattle.rr_graph.specs.Problems.{RoutingProblem, net_in}
 use Rattle.route_tree.specs.Usage.{covers_by, use_of, room_of, overuse_of, Lists, list_in}
@@ -30,6 +30,10 @@ overuse_at p lists a = record {
 -- more nets cover the node than it has room for
 abbrev pub is_overused : RoutingProblem → Lists → ℕ → Bool
 is_overused p lists a = nat_lt 0 (overuse_of p lists a)
+
+-- of any uses: that of the node is above its capacity
+abbrev pub is_over : Fabric → (uses : List ℕ) → ℕ → Bool
+is_over f uses a = nat_lt (room_of f (node_at f a)) (get_or uses a 0)
 
 -- the overused nodes, ascending
 unfoldable pub overused_nodes : RoutingProblem → Lists → List Overuse

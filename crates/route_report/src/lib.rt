@@ -15,7 +15,7 @@ mod wirelength;
 
 pub use channels::{ChannelUse, channel_uses};
 pub use figures::{Figures, figures_of};
-pub use overused::{OverusedNode, overused_nodes};
+pub use overused::{OverusedNode, is_over, overused_nodes};
 pub use uses::node_uses;
 pub use wire_types::{WireTypeUse, wire_type_uses};
-pub use wirelength::wirelengths;
+pub use wirelength::{places_at, wirelengths};

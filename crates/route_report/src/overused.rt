@@ -9,8 +9,8 @@ ghost use Rattle.rr_graph.specs.Problems.{IsProblem};
 ghost use Rattle.route_tree.specs.Legality.{is_among};
 ghost use Rattle.route_tree.specs.Usage.{room_of};
 ghost use Rattle.route_report.specs.Covered.{nodes_covered, uses_of};
-ghost use Rattle.route_report.specs.Overused.{overused_nodes};
-ghost use Rattle.route_report.specs.kept.Overused.{is_over, bare, with_net, entry_to};
+ghost use Rattle.route_report.specs.Overused.{is_over, overused_nodes};
+ghost use Rattle.route_report.specs.kept.Overused.{bare, with_net, entry_to};
 
 use crate::covered::nodes_covered;
 use crate::uses::use_at;
@@ -62,8 +62,8 @@ fn room(device: &Device, node: u32) -> u32
     }
 }
 
-/// Whether more nets cover the node than it has room for.
-fn is_over(device: &Device, uses: &[u16], node: u32) -> bool
+/// Whether more nets cover a node than it has room for, of any uses.
+pub fn is_over(device: &Device, uses: &[u16], node: u32) -> bool
     ensures { result ≡ is_over device.now uses.now node }
 {
     room(device, node) < use_at(uses, node)

@@ -31,7 +31,7 @@ fn places_of_wire(device: &Device, node: u32) -> u64
 
 /// How many places a node's wire passes; none where the node is no wire.
 #[tactic(auto, using(crate::proofs::Lengths::places_few))]
-pub(crate) fn places_at(device: &Device, node: u32) -> u64
+pub fn places_at(device: &Device, node: u32) -> u64
     ensures places { result ≡ places_at device.now node }
     ensures few { result ≤ 128 }
 {

@@ -14,7 +14,7 @@ use Rattle.runs.specs.declared.fault.InputFile.TheVariants as file
 use Rattle.runs.specs.declared.fault.AppFault.{AppFault}
 use Rattle.runs.specs.Runs.{DesignFiles, Input, bytes_in, ◌>>=◌}
 use Rattle.runs.specs.Inputs.{PlacedDesign, PlacedNetlist, arch_in, design_in, design_on, netlist_from, netlist_in, placed_in, placed_with, placement_in, routing_in}
-use Rattle.runs.specs.kept.Stages.{NetlistText, design_of, placed_of, text_in}
+use Rattle.runs.specs.Stages.{NetlistText, design_of, placed_of, text_in}
 use Rattle.runs.specs.CheckRun.{judged_in, judged_on}
 
 -- ---- the first stage

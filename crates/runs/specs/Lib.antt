@@ -9,6 +9,8 @@ pub mod Faults
 pub mod Runs
 pub mod GraphRun
 pub mod Inputs
+pub mod Reading
+pub mod Stages
 pub mod Verdict
 pub mod CheckRun
 pub mod RouteRun

@@ -1,4 +1,2 @@
-pub mod Stages
 pub mod ReaderFaults
-pub mod Reading
 pub mod Routing

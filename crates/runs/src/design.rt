@@ -6,8 +6,8 @@ ghost use Rattle.rr_graph.specs.Fabric.{most_tracks};
 ghost use Rattle.route_file.specs.Design.{IsDesign};
 ghost use Rattle.runs.specs.Inputs.{ends_before};
 ghost use Rattle.runs.specs.Runs.{Meets, reading};
-ghost use Rattle.runs.specs.kept.Reading.{Gives};
-ghost use Rattle.runs.specs.kept.Stages.{design_of};
+ghost use Rattle.runs.specs.Reading.{Gives};
+ghost use Rattle.runs.specs.Stages.{design_of};
 
 use crate::fault::{AppFault, InputFile};
 use crate::netlist_text::NetlistText;
@@ -21,7 +21,7 @@ use vpr_text::ByteSource;
 
 /// A placed design, and the problem of routing it on the device of its array.
 #[derive(Drop)]
-pub(crate) struct Design<'a> {
+pub struct Design<'a> {
     placed: PlacedNetlist<'a>,
     problem: Problem,
 }
@@ -47,7 +47,7 @@ impl<'a> Model for Design<'a> {
 impl<'a> Design<'a> {
     /// The design of a netlist's text, whose placement is read: its netlist, its placement, and its problem on the device of
     /// the placement's array.
-    pub(crate) fn read<P: ByteSource>(
+    pub fn read<P: ByteSource>(
         alloc: Global,
         text: &'a NetlistText,
         place: &mut P,
@@ -68,7 +68,7 @@ impl<'a> Design<'a> {
         Ok(Design { placed, problem })
     }
 
-    pub(crate) fn netlist(&self) -> &Netlist<'a>
+    pub fn netlist(&self) -> &Netlist<'a>
         ensures { result.now ≡ self.now.netlist }
     {
         self.placed.netlist()
@@ -81,7 +81,7 @@ impl<'a> Design<'a> {
     }
 
     /// Its problem, whose nets have the numbers of the netlist's routed nets.
-    pub(crate) fn problem(&self) -> &Problem
+    pub fn problem(&self) -> &Problem
         ensures problem { result.now ≡ self.now.problem }
         ensures design { IsDesign self.now.netlist self.now.placement self.now.problem }
         ensures numbers { map (λ n. n.number) self.now.problem.nets

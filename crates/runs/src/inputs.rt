@@ -5,7 +5,7 @@ ghost use Rattle.net_file.specs.Reads.{ReadsBytes};
 ghost use Rattle.net_file.specs.Routed.{routed_numbers};
 ghost use Rattle.place_file.specs.Placement.{IsPlaced};
 ghost use Rattle.runs.specs.Runs.{Meets, bytes_in, reading};
-ghost use Rattle.runs.specs.kept.Reading.{Gives};
+ghost use Rattle.runs.specs.Reading.{Gives};
 ghost use Rattle.runs.specs.Inputs.{arch_from, arch_in, ends_before, netlist_from, placement_from, placement_in, routing_from, routing_in};
 
 use crate::arch_fault::of_arch;

@@ -24,11 +24,14 @@ mod verdict;
 mod width;
 
 pub use check::check_run;
+pub use design::Design;
 pub use fault::{AppFault, InputFile, print_fault, status};
 pub use graph::graph_run;
+pub use inputs::{parse_routing, read_input};
+pub use netlist_text::NetlistText;
 pub use outcome::outcome_status;
 pub use progress::Progress;
 pub use route::route_run;
 pub use trials::report_status;
-pub use verdict::verdict_status;
+pub use verdict::{net_name, number_of_net, put_node_of, verdict_status};
 pub use width::width_run;

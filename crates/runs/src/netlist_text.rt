@@ -3,8 +3,8 @@
 ghost use Rattle.std.specs.Prelude.{◌≡◌, true};
 ghost use Rattle.runs.specs.Inputs.{ends_before};
 ghost use Rattle.runs.specs.Runs.{Meets, reading};
-ghost use Rattle.runs.specs.kept.Reading.{Gives};
-ghost use Rattle.runs.specs.kept.Stages.{text_in};
+ghost use Rattle.runs.specs.Reading.{Gives};
+ghost use Rattle.runs.specs.Stages.{text_in};
 
 use crate::fault::{AppFault, InputFile};
 use crate::inputs::{read_arch, read_input};
@@ -15,13 +15,13 @@ use vpr_text::ByteSource;
 
 /// An architecture, and the text of a netlist for it.
 #[derive(Drop)]
-pub(crate) struct NetlistText {
+pub struct NetlistText {
     arch: Arch,
     bytes: Vec<u8>,
 }
 
 impl Model for NetlistText {
-    ghost use Rattle.runs.specs.kept.Stages.{NetlistText};
+    ghost use Rattle.runs.specs.Stages.{NetlistText};
 
     ghost Value = { NetlistText };
 
@@ -30,7 +30,7 @@ impl Model for NetlistText {
 
 impl NetlistText {
     /// Reads an architecture, and then, where it has no fault, the text of a netlist.
-    pub(crate) fn read<A: ByteSource, N: ByteSource>(
+    pub fn read<A: ByteSource, N: ByteSource>(
         alloc: Global,
         arch: &mut A,
         net: &mut N,

@@ -9,8 +9,8 @@ ghost use Rattle.route_file.specs.Design.{IsDesign};
 ghost use Rattle.width_search.specs.Reports.{problem_at};
 ghost use Rattle.runs.specs.Inputs.{ends_before, placed_problem};
 ghost use Rattle.runs.specs.Runs.{Meets, reading};
-ghost use Rattle.runs.specs.kept.Reading.{Gives};
-ghost use Rattle.runs.specs.kept.Stages.{placed_of};
+ghost use Rattle.runs.specs.Reading.{Gives};
+ghost use Rattle.runs.specs.Stages.{placed_of};
 
 use crate::fault::{AppFault, InputFile};
 use crate::inputs::{parse_netlist, read_placement};

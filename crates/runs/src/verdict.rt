@@ -33,7 +33,7 @@ fn tree_fault_name(fault: TreeFault) -> &'static [u8]
 }
 
 /// The number in its netlist of a net of the problem; 0 past the last one.
-fn number_of_net(problem: &Problem, net: u32) -> u32
+pub fn number_of_net(problem: &Problem, net: u32) -> u32
     ensures { result ≡ (net_in problem.now.nets net).number }
 {
     if net < problem.nets() {
@@ -44,7 +44,7 @@ fn number_of_net(problem: &Problem, net: u32) -> u32
 }
 
 /// The name of the net with this number; none past the last one.
-fn net_name<'a>(netlist: &Netlist<'a>, number: u32) -> &'a [u8]
+pub fn net_name<'a>(netlist: &Netlist<'a>, number: u32) -> &'a [u8]
     ensures { result.now ≡ (slice_index_or netlist.now.nets number no_net).name }
 {
     match netlist.nets().get(number as usize) {
@@ -92,7 +92,7 @@ fn put_net_fault<W: ByteSink>(
 }
 
 /// Prints the node of a number; nothing for what is no node.
-fn put_node_of<W: ByteSink>(out: &mut OutputBuffer, sink: &mut W, device: &Device, id: u32)
+pub fn put_node_of<W: ByteSink>(out: &mut OutputBuffer, sink: &mut W, device: &Device, id: u32)
     ensures { Sends (stream (W.taken sink.old) (W.failed sink.old) out.old)
         (stream (W.taken sink.new) (W.failed sink.new) out.new)
         (text_of_node device.now (node_at device.now id)) }

@@ -1,5 +1,5 @@
 -- The overused nodes by counted uses, and the nets found on them so far.
-use Rattle.std.specs.Prelude.{ℕ, Bool, nat_lt, if◌then◌else◌, List, [], ◌∷◌, ◌++◌, get_or}
+use Rattle.std.specs.Prelude.{ℕ, Bool, if◌then◌else◌, List, [], ◌∷◌, ◌++◌, get_or}
 use Rattle.std.specs.List.{filter}
 use Rattle.rr_graph.specs.Fabric.{Fabric, numbers_below}
 use Rattle.rr_graph.specs.Nodes.{node_at}
@@ -10,10 +10,6 @@ use Rattle.route_report.specs.Overused.{Overuse}
 
 abbrev pub overuse_inside : overused.Inside → Overuse
 overuse_inside o = record { node = o.node; used = o.used; capacity = o.capacity; nets = o.nets.items }
-
--- the count of the node is above its capacity
-abbrev pub is_over : Fabric → List ℕ → ℕ → Bool
-is_over f uses a = nat_lt (room_of f (node_at f a)) (get_or uses a 0)
 
 -- a node with its count, and no nets yet
 abbrev pub bare : Fabric → List ℕ → ℕ → Overuse

@@ -5,8 +5,8 @@ use Rattle.std.proofs.lemmas.List.{length-map}
 use Rattle.rr_graph.specs.Fabric.{numbers_below}
 use Rattle.rr_graph.specs.Nodes.{node_count_of}
 use Rattle.route_tree.specs.Usage.{Lists}
-use Rattle.route_report.specs.Overused.{is_overused, overuse_at, overused_nodes}
-use Rattle.route_report.specs.kept.Overused.{is_over, bare, entry_to}
+use Rattle.route_report.specs.Overused.{is_over, is_overused, overuse_at, overused_nodes}
+use Rattle.route_report.specs.kept.Overused.{bare, entry_to}
 use Rattle.route_report.proofs.Counting.{written_back}
 use Rattle.route_report.proofs.Overusing.{nodes_are, bare_are, over_there, over_ascends}
 use Rattle.route_report.proofs.overused.overused_nodes.Goals as goal

@@ -1,0 +1,11 @@
+-- A report isn't empty.
+use Rattle.std.proofs.Common.{◌<◌, Bool, List, length, arith, length-append}
+use Rattle.vpr_text.specs.Words.{Line}
+use Rattle.net_file.specs.Netlist.{Netlist}
+use Rattle.rr_graph.specs.Problems.{RoutingProblem}
+use Rattle.report_run.specs.Figures.{device_lines}
+use Rattle.report_run.specs.Report.{RouteReport, figure_lines, counted_lines, route_report_text}
+
+pub report_filled : (is_map : Bool) (netlist : Netlist) (p : RoutingProblem) (lines : List Line) (r : RouteReport) → 0 < length (route_report_text is_map netlist p lines r)
+unfolding route_report_text counted_lines figure_lines device_lines
+report_filled is_map netlist p lines r = simp length-append (omega arith)

@@ -1,0 +1,4 @@
+pub mod Places
+pub mod Filled
+pub mod Loops
+pub mod Reading

@@ -1,0 +1,10 @@
+use Rattle.vpr_text.proofs.Printing.{sends_then}
+use Rattle.report_run.specs.Figures.{use_lines}
+use Rattle.report_run.proofs.figures.put_uses.Goals as goal
+
+pub returns : goal.returns
+unfolding use_lines
+returns g c =
+    let wires = rw (c.from.ensures, c.wires_in.ensures) at c.put_share.ensures in
+    let places = rw c.places_in.ensures at c.put_share-2.ensures in
+    sends_then c.push.ensures (sends_then wires (sends_then c.push-2.ensures (sends_then places c.push-3.ensures)))

@@ -1,0 +1,9 @@
+use Rattle.vpr_text.proofs.Printing.{sends_then}
+use Rattle.report_run.specs.Map.{crossing_line}
+use Rattle.report_run.proofs.map.put_crossing_line.Goals as goal
+
+pub returns : goal.returns
+unfolding crossing_line
+returns g c =
+    let crossings = rw c.nx.ensures.entry at c.put_crossings.ensures in
+    sends_then c.push.ensures (sends_then crossings c.push-2.ensures)

@@ -1,0 +1,10 @@
+pub mod Texts
+pub mod Figures
+pub mod WireTypes
+pub mod Channels
+pub mod Overused
+pub mod Named
+pub mod Map
+pub mod Report
+pub mod ReportRun
+pub mod kept

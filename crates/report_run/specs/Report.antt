@@ -1,0 +1,56 @@
+-- What a report says of a routing, legal or not, and its text (ours).
+use Rattle.std.specs.Prelude.{Bool, if◌then◌else◌, ℕ, List, [], ◌++◌}
+use Rattle.vpr_text.specs.Words.{Line}
+use Rattle.net_file.specs.Netlist.{Netlist}
+use Rattle.rr_graph.specs.Fabric.{Fabric}
+use Rattle.rr_graph.specs.Problems.{RoutingProblem}
+use Rattle.route_tree.specs.Usage.{Lists}
+use Rattle.route_report.specs.declared.figures.Figures.{Figures}
+use Rattle.route_report.specs.declared.wire_types.WireTypeUse.{WireTypeUse}
+use Rattle.route_report.specs.Channels.{Channel, channels_of}
+use Rattle.route_report.specs.Covered.{uses_of}
+use Rattle.route_report.specs.Figures.{figures_of}
+use Rattle.route_report.specs.Overused.{Overuse, overused_nodes}
+use Rattle.route_report.specs.WireTypes.{wire_types_of}
+use Rattle.report_run.specs.Channels.{channel_lines}
+use Rattle.report_run.specs.Figures.{device_lines, length_lines, net_count_lines, use_lines}
+use Rattle.report_run.specs.Map.{map_text}
+use Rattle.report_run.specs.Named.{naming_lines}
+use Rattle.report_run.specs.Overused.{overuse_lines}
+use Rattle.report_run.specs.WireTypes.{type_lines}
+
+-- the figures of a routing, and how many nets cover each node
+pub record RouteReport : Type 0 where
+  pub uses : List ℕ
+  pub figures : Figures
+  pub types : List WireTypeUse
+  pub channels : List Channel
+  pub overused : List Overuse
+
+abbrev pub route_report_on : RoutingProblem → Lists → RouteReport
+route_report_on p lists = record {
+  uses = uses_of p lists;
+  figures = figures_of p lists;
+  types = wire_types_of p.device (uses_of p lists);
+  channels = channels_of p.device (uses_of p lists);
+  overused = overused_nodes p lists;
+}
+
+-- the lines on the whole routing
+unfoldable pub figure_lines : Netlist → RoutingProblem → Figures → List ℕ
+figure_lines netlist p c =
+    device_lines p.device ++ (net_count_lines netlist c ++ (use_lines p.device c ++ length_lines netlist p c))
+
+-- the lines of a report, without those on the file
+unfoldable pub counted_lines : Netlist → RoutingProblem → RouteReport → List ℕ
+counted_lines netlist p r =
+    figure_lines netlist p r.figures
+    ++ (type_lines r.types ++ (channel_lines p.device r.channels ++ overuse_lines netlist p r.overused))
+
+abbrev pub map_if : (is_map : Bool) → Fabric → RouteReport → List ℕ
+map_if is_map f r = if is_map then map_text f r.channels else []
+
+-- the lines of a report, those on the lines of the file, and the map where it is asked for
+unfoldable pub route_report_text : (is_map : Bool) → Netlist → RoutingProblem → List Line → RouteReport → List ℕ
+route_report_text is_map netlist p lines r =
+    counted_lines netlist p r ++ (naming_lines p.device r.uses lines ++ map_if is_map p.device r)

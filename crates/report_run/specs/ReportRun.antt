@@ -1,0 +1,46 @@
+-- What a run of `report` answers and prints (ours).
+use Rattle.std.specs.Prelude.{ℕ, Bool, List, [], Result, Ok, Err}
+use Rattle.vpr_text.specs.declared.fault.TextFault.{TextFault}
+use Rattle.vpr_text.specs.Text.{lines_of}
+use Rattle.vpr_text.specs.Words.{Line}
+use Rattle.rr_graph.specs.declared.parts.Mode.{Mode}
+use Rattle.route_tree.specs.Usage.{Lists}
+use Rattle.runs.specs.declared.fault.AppFault.{AppFault}
+use Rattle.runs.specs.declared.fault.InputFile.TheVariants as file
+use Rattle.runs.specs.Inputs.{PlacedDesign, design_in, routing_from}
+use Rattle.runs.specs.Runs.{DesignFiles, Input, PrintsText, StopsOrGoesOn, TakesNothing, Writing, bytes_in, ◌>>=◌}
+use Rattle.report_run.specs.Report.{route_report_on, route_report_text}
+
+-- a routing, the lines of its file, and the design that it is meant for
+pub record Reported : Type 0 where
+  pub design : PlacedDesign
+  pub lines : List Line
+  pub routing : Lists
+
+abbrev pub lines_read : Result (List Line) TextFault → List Line
+lines_read (Ok lines) = lines
+lines_read (Err f) = []
+
+abbrev pub reported_with : PlacedDesign → (bytes : List ℕ) → Lists → Reported
+reported_with d bytes routing = record { design = d; lines = lines_read (lines_of bytes); routing = routing }
+
+-- what the bytes of a routing file say, for a design
+unfoldable pub reported_of : PlacedDesign → (bytes : List ℕ) → Result Reported AppFault
+reported_of d bytes = routing_from d.netlist d.problem bytes >>= λ routing. Ok (reported_with d bytes routing)
+
+unfoldable pub reported_on : PlacedDesign → (route : Input) → Result Reported AppFault
+reported_on d route = bytes_in file.Route route >>= reported_of d
+
+-- what the files of a design and a routing file say, for a device of this width and mode
+unfoldable pub reported_in : (width : ℕ) → Mode → DesignFiles → (route : Input) → Result Reported AppFault
+reported_in width mode files route = design_in width mode files >>= λ d. reported_on d route
+
+-- the report of the routing is printed
+abbrev pub PrintsReport : (is_map : Bool) → (out : Writing) → Reported → Result (Unit {0}) AppFault → Type 0
+PrintsReport is_map out r result =
+    let p = r.design.problem in
+    PrintsText out (route_report_text is_map r.design.netlist p r.lines (route_report_on p r.routing)) tt result
+
+-- A run of `report`, memory aside: where its files say a routing of a problem, its report is printed.
+abbrev pub RunsReport : (is_map : Bool) → (out : Writing) → Result Reported AppFault → Result (Unit {0}) AppFault → Type 0
+RunsReport is_map out = StopsOrGoesOn (TakesNothing out) (PrintsReport is_map out)

@@ -1,0 +1,73 @@
+//! The lines on the channels.
+
+ghost use Rattle.std.specs.Prelude.{◌≡◌};
+ghost use Rattle.vpr_text.specs.Output.{Sends, stream};
+ghost use Rattle.report_run.specs.Channels.{axis_text, occupancy_line, channel_lines, places_of_channel};
+
+use crate::text::put_mean;
+use route_file::text::put_number;
+use route_report::ChannelUse;
+use rr_graph::{Device, Kind};
+use vpr_text::{ByteSink, OutputBuffer};
+
+/// The axis along which a channel runs, before its number.
+fn axis_name(kind: Kind) -> &'static [u8]
+    ensures { result.now ≡ axis_text kind }
+{
+    match kind {
+        Kind::Chany => b"y ",
+        _ => b"x ",
+    }
+}
+
+/// How many places a channel of this kind has.
+fn places_of_channel(device: &Device, kind: Kind) -> u32
+    ensures { result ≡ places_of_channel device.now kind }
+{
+    match kind {
+        Kind::Chany => device.ny(),
+        _ => device.nx(),
+    }
+}
+
+/// Prints the line of a channel.
+fn put_channel<W: ByteSink>(
+    out: &mut OutputBuffer,
+    sink: &mut W,
+    device: &Device,
+    channel: &ChannelUse,
+)
+    ensures { Sends (stream (W.taken sink.old) (W.failed sink.old) out.old)
+        (stream (W.taken sink.new) (W.failed sink.new) out.new)
+        (occupancy_line device.now channel.now) }
+{
+    out.push(sink, b"channel ");
+    out.push(sink, axis_name(channel.kind));
+    put_number(out, sink, channel.number);
+    out.push(sink, b" most ");
+    put_number(out, sink, channel.most);
+    out.push(sink, b" mean ");
+    put_mean(
+        out,
+        sink,
+        channel.total,
+        places_of_channel(device, channel.kind),
+    );
+    out.push(sink, b"\n");
+}
+
+/// Prints the lines of the channels.
+pub(crate) fn put_channels<W: ByteSink>(
+    out: &mut OutputBuffer,
+    sink: &mut W,
+    device: &Device,
+    channels: &[ChannelUse],
+)
+    ensures { Sends (stream (W.taken sink.old) (W.failed sink.old) out.old)
+        (stream (W.taken sink.new) (W.failed sink.new) out.new)
+        (channel_lines device.now channels.now) }
+{
+    for channel in channels {
+        put_channel(out, sink, device, channel);
+    }
+}

@@ -1,0 +1,124 @@
+//! The lines on the device, and those on the whole routing.
+
+ghost use Rattle.std.specs.Prelude.{◌≡◌};
+ghost use Rattle.vpr_text.specs.Output.{Sends, stream};
+ghost use Rattle.report_run.specs.Figures.{device_lines, length_lines, longest_text, net_count_lines, use_lines};
+ghost use Rattle.report_run.specs.Report.{figure_lines};
+
+use crate::device::{global_nets, places_in, wires_in};
+use crate::text::{put_mean, put_name, put_share};
+use net_file::Netlist;
+use route_file::text::put_number;
+use route_report::Figures;
+use rr_graph::{Device, Problem};
+use vpr_text::{ByteSink, OutputBuffer};
+
+/// Prints the lines on the device.
+fn put_device<W: ByteSink>(out: &mut OutputBuffer, sink: &mut W, device: &Device)
+    ensures { Sends (stream (W.taken sink.old) (W.failed sink.old) out.old)
+        (stream (W.taken sink.new) (W.failed sink.new) out.new) (device_lines device.now) }
+{
+    out.push(sink, b"array ");
+    put_number(out, sink, device.nx());
+    out.push(sink, b" x ");
+    put_number(out, sink, device.ny());
+    out.push(sink, b"\nwidth ");
+    put_number(out, sink, device.width());
+    out.push(sink, b"\n");
+}
+
+/// Prints the lines on how many nets there are, and how many have a list.
+fn put_nets<W: ByteSink>(
+    out: &mut OutputBuffer,
+    sink: &mut W,
+    netlist: &Netlist<'_>,
+    figures: &Figures,
+)
+    ensures { Sends (stream (W.taken sink.old) (W.failed sink.old) out.old)
+        (stream (W.taken sink.new) (W.failed sink.new) out.new)
+        (net_count_lines netlist.now figures.now) }
+{
+    out.push(sink, b"nets ");
+    put_number(out, sink, netlist.nets().len());
+    out.push(sink, b"\nglobal ");
+    put_number(out, sink, global_nets(netlist));
+    out.push(sink, b"\ntrees ");
+    put_share(
+        out,
+        sink,
+        u64::from(figures.listed),
+        u64::from(figures.nets),
+    );
+    out.push(sink, b"\n");
+}
+
+/// Prints the lines on the wires that are used, and their places.
+fn put_uses<W: ByteSink>(out: &mut OutputBuffer, sink: &mut W, device: &Device, figures: &Figures)
+    ensures { Sends (stream (W.taken sink.old) (W.failed sink.old) out.old)
+        (stream (W.taken sink.new) (W.failed sink.new) out.new)
+        (use_lines device.now figures.now) }
+{
+    out.push(sink, b"wires ");
+    put_share(out, sink, u64::from(figures.wires), wires_in(device));
+    out.push(sink, b"\nplaces ");
+    put_share(out, sink, figures.places, places_in(device));
+    out.push(sink, b"\n");
+}
+
+/// Prints the name of the longest net, if there is one.
+fn put_longest<W: ByteSink>(
+    out: &mut OutputBuffer,
+    sink: &mut W,
+    netlist: &Netlist<'_>,
+    problem: &Problem,
+    longest: Option<u32>,
+)
+    ensures { Sends (stream (W.taken sink.old) (W.failed sink.old) out.old)
+        (stream (W.taken sink.new) (W.failed sink.new) out.new)
+        (longest_text netlist.now problem.now longest) }
+{
+    if let Some(net) = longest {
+        put_name(out, sink, netlist, problem, net);
+    }
+}
+
+/// Prints the lines on the wirelength.
+fn put_lengths<W: ByteSink>(
+    out: &mut OutputBuffer,
+    sink: &mut W,
+    netlist: &Netlist<'_>,
+    problem: &Problem,
+    figures: &Figures,
+)
+    ensures { Sends (stream (W.taken sink.old) (W.failed sink.old) out.old)
+        (stream (W.taken sink.new) (W.failed sink.new) out.new)
+        (length_lines netlist.now problem.now figures.now) }
+{
+    out.push(sink, b"wirelength ");
+    put_number(out, sink, figures.wirelength);
+    out.push(sink, b"\nmean ");
+    put_mean(out, sink, figures.wirelength, figures.listed);
+    out.push(sink, b"\ngreatest ");
+    put_number(out, sink, figures.greatest);
+    put_longest(out, sink, netlist, problem, figures.longest);
+    out.push(sink, b"\n");
+}
+
+/// Prints the lines on the whole routing.
+pub(crate) fn put_figures<W: ByteSink>(
+    out: &mut OutputBuffer,
+    sink: &mut W,
+    netlist: &Netlist<'_>,
+    problem: &Problem,
+    figures: &Figures,
+)
+    ensures { Sends (stream (W.taken sink.old) (W.failed sink.old) out.old)
+        (stream (W.taken sink.new) (W.failed sink.new) out.new)
+        (figure_lines netlist.now problem.now figures.now) }
+{
+    let device = problem.device();
+    put_device(out, sink, device);
+    put_nets(out, sink, netlist, figures);
+    put_uses(out, sink, device, figures);
+    put_lengths(out, sink, netlist, problem, figures);
+}

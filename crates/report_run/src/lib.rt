@@ -1,0 +1,16 @@
+//! The `report` command over any sources and sink: the figures of a routing, legal or not, as text.
+#![tactic(auto)]
+
+mod channels;
+mod device;
+mod figures;
+pub mod laws;
+mod map;
+mod named;
+mod overused;
+mod report;
+mod run;
+mod text;
+mod wire_types;
+
+pub use run::report_run;

@@ -1,0 +1,79 @@
+//! The lines on the lines of the routing file that name what is overused.
+
+ghost use Rattle.std.specs.Prelude.{◌≡◌, ◌<◌, length, option_copied};
+ghost use Rattle.vpr_text.specs.Output.{Sends, stream};
+ghost use Rattle.report_run.specs.Named.{named_at, named_text, naming_line, naming_lines};
+
+use route_file::node_named;
+use route_file::text::put_number;
+use route_report::is_over;
+use rr_graph::Device;
+use vpr_text::{ByteSink, Lines, OutputBuffer};
+
+/// Prints that a line names a node.
+fn put_naming<W: ByteSink>(out: &mut OutputBuffer, sink: &mut W, line: u32, node: u32)
+    ensures { Sends (stream (W.taken sink.old) (W.failed sink.old) out.old)
+        (stream (W.taken sink.new) (W.failed sink.new) out.new) (naming_line line node) }
+{
+    out.push(sink, b"line ");
+    put_number(out, sink, line);
+    out.push(sink, b" node ");
+    put_number(out, sink, node);
+    out.push(sink, b"\n");
+}
+
+/// Prints that a line names a node, if it names one and that is overused.
+fn put_named<W: ByteSink>(
+    out: &mut OutputBuffer,
+    sink: &mut W,
+    device: &Device,
+    uses: &[u16],
+    line: u32,
+    node: Option<u32>,
+)
+    ensures { Sends (stream (W.taken sink.old) (W.failed sink.old) out.old)
+        (stream (W.taken sink.new) (W.failed sink.new) out.new)
+        (named_text device.now uses.now line node) }
+{
+    let Some(node) = node else {
+        return;
+    };
+    if is_over(device, uses, node) {
+        put_naming(out, sink, line, node);
+    }
+}
+
+/// Prints what is said of a line of the file.
+fn put_named_at<W: ByteSink>(
+    out: &mut OutputBuffer,
+    sink: &mut W,
+    device: &Device,
+    uses: &[u16],
+    lines: &Lines<'_>,
+    index: usize,
+)
+    requires { index < length lines.now }
+    ensures { Sends (stream (W.taken sink.old) (W.failed sink.old) out.old)
+        (stream (W.taken sink.new) (W.failed sink.new) out.new)
+        (named_at device.now uses.now lines.now index) }
+{
+    let node = node_named(lines, device, index);
+    put_named(out, sink, device, uses, lines.at(index), node);
+}
+
+/// Prints which lines of the file name what is overused by these uses.
+pub(crate) fn put_naming_lines<W: ByteSink>(
+    out: &mut OutputBuffer,
+    sink: &mut W,
+    device: &Device,
+    uses: &[u16],
+    lines: &Lines<'_>,
+)
+    ensures { Sends (stream (W.taken sink.old) (W.failed sink.old) out.old)
+        (stream (W.taken sink.new) (W.failed sink.new) out.new)
+        (naming_lines device.now uses.now lines.now) }
+{
+    for index in 0..lines.len() {
+        put_named_at(out, sink, device, uses, lines, index);
+    }
+}

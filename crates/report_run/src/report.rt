@@ -1,0 +1,121 @@
+//! What a report says of a routing, and its text.
+
+ghost use Rattle.std.specs.Prelude.{◌≡◌, IfOk};
+ghost use Rattle.vpr_text.specs.Output.{Sends, stream};
+ghost use Rattle.report_run.specs.Report.{counted_lines, map_if, route_report_on, route_report_text};
+
+use crate::channels::put_channels;
+use crate::figures::put_figures;
+use crate::map::put_map;
+use crate::named::put_naming_lines;
+use crate::overused::put_overused;
+use crate::wire_types::put_types;
+use net_file::Netlist;
+use route_report::{
+    ChannelUse, Figures, OverusedNode, WireTypeUse, channel_uses, figures_of, node_uses,
+    overused_nodes, wire_type_uses,
+};
+use route_tree::Routing;
+use rr_graph::{Device, Problem};
+use std::alloc::{AllocError, Global};
+use std::marker::Model;
+use vpr_text::{ByteSink, Lines, OutputBuffer};
+
+/// What a report says of a routing.
+#[derive(Drop)]
+pub(crate) struct RouteReport {
+    /// How many nets cover each node, by its number.
+    uses: Vec<u16>,
+    figures: Figures,
+    types: Vec<WireTypeUse>,
+    channels: Vec<ChannelUse>,
+    overused: Vec<OverusedNode>,
+}
+
+impl Model for RouteReport {
+    ghost use Rattle.report_run.specs.Report.{RouteReport};
+
+    ghost Value = { RouteReport };
+
+    ghost use Rattle.report_run.specs.kept.Fields.{report_inside};
+
+    ghost view = { report_inside };
+}
+
+impl RouteReport {
+    /// The figures of a routing, legal or not.
+    pub(crate) fn new(
+        alloc: Global,
+        problem: &Problem,
+        routing: &Routing,
+    ) -> Result<RouteReport, AllocError>
+        ensures { IfOk result (λ r. r ≡ route_report_on problem.now routing.now) }
+    {
+        let uses = node_uses(alloc, problem, routing)?;
+        let figures = figures_of(alloc, problem, routing, &uses)?;
+        let types = wire_type_uses(alloc, problem.device(), &uses)?;
+        let channels = channel_uses(alloc, problem.device(), &uses)?;
+        let overused = overused_nodes(alloc, problem, routing, &uses)?;
+        Ok(RouteReport {
+            uses,
+            figures,
+            types,
+            channels,
+            overused,
+        })
+    }
+
+    /// Prints the lines of the report.
+    fn put_lines<W: ByteSink>(
+        &self,
+        out: &mut OutputBuffer,
+        sink: &mut W,
+        netlist: &Netlist<'_>,
+        problem: &Problem,
+    )
+        ensures { Sends (stream (W.taken sink.old) (W.failed sink.old) out.old)
+            (stream (W.taken sink.new) (W.failed sink.new) out.new)
+            (counted_lines netlist.now problem.now self.now) }
+    {
+        put_figures(out, sink, netlist, problem, &self.figures);
+        put_types(out, sink, &self.types);
+        put_channels(out, sink, problem.device(), &self.channels);
+        put_overused(out, sink, netlist, problem, &self.overused);
+    }
+
+    /// Prints the map of the channels, if it is asked for.
+    fn put_map_if<W: ByteSink>(
+        &self,
+        out: &mut OutputBuffer,
+        sink: &mut W,
+        device: &Device,
+        is_map: bool,
+    )
+        ensures { Sends (stream (W.taken sink.old) (W.failed sink.old) out.old)
+            (stream (W.taken sink.new) (W.failed sink.new) out.new)
+            (map_if is_map device.now self.now) }
+    {
+        if is_map {
+            put_map(out, sink, device, &self.channels);
+        }
+    }
+
+    /// Prints the report, what is said of the lines of the file, and the map if it is asked for.
+    pub(crate) fn put<W: ByteSink>(
+        &self,
+        out: &mut OutputBuffer,
+        sink: &mut W,
+        netlist: &Netlist<'_>,
+        problem: &Problem,
+        lines: &Lines<'_>,
+        is_map: bool,
+    )
+        ensures { Sends (stream (W.taken sink.old) (W.failed sink.old) out.old)
+            (stream (W.taken sink.new) (W.failed sink.new) out.new)
+            (route_report_text is_map netlist.now problem.now lines.now self.now) }
+    {
+        self.put_lines(out, sink, netlist, problem);
+        put_naming_lines(out, sink, problem.device(), &self.uses, lines);
+        self.put_map_if(out, sink, problem.device(), is_map);
+    }
+}

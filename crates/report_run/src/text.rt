@@ -1,0 +1,78 @@
+//! Pieces of a report's lines, printed through a buffer.
+
+ghost use Rattle.std.specs.Prelude.{◌≡◌, ◌≤◌, ◌<◌, ◌^◌, max};
+ghost use Rattle.vpr_text.specs.Output.{Sends, stream};
+ghost use Rattle.report_run.specs.Texts.{hundredths_left, mean_text, name_text, quotient_text, share_text};
+
+use net_file::Netlist;
+use route_file::text::put_number;
+use rr_graph::Problem;
+use runs::{net_name, number_of_net};
+use vpr_text::{ByteSink, OutputBuffer};
+
+/// Prints how many of what there is.
+pub(crate) fn put_share<W: ByteSink>(out: &mut OutputBuffer, sink: &mut W, part: u64, whole: u64)
+    ensures { Sends (stream (W.taken sink.old) (W.failed sink.old) out.old)
+        (stream (W.taken sink.new) (W.failed sink.new) out.new) (share_text part whole) }
+{
+    put_number(out, sink, part);
+    out.push(sink, b" of ");
+    put_number(out, sink, whole);
+}
+
+/// What is left of a number after a division, in hundredths of the divisor.
+fn hundredths_left(number: u64, by: u64) -> u64
+    requires some { 1 ≤ by }
+    requires few { by < 2 ^ 32 }
+    ensures { result ≡ hundredths_left number by }
+{
+    number % by * 100 / by
+}
+
+/// Prints a quotient with two decimals.
+fn put_quotient<W: ByteSink>(out: &mut OutputBuffer, sink: &mut W, number: u64, by: u64)
+    requires some { 1 ≤ by }
+    requires few { by < 2 ^ 32 }
+    ensures { Sends (stream (W.taken sink.old) (W.failed sink.old) out.old)
+        (stream (W.taken sink.new) (W.failed sink.new) out.new) (quotient_text number by) }
+{
+    let hundredths = hundredths_left(number, by);
+    put_number(out, sink, number / by);
+    out.push(sink, b".");
+    put_number(out, sink, hundredths / 10);
+    put_number(out, sink, hundredths % 10);
+}
+
+/// A number of things, of which there is at least one.
+fn some_of(count: u32) -> u64
+    ensures most { result ≡ max count 1 }
+    ensures some { 1 ≤ result }
+    ensures few { result < 2 ^ 32 }
+{
+    u64::from(count.max(1))
+}
+
+/// Prints the mean of so many numbers with this sum.
+pub(crate) fn put_mean<W: ByteSink>(out: &mut OutputBuffer, sink: &mut W, sum: u64, count: u32)
+    ensures { Sends (stream (W.taken sink.old) (W.failed sink.old) out.old)
+        (stream (W.taken sink.new) (W.failed sink.new) out.new) (mean_text sum count) }
+{
+    put_quotient(out, sink, sum, some_of(count));
+}
+
+/// Prints the name of a net of the problem, after a blank.
+pub(crate) fn put_name<W: ByteSink>(
+    out: &mut OutputBuffer,
+    sink: &mut W,
+    netlist: &Netlist<'_>,
+    problem: &Problem,
+    net: u32,
+)
+    ensures { Sends (stream (W.taken sink.old) (W.failed sink.old) out.old)
+        (stream (W.taken sink.new) (W.failed sink.new) out.new)
+        (name_text netlist.now problem.now net) }
+{
+    let number = number_of_net(problem, net);
+    out.push(sink, b" ");
+    out.push(sink, net_name(netlist, number));
+}

@@ -1,0 +1,51 @@
+//! The lines on the types of wire.
+
+ghost use Rattle.std.specs.Prelude.{◌≡◌, ◌<◌, get_or, length};
+ghost use Rattle.vpr_text.specs.Output.{Sends, stream};
+ghost use Rattle.report_run.specs.WireTypes.{no_type, type_line, type_line_at, type_lines};
+
+use crate::text::put_share;
+use route_file::text::put_number;
+use route_report::WireTypeUse;
+use vpr_text::{ByteSink, OutputBuffer};
+
+/// Prints the line of a type.
+fn put_type<W: ByteSink>(out: &mut OutputBuffer, sink: &mut W, number: usize, kind: &WireTypeUse)
+    ensures { Sends (stream (W.taken sink.old) (W.failed sink.old) out.old)
+        (stream (W.taken sink.new) (W.failed sink.new) out.new) (type_line number kind.now) }
+{
+    out.push(sink, b"type ");
+    put_number(out, sink, number);
+    out.push(sink, b" tracks ");
+    put_number(out, sink, kind.tracks);
+    out.push(sink, b" wires ");
+    put_share(out, sink, u64::from(kind.wires_used), u64::from(kind.wires));
+    out.push(sink, b" places ");
+    put_share(out, sink, kind.places_used, kind.places);
+    out.push(sink, b"\n");
+}
+
+/// Prints the line of a type of a list.
+#[tactic(auto, unfolding(crate::specs::WireTypes::type_line_at))]
+fn put_type_at<W: ByteSink>(
+    out: &mut OutputBuffer,
+    sink: &mut W,
+    types: &[WireTypeUse],
+    number: usize,
+)
+    requires { number < length types.now }
+    ensures { Sends (stream (W.taken sink.old) (W.failed sink.old) out.old)
+        (stream (W.taken sink.new) (W.failed sink.new) out.new) (type_line_at types.now number) }
+{
+    put_type(out, sink, number, &types[number]);
+}
+
+/// Prints the lines of the types.
+pub(crate) fn put_types<W: ByteSink>(out: &mut OutputBuffer, sink: &mut W, types: &[WireTypeUse])
+    ensures { Sends (stream (W.taken sink.old) (W.failed sink.old) out.old)
+        (stream (W.taken sink.new) (W.failed sink.new) out.new) (type_lines types.now) }
+{
+    for number in 0..types.len() {
+        put_type_at(out, sink, types, number);
+    }
+}

@@ -1,0 +1,131 @@
+"""What `report` prints of a routing, counted plainly from the definitions."""
+from device import CHANX, CHANY
+from judge import covered
+
+
+def places_of(device, node):
+    """The places of a wire."""
+    x1, y1, x2, y2 = device.spans[node]
+    return [(x, y) for x in range(x1, x2 + 1) for y in range(y1, y2 + 1)]
+
+
+def hundredths(number, count):
+    """A mean with two decimals, rounded down."""
+    whole, left = divmod(number, max(count, 1))
+    return f"{whole}.{left * 100 // max(count, 1):02}"
+
+
+class Routing:
+    """A routing of a design: of each routed net a list of pairs of nodes, or None."""
+
+    def __init__(self, device, design, lists):
+        self.device, self.design = device, design
+        self.nets = design.routed()
+        self.lists = lists
+        self.covered = [
+            {device.nodes[node] for node in covered(source, pairs)} if pairs is not None else set()
+            for (source, _), pairs in zip(design.problem(device), lists)
+        ]
+        self.used = set().union(*self.covered)
+        self.occupied = self.occupancy()
+
+    def is_used_of(self, wires):
+        """How many of these wires are used, of how many, and so of their places."""
+        used = [wire for wire in wires if wire in self.used]
+        lengths = [sum(len(places_of(self.device, wire)) for wire in some) for some in (used, wires)]
+        return f"{len(used)} of {len(wires)}", f"{lengths[0]} of {lengths[1]}"
+
+    def occupancy(self):
+        """How many tracks are occupied at each place of each kind of channel; of a global one how many nets are there."""
+        found = {}
+        for wire in self.device.spans:
+            nets = sum(wire in nodes for nodes in self.covered)
+            for place in places_of(self.device, wire):
+                key = wire.kind, *place
+                found[key] = found.get(key, 0) + (nets if self.device.is_global else min(nets, 1))
+        return found
+
+    # ---- lines
+
+    def whole(self):
+        lengths = [sum(len(places_of(self.device, node)) for node in nodes if node in self.device.spans) for nodes in self.covered]
+        listed = sum(pairs is not None for pairs in self.lists)
+        every = self.design.nets()
+        wires, places = self.is_used_of(list(self.device.spans))
+        longest = max(lengths, default=0)
+        names = [f" {net.name}" for net, length in zip(self.nets, lengths) if length == longest]
+        yield f"array {self.device.nx} x {self.device.ny}"
+        yield f"width {self.device.width}"
+        yield f"nets {len(every)}"
+        yield f"global {sum(net.is_global for net in every)}"
+        yield f"trees {listed} of {len(self.nets)}"
+        yield f"wires {wires}"
+        yield f"places {places}"
+        yield f"wirelength {sum(lengths)}"
+        yield f"mean {hundredths(sum(lengths), listed)}"
+        yield f"greatest {longest}{names[0] if names else ''}"
+
+    def types(self):
+        segments = self.device.arch.segments
+        width = 1 if self.device.is_global else self.device.width
+        tracks = [next(at for at, one in enumerate(segments) if one is self.device.track_type(track)[0]) for track in range(width)]
+        for kind in range(len(segments)):
+            wires, places = self.is_used_of([wire for wire in self.device.spans if tracks[wire.number] == kind])
+            yield f"type {kind} tracks {tracks.count(kind)} wires {wires} places {places}"
+
+    def channels(self):
+        nx, ny = self.device.nx, self.device.ny
+        rows = [("x", y, [(CHANX, x, y) for x in range(1, nx + 1)]) for y in range(ny + 1)]
+        columns = [("y", x, [(CHANY, x, y) for y in range(1, ny + 1)]) for x in range(nx + 1)]
+        for axis, number, places in rows + columns:
+            occupied = [self.occupied[place] for place in places]
+            yield f"channel {axis} {number} most {max(occupied)} mean {hundredths(sum(occupied), len(occupied))}"
+
+    def overuses(self):
+        """Each overused node by its number, with the names of its nets and its room."""
+        for number, node in enumerate(self.device.nodes):
+            names = [net.name for net, nodes in zip(self.nets, self.covered) if node in nodes]
+            room = self.device.capacity(node)
+            if len(names) > room:
+                yield number, names, room
+
+    def overused(self):
+        found = list(self.overuses())
+        yield f"overused {len(found)}"
+        for number, names, room in found:
+            node = self.device.text(self.device.nodes[number])
+            yield f"node {number} {node} used {len(names)} of {room} nets {' '.join(names)}"
+
+    def named(self, text):
+        """The lines of the file that name an overused node, which has the text of no other one."""
+        over = {self.device.text(self.device.nodes[number]): number for number, _, _ in self.overuses()}
+        for line, words in enumerate(text.split("\n"), 1):
+            node = over.get(" ".join(words.split()))
+            if node is not None:
+                yield f"line {line} node {node}"
+
+    def map(self):
+        """The array from its top row, two cells of four columns or more for each place."""
+        nx, ny = self.device.nx, self.device.ny
+        for row in range(2 * ny, -1, -1):
+            y = row // 2
+            cells = []
+            for column in range(2 * nx + 1):
+                x = column // 2
+                if row % 2 and column % 2:
+                    cells.append(".")
+                elif column % 2:
+                    cells.append(self.occupied[CHANX, x + 1, y])
+                elif row % 2:
+                    cells.append(self.occupied[CHANY, x, y + 1])
+                else:
+                    cells.append("+")
+            yield "".join(f"{cell:>4}" if len(str(cell)) < 4 else f" {cell}" for cell in cells)
+
+
+def report(device, design, lists, text, is_map):
+    """What `report` prints of the routing, whose file has this text."""
+    routing = Routing(device, design, lists)
+    lines = [*routing.whole(), *routing.types(), *routing.channels(), *routing.overused(), *routing.named(text)]
+    lines += ["map", *routing.map()] if is_map else []
+    return "".join(f"{line}\n" for line in lines)
