@@ -13,4 +13,6 @@ mod run;
 mod text;
 mod wire_types;
 
+pub use overused::put_overused;
 pub use run::report_run;
+pub use text::put_name;

@@ -86,7 +86,7 @@ fn put_each<W: ByteSink>(
 }
 
 /// Prints how many nodes are overused, and a line for each.
-pub(crate) fn put_overused<W: ByteSink>(
+pub fn put_overused<W: ByteSink>(
     out: &mut OutputBuffer,
     sink: &mut W,
     netlist: &Netlist<'_>,

@@ -61,7 +61,7 @@ pub(crate) fn put_mean<W: ByteSink>(out: &mut OutputBuffer, sink: &mut W, sum: u
 }
 
 /// Prints the name of a net of the problem, after a blank.
-pub(crate) fn put_name<W: ByteSink>(
+pub fn put_name<W: ByteSink>(
     out: &mut OutputBuffer,
     sink: &mut W,
     netlist: &Netlist<'_>,

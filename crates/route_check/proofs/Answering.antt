@@ -12,9 +12,9 @@ use Rattle.route_check.specs.declared.fault.RouteFault.{RouteFault}
 use Rattle.route_check.specs.declared.fault.RouteFault.TheVariants.{Length, Unrouted, Tree, Overused}
 use Rattle.route_check.specs.Routed.{IsNetRouted}
 use Rattle.route_check.specs.Faults.{HasRouteFault, stage_of, place_of, IsFirstRouteFault}
-use Rattle.route_check.specs.kept.Nets.{JudgesNet}
+use Rattle.route_check.specs.Nets.{AreJudged, JudgesNet}
 use Rattle.route_check.specs.kept.Counted.{AreUses, excess_of}
-use Rattle.route_check.specs.kept.Answers.{AreJudged, IsFirstOf, TellsExcess, JudgesRouting}
+use Rattle.route_check.specs.kept.Answers.{IsFirstOf, TellsExcess, JudgesRouting}
 use Rattle.route_check.proofs.RoutingFaults.{net_sound}
 
 zipped_at : {A B : Type 0} (R : A → B → Type 0) (xs : List A) (ys : List B) (i : ℕ) (d : A) (e : B) → AllZip R xs ys → i < length xs →

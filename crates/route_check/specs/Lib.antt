@@ -1,3 +1,4 @@
 pub mod Routed
 pub mod Faults
+pub mod Nets
 pub mod kept

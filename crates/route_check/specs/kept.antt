@@ -3,5 +3,4 @@ pub mod Counted
 pub mod Ends
 pub mod Judged
 pub mod Listed
-pub mod Nets
 pub mod Walks

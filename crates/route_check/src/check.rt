@@ -4,8 +4,8 @@ ghost use Rattle.std.specs.Prelude.{◌≡◌, ◌≢◌, ◌↔◌, ◌<◌, �
 ghost use Rattle.route_check.specs.declared.fault.RouteFault.TheVariants.{Length};
 ghost use Rattle.route_check.specs.Routed.{IsRouted};
 ghost use Rattle.route_check.specs.Faults.{IsFirstRouteFault};
-ghost use Rattle.route_check.specs.kept.Nets.{JudgesNet};
-ghost use Rattle.route_check.specs.kept.Answers.{AreJudged, IsFirstOf, JudgesRouting};
+ghost use Rattle.route_check.specs.Nets.{AreJudged, JudgesNet};
+ghost use Rattle.route_check.specs.kept.Answers.{IsFirstOf, JudgesRouting};
 
 use crate::fault::RouteFault;
 use crate::judge::net_fault;
@@ -19,8 +19,9 @@ use std::thread::Threads;
 /// For how many nets a thread is worth its start, which takes as long as to judge some hundred.
 const NETS_A_THREAD: usize = 128;
 
-/// What is wrong with each net, judged side by side.
-fn net_faults(
+/// What is wrong with each net of a routing that has an entry for each: its first fault, or none.
+/// The nets are judged side by side, as by `check_routing`.
+pub fn net_faults(
     rt: &(impl Threads + Sync),
     alloc: Global,
     problem: &Problem,

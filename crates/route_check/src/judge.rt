@@ -2,7 +2,7 @@
 
 ghost use Rattle.std.specs.Prelude.{◌≡◌, ◌<◌, IfOk, length};
 ghost use Rattle.route_check.specs.kept.Judged.{Judges};
-ghost use Rattle.route_check.specs.kept.Nets.{JudgesNet};
+ghost use Rattle.route_check.specs.Nets.{JudgesNet};
 
 use crate::fault::RouteFault;
 use crate::ladder::list_fault;

@@ -10,5 +10,5 @@ mod order;
 mod usage;
 mod walks;
 
-pub use check::check_routing;
+pub use check::{check_routing, net_faults};
 pub use fault::RouteFault;

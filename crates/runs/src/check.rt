@@ -39,7 +39,7 @@ fn print_verdict<W: ByteSink>(
 }
 
 /// Judges a routing of a design, and prints the verdict.
-fn judge<W: ByteSink>(
+pub fn judge<W: ByteSink>(
     rt: &(impl Threads + Sync + AllocGlobal),
     design: &Design<'_>,
     routing: &Routing,

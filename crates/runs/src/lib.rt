@@ -23,15 +23,15 @@ mod trials;
 mod verdict;
 mod width;
 
-pub use check::check_run;
+pub use check::{check_run, judge};
 pub use design::Design;
 pub use fault::{AppFault, InputFile, print_fault, status};
 pub use graph::graph_run;
-pub use inputs::{parse_routing, read_input};
+pub use inputs::{parse_routing, read_input, read_routing};
 pub use netlist_text::NetlistText;
 pub use outcome::outcome_status;
 pub use progress::Progress;
 pub use route::route_run;
 pub use trials::report_status;
-pub use verdict::{net_name, number_of_net, put_node_of, verdict_status};
+pub use verdict::{net_name, number_of_net, put_node_of, tree_fault_name, verdict_status};
 pub use width::width_run;

@@ -16,7 +16,7 @@ use rr_graph::{Device, Problem};
 use vpr_text::{ByteSink, OutputBuffer};
 
 /// The name of a fault of a net's list.
-fn tree_fault_name(fault: TreeFault) -> &'static [u8]
+pub fn tree_fault_name(fault: TreeFault) -> &'static [u8]
     ensures { result.now ≡ tree_fault_text fault }
 {
     match fault {

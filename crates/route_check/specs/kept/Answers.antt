@@ -7,13 +7,7 @@ use Rattle.route_check.specs.declared.fault.RouteFault.TheVariants.{Overused}
 use Rattle.route_check.specs.Routed.{IsRouted}
 use Rattle.route_tree.specs.Usage.{Lists}
 use Rattle.route_check.specs.Faults.{IsFirstRouteFault}
-use Rattle.route_check.specs.kept.Nets.{JudgesNet}
 use Rattle.route_check.specs.kept.Counted.{excess_of}
-
--- the answers for all nets, in their order
-pub record AreJudged (p : RoutingProblem) (lists : Lists) (answers : List (Option RouteFault)) : Type 0 where
-  pub size : length answers ≡ length p.nets
-  pub each : (i : ℕ) → i < length p.nets → JudgesNet p lists i (get_or answers i None)
 
 -- the fault stands at a place, and none before it
 pub record IsFirstAmong (answers : List (Option RouteFault)) (fault : RouteFault) : Type 0 where

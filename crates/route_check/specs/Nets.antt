@@ -1,5 +1,5 @@
--- What the judging of one net of a routing tells, and of the first nets.
-use Rattle.std.specs.Prelude.{◌≡◌, ℕ, Option, Some, None}
+-- What is wrong with each net of a routing.
+use Rattle.std.specs.Prelude.{◌≡◌, ℕ, ◌<◌, List, length, get_or, Option, Some, None}
 use Rattle.rr_graph.specs.Problems.{RoutingProblem}
 use Rattle.route_check.specs.declared.fault.RouteFault.{RouteFault}
 use Rattle.route_check.specs.Routed.{IsNetRouted}
@@ -16,3 +16,8 @@ pub record IsNetFault (p : RoutingProblem) (lists : Lists) (i : ℕ) (fault : Ro
 abbrev pub JudgesNet : RoutingProblem → Lists → ℕ → Option RouteFault → Type 0
 JudgesNet p lists i None = IsNetRouted p lists i
 JudgesNet p lists i (Some fault) = IsNetFault p lists i fault
+
+-- the answers for all nets, in their order
+pub record AreJudged (p : RoutingProblem) (lists : Lists) (answers : List (Option RouteFault)) : Type 0 where
+  pub size : length answers ≡ length p.nets
+  pub each : (i : ℕ) → i < length p.nets → JudgesNet p lists i (get_or answers i None)

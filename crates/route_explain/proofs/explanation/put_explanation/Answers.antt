@@ -1,0 +1,9 @@
+use Rattle.vpr_text.proofs.Printing.{sends_then}
+use Rattle.route_explain.specs.Explanation.{explanation_text}
+use Rattle.route_explain.proofs.explanation.put_explanation.Goals as goal
+
+pub returns : goal.returns
+unfolding explanation_text
+returns g c =
+    let overused = rw c.requires at c.put_overused.ensures in
+    sends_then c.put_nets.ensures overused

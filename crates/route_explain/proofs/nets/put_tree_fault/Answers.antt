@@ -1,0 +1,10 @@
+use Rattle.vpr_text.proofs.Printing.{sends_then}
+use Rattle.route_explain.specs.Explanation.{tree_fault_words}
+use Rattle.route_explain.proofs.nets.put_tree_fault.Goals as goal
+
+pub returns : goal.returns
+unfolding tree_fault_words
+returns g c =
+    let name = rw c.tree_fault_name.ensures at c.push.ensures in
+    let reason = rw (c.device-device.ensures, c.source-source.ensures, c.sinks-sinks.ensures) at c.put_reason.ensures in
+    sends_then name (sends_then c.push-2.ensures reason)

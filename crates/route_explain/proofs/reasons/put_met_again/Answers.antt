@@ -1,0 +1,9 @@
+use Rattle.vpr_text.proofs.Printing.{sends_then}
+use Rattle.route_explain.specs.Reasons.{met_again_text}
+use Rattle.route_explain.proofs.reasons.put_met_again.Goals as goal
+
+pub returns : goal.returns
+unfolding met_again_text
+returns g c =
+    let step = rw c.row_that_ends_again-row.ensures at c.put_end.ensures in
+    sends_then c.push.ensures step

@@ -1,0 +1,73 @@
+use Rattle.std.proofs.Common.{Err, ap, subst, sym, ◌∙◌}
+use Rattle.runs.specs.declared.fault.InputFile.TheVariants as file
+use Rattle.runs.specs.CheckRun.{judged_in}
+use Rattle.runs.specs.Runs.{reading, writing}
+use Rattle.runs.proofs.Designs.{design_fails, judged_goes, text_fails, text_goes}
+use Rattle.runs.proofs.Ending.{Keeps-same}
+use Rattle.runs.proofs.Stages.{meets_any, meets_files, meets_so, meets_some, ends_not, stops}
+use Rattle.route_explain.specs.ExplainRun.{PrintsBoth, RunsExplain, TakeNothing}
+use Rattle.route_explain.proofs.run.explain_run.Goals as goal
+
+pub returns-in-Err-clause-runs : goal.returns-in-Err-clause-runs
+returns-in-Err-clause-runs g c =
+    let arch = g.A.ByteSource in
+    let net = g.N.ByteSource in
+    let place = g.P.ByteSource in
+    let route = g.R.ByteSource in
+    let sink = g.W.ByteSink in
+    let taken = sink.taken c.args.out.now in
+    let told = g.X.ByteSink.taken c.args.words.now in
+    let out = writing taken taken (sink.failed c.args.out.now) in
+    let words = writing told told (g.X.ByteSink.failed c.args.words.now) in
+    let e = c.in-Err.fault in
+    let reading_place = reading (place.remaining c.args.place.now) (place.failed c.args.place.now) in
+    λ ne. meets_files (reading (arch.remaining c.args.arch.now) (arch.failed c.read.new.arch)) (reading (net.remaining c.args.net.now) (net.failed c.read.new.net))
+    reading_place c.in-Err.ensures.given (meets_some reading_place)
+    (λ files h _. meets_any (reading (route.remaining c.args.route.now) (route.failed c.args.route.now))
+    (λ r. stops (TakeNothing out words) (PrintsBoth out words) (judged_in c.args.width c.args.mode files r) e (Keeps-same taken, Keeps-same told)
+    (design_fails c.args.width c.args.mode files r e (text_fails c.args.width c.args.mode files e (h (λ same. ne (ap Err same)))))))
+
+pub returns-in-Err-read-clause-runs : goal.returns-in-Err-read-clause-runs
+returns-in-Err-read-clause-runs g c =
+    let arch = g.A.ByteSource in
+    let net = g.N.ByteSource in
+    let place = g.P.ByteSource in
+    let route = g.R.ByteSource in
+    let sink = g.W.ByteSink in
+    let taken = sink.taken c.args.out.now in
+    let told = g.X.ByteSink.taken c.args.words.now in
+    let out = writing taken taken (sink.failed c.args.out.now) in
+    let words = writing told told (g.X.ByteSink.failed c.args.words.now) in
+    let e = c.in-Err-read.fault in
+    let width = c.args.width in
+    let mode = c.args.mode in
+    λ ne. meets_files (reading (arch.remaining c.args.arch.now) (arch.failed c.read.new.arch)) (reading (net.remaining c.args.net.now) (net.failed c.read.new.net))
+    (reading (place.remaining c.args.place.now) (place.failed c.read-2.new.place)) c.in-Ok.ensures.given c.in-Err-read.ensures.given
+    (λ files h k. meets_any (reading (route.remaining c.args.route.now) (route.failed c.args.route.now))
+    (λ r. stops (TakeNothing out words) (PrintsBoth out words) (judged_in width mode files r) e (Keeps-same taken, Keeps-same told)
+    (design_fails width mode files r e (text_goes width mode files c.in-Ok.text h ∙ k (λ same. ne (ap Err same))))))
+
+pub returns-clause-runs : goal.returns-clause-runs
+returns-clause-runs g c =
+    let arch = g.A.ByteSource in
+    let net = g.N.ByteSource in
+    let place = g.P.ByteSource in
+    let route = g.R.ByteSource in
+    let sink = g.W.ByteSink in
+    let other = g.X.ByteSink in
+    let out = writing (sink.taken c.args.out.now) (sink.taken c.explain_design.new.out) (sink.failed c.explain_design.new.out) in
+    let words = writing (other.taken c.args.words.now) (other.taken c.explain_design.new.words) (other.failed c.explain_design.new.words) in
+    let width = c.args.width in
+    let mode = c.args.mode in
+    let d = c.in-Ok-read.design in
+    λ ne. meets_files (reading (arch.remaining c.args.arch.now) (arch.failed c.read.new.arch)) (reading (net.remaining c.args.net.now) (net.failed c.read.new.net))
+    (reading (place.remaining c.args.place.now) (place.failed c.read-2.new.place)) c.in-Ok.ensures.given c.in-Ok-read.ensures.given
+    (λ files h k. meets_so (reading (route.remaining c.args.route.now) (route.failed c.explain_design.new.route)) (c.explain_design.ensures.runs ne)
+    (λ r runs. subst (λ given. RunsExplain out words given c.explain_design.result)
+    (sym (judged_goes width mode files r d (text_goes width mode files c.in-Ok.text h ∙ k))) runs))
+
+pub returns-clause-net : goal.returns-clause-net
+returns-clause-net g c = ends_not file.Net c.explain_design.result c.explain_design.ensures.late
+
+pub returns-clause-place : goal.returns-clause-place
+returns-clause-place g c = ends_not file.Place c.explain_design.result c.explain_design.ensures.late

@@ -1,0 +1,71 @@
+-- The explanation of what is wrong with a routing (ours).
+use Rattle.std.specs.Prelude.{ℕ, List, [], ◌++◌, codes, length, get_or, Option, None, Some, Result}
+use Rattle.std.specs.List.{flat_map}
+use Rattle.net_file.specs.Netlist.{Netlist}
+use Rattle.rr_graph.specs.Fabric.{Fabric, numbers_below}
+use Rattle.rr_graph.specs.Problems.{Net, RoutingProblem, net_in}
+use Rattle.route_tree.specs.declared.fault.TreeFault.{TreeFault}
+use Rattle.route_tree.specs.Paths.{Pair}
+use Rattle.route_tree.specs.Usage.{Lists, list_in}
+use Rattle.route_check.specs.declared.fault.RouteFault.{RouteFault}
+use Rattle.route_check.specs.declared.fault.RouteFault.TheVariants.{Tree}
+use Rattle.route_check.specs.Nets.{AreJudged}
+use Rattle.route_report.specs.Overused.{overused_nodes}
+use Rattle.runs.specs.declared.fault.AppFault.{AppFault}
+use Rattle.runs.specs.Runs.{PrintsText, Writing}
+use Rattle.runs.specs.Verdict.{tree_fault_text}
+use Rattle.report_run.specs.Overused.{overuse_lines}
+use Rattle.report_run.specs.Texts.{name_text}
+use Rattle.route_explain.specs.Reasons.{reason_text}
+
+-- a fault's name and what it means, of these pairs for a net
+unfoldable pub tree_fault_words : Fabric → Net → List Pair → TreeFault → List ℕ
+tree_fault_words f n pairs fault =
+    tree_fault_text fault ++ (codes ": " ++ reason_text f n.source n.sinks pairs fault)
+
+-- the pairs of a list; none where there is no list
+abbrev pub pairs_in : Option (List Pair) → List Pair
+pairs_in (Some pairs) = pairs
+pairs_in None = []
+
+-- what is wrong with the list of a net that has one
+abbrev pub tree_fault_in : RouteFault → Option TreeFault
+tree_fault_in (Tree net fault) = Some fault
+tree_fault_in _ = None
+
+-- the name of a net's fault, and what it means, for a net with these pairs
+abbrev pub fault_words : Fabric → Net → List Pair → Option TreeFault → List ℕ
+fault_words f n pairs None = codes "Unrouted: it has no list"
+fault_words f n pairs (Some fault) = tree_fault_words f n pairs fault
+
+-- net i, as `net n_7: NoSwitch: no switch from CHANX (5,11) Track: 3 to CHANY (5,10) Track: 3`
+unfoldable pub fault_line : Netlist → RoutingProblem → Lists → ℕ → RouteFault → List ℕ
+fault_line netlist p lists i fault =
+    codes "net" ++ (name_text netlist p i
+    ++ (codes ": " ++ (fault_words p.device (net_in p.nets i) (pairs_in (list_in lists i)) (tree_fault_in fault) ++ codes "\n")))
+
+-- nothing, unless the net has a fault
+abbrev pub net_text : Netlist → RoutingProblem → Lists → ℕ → Option RouteFault → List ℕ
+net_text netlist p lists i None = []
+net_text netlist p lists i (Some fault) = fault_line netlist p lists i fault
+
+-- what is said of net i, where these are the nets' faults
+unfoldable pub net_text_at : Netlist → RoutingProblem → Lists → List (Option RouteFault) → ℕ → List ℕ
+net_text_at netlist p lists faults i = net_text netlist p lists i (get_or faults i None)
+
+-- a line for each net that has a fault
+abbrev pub net_lines : Netlist → RoutingProblem → Lists → List (Option RouteFault) → List ℕ
+net_lines netlist p lists faults =
+    flat_map (net_text_at netlist p lists faults) (numbers_below (length p.nets))
+
+-- the nets that have a fault, how many nodes are overused, and a line for each of these
+unfoldable pub explanation_text : Netlist → RoutingProblem → Lists → List (Option RouteFault) → List ℕ
+explanation_text netlist p lists faults =
+    net_lines netlist p lists faults ++ overuse_lines netlist p (overused_nodes p lists)
+
+-- the explanation is printed of what is wrong with each net
+abbrev pub PrintsExplanation : (out : Writing) → Netlist → RoutingProblem → Lists → Result (Unit {0}) AppFault → Type 0
+PrintsExplanation out netlist p lists result =
+    (faults : List (Option RouteFault))
+    × AreJudged p lists faults
+    × PrintsText out (explanation_text netlist p lists faults) tt result

@@ -1,0 +1,13 @@
+//! What is wrong with a routing, net by net and node by node, in words.
+#![tactic(auto)]
+
+mod explanation;
+mod nets;
+mod order;
+mod reasons;
+mod run;
+mod steps;
+mod text;
+
+pub use explanation::explain;
+pub use run::explain_run;

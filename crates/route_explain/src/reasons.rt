@@ -1,0 +1,314 @@
+//! What a fault of a net's list means, in words.
+
+ghost use Rattle.std.specs.Prelude.{◌≡◌};
+ghost use Rattle.std.specs.List.{flat_map};
+ghost use Rattle.vpr_text.specs.Output.{Sends, stream};
+ghost use Rattle.route_explain.specs.Reasons.{apart_text, beginning_text, dangling_text, foreign_sink_text, leaving_text, loose_text, met_again_text, missing_sinks_text, missing_text, no_switch_text, other_beginning_text, out_of_order_text, outputs_text, reason_text};
+
+use crate::order::row_out_of_order;
+use crate::steps::{
+    ends_at, pair_at, row_cut_off, row_that_ends_again, row_to_dead_end, row_to_foreign_sink,
+    row_without_switch,
+};
+use crate::text::{put_after, put_end, put_step};
+use route_tree::TreeFault;
+use rr_graph::Device;
+use runs::put_node_of;
+use vpr_text::{ByteSink, OutputBuffer};
+
+/// Prints at which node a list begins, and at which it should.
+fn put_other_beginning<W: ByteSink>(
+    out: &mut OutputBuffer,
+    sink: &mut W,
+    device: &Device,
+    source: u32,
+    node: u32,
+)
+    ensures { Sends (stream (W.taken sink.old) (W.failed sink.old) out.old)
+        (stream (W.taken sink.new) (W.failed sink.new) out.new)
+        (other_beginning_text device.now source node) }
+{
+    out.push(sink, b"the first step leaves ");
+    put_node_of(out, sink, device, node);
+    out.push(sink, b" and not ");
+    put_node_of(out, sink, device, source);
+}
+
+/// Prints where a list begins that doesn't begin at the source of its net.
+fn put_beginning<W: ByteSink>(
+    out: &mut OutputBuffer,
+    sink: &mut W,
+    device: &Device,
+    source: u32,
+    pairs: &[(u32, u32)],
+)
+    ensures { Sends (stream (W.taken sink.old) (W.failed sink.old) out.old)
+        (stream (W.taken sink.new) (W.failed sink.new) out.new)
+        (beginning_text device.now source pairs.now) }
+{
+    if pairs.is_empty() {
+        return put_after(out, sink, device, b"no step leaves ", source);
+    }
+    put_other_beginning(out, sink, device, source, pair_at(pairs, 0).0);
+}
+
+/// Prints the first step for which there is no switch.
+fn put_no_switch<W: ByteSink>(
+    out: &mut OutputBuffer,
+    sink: &mut W,
+    device: &Device,
+    pairs: &[(u32, u32)],
+)
+    ensures { Sends (stream (W.taken sink.old) (W.failed sink.old) out.old)
+        (stream (W.taken sink.new) (W.failed sink.new) out.new)
+        (no_switch_text device.now pairs.now) }
+{
+    let row = row_without_switch(device, pairs);
+    out.push(sink, b"no switch from ");
+    put_step(out, sink, device, pairs, row);
+}
+
+/// Prints the first node that is come to again.
+fn put_met_again<W: ByteSink>(
+    out: &mut OutputBuffer,
+    sink: &mut W,
+    device: &Device,
+    source: u32,
+    pairs: &[(u32, u32)],
+)
+    ensures { Sends (stream (W.taken sink.old) (W.failed sink.old) out.old)
+        (stream (W.taken sink.new) (W.failed sink.new) out.new)
+        (met_again_text device.now source pairs.now) }
+{
+    let row = row_that_ends_again(source, pairs);
+    out.push(sink, b"the steps come again to ");
+    put_end(out, sink, device, pairs, row);
+}
+
+/// Prints the node to which a step leads, if it leaves the source.
+fn put_leaving<W: ByteSink>(
+    out: &mut OutputBuffer,
+    sink: &mut W,
+    device: &Device,
+    source: u32,
+    pair: (u32, u32),
+)
+    ensures { Sends (stream (W.taken sink.old) (W.failed sink.old) out.old)
+        (stream (W.taken sink.new) (W.failed sink.new) out.new)
+        (leaving_text device.now source pair) }
+{
+    if pair.0 == source {
+        put_after(out, sink, device, b"; to ", pair.1);
+    }
+}
+
+/// Prints the nodes to which steps from the source lead.
+fn put_all_leaving<W: ByteSink>(
+    out: &mut OutputBuffer,
+    sink: &mut W,
+    device: &Device,
+    source: u32,
+    pairs: &[(u32, u32)],
+)
+    ensures { Sends (stream (W.taken sink.old) (W.failed sink.old) out.old)
+        (stream (W.taken sink.new) (W.failed sink.new) out.new)
+        (flat_map (leaving_text device.now source) pairs.now) }
+{
+    for pair in pairs {
+        put_leaving(out, sink, device, source, *pair);
+    }
+}
+
+/// Prints the source, and the nodes to which steps from there lead.
+fn put_outputs<W: ByteSink>(
+    out: &mut OutputBuffer,
+    sink: &mut W,
+    device: &Device,
+    source: u32,
+    pairs: &[(u32, u32)],
+)
+    ensures { Sends (stream (W.taken sink.old) (W.failed sink.old) out.old)
+        (stream (W.taken sink.new) (W.failed sink.new) out.new)
+        (outputs_text device.now source pairs.now) }
+{
+    out.push(sink, b"more than one step leaves ");
+    put_node_of(out, sink, device, source);
+    put_all_leaving(out, sink, device, source, pairs);
+}
+
+/// Prints the first sink that is none of the net's.
+fn put_foreign_sink<W: ByteSink>(
+    out: &mut OutputBuffer,
+    sink: &mut W,
+    device: &Device,
+    sinks: &[u32],
+    pairs: &[(u32, u32)],
+)
+    ensures { Sends (stream (W.taken sink.old) (W.failed sink.old) out.old)
+        (stream (W.taken sink.new) (W.failed sink.new) out.new)
+        (foreign_sink_text device.now sinks.now pairs.now) }
+{
+    let row = row_to_foreign_sink(device, sinks, pairs);
+    out.push(sink, b"no sink of the net is ");
+    put_end(out, sink, device, pairs, row);
+}
+
+/// Prints the node to which nothing leads, if a step begins at one, else that there is a circle.
+fn put_apart<W: ByteSink>(
+    out: &mut OutputBuffer,
+    sink: &mut W,
+    device: &Device,
+    pairs: &[(u32, u32)],
+    row: Option<usize>,
+)
+    ensures { Sends (stream (W.taken sink.old) (W.failed sink.old) out.old)
+        (stream (W.taken sink.new) (W.failed sink.new) out.new)
+        (apart_text device.now pairs.now row) }
+{
+    match row {
+        None => out.push(sink, b"steps go round in a circle"),
+        Some(row) => put_after(
+            out,
+            sink,
+            device,
+            b"no step leads to ",
+            pair_at(pairs, row).0,
+        ),
+    }
+}
+
+/// Prints the node from which nothing goes on, if a step ends at one, else what is apart.
+fn put_loose<W: ByteSink>(
+    out: &mut OutputBuffer,
+    sink: &mut W,
+    device: &Device,
+    source: u32,
+    pairs: &[(u32, u32)],
+    row: Option<usize>,
+)
+    ensures { Sends (stream (W.taken sink.old) (W.failed sink.old) out.old)
+        (stream (W.taken sink.new) (W.failed sink.new) out.new)
+        (loose_text device.now source pairs.now row) }
+{
+    match row {
+        None => put_apart(out, sink, device, pairs, row_cut_off(source, pairs)),
+        Some(row) => put_after(
+            out,
+            sink,
+            device,
+            b"no step goes on from ",
+            pair_at(pairs, row).1,
+        ),
+    }
+}
+
+/// Prints what dangles.
+fn put_dangling<W: ByteSink>(
+    out: &mut OutputBuffer,
+    sink: &mut W,
+    device: &Device,
+    source: u32,
+    sinks: &[u32],
+    pairs: &[(u32, u32)],
+)
+    ensures { Sends (stream (W.taken sink.old) (W.failed sink.old) out.old)
+        (stream (W.taken sink.new) (W.failed sink.new) out.new)
+        (dangling_text device.now source sinks.now pairs.now) }
+{
+    let row = row_to_dead_end(sinks, pairs);
+    put_loose(out, sink, device, source, pairs, row);
+}
+
+/// Prints a sink, unless a step leads there.
+fn put_missing<W: ByteSink>(
+    out: &mut OutputBuffer,
+    sink: &mut W,
+    device: &Device,
+    pairs: &[(u32, u32)],
+    node: u32,
+)
+    ensures { Sends (stream (W.taken sink.old) (W.failed sink.old) out.old)
+        (stream (W.taken sink.new) (W.failed sink.new) out.new)
+        (missing_text device.now pairs.now node) }
+{
+    if !ends_at(pairs, node) {
+        put_after(out, sink, device, b"; none to ", node);
+    }
+}
+
+/// Prints the sinks to which no step leads.
+fn put_all_missing<W: ByteSink>(
+    out: &mut OutputBuffer,
+    sink: &mut W,
+    device: &Device,
+    sinks: &[u32],
+    pairs: &[(u32, u32)],
+)
+    ensures { Sends (stream (W.taken sink.old) (W.failed sink.old) out.old)
+        (stream (W.taken sink.new) (W.failed sink.new) out.new)
+        (flat_map (missing_text device.now pairs.now) sinks.now) }
+{
+    for node in sinks {
+        put_missing(out, sink, device, pairs, *node);
+    }
+}
+
+/// Prints that sinks are missing, and which.
+fn put_missing_sinks<W: ByteSink>(
+    out: &mut OutputBuffer,
+    sink: &mut W,
+    device: &Device,
+    sinks: &[u32],
+    pairs: &[(u32, u32)],
+)
+    ensures { Sends (stream (W.taken sink.old) (W.failed sink.old) out.old)
+        (stream (W.taken sink.new) (W.failed sink.new) out.new)
+        (missing_sinks_text device.now sinks.now pairs.now) }
+{
+    out.push(sink, b"no step leads to a sink of the net");
+    put_all_missing(out, sink, device, sinks, pairs);
+}
+
+/// Prints the first step that may not stand where it does.
+fn put_out_of_order<W: ByteSink>(
+    out: &mut OutputBuffer,
+    sink: &mut W,
+    device: &Device,
+    source: u32,
+    pairs: &[(u32, u32)],
+)
+    ensures { Sends (stream (W.taken sink.old) (W.failed sink.old) out.old)
+        (stream (W.taken sink.new) (W.failed sink.new) out.new)
+        (out_of_order_text device.now source pairs.now) }
+{
+    let row = row_out_of_order(device, source, pairs);
+    out.push(sink, b"out of order is ");
+    put_step(out, sink, device, pairs, row);
+}
+
+/// Prints what a fault means, of these pairs for a net of this source and these sinks.
+pub(crate) fn put_reason<W: ByteSink>(
+    out: &mut OutputBuffer,
+    sink: &mut W,
+    device: &Device,
+    source: u32,
+    sinks: &[u32],
+    pairs: &[(u32, u32)],
+    fault: TreeFault,
+)
+    ensures { Sends (stream (W.taken sink.old) (W.failed sink.old) out.old)
+        (stream (W.taken sink.new) (W.failed sink.new) out.new)
+        (reason_text device.now source sinks.now pairs.now fault) }
+{
+    match fault {
+        TreeFault::NoNet => out.push(sink, b"there is no such net"),
+        TreeFault::WrongSource => put_beginning(out, sink, device, source, pairs),
+        TreeFault::NoSwitch => put_no_switch(out, sink, device, pairs),
+        TreeFault::NodeTwice => put_met_again(out, sink, device, source, pairs),
+        TreeFault::SecondOutput => put_outputs(out, sink, device, source, pairs),
+        TreeFault::ForeignSink => put_foreign_sink(out, sink, device, sinks, pairs),
+        TreeFault::Dangling => put_dangling(out, sink, device, source, sinks, pairs),
+        TreeFault::MissingSink => put_missing_sinks(out, sink, device, sinks, pairs),
+        TreeFault::Order => put_out_of_order(out, sink, device, source, pairs),
+    }
+}

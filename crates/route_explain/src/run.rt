@@ -1,0 +1,146 @@
+//! The `check` command that explains its verdict, over any sources and sinks.
+
+ghost use Rattle.std.specs.Prelude.{◌≡◌, ◌≢◌, ◌≤◌, true, false, length, Err};
+ghost use Rattle.rr_graph.specs.Fabric.{most_tracks};
+ghost use Rattle.runs.specs.Inputs.{ends_before};
+ghost use Rattle.runs.specs.CheckRun.{judged_in, judged_on};
+ghost use Rattle.runs.specs.Runs.{Meets, MeetsDesign, TakesNothing, reading, writing};
+ghost use Rattle.route_explain.specs.ExplainRun.{Explains, PrintsBoth, RunsExplain};
+
+use crate::explanation::explain;
+use route_check::RouteFault;
+use route_tree::Routing;
+use rr_graph::Mode;
+use runs::{AppFault, Design, InputFile, NetlistText, judge, read_routing};
+use std::alloc::AllocGlobal;
+use std::thread::Threads;
+use vpr_text::{ByteSink, ByteSource};
+
+/// Explains a routing of a design, as far as memory and the sink let it.
+fn explain_to<W: ByteSink>(
+    rt: &(impl Threads + Sync + AllocGlobal),
+    design: &Design<'_>,
+    routing: &Routing,
+    words: &mut W,
+)
+    requires { length routing.now ≡ length design.now.problem.nets }
+    ensures { Explains (writing (W.taken words.old) (W.taken words.new) (W.failed words.new))
+        (record { design = design.now; routing = routing.now }) }
+{
+    let netlist = design.netlist();
+    let problem = design.problem();
+    let _ = explain(rt, netlist, problem, routing, words);
+}
+
+/// Judges a routing of a design, prints the verdict, and explains it.
+fn judge_and_explain<W: ByteSink, X: ByteSink>(
+    rt: &(impl Threads + Sync + AllocGlobal),
+    design: &Design<'_>,
+    routing: &Routing,
+    out: &mut W,
+    words: &mut X,
+) -> Result<Option<RouteFault>, AppFault>
+    requires { length routing.now ≡ length design.now.problem.nets }
+    ensures judges { result ≢ Err AppFault.Memory
+        → PrintsBoth (writing (W.taken out.old) (W.taken out.new) (W.failed out.new))
+        (writing (X.taken words.old) (X.taken words.new) (X.failed words.new))
+        (record { design = design.now; routing = routing.now }) result }
+    ensures memory { result ≡ Err AppFault.Memory
+        → TakesNothing (writing (W.taken out.old) (W.taken out.new) (W.failed out.new)) }
+    ensures untold { result ≡ Err AppFault.Memory
+        → TakesNothing (writing (X.taken words.old) (X.taken words.new) (X.failed words.new)) }
+    ensures late { ends_before InputFile.Route result ≡ false }
+{
+    let verdict = match judge(rt, design, routing, out) {
+        Ok(verdict) => verdict,
+        Err(fault) => return Err(fault),
+    };
+    explain_to(rt, design, routing, words);
+    Ok(verdict)
+}
+
+/// Reads a routing of a design, judges it, prints the verdict, and explains it.
+fn explain_design<R: ByteSource, W: ByteSink, X: ByteSink>(
+    rt: &(impl Threads + Sync + AllocGlobal),
+    design: &Design<'_>,
+    route: &mut R,
+    out: &mut W,
+    words: &mut X,
+) -> Result<Option<RouteFault>, AppFault>
+    ensures runs { result ≢ Err AppFault.Memory
+        → Meets (reading (R.remaining route.old) (R.failed route.new))
+        (λ r. RunsExplain (writing (W.taken out.old) (W.taken out.new) (W.failed out.new))
+        (writing (X.taken words.old) (X.taken words.new) (X.failed words.new))
+        (judged_on design.now r) result) }
+    ensures memory { result ≡ Err AppFault.Memory
+        → TakesNothing (writing (W.taken out.old) (W.taken out.new) (W.failed out.new)) }
+    ensures untold { result ≡ Err AppFault.Memory
+        → TakesNothing (writing (X.taken words.old) (X.taken words.new) (X.failed words.new)) }
+    ensures late { ends_before InputFile.Route result ≡ false }
+{
+    let netlist = design.netlist();
+    let problem = design.problem();
+    let routing = match read_routing(rt.alloc(), route, netlist, problem) {
+        Ok(routing) => routing,
+        Err(fault) => return Err(fault),
+    };
+    judge_and_explain(rt, design, &routing, out, words)
+}
+
+/// Reads the files of a design and its routing and prints the verdict on the routing, all of it as
+/// `check_run` does; and then explains the verdict to a second sink. The answer is the verdict,
+/// whether or not the explanation could be printed.
+///
+/// # Errors
+/// Memory aside, exactly the first fault of the files by the order of reading, and then nothing was
+/// printed; else Unwritten exactly where the first sink failed, which received a front of the
+/// verdict's line, and then nothing was explained.
+pub fn explain_run<
+    N: ByteSource,
+    A: ByteSource,
+    P: ByteSource,
+    R: ByteSource,
+    W: ByteSink,
+    X: ByteSink,
+>(
+    rt: &(impl Threads + Sync + AllocGlobal),
+    net: &mut N,
+    arch: &mut A,
+    place: &mut P,
+    route: &mut R,
+    out: &mut W,
+    words: &mut X,
+    width: u32,
+    mode: Mode,
+) -> Result<Option<RouteFault>, AppFault>
+    requires tracks { (1 ≤ width) × (width ≤ most_tracks) }
+    // What the files say decides, and where they say a routing of a problem, the line of the
+    // verdict on it is printed, and what is wrong with it.
+    ensures runs { result ≢ Err AppFault.Memory
+        → MeetsDesign (reading (A.remaining arch.old) (A.failed arch.new))
+        (reading (N.remaining net.old) (N.failed net.new))
+        (reading (P.remaining place.old) (P.failed place.new))
+        (λ files. Meets (reading (R.remaining route.old) (R.failed route.new))
+        (λ r. RunsExplain (writing (W.taken out.old) (W.taken out.new) (W.failed out.new))
+        (writing (X.taken words.old) (X.taken words.new) (X.failed words.new))
+        (judged_in width mode files r) result)) }
+    // Nothing is written where memory runs out before the verdict.
+    ensures memory { result ≡ Err AppFault.Memory
+        → TakesNothing (writing (W.taken out.old) (W.taken out.new) (W.failed out.new)) }
+    ensures untold { result ≡ Err AppFault.Memory
+        → TakesNothing (writing (X.taken words.old) (X.taken words.new) (X.failed words.new)) }
+    // A file is not read where the run ended at one before it.
+    ensures net { ends_before InputFile.Net result ≡ true → net.new ≡ net.old }
+    ensures place { ends_before InputFile.Place result ≡ true → place.new ≡ place.old }
+    ensures route { ends_before InputFile.Route result ≡ true → route.new ≡ route.old }
+{
+    let text = match NetlistText::read(rt.alloc(), arch, net) {
+        Ok(text) => text,
+        Err(fault) => return Err(fault),
+    };
+    let design = match Design::read(rt.alloc(), &text, place, width, mode) {
+        Ok(design) => design,
+        Err(fault) => return Err(fault),
+    };
+    explain_design(rt, &design, route, out, words)
+}

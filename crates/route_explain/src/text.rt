@@ -1,0 +1,70 @@
+//! Nodes and steps, printed through a buffer.
+
+ghost use Rattle.std.specs.Prelude.{◌≡◌, ◌++◌};
+ghost use Rattle.vpr_text.specs.Output.{Sends, stream};
+ghost use Rattle.route_explain.specs.Reasons.{end_text, node_text, pair_text, step_text};
+
+use crate::steps::pair_at;
+use rr_graph::Device;
+use runs::put_node_of;
+use vpr_text::{ByteSink, OutputBuffer};
+
+/// Prints words, and then a node.
+pub(crate) fn put_after<W: ByteSink>(
+    out: &mut OutputBuffer,
+    sink: &mut W,
+    device: &Device,
+    words: &[u8],
+    node: u32,
+)
+    ensures { Sends (stream (W.taken sink.old) (W.failed sink.old) out.old)
+        (stream (W.taken sink.new) (W.failed sink.new) out.new)
+        (words.now ++ node_text device.now node) }
+{
+    out.push(sink, words);
+    put_node_of(out, sink, device, node);
+}
+
+/// Prints the nodes of a step.
+fn put_pair<W: ByteSink>(out: &mut OutputBuffer, sink: &mut W, device: &Device, pair: (u32, u32))
+    ensures { Sends (stream (W.taken sink.old) (W.failed sink.old) out.old)
+        (stream (W.taken sink.new) (W.failed sink.new) out.new) (pair_text device.now pair) }
+{
+    put_node_of(out, sink, device, pair.0);
+    out.push(sink, b" to ");
+    put_node_of(out, sink, device, pair.1);
+}
+
+/// Prints the nodes of the step at a row, if there is one.
+pub(crate) fn put_step<W: ByteSink>(
+    out: &mut OutputBuffer,
+    sink: &mut W,
+    device: &Device,
+    pairs: &[(u32, u32)],
+    row: Option<usize>,
+)
+    ensures { Sends (stream (W.taken sink.old) (W.failed sink.old) out.old)
+        (stream (W.taken sink.new) (W.failed sink.new) out.new)
+        (step_text device.now pairs.now row) }
+{
+    if let Some(row) = row {
+        put_pair(out, sink, device, pair_at(pairs, row));
+    }
+}
+
+/// Prints the node at which the step at a row ends, if there is one.
+pub(crate) fn put_end<W: ByteSink>(
+    out: &mut OutputBuffer,
+    sink: &mut W,
+    device: &Device,
+    pairs: &[(u32, u32)],
+    row: Option<usize>,
+)
+    ensures { Sends (stream (W.taken sink.old) (W.failed sink.old) out.old)
+        (stream (W.taken sink.new) (W.failed sink.new) out.new)
+        (end_text device.now pairs.now row) }
+{
+    if let Some(row) = row {
+        put_node_of(out, sink, device, pair_at(pairs, row).1);
+    }
+}
