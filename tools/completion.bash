@@ -13,7 +13,7 @@ _pathfinder() {
       ;;
     check)
       values='--width'
-      words="$values --global -h --help"
+      words="$values --global --explain -h --help"
       ;;
     report)
       values='--width'

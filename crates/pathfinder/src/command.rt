@@ -152,7 +152,13 @@ fn check_command<'a>(alloc: Global) -> Result<Command<'a>, AllocError> {
     with_design(alloc, command)?
         .arg(input(alloc, "ROUTE", "The routing file that is judged"))?
         .arg(width(alloc))?
-        .arg(global_flag(alloc))
+        .arg(global_flag(alloc))?
+        .arg(
+            Arg::new(alloc, "explain")
+                .long("explain")
+                .action(ArgAction::SetTrue)
+                .help("Also what is wrong, net by net and in words, on standard error"),
+        )
 }
 
 fn report_command<'a>(alloc: Global) -> Result<Command<'a>, AllocError> {
@@ -246,6 +252,7 @@ pub struct CheckWords<'a> {
     pub route: &'a str,
     pub width: u32,
     pub global: bool,
+    pub explain: bool,
 }
 
 /// What the `report` command was given.
@@ -338,6 +345,7 @@ pub fn check_words<'a>(matches: &ArgMatches<'a>) -> Option<CheckWords<'a>>
         route: matches.get_str("ROUTE")?,
         width: number_within(matches, "width", MOST_TRACKS)?,
         global: matches.get_flag("global"),
+        explain: matches.get_flag("explain"),
     })
 }
 

@@ -68,7 +68,11 @@ pub const CHECK: &str = "\
 It prints `legal`, or what is wrong first, as
   not legal: net 0 (a): NoSwitch
   not legal: node 39 CHANY (0,1) Track: 0 overused by 1
-docs/FORMATS.md has the cause of each fault, and what to do.
+docs/FORMATS.md has the cause of each fault, and what to do. With `--explain` standard error gets a
+line for each net that has a fault, and one for each overused node:
+  net a: NoSwitch: no switch from CHANY (0,1) Track: 0 to IPIN (1,0) Pad: 0
+  overused 1
+  node 39 CHANY (0,1) Track: 0 used 2 of 1 nets a b
 
 Example, in examples/uart:
   $ pathfinder check uart.net k4n1.arch uart.place uart.route --width 6

@@ -18,12 +18,13 @@ use files::{BehindProgress, NewFile};
 use iteration::Outcome;
 use report_run::report_run;
 use route_check::RouteFault;
+use route_explain::explain_run;
 use rr_graph::Mode;
 use runs::{
     AppFault, InputFile, Progress, check_run, graph_run, outcome_status, print_fault,
     report_status, route_run, status, verdict_status, width_run,
 };
-use std::io::IsTerminal;
+use std::io::{IsTerminal, Write};
 use std::process::ExitCode;
 use std::rt::Runtime;
 use std::sync::Wait;
@@ -38,13 +39,18 @@ use width_search::WidthReport;
 const BAD_WORDS: u8 = 2;
 
 fn main(rt: HostRuntime) -> ExitCode {
-    let is_watched = rt.stderr().is_terminal();
-    ExitCode::from(run(&rt, is_watched))
+    let mut errors = rt.stderr();
+    let is_watched = errors.is_terminal();
+    ExitCode::from(run(&rt, &mut errors, is_watched))
 }
 
 /// Runs the command that the command line names, and answers its exit status. Where standard error
 /// is watched, on a terminal, it shows how far a negotiation is.
-fn run(rt: &(impl Runtime + Threads + Wait + Sync + AllocGlobal), is_watched: bool) -> u8 {
+fn run(
+    rt: &(impl Runtime + Threads + Wait + Sync + AllocGlobal),
+    errors: &mut impl Write,
+    is_watched: bool,
+) -> u8 {
     let words = match words(rt) {
         Ok(words) => words,
         Err(error) if error.kind() == io::ErrorKind::OutOfMemory => return refused(
@@ -66,7 +72,7 @@ fn run(rt: &(impl Runtime + Threads + Wait + Sync + AllocGlobal), is_watched: bo
     match matches.subcommand() {
         Some(("route", given)) => run_route(rt, given, is_watched),
         Some(("width", given)) => run_width(rt, given, is_watched),
-        Some(("check", given)) => run_check(rt, given),
+        Some(("check", given)) => run_check(rt, given, errors),
         Some(("report", given)) => run_report(rt, given),
         Some(("graph", given)) => run_graph(rt, given),
         _ => BAD_WORDS,
@@ -110,11 +116,15 @@ fn run_width(
 }
 
 /// Runs `check`, and answers its status.
-fn run_check(rt: &(impl Runtime + Threads + Sync + AllocGlobal), given: &ArgMatches<'_>) -> u8 {
+fn run_check(
+    rt: &(impl Runtime + Threads + Sync + AllocGlobal),
+    given: &ArgMatches<'_>,
+    errors: &mut impl Write,
+) -> u8 {
     let Some(given) = command::check_words(given) else {
         return BAD_WORDS;
     };
-    match check(rt, given) {
+    match check(rt, given, errors) {
         Ok(verdict) => verdict_status(verdict),
         Err(fault) => refused(rt, fault),
     }
@@ -266,6 +276,7 @@ fn width<R: Runtime + Threads + Wait + Sync + AllocGlobal>(
 fn check(
     rt: &(impl Runtime + Threads + Sync + AllocGlobal),
     given: CheckWords<'_>,
+    errors: &mut impl Write,
 ) -> Result<Option<RouteFault>, AppFault>
     requires { (1 ≤ given.width) × (given.width ≤ most_tracks) }
 {
@@ -275,6 +286,12 @@ fn check(
     let mut route = open(rt, given.route, InputFile::Route)?;
     let mut out = Adapted::new(io::writer(rt));
     let (width, mode) = (given.width, mode_of(given.global));
+    if given.explain {
+        let mut words = Adapted::new(errors);
+        return explain_run(
+            rt, &mut net, &mut arch, &mut place, &mut route, &mut out, &mut words, width, mode,
+        );
+    }
     check_run(
         rt, &mut net, &mut arch, &mut place, &mut route, &mut out, width, mode,
     )
