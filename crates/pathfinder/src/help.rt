@@ -70,7 +70,7 @@ It prints `legal`, or what is wrong first, as
   not legal: node 39 CHANY (0,1) Track: 0 overused by 1
 docs/FORMATS.md has the cause of each fault, and what to do. With `--explain` standard error gets a
 line for each net that has a fault, and one for each overused node:
-  net a: NoSwitch: no switch from CHANY (0,1) Track: 0 to IPIN (1,0) Pad: 0
+  net a: MissingSink: no step leads to a sink of the net; none to SINK (1,1) Class: 0
   overused 1
   node 39 CHANY (0,1) Track: 0 used 2 of 1 nets a b
 

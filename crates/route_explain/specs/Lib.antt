@@ -1,4 +1,5 @@
 pub mod Steps
+pub mod Switches
 pub mod Reasons
 pub mod Explanation
 pub mod ExplainRun

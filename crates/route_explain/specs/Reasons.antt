@@ -8,6 +8,7 @@ use Rattle.route_tree.specs.declared.fault.TreeFault.TheVariants.{NoNet, WrongSo
 use Rattle.route_tree.specs.Paths.{Pair}
 use Rattle.runs.specs.Verdict.{text_of_node}
 use Rattle.route_explain.specs.Steps.{ends_at, pair_at, row_cut_off, row_out_of_order, row_that_ends_again, row_to_dead_end, row_to_foreign_sink, row_without_switch}
+use Rattle.route_explain.specs.Switches.{switch_reason}
 
 -- the node of a number, as `CHANX (1,2) Track: 0`
 abbrev pub node_text : Fabric → ℕ → List ℕ
@@ -38,8 +39,15 @@ beginning_text f source pairs =
     if length pairs == 0 then codes "no step leaves " ++ node_text f source
     else other_beginning_text f source (pair_at pairs 0).0
 
+-- why there is no switch for the step at a row
+abbrev pub why_text : Fabric → List Pair → (row : Option ℕ) → List ℕ
+why_text f pairs None = []
+why_text f pairs (Some k) = codes ": " ++ switch_reason f (pair_at pairs k)
+
 unfoldable pub no_switch_text : Fabric → List Pair → List ℕ
-no_switch_text f pairs = codes "no switch from " ++ step_text f pairs (row_without_switch f pairs)
+no_switch_text f pairs =
+    codes "no switch from "
+    ++ (step_text f pairs (row_without_switch f pairs) ++ why_text f pairs (row_without_switch f pairs))
 
 unfoldable pub met_again_text : Fabric → (source : ℕ) → List Pair → List ℕ
 met_again_text f source pairs =

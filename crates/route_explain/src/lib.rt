@@ -7,6 +7,7 @@ mod order;
 mod reasons;
 mod run;
 mod steps;
+mod switches;
 mod text;
 
 pub use explanation::explain;

@@ -1,15 +1,16 @@
 //! What a fault of a net's list means, in words.
 
-ghost use Rattle.std.specs.Prelude.{◌≡◌};
+ghost use Rattle.std.specs.Prelude.{◌≡◌, ◌++◌, codes};
 ghost use Rattle.std.specs.List.{flat_map};
 ghost use Rattle.vpr_text.specs.Output.{Sends, stream};
-ghost use Rattle.route_explain.specs.Reasons.{apart_text, beginning_text, dangling_text, foreign_sink_text, leaving_text, loose_text, met_again_text, missing_sinks_text, missing_text, no_switch_text, other_beginning_text, out_of_order_text, outputs_text, reason_text};
+ghost use Rattle.route_explain.specs.Reasons.{apart_text, beginning_text, dangling_text, foreign_sink_text, leaving_text, loose_text, met_again_text, missing_sinks_text, missing_text, no_switch_text, other_beginning_text, out_of_order_text, outputs_text, reason_text, why_text};
 
 use crate::order::row_out_of_order;
 use crate::steps::{
     ends_at, pair_at, row_cut_off, row_that_ends_again, row_to_dead_end, row_to_foreign_sink,
     row_without_switch,
 };
+use crate::switches::switch_reason;
 use crate::text::{put_after, put_end, put_step};
 use route_tree::TreeFault;
 use rr_graph::Device;
@@ -52,7 +53,33 @@ fn put_beginning<W: ByteSink>(
     put_other_beginning(out, sink, device, source, pair_at(pairs, 0).0);
 }
 
-/// Prints the first step for which there is no switch.
+/// Prints a reason.
+fn put_because<W: ByteSink>(out: &mut OutputBuffer, sink: &mut W, reason: &[u8])
+    ensures { Sends (stream (W.taken sink.old) (W.failed sink.old) out.old)
+        (stream (W.taken sink.new) (W.failed sink.new) out.new) (codes ": " ++ reason.now) }
+{
+    out.push(sink, b": ");
+    out.push(sink, reason);
+}
+
+/// Prints why there is no switch for the step at a row, if there is one.
+fn put_why<W: ByteSink>(
+    out: &mut OutputBuffer,
+    sink: &mut W,
+    device: &Device,
+    pairs: &[(u32, u32)],
+    row: Option<usize>,
+)
+    ensures { Sends (stream (W.taken sink.old) (W.failed sink.old) out.old)
+        (stream (W.taken sink.new) (W.failed sink.new) out.new)
+        (why_text device.now pairs.now row) }
+{
+    if let Some(row) = row {
+        put_because(out, sink, switch_reason(device, pair_at(pairs, row)));
+    }
+}
+
+/// Prints the first step for which there is no switch, and why there is none.
 fn put_no_switch<W: ByteSink>(
     out: &mut OutputBuffer,
     sink: &mut W,
@@ -66,6 +93,7 @@ fn put_no_switch<W: ByteSink>(
     let row = row_without_switch(device, pairs);
     out.push(sink, b"no switch from ");
     put_step(out, sink, device, pairs, row);
+    put_why(out, sink, device, pairs, row);
 }
 
 /// Prints the first node that is come to again.

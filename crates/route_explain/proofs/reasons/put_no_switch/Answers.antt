@@ -6,4 +6,5 @@ pub returns : goal.returns
 unfolding no_switch_text
 returns g c =
     let step = rw c.row_without_switch-row.ensures at c.put_step.ensures in
-    sends_then c.push.ensures step
+    let why = rw c.row_without_switch-row.ensures at c.put_why.ensures in
+    sends_then c.push.ensures (sends_then step why)
