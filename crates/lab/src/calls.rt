@@ -7,9 +7,9 @@ use crate::unanswered::Unanswered;
 use crate::words::{Call, NO_NUMBER, number};
 use crate::{
     arch_calls, book_calls, design_calls, desk_calls, device_calls, event_calls, fault_calls,
-    file_calls, other_calls, problem_calls, progress_calls, reading_back, route_text_calls,
-    routing_calls, run_calls, search_calls, settings_calls, text_calls, tree_calls, view_calls,
-    walk_calls, work_calls,
+    file_calls, other_calls, problem_calls, progress_calls, reading_back, report_calls,
+    route_text_calls, routing_calls, run_calls, search_calls, settings_calls, text_calls,
+    tree_calls, view_calls, walk_calls, work_calls,
 };
 use std::alloc::Global;
 use std::rt::Runtime;
@@ -203,6 +203,10 @@ fn call_devices(
         made => return made,
     }
     match walk_calls::call(alloc, &session.device, call, out) {
+        Err(Unanswered::NoCall) => (),
+        made => return made,
+    }
+    match report_calls::call(alloc, &session.problem, &session.routing, call, out) {
         Err(Unanswered::NoCall) => (),
         made => return made,
     }
