@@ -1,18 +1,25 @@
 //! What a call answers, in lines of text.
 
 use crate::unanswered::Unanswered;
+use std::alloc::AllocError;
 use std::fmt::{Debug, Display};
+
+/// Whether something was added.
+pub fn added(answer: Result<(), AllocError>) -> Result<(), Unanswered> {
+    match answer {
+        Ok(()) => Ok(()),
+        Err(AllocError) => Err(Unanswered::Memory),
+    }
+}
 
 /// Adds a line.
 pub fn put(out: &mut String, value: impl Display + Drop) -> Result<(), Unanswered> {
-    writeln!(out, "{value}")?;
-    Ok(())
+    added(writeln!(out, "{value}"))
 }
 
 /// Adds a line with a value as the libraries name it.
 pub fn put_named(out: &mut String, value: impl Debug + Drop) -> Result<(), Unanswered> {
-    writeln!(out, "{value:?}")?;
-    Ok(())
+    added(writeln!(out, "{value:?}"))
 }
 
 /// Adds a line with a value, or with `none`.
@@ -43,8 +50,7 @@ pub fn put_numbers(out: &mut String, numbers: &[u32]) -> Result<(), Unanswered> 
     for number in rest {
         write!(out, " {number}")?;
     }
-    out.push('\n')?;
-    Ok(())
+    added(out.push('\n'))
 }
 
 /// Adds a name to a line; bytes that are no text are told as such.

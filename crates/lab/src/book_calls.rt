@@ -1,89 +1,119 @@
 //! Calls of `congestion_book`: the book, and the events that change it.
 
-use crate::answer::{put, put_maybe, put_named};
+use crate::answer::{added, put, put_maybe, put_named};
 use crate::book_look_ups::{dump, look_at, look_up};
-use crate::session::Session;
+use crate::session::{Books, NO_BOOK, NO_PROBLEM, NO_TREE, NO_VIEW, Session};
 use crate::tree_calls::tree_of_words;
 use crate::unanswered::Unanswered;
-use crate::words::{Call, nothing, number, numbers};
+use crate::words::{Call, NO_NUMBER, NO_WORDS, number, numbers};
 use congestion_book::{Book, CloseFault, CommitFault, DrawFault, PassFault};
+use node_cost::View;
 use route_tree::Tree;
 use rr_graph::Problem;
 use std::alloc::Global;
-use std::rt::Runtime;
 
 /// How a commit is written.
 pub const COMMIT: &str = "commit WORKER NET, or with the words of a tree behind it";
 
 /// Makes a call, and adds its answer.
 pub fn call(
-    rt: &(impl Runtime + AllocGlobal),
+    alloc: Global,
     session: &mut Session,
     call: Call<'_>,
     out: &mut String,
 ) -> Result<(), Unanswered> {
     match call.name {
-        "book" => make(rt.alloc(), session, call.given, out),
-        "draw" => draw(session, call.given, out),
-        "look" => look(session, call.given, out),
-        "commit" => commit(rt.alloc(), session, call.given, out),
-        "pass" => pass(session, call.given, out),
-        "close" => close(rt.alloc(), session, call.given, out),
+        "book" => make(alloc, session, call.given, out),
+        "draw" => draw(
+            &mut session.books.book,
+            &mut session.books.view,
+            call.given,
+            out,
+        ),
+        "look" => look(
+            &session.books.book,
+            &mut session.books.view,
+            call.given,
+            out,
+        ),
+        "commit" => commit(
+            alloc,
+            &mut session.books.book,
+            &session.tree,
+            call.given,
+            out,
+        ),
+        "pass" => pass(&mut session.books.book, call.given, out),
+        "close" => close(alloc, &mut session.books.book, call.given, out),
         _ => read(session, call, out),
     }
 }
 
 /// Makes a call that changes nothing, and adds its answer.
 fn read(session: &Session, call: Call<'_>, out: &mut String) -> Result<(), Unanswered> {
+    let Books { book, view, .. } = &session.books;
     match call.name {
-        "book_tree" | "occupancy" | "history" | "turns" => read_at(session, call, out),
-        "rows_of_overuse" | "overused" | "unrouted" | "fresh" => read_all(session, call, out),
-        "has_filled" => put_filled(session, call.given, out),
-        "dump_book" => put_book(session, call.given, out),
+        "book_tree" | "occupancy" | "history" | "turns" => read_at(book, call, out),
+        "rows_of_overuse" | "overused" | "unrouted" | "fresh" => read_all(book, call, out),
+        "has_filled" => put_filled(book, &session.tree, view, call.given, out),
+        "dump_book" => put_book(book, call.given, out),
         _ => Err(Unanswered::NoCall),
     }
 }
 
 /// Makes a look-up of a net, a node or an iteration.
-fn read_at(session: &Session, call: Call<'_>, out: &mut String) -> Result<(), Unanswered> {
+fn read_at(book: &Option<Book>, call: Call<'_>, out: &mut String) -> Result<(), Unanswered> {
     let [index] = numbers::<1>(call.given)?;
-    look_at(session.book()?, call.name, index, out)
+    match book {
+        Some(book) => look_at(book, call.name, index, out),
+        None => Err(NO_BOOK),
+    }
 }
 
 /// Makes a look-up of the whole book.
-fn read_all(session: &Session, call: Call<'_>, out: &mut String) -> Result<(), Unanswered> {
-    nothing(call.given)?;
-    look_up(session.book()?, call.name, out)
+fn read_all(book: &Option<Book>, call: Call<'_>, out: &mut String) -> Result<(), Unanswered> {
+    if !call.given.is_empty() {
+        return Err(NO_WORDS);
+    }
+    match book {
+        Some(book) => look_up(book, call.name, out),
+        None => Err(NO_BOOK),
+    }
 }
 
 /// Adds all that look-ups answer.
-fn put_book(session: &Session, given: &[&str], out: &mut String) -> Result<(), Unanswered> {
-    nothing(given)?;
-    dump(session.book()?, out)
+fn put_book(book: &Option<Book>, given: &[&str], out: &mut String) -> Result<(), Unanswered> {
+    if !given.is_empty() {
+        return Err(NO_WORDS);
+    }
+    match book {
+        Some(book) => dump(book, out),
+        None => Err(NO_BOOK),
+    }
 }
 
 /// Passes a net.
-fn pass(session: &mut Session, given: &[&str], out: &mut String) -> Result<(), Unanswered> {
+fn pass(book: &mut Option<Book>, given: &[&str], out: &mut String) -> Result<(), Unanswered> {
     let [worker, net] = numbers::<2>(given)?;
-    put_passed(book_of(session)?.pass(worker, net), out)
+    match book {
+        Some(book) => put_passed(book.pass(worker, net), out),
+        None => Err(NO_BOOK),
+    }
 }
 
 /// Closes the open iteration.
 fn close(
     alloc: Global,
-    session: &mut Session,
+    book: &mut Option<Book>,
     given: &[&str],
     out: &mut String,
 ) -> Result<(), Unanswered> {
-    nothing(given)?;
-    put_closed(book_of(session)?.close(alloc), out)
-}
-
-/// The session's book.
-fn book_of(session: &mut Session) -> Result<&mut Book, Unanswered> {
-    match &mut session.book {
-        Some(book) => Ok(book),
-        None => Err(Unanswered::Refused("there is no book")),
+    if !given.is_empty() {
+        return Err(NO_WORDS);
+    }
+    match book {
+        Some(book) => put_closed(book.close(alloc), out),
+        None => Err(NO_BOOK),
     }
 }
 
@@ -98,8 +128,22 @@ fn make(
         [] => session.settings().acc(),
         _ => history_factor(given)?,
     };
-    let book = new_book(alloc, session.problem()?, acc)?;
-    keep(session, book, out)
+    match &session.problem {
+        Some(problem) => keep_new(alloc, problem, acc, &mut session.books.book, out),
+        None => Err(NO_PROBLEM),
+    }
+}
+
+/// Keeps a book of a problem, and tells of how many nets it is.
+fn keep_new(
+    alloc: Global,
+    problem: &Problem,
+    acc: u16,
+    kept: &mut Option<Book>,
+    out: &mut String,
+) -> Result<(), Unanswered> {
+    *kept = Some(new_book(alloc, problem, acc)?);
+    added(writeln!(out, "{} nets", problem.nets()))
 }
 
 /// By how much a history grows, as a word says.
@@ -117,40 +161,38 @@ fn new_book(alloc: Global, problem: &Problem, acc: u16) -> Result<Book, Unanswer
     Ok(Book::new(alloc, problem, acc)?)
 }
 
-/// Tells of how many nets a book is, and keeps it.
-fn keep(session: &mut Session, book: Book, out: &mut String) -> Result<(), Unanswered> {
-    put_nets(out, book.problem().nets())?;
-    session.book = Some(book);
-    Ok(())
-}
-
-/// Adds how many nets there are.
-fn put_nets(out: &mut String, nets: u32) -> Result<(), Unanswered> {
-    writeln!(out, "{nets} nets")?;
-    Ok(())
-}
-
-/// Draws a net with the session's view.
-fn draw(session: &mut Session, given: &[&str], out: &mut String) -> Result<(), Unanswered> {
+/// Draws a net with the view.
+fn draw(
+    book: &mut Option<Book>,
+    view: &mut Option<View>,
+    given: &[&str],
+    out: &mut String,
+) -> Result<(), Unanswered> {
     let [worker] = numbers::<1>(given)?;
-    let Some(book) = &mut session.book else {
-        return Err(Unanswered::Refused("there is no book"));
-    };
-    let Some(view) = &mut session.view else {
-        return Err(Unanswered::Refused("there is no view"));
-    };
-    put_drawn(book.draw(worker, view), out)
+    match (book, view) {
+        (Some(book), Some(view)) => put_drawn(book.draw(worker, view), out),
+        (None, _) => Err(NO_BOOK),
+        _ => Err(NO_VIEW),
+    }
 }
 
-/// The session's view becomes that of a net.
-fn look(session: &mut Session, given: &[&str], out: &mut String) -> Result<(), Unanswered> {
+/// The view becomes that of a net.
+fn look(
+    book: &Option<Book>,
+    view: &mut Option<View>,
+    given: &[&str],
+    out: &mut String,
+) -> Result<(), Unanswered> {
     let [net] = numbers::<1>(given)?;
-    let Some(book) = &session.book else {
-        return Err(Unanswered::Refused("there is no book"));
-    };
-    let Some(view) = &mut session.view else {
-        return Err(Unanswered::Refused("there is no view"));
-    };
+    match (book, view) {
+        (Some(book), Some(view)) => look_with(book, view, net, out),
+        (None, _) => Err(NO_BOOK),
+        _ => Err(NO_VIEW),
+    }
+}
+
+/// A view becomes that of a net.
+fn look_with(book: &Book, view: &mut View, net: u32, out: &mut String) -> Result<(), Unanswered> {
     if net >= book.problem().nets() {
         return Err(Unanswered::Refused("there is no such net"));
     }
@@ -161,9 +203,30 @@ fn look(session: &mut Session, given: &[&str], out: &mut String) -> Result<(), U
 }
 
 /// Adds whether others have filled a node of the session's tree since the view was seen.
-fn put_filled(session: &Session, given: &[&str], out: &mut String) -> Result<(), Unanswered> {
+fn put_filled(
+    book: &Option<Book>,
+    tree: &Option<Tree>,
+    view: &Option<View>,
+    given: &[&str],
+    out: &mut String,
+) -> Result<(), Unanswered> {
     let [net] = numbers::<1>(given)?;
-    let (book, tree, view) = (session.book()?, session.tree()?, session.view()?);
+    match (book, tree, view) {
+        (Some(book), Some(tree), Some(view)) => put_whether_filled(book, net, tree, view, out),
+        (None, _, _) => Err(NO_BOOK),
+        (_, None, _) => Err(NO_TREE),
+        _ => Err(NO_VIEW),
+    }
+}
+
+/// Adds whether others have filled a node of a net's tree since a view was seen.
+fn put_whether_filled(
+    book: &Book,
+    net: u32,
+    tree: &Tree,
+    view: &View,
+    out: &mut String,
+) -> Result<(), Unanswered> {
     if net >= book.problem().nets() {
         return Err(Unanswered::Refused("there is no such net"));
     }
@@ -176,22 +239,26 @@ fn put_filled(session: &Session, given: &[&str], out: &mut String) -> Result<(),
 /// Commits the tree that words tell, or the session's.
 fn commit(
     alloc: Global,
-    session: &mut Session,
+    book: &mut Option<Book>,
+    kept: &Option<Tree>,
     given: &[&str],
     out: &mut String,
 ) -> Result<(), Unanswered> {
     let [worker, net, rest @ ..] = given else {
         return Err(Unanswered::Misread(COMMIT));
     };
-    let (worker, net) = (number(worker)?, number(net)?);
-    let tree = given_tree(alloc, session, rest)?;
-    commit_tree(alloc, session, worker, net, tree, out)
+    let (Some(worker), Some(net)) = (number(worker), number(net)) else {
+        return Err(NO_NUMBER);
+    };
+    let tree = given_tree(alloc, kept, rest)?;
+    commit_tree(alloc, book, worker, net, tree, out)
 }
 
-/// The tree that words tell, or a copy of the session's.
-fn given_tree(alloc: Global, session: &Session, words: &[&str]) -> Result<Tree, Unanswered> {
-    match words {
-        [] => Ok(session.tree()?.copy(alloc)?),
+/// The tree that words tell, or a copy of the one that is kept.
+fn given_tree(alloc: Global, kept: &Option<Tree>, words: &[&str]) -> Result<Tree, Unanswered> {
+    match (words, kept) {
+        ([], Some(tree)) => Ok(tree.copy(alloc)?),
+        ([], None) => Err(NO_TREE),
         _ => tree_of_words(alloc, words),
     }
 }
@@ -199,15 +266,15 @@ fn given_tree(alloc: Global, session: &Session, words: &[&str]) -> Result<Tree, 
 /// Commits a tree.
 fn commit_tree(
     alloc: Global,
-    session: &mut Session,
+    book: &mut Option<Book>,
     worker: u32,
     net: u32,
     tree: Tree,
     out: &mut String,
 ) -> Result<(), Unanswered> {
     let copy = tree.copy(alloc)?;
-    let Some(book) = &mut session.book else {
-        return Err(Unanswered::Refused("there is no book"));
+    let Some(book) = book else {
+        return Err(NO_BOOK);
     };
     match book.commit(worker, net, tree) {
         Ok(()) => put(out, "committed"),

@@ -1,6 +1,6 @@
 //! Look-ups of a congestion book.
 
-use crate::answer::put;
+use crate::answer::{added, put};
 use crate::settings_calls::NO_NODE;
 use crate::tree_calls::put_tree;
 use crate::unanswered::Unanswered;
@@ -69,8 +69,7 @@ fn put_row(row: &OveruseRow, out: &mut String) -> Result<(), Unanswered> {
     for (node, amount) in row.amounts.as_slice() {
         write!(out, " {node} {amount}")?;
     }
-    out.push('\n')?;
-    Ok(())
+    added(out.push('\n'))
 }
 
 /// Adds a line with the turns of an iteration.
@@ -92,8 +91,7 @@ fn put_turns(turns: &[Turn], out: &mut String) -> Result<(), Unanswered> {
         let end = if turn.passed { " passed" } else { "" };
         write!(out, " {} {}{end}", turn.worker, turn.net)?;
     }
-    out.push('\n')?;
-    Ok(())
+    added(out.push('\n'))
 }
 
 /// Adds all that look-ups answer.
@@ -104,8 +102,7 @@ pub fn dump(book: &Book, out: &mut String) -> Result<(), Unanswered> {
     dump_turns(book, out)?;
     write!(out, "overused {}", book.overused())?;
     write!(out, ", unrouted {}", book.unrouted())?;
-    writeln!(out, ", fresh {}", book.fresh())?;
-    Ok(())
+    added(writeln!(out, ", fresh {}", book.fresh()))
 }
 
 /// Adds a line for each net.

@@ -6,13 +6,15 @@ ghost use Rattle.rr_graph.specs.Fabric.{most_tracks};
 ghost use Rattle.node_cost.specs.Options.{most_iterations, most_workers};
 
 use crate::unanswered::Unanswered;
-use crate::words::number;
+use crate::words::{NO_NUMBER, number};
 
 /// How many workers there are.
 pub fn worker_count(word: &str) -> Result<u32, Unanswered>
     ensures { IfOk result (λ n. (1 ≤ n) × (n ≤ most_workers)) }
 {
-    let count = number(word)?;
+    let Some(count) = number(word) else {
+        return Err(NO_NUMBER);
+    };
     if count < 1 || count > 16 {
         return Err(Unanswered::Refused("there are 1 to 16 workers"));
     }
@@ -23,7 +25,9 @@ pub fn worker_count(word: &str) -> Result<u32, Unanswered>
 pub fn iteration_number(word: &str) -> Result<u32, Unanswered>
     ensures { IfOk result (λ n. (1 ≤ n) × (n ≤ most_iterations)) }
 {
-    let iteration = number(word)?;
+    let Some(iteration) = number(word) else {
+        return Err(NO_NUMBER);
+    };
     if iteration < 1 || iteration > 500 {
         return Err(Unanswered::Refused("a negotiation has 1 to 500 iterations"));
     }
@@ -34,7 +38,9 @@ pub fn iteration_number(word: &str) -> Result<u32, Unanswered>
 pub fn channel_width(word: &str) -> Result<u32, Unanswered>
     ensures { IfOk result (λ n. (1 ≤ n) × (n ≤ most_tracks)) }
 {
-    let width = number(word)?;
+    let Some(width) = number(word) else {
+        return Err(NO_NUMBER);
+    };
     if width < 1 || width > 256 {
         return Err(Unanswered::Refused("a channel has 1 to 256 tracks"));
     }
@@ -45,7 +51,9 @@ pub fn channel_width(word: &str) -> Result<u32, Unanswered>
 pub fn array_side(word: &str) -> Result<u32, Unanswered>
     ensures { IfOk result (λ n. (1 ≤ n) × (n ≤ longest_side)) }
 {
-    let side = number(word)?;
+    let Some(side) = number(word) else {
+        return Err(NO_NUMBER);
+    };
     if side < 1 || side > 100 {
         return Err(Unanswered::Refused("an array has 1 to 100 columns and rows"));
     }

@@ -1,15 +1,17 @@
 //! All calls, by their names.
 
+use crate::answer::added;
 use crate::session::Session;
 use crate::sources::BELOW;
 use crate::unanswered::Unanswered;
-use crate::words::{Call, number};
+use crate::words::{Call, NO_NUMBER, number};
 use crate::{
     arch_calls, book_calls, design_calls, desk_calls, device_calls, event_calls, fault_calls,
-    file_calls, other_calls, problem_calls, progress_calls, reading_back, route_text_calls,
-    routing_calls, run_calls, search_calls, settings_calls, text_calls, tree_calls, view_calls,
-    walk_calls, work_calls,
+    file_calls, other_calls, problem_calls, progress_calls, reading_back, report_calls,
+    route_text_calls, routing_calls, run_calls, search_calls, settings_calls, text_calls,
+    tree_calls, view_calls, walk_calls, work_calls,
 };
+use std::alloc::Global;
 use std::rt::Runtime;
 use std::sync::Wait;
 use std::thread::Threads;
@@ -44,7 +46,9 @@ fn make_many(
     if *name == "time" || *name == "repeat" {
         return Err(Unanswered::Misread(MANY));
     }
-    let count = number(count)?;
+    let Some(count) = number(count) else {
+        return Err(NO_NUMBER);
+    };
     if count < 1 || count > 1_000_000 {
         return Err(Unanswered::Refused("a call is made 1 to 1,000,000 times"));
     }
@@ -54,8 +58,7 @@ fn make_many(
         return Ok(());
     }
     out.clear();
-    writeln!(out, "{count} times, {} us", time.as_micros())?;
-    Ok(())
+    added(writeln!(out, "{count} times, {} us", time.as_micros()))
 }
 
 /// How long a call takes that is made so many times.
@@ -66,12 +69,17 @@ fn time_of(
     count: u32,
     out: &mut String,
 ) -> Result<Duration, Unanswered> {
-    let start = Instant::now(rt).map_err(|_| Unanswered::Clock)?;
+    let Ok(start) = Instant::now(rt) else {
+        return Err(Unanswered::Clock);
+    };
     for _ in 0..count {
         out.clear();
         make_one(rt, session, call, out)?;
     }
-    start.elapsed(rt).map_err(|_| Unanswered::Clock)
+    match start.elapsed(rt) {
+        Ok(time) => Ok(time),
+        Err(_) => Err(Unanswered::Clock),
+    }
 }
 
 /// Whether a call reads a text that stands below it.
@@ -121,11 +129,11 @@ fn dispatch(
         Err(Unanswered::NoCall) => (),
         made => return made,
     }
-    match arch_calls::call(rt, session, call, out) {
+    match arch_calls::call(rt, &mut session.design, call, out) {
         Err(Unanswered::NoCall) => (),
         made => return made,
     }
-    match design_calls::call(rt, session, call, out) {
+    match design_calls::call(rt, &mut session.design, call, out) {
         Err(Unanswered::NoCall) => (),
         made => return made,
     }
@@ -133,106 +141,37 @@ fn dispatch(
         Err(Unanswered::NoCall) => (),
         made => return made,
     }
-    call_devices(rt, session, call, out)
-}
-
-/// Makes a call of devices and what stands on them, or another one.
-fn call_devices(
-    rt: &(impl Runtime + Threads + Wait + Sync + AllocGlobal),
-    session: &mut Session,
-    call: Call<'_>,
-    out: &mut String,
-) -> Result<(), Unanswered> {
-    match problem_calls::call(rt, session, call, out) {
-        Err(Unanswered::NoCall) => (),
-        made => return made,
-    }
-    match tree_calls::call(rt, session, call, out) {
-        Err(Unanswered::NoCall) => (),
-        made => return made,
-    }
-    match routing_calls::call(rt, session, call, out) {
-        Err(Unanswered::NoCall) => (),
-        made => return made,
-    }
-    match device_calls::call(rt, session, call, out) {
-        Err(Unanswered::NoCall) => (),
-        made => return made,
-    }
-    match walk_calls::call(rt, session, call, out) {
-        Err(Unanswered::NoCall) => (),
-        made => return made,
-    }
-    call_nets(rt, session, call, out)
-}
-
-/// Makes a call of what nets see and cost, or another one.
-fn call_nets(
-    rt: &(impl Runtime + Threads + Wait + Sync + AllocGlobal),
-    session: &mut Session,
-    call: Call<'_>,
-    out: &mut String,
-) -> Result<(), Unanswered> {
-    match settings_calls::call(rt, session, call, out) {
-        Err(Unanswered::NoCall) => (),
-        made => return made,
-    }
-    match view_calls::call(rt, session, call, out) {
-        Err(Unanswered::NoCall) => (),
-        made => return made,
-    }
-    match search_calls::call(rt, session, call, out) {
-        Err(Unanswered::NoCall) => (),
-        made => return made,
-    }
-    match book_calls::call(rt, session, call, out) {
-        Err(Unanswered::NoCall) => (),
-        made => return made,
-    }
-    match event_calls::call(rt, session, call, out) {
+    match file_calls::call(rt, &mut session.files, call, out) {
         Err(Unanswered::NoCall) => (),
         made => return made,
     }
     call_workers(rt, session, call, out)
 }
 
-/// Makes a call of workers and runs, or another one.
+/// Makes a call of what has threads, a clock or a lock, or another one.
 fn call_workers(
     rt: &(impl Runtime + Threads + Wait + Sync + AllocGlobal),
     session: &mut Session,
     call: Call<'_>,
     out: &mut String,
 ) -> Result<(), Unanswered> {
-    match work_calls::call(rt, session, call, out) {
+    let settings = session.settings();
+    match routing_calls::call(rt, session, call, out) {
         Err(Unanswered::NoCall) => (),
         made => return made,
     }
-    match desk_calls::call(rt, session, call, out) {
+    match event_calls::call(rt, &mut session.books, call, out) {
         Err(Unanswered::NoCall) => (),
         made => return made,
     }
-    match file_calls::call(rt, session, call, out) {
+    match work_calls::call(rt, session, &settings, call, out) {
         Err(Unanswered::NoCall) => (),
         made => return made,
     }
-    match run_calls::call(rt, session, call, out) {
+    match run_calls::call(rt, &session.files, &settings, call, out) {
         Err(Unanswered::NoCall) => (),
         made => return made,
     }
-    match fault_calls::call(rt, session, call, out) {
-        Err(Unanswered::NoCall) => (),
-        made => return made,
-    }
-    call_others(rt, session, call, out)
-}
-
-/// Makes a call of progress, of what is read back, or of another value.
-fn call_others(
-    rt: &(impl Runtime + Threads + Wait + Sync + AllocGlobal),
-    session: &mut Session,
-    call: Call<'_>,
-    out: &mut String,
-) -> Result<(), Unanswered> {
     match progress_calls::call(rt, call, out) {
         Err(Unanswered::NoCall) => (),
         made => return made,
@@ -241,5 +180,69 @@ fn call_others(
         Err(Unanswered::NoCall) => (),
         made => return made,
     }
-    other_calls::call(rt, session, call, out)
+    call_devices(rt.alloc(), session, call, out)
+}
+
+/// Makes a call of devices and what stands on them, or another one.
+fn call_devices(
+    alloc: Global,
+    session: &mut Session,
+    call: Call<'_>,
+    out: &mut String,
+) -> Result<(), Unanswered> {
+    match problem_calls::call(alloc, session, call, out) {
+        Err(Unanswered::NoCall) => (),
+        made => return made,
+    }
+    match tree_calls::call(alloc, session, call, out) {
+        Err(Unanswered::NoCall) => (),
+        made => return made,
+    }
+    match device_calls::call(alloc, session, call, out) {
+        Err(Unanswered::NoCall) => (),
+        made => return made,
+    }
+    match walk_calls::call(alloc, &session.device, call, out) {
+        Err(Unanswered::NoCall) => (),
+        made => return made,
+    }
+    match report_calls::call(alloc, &session.problem, &session.routing, call, out) {
+        Err(Unanswered::NoCall) => (),
+        made => return made,
+    }
+    match fault_calls::call(alloc, session.files.out_room, call, out) {
+        Err(Unanswered::NoCall) => (),
+        made => return made,
+    }
+    call_nets(alloc, session, call, out)
+}
+
+/// Makes a call of what nets see and cost, of the book, or of another value.
+fn call_nets(
+    alloc: Global,
+    session: &mut Session,
+    call: Call<'_>,
+    out: &mut String,
+) -> Result<(), Unanswered> {
+    match settings_calls::call(alloc, session, call, out) {
+        Err(Unanswered::NoCall) => (),
+        made => return made,
+    }
+    match view_calls::call(alloc, session, call, out) {
+        Err(Unanswered::NoCall) => (),
+        made => return made,
+    }
+    match search_calls::call(alloc, session, call, out) {
+        Err(Unanswered::NoCall) => (),
+        made => return made,
+    }
+    match book_calls::call(alloc, session, call, out) {
+        Err(Unanswered::NoCall) => (),
+        made => return made,
+    }
+    match desk_calls::call(alloc, &mut session.books.book, call, out) {
+        Err(Unanswered::NoCall) => (),
+        made => return made,
+    }
+    other_calls::call(alloc, session, call, out)
 }

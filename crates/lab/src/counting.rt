@@ -1,9 +1,10 @@
 //! A gate that counts.
 
+use crate::answer::added;
 use crate::meeting::flag;
 use crate::told::{Told, ToldList};
 use crate::unanswered::Unanswered;
-use net_workers::{Gate, TrialEnd};
+use net_workers::TrialEnd;
 use std::alloc::Global;
 use std::sync::Wait;
 use std::sync::atomic::{AtomicU32, Ordering};
@@ -56,26 +57,26 @@ fn put_flags(flags: u32, out: &mut String) -> Result<(), Unanswered> {
             write!(out, " {number}")?;
         }
     }
-    out.push('\n')?;
-    Ok(())
+    added(out.push('\n'))
 }
 
-impl<R: Wait> Gate for Counting<'_, R> {
-    fn opened(&self, iteration: u32, nets: u32) {
+/// What it does when it is called.
+impl<R: Wait> Counting<'_, R> {
+    pub fn opened(&self, iteration: u32, nets: u32) {
         self.told.add(Told::Opened { iteration, nets });
     }
 
-    fn between(&self, worker: u32, _net: u32) {
+    pub fn between(&self, worker: u32) {
         self.drawn.fetch_add(1, Ordering::SeqCst);
         self.drawing.fetch_or(flag(worker), Ordering::SeqCst);
     }
 
-    fn searched(&self, worker: u32, _net: u32) {
+    pub fn searched(&self, worker: u32) {
         self.searched.fetch_add(1, Ordering::SeqCst);
         self.searching.fetch_or(flag(worker), Ordering::SeqCst);
     }
 
-    fn closed(&self, iteration: u32, unrouted: u32, overused: u32) {
+    pub fn closed(&self, iteration: u32, unrouted: u32, overused: u32) {
         self.told.add(Told::Closed {
             iteration,
             unrouted,
@@ -83,11 +84,11 @@ impl<R: Wait> Gate for Counting<'_, R> {
         });
     }
 
-    fn tries(&self, width: u32) {
+    pub fn tries(&self, width: u32) {
         self.told.add(Told::Tries(width));
     }
 
-    fn tried(&self, width: u32, end: TrialEnd) {
+    pub fn tried(&self, width: u32, end: TrialEnd) {
         self.told.add(Told::tried(width, end));
     }
 }

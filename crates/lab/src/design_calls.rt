@@ -1,10 +1,10 @@
 //! Calls of `net_file` and `place_file`: netlists and placements.
 
-use crate::answer::{put, put_maybe, put_name};
-use crate::session::{DesignTexts, Session};
+use crate::answer::{added, put, put_maybe, put_name};
+use crate::session::{Design, DesignTexts, NO_DEVICE, NO_NETLIST};
 use crate::sources::source;
 use crate::unanswered::Unanswered;
-use crate::words::{Call, nothing, numbers, one};
+use crate::words::{Call, NO_WORDS, numbers, one};
 use arch_file::Arch;
 use net_file::{Block, Net, Netlist, Terminal};
 use place_file::Site;
@@ -15,108 +15,126 @@ use std::rt::Runtime;
 /// Makes a call, and adds its answer.
 pub fn call(
     rt: &(impl Runtime + AllocGlobal),
-    session: &mut Session,
+    design: &mut Design,
     call: Call<'_>,
     out: &mut String,
 ) -> Result<(), Unanswered> {
     match call.name {
-        "net" => read_netlist(rt, session, call, out),
-        "place" => read_placement(rt, session, call, out),
-        "site" => put_site_of(rt.alloc(), session, call.given, out),
+        "net" => read_netlist(rt, design, call, out),
+        "place" => read_placement(rt, design, call, out),
+        "site" => put_site_of(rt.alloc(), design, call.given, out),
         "block_named" | "net_named" | "block" | "block_net" | "blocks" | "net_at" | "netlist" => {
-            let netlist = net_file::parse(rt.alloc(), session.net()?, session.arch()?)?;
-            look_up(&netlist, call, out)
+            look_into(rt.alloc(), design, call, out)
         }
         _ => Err(Unanswered::NoCall),
     }
 }
 
-/// Reads a netlist. The placement of the one before is dropped.
-fn read_netlist(
-    rt: &(impl Runtime + AllocGlobal),
-    session: &mut Session,
+/// Reads the netlist again, and makes a look-up of it.
+fn look_into(
+    alloc: Global,
+    design: &Design,
     call: Call<'_>,
     out: &mut String,
 ) -> Result<(), Unanswered> {
-    let arch = session.arch()?;
+    let Some(text) = &design.net else {
+        return Err(NO_NETLIST);
+    };
+    let netlist = net_file::parse(alloc, text.as_slice(), design.arch()?)?;
+    look_up(&netlist, call, out)
+}
+
+/// Reads a netlist. The placement of the one before is dropped.
+fn read_netlist(
+    rt: &(impl Runtime + AllocGlobal),
+    design: &mut Design,
+    call: Call<'_>,
+    out: &mut String,
+) -> Result<(), Unanswered> {
+    let arch = design.arch()?;
     let text = source(rt, call)?;
     put_counts(rt.alloc(), arch, text.as_slice(), out)?;
-    session.net = Some(text);
-    session.place = None;
+    design.net = Some(text);
+    design.place = None;
     Ok(())
 }
 
 /// Adds how many blocks and nets a netlist has.
 fn put_counts(alloc: Global, arch: &Arch, text: &[u8], out: &mut String) -> Result<(), Unanswered> {
     let netlist = net_file::parse(alloc, text, arch)?;
+    put_counts_of(&netlist, out)
+}
+
+fn put_counts_of(netlist: &Netlist<'_>, out: &mut String) -> Result<(), Unanswered> {
     let (blocks, nets) = (netlist.blocks().len(), netlist.nets().len());
-    writeln!(out, "{blocks} blocks, {nets} nets")?;
-    Ok(())
+    added(writeln!(out, "{blocks} blocks, {nets} nets"))
 }
 
 /// Reads a placement.
 fn read_placement(
     rt: &(impl Runtime + AllocGlobal),
-    session: &mut Session,
+    design: &mut Design,
     call: Call<'_>,
     out: &mut String,
 ) -> Result<(), Unanswered> {
-    let (arch, net) = (session.arch()?, session.net()?);
-    let text = source(rt, call)?;
+    let arch = design.arch()?;
+    let Some(net) = &design.net else {
+        return Err(NO_NETLIST);
+    };
+    let (net, text) = (net.as_slice(), source(rt, call)?);
     let place = text.as_slice();
     put_array(rt.alloc(), DesignTexts { arch, net, place }, out)?;
-    session.place = Some(text);
+    design.place = Some(text);
     Ok(())
 }
 
 /// Adds the array of a design.
 fn put_array(alloc: Global, design: DesignTexts<'_>, out: &mut String) -> Result<(), Unanswered> {
     let netlist = net_file::parse(alloc, design.net, design.arch)?;
-    let (nx, ny) = array_of(alloc, design, &netlist)?;
-    writeln!(out, "{nx} x {ny}")?;
-    Ok(())
+    put_array_for(alloc, design, &netlist, out)
 }
 
-/// How many columns and rows the array of a design has.
-fn array_of(
+/// Adds the array of a design with this netlist.
+fn put_array_for(
     alloc: Global,
     design: DesignTexts<'_>,
     netlist: &Netlist<'_>,
-) -> Result<(u32, u32), Unanswered> {
+    out: &mut String,
+) -> Result<(), Unanswered> {
     let placement = place_file::parse(alloc, design.place, design.arch, netlist)?;
-    Ok((placement.nx(), placement.ny()))
+    added(writeln!(out, "{} x {}", placement.nx(), placement.ny()))
 }
 
 /// The site of a block.
 fn put_site_of(
     alloc: Global,
-    session: &Session,
+    design: &Design,
     given: &[&str],
     out: &mut String,
 ) -> Result<(), Unanswered> {
     let [block] = numbers::<1>(given)?;
-    let design = session.design()?;
+    let design = design.texts()?;
     let netlist = net_file::parse(alloc, design.net, design.arch)?;
-    put_site(site_of(alloc, design, &netlist, block)?, out)
+    put_site_for(alloc, design, &netlist, block as usize, out)
 }
 
-/// The site of a block of a design.
-fn site_of(
+/// Adds the site of a block of a design with this netlist.
+fn put_site_for(
     alloc: Global,
     design: DesignTexts<'_>,
     netlist: &Netlist<'_>,
-    block: u32,
-) -> Result<Option<Site>, Unanswered> {
+    block: usize,
+    out: &mut String,
+) -> Result<(), Unanswered> {
     let placement = place_file::parse(alloc, design.place, design.arch, netlist)?;
-    Ok(placement.site(block as usize))
+    put_site(placement.site(block), out)
 }
 
 fn put_site(site: Option<Site>, out: &mut String) -> Result<(), Unanswered> {
     match site {
-        Some(Site { x, y, subblk }) => writeln!(out, "{x} {y} {subblk}")?,
-        None => put(out, "none")?,
+        Some(Site { x, y, subblk }) => { added(writeln!(out, "{x} {y} {subblk}")) }
+        None => put(out, "none"),
     }
-    Ok(())
 }
 
 /// Makes a look-up of a netlist.
@@ -163,7 +181,9 @@ fn put_net_at(netlist: &Netlist<'_>, given: &[&str], out: &mut String) -> Result
 
 /// Adds a line for each block.
 fn put_blocks(netlist: &Netlist<'_>, given: &[&str], out: &mut String) -> Result<(), Unanswered> {
-    nothing(given)?;
+    if !given.is_empty() {
+        return Err(NO_WORDS);
+    }
     for block in netlist.blocks() {
         put_block(block, out)?;
     }
@@ -172,7 +192,9 @@ fn put_blocks(netlist: &Netlist<'_>, given: &[&str], out: &mut String) -> Result
 
 /// Adds a line for each net.
 fn put_nets(netlist: &Netlist<'_>, given: &[&str], out: &mut String) -> Result<(), Unanswered> {
-    nothing(given)?;
+    if !given.is_empty() {
+        return Err(NO_WORDS);
+    }
     for net in netlist.nets() {
         put_net(net, out)?;
     }
@@ -189,8 +211,7 @@ fn put_block(block: &Block<'_>, out: &mut String) -> Result<(), Unanswered> {
             None => out.push_str(" open")?,
         }
     }
-    out.push('\n')?;
-    Ok(())
+    added(out.push('\n'))
 }
 
 /// Adds a net: its name, `global` where it is, its driver and its sinks.
@@ -204,8 +225,7 @@ fn put_net(net: &Net<'_>, out: &mut String) -> Result<(), Unanswered> {
     for sink in net.sinks() {
         put_terminal(*sink, out)?;
     }
-    out.push('\n')?;
-    Ok(())
+    added(out.push('\n'))
 }
 
 /// Adds a terminal: the number of its block, and of the class at a logic block.
@@ -218,9 +238,12 @@ fn put_terminal(terminal: Terminal, out: &mut String) -> Result<(), Unanswered> 
     Ok(())
 }
 
-/// Whether the session's netlist and placement suit its device.
-pub fn suits(alloc: Global, session: &Session) -> Result<bool, Unanswered> {
-    let (design, device) = (session.design()?, session.device()?);
+/// Whether the netlist and the placement suit the device.
+pub fn suits(alloc: Global, design: &Design, device: &Option<Device>) -> Result<bool, Unanswered> {
+    let design = design.texts()?;
+    let Some(device) = device else {
+        return Err(NO_DEVICE);
+    };
     let netlist = net_file::parse(alloc, design.net, design.arch)?;
     are_suited(alloc, design, device, &netlist, &netlist)
 }

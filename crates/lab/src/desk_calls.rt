@@ -5,11 +5,11 @@ ghost use Rattle.congestion_book.specs.Contents.{IsFresh};
 
 use crate::book_calls::{put_committed, put_drawn, put_passed};
 use crate::bounds::worker_count;
-use crate::session::Session;
+use crate::session::NO_BOOK;
 use crate::sources::BELOW;
 use crate::tree_calls::tree_of_words;
 use crate::unanswered::Unanswered;
-use crate::words::{Call, number, text_of, words};
+use crate::words::{Call, NO_NUMBER, number, text_of, words};
 use crate::work_calls::take_fresh;
 use congestion_book::Book;
 use net_workers::{Desk, Round, Share};
@@ -17,7 +17,6 @@ use node_cost::View;
 use route_tree::Tree;
 use std::alloc::Global;
 use std::marker::Brand;
-use std::rt::Runtime;
 use std::sync::ledger::Blank;
 
 /// How the call is written.
@@ -40,14 +39,14 @@ struct Step {
 
 /// Makes a call, and adds its answer.
 pub fn call(
-    rt: &(impl Runtime + AllocGlobal),
-    session: &mut Session,
+    alloc: Global,
+    book: &mut Option<Book>,
     call: Call<'_>,
     out: &mut String,
 ) -> Result<(), Unanswered> {
     match (call.name, call.given) {
         ("desk", [workers, below]) if *below == BELOW => {
-            begin_desk(rt.alloc(), session, worker_count(workers)?, call.text, out)
+            begin_desk(alloc, book, worker_count(workers)?, call.text, out)
         }
         ("desk", _) => Err(Unanswered::Misread(DESK)),
         _ => Err(Unanswered::NoCall),
@@ -57,30 +56,37 @@ pub fn call(
 /// Lets workers do at a desk what a text tells, with a view of the book's nodes.
 fn begin_desk(
     alloc: Global,
-    session: &mut Session,
+    book: &mut Option<Book>,
     workers: u32,
     text: &[u8],
     out: &mut String,
 ) -> Result<(), Unanswered> {
-    let nodes = session.book()?.problem().device().node_count();
-    let mut view = View::new(alloc, nodes as usize)?;
+    let mut view = view_of(alloc, book)?;
     let steps = steps_of_text(alloc, workers, text_of(text)?)?;
-    share_desk(alloc, session, workers, steps, &mut view, out)
+    share_desk(alloc, book, workers, steps, &mut view, out)
+}
+
+/// A view of the book's nodes.
+fn view_of(alloc: Global, book: &Option<Book>) -> Result<View, Unanswered> {
+    match book {
+        Some(book) => Ok(View::new(alloc, book.problem().device().node_count() as usize)?),
+        None => Err(NO_BOOK),
+    }
 }
 
 /// Lets workers take steps at a desk. Where memory runs out, the book is let go.
 fn share_desk(
     alloc: Global,
-    session: &mut Session,
+    book: &mut Option<Book>,
     workers: u32,
     steps: Vec<Step>,
     view: &mut View,
     out: &mut String,
 ) -> Result<(), Unanswered> {
-    let book = take_fresh(session)?;
+    let taken = take_fresh(book)?;
     let blank = Blank::new(workers as u64);
-    let book = at_desk::<Brand>(alloc, book, workers, blank, steps, view, out)?;
-    session.book = Some(book);
+    let taken = at_desk::<Brand>(alloc, taken, workers, blank, steps, view, out)?;
+    *book = Some(taken);
     Ok(())
 }
 
@@ -113,7 +119,9 @@ fn step_of_words(alloc: Global, workers: u32, words: &[&str]) -> Result<Step, Un
     let [name, worker, given @ ..] = words else {
         return Err(Unanswered::Misread(DESK));
     };
-    let worker = number(worker)?;
+    let Some(worker) = number(worker) else {
+        return Err(NO_NUMBER);
+    };
     if worker >= workers {
         return Err(Unanswered::Refused("there is no such worker"));
     }
@@ -125,11 +133,14 @@ fn step_of_words(alloc: Global, workers: u32, words: &[&str]) -> Result<Step, Un
 fn act_of_words(alloc: Global, name: &str, given: &[&str]) -> Result<Act, Unanswered> {
     match (name, given) {
         ("draw", []) => Ok(Act::Draw),
-        ("commit", [net, tree @ ..]) => {
-            let net = number(net)?;
-            Ok(Act::Commit(net, tree_of_words(alloc, tree)?))
-        }
-        ("pass", [net]) => Ok(Act::Pass(number(net)?)),
+        ("commit", [net, tree @ ..]) => match number(net) {
+            Some(net) => Ok(Act::Commit(net, tree_of_words(alloc, tree)?)),
+            None => Err(NO_NUMBER),
+        },
+        ("pass", [net]) => match number(net) {
+            Some(net) => Ok(Act::Pass(net)),
+            None => Err(NO_NUMBER),
+        },
         _ => Err(Unanswered::Misread(DESK)),
     }
 }
@@ -152,9 +163,20 @@ fn at_desk<L: Round>(
     requires one_each { blank.parts ≡ workers }
 {
     let (mut desk, mut shares) = Desk::<L>::new(alloc, book, workers, blank)?;
-    take_steps(&mut desk, &mut shares, steps, view, out)?;
-    put_shares(&shares, out)?;
+    take_and_tell(&mut desk, &mut shares, steps, view, out)?;
     Ok(desk.end())
+}
+
+/// Takes steps, and tells how many turns each share counts then.
+fn take_and_tell<L: Round>(
+    desk: &mut Desk<L>,
+    shares: &mut Vec<Share<L>>,
+    steps: Vec<Step>,
+    view: &mut View,
+    out: &mut String,
+) -> Result<(), Unanswered> {
+    take_steps(desk, shares, steps, view, out)?;
+    put_shares(shares, out)
 }
 
 /// Takes steps one after another.

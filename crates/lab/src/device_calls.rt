@@ -1,41 +1,44 @@
 //! Calls of `rr_graph`: devices, made and copied.
 
-use crate::answer::put;
+use crate::answer::{added, put};
 use crate::design_calls::suits;
-use crate::node_calls::{call as node_call, dump};
-use crate::session::Session;
+use crate::node_calls::call as node_call;
+use crate::session::{Design, NO_DEVICE, Session};
 use crate::unanswered::Unanswered;
-use crate::words::{Call, mode, nothing, number};
+use crate::words::{Call, NO_NUMBER, NO_WORDS, mode, number};
 use rr_graph::{Device, Mode};
 use std::alloc::Global;
-use std::rt::Runtime;
 
 /// Makes a call, and adds its answer.
 pub fn call(
-    rt: &(impl Runtime + AllocGlobal),
+    alloc: Global,
     session: &mut Session,
     call: Call<'_>,
     out: &mut String,
 ) -> Result<(), Unanswered> {
     match call.name {
-        "device" => make(rt.alloc(), session, call.given, out),
-        "dump_device" => {
-            nothing(call.given)?;
-            dump(rt.alloc(), session.device()?, out)
-        }
-        "copy_device" => {
-            nothing(call.given)?;
-            copy(rt.alloc(), session.device()?, out)
-        }
+        "device" => make(alloc, session, call.given, out),
         "has_architecture" => {
-            nothing(call.given)?;
-            put(out, *session.device()?.architecture() == *session.arch()?)
+            if !call.given.is_empty() {
+                return Err(NO_WORDS);
+            }
+            put(out, has_architecture(&session.device, &session.design)?)
         }
         "suits" => {
-            nothing(call.given)?;
-            put(out, suits(rt.alloc(), session)?)
+            if !call.given.is_empty() {
+                return Err(NO_WORDS);
+            }
+            put(out, suits(alloc, &session.design, &session.device)?)
         }
-        _ => node_call(rt.alloc(), session, call, out),
+        _ => node_call(alloc, &session.device, call, out),
+    }
+}
+
+/// Whether the device is one of the design's architecture.
+fn has_architecture(device: &Option<Device>, design: &Design) -> Result<bool, Unanswered> {
+    match device {
+        Some(device) => Ok(*device.architecture() == *design.arch()?),
+        None => Err(NO_DEVICE),
     }
 }
 
@@ -49,9 +52,11 @@ fn make(
     let [nx, ny, width, rest @ ..] = given else {
         return Err(Unanswered::Misread("device NX NY W, or with `global` behind it"));
     };
-    let (nx, ny, width) = (number(nx)?, number(ny)?, number(width)?);
+    let (Some(nx), Some(ny), Some(width)) = (number(nx), number(ny), number(width)) else {
+        return Err(NO_NUMBER);
+    };
     let mode = mode(rest)?;
-    let arch = session.arch()?;
+    let arch = session.design.arch()?;
     if nx < 1 || nx > 100 || ny < 1 || ny > 100 {
         return Err(Unanswered::Refused("an array has 1 to 100 columns and rows"));
     }
@@ -59,13 +64,7 @@ fn make(
         Mode::Detailed => Device::new(alloc, arch, nx, ny, width)?,
         Mode::Global => Device::global(alloc, arch, nx, ny, width)?,
     };
-    writeln!(out, "{} nodes", device.node_count())?;
+    let nodes = device.node_count();
     session.device = Some(device);
-    Ok(())
-}
-
-/// Copies the device, and tells whether the copy is equal.
-fn copy(alloc: Global, device: &Device, out: &mut String) -> Result<(), Unanswered> {
-    let copy = device.copy(alloc)?;
-    put(out, copy == *device)
+    added(writeln!(out, "{nodes} nodes"))
 }

@@ -1,11 +1,12 @@
 //! Calls of `congestion_book`: lists of events.
 
+use crate::answer::added;
 use crate::book_calls::{COMMIT, put_closed, put_committed, put_drawn, put_passed};
-use crate::session::Session;
+use crate::session::{Books, NO_BOOK, NO_VIEW};
 use crate::sources::BELOW;
 use crate::tree_calls::tree_of_words;
 use crate::unanswered::Unanswered;
-use crate::words::{Call, nothing, number, numbers, text_of, words};
+use crate::words::{Call, NO_NUMBER, NO_WORDS, number, numbers, text_of, words};
 use congestion_book::{Event, Reply, RunFault};
 use std::alloc::Global;
 use std::rt::{Clock, Runtime};
@@ -20,14 +21,14 @@ const LONGEST_REPLY: usize = 64;
 /// Makes a call, and adds its answer.
 pub fn call(
     rt: &(impl Runtime + AllocGlobal),
-    session: &mut Session,
+    books: &mut Books,
     call: Call<'_>,
     out: &mut String,
 ) -> Result<(), Unanswered> {
     match (call.name, call.given) {
-        ("run", [below]) if *below == BELOW => run(rt.alloc(), session, call.text, out),
+        ("run", [below]) if *below == BELOW => run(rt.alloc(), books, call.text, out),
         ("run", [word, below]) if *word == "timed" && *below == BELOW => {
-            run_timed(rt, session, call.text, out)
+            run_timed(rt, books, call.text, out)
         }
         ("run", _) => Err(Unanswered::Misread("run << or run timed <<, a line for each event")),
         _ => Err(Unanswered::NoCall),
@@ -35,84 +36,74 @@ pub fn call(
 }
 
 /// Lets the events happen that a text tells, and adds the reply to each. There is room for the replies before one happens.
-fn run(
-    alloc: Global,
-    session: &mut Session,
-    text: &[u8],
-    out: &mut String,
-) -> Result<(), Unanswered> {
+fn run(alloc: Global, books: &mut Books, text: &[u8], out: &mut String) -> Result<(), Unanswered> {
     let events = events(alloc, text_of(text)?)?;
     out.reserve(events.len().saturating_mul(LONGEST_REPLY))?;
-    run_events(alloc, session, events.as_slice(), out)
+    run_events(alloc, books, events.as_slice(), out)
 }
 
 /// Lets events happen, and adds the reply to each.
 fn run_events(
     alloc: Global,
-    session: &mut Session,
+    books: &mut Books,
     events: &[Event],
     out: &mut String,
 ) -> Result<(), Unanswered> {
-    let replies = replies(alloc, session, events)?;
+    let replies = replies(alloc, books, events)?;
     put_replies(replies.as_slice(), out)
 }
 
 /// Lets the events happen that a text tells, and tells how many replies there are and how long that took.
 fn run_timed(
     rt: &(impl Runtime + AllocGlobal),
-    session: &mut Session,
+    books: &mut Books,
     text: &[u8],
     out: &mut String,
 ) -> Result<(), Unanswered> {
     let events = events(rt.alloc(), text_of(text)?)?;
-    time_events(rt, session, events.as_slice(), out)
+    time_events(rt, books, events.as_slice(), out)
 }
 
 /// Lets events happen, and tells how many replies there are and how long that took.
 fn time_events(
     rt: &(impl Clock + AllocGlobal),
-    session: &mut Session,
+    books: &mut Books,
     events: &[Event],
     out: &mut String,
 ) -> Result<(), Unanswered> {
-    let start = Instant::now(rt).map_err(|_| Unanswered::Clock)?;
-    let count = count_replies(rt.alloc(), session, events)?;
-    let time = start.elapsed(rt).map_err(|_| Unanswered::Clock)?;
-    writeln!(out, "{count} replies, {} us", time.as_micros())?;
-    Ok(())
+    let Ok(start) = Instant::now(rt) else {
+        return Err(Unanswered::Clock);
+    };
+    let count = count_replies(rt.alloc(), books, events)?;
+    let Ok(time) = start.elapsed(rt) else {
+        return Err(Unanswered::Clock);
+    };
+    added(writeln!(out, "{count} replies, {} us", time.as_micros()))
 }
 
-fn count_replies(
-    alloc: Global,
-    session: &mut Session,
-    events: &[Event],
-) -> Result<usize, Unanswered> {
-    let replies = replies(alloc, session, events)?;
+fn count_replies(alloc: Global, books: &mut Books, events: &[Event]) -> Result<usize, Unanswered> {
+    let replies = replies(alloc, books, events)?;
     Ok(replies.len())
 }
 
 /// Lets events happen but those that stand, since memory ran out behind them before; the replies.
-fn replies(
-    alloc: Global,
-    session: &mut Session,
-    events: &[Event],
-) -> Result<Vec<Reply>, Unanswered> {
-    let stood = session.standing.min(events.len());
-    let Some(book) = &mut session.book else {
-        return Err(Unanswered::Refused("there is no book"));
+fn replies(alloc: Global, books: &mut Books, events: &[Event]) -> Result<Vec<Reply>, Unanswered> {
+    let stood = books.standing.min(events.len());
+    let Some(book) = &mut books.book else {
+        return Err(NO_BOOK);
     };
-    let Some(view) = &mut session.view else {
-        return Err(Unanswered::Refused("there is no view"));
+    let Some(view) = &mut books.view else {
+        return Err(NO_VIEW);
     };
     let (_, rest) = events.split_at(stood);
     match book.run(alloc, rest, view) {
         Ok(replies) => {
-            session.standing = 0;
+            books.standing = 0;
             Ok(replies)
         }
         Err(RunFault::Memory(count)) => {
-            session.standing = stood.saturating_add(count);
-            Err(Unanswered::Stopped(session.standing))
+            books.standing = stood.saturating_add(count);
+            Err(Unanswered::Stopped(books.standing))
         }
     }
 }
@@ -171,7 +162,9 @@ fn event(alloc: Global, name: &str, given: &[&str]) -> Result<Event, Unanswered>
             Ok(Event::Pass(worker, net))
         }
         "close" => {
-            nothing(given)?;
+            if !given.is_empty() {
+                return Err(NO_WORDS);
+            }
             Ok(Event::Close)
         }
         "commit" => commit(alloc, given),
@@ -183,7 +176,9 @@ fn commit(alloc: Global, given: &[&str]) -> Result<Event, Unanswered> {
     let [worker, net, tree @ ..] = given else {
         return Err(Unanswered::Misread(COMMIT));
     };
-    let (worker, net) = (number(worker)?, number(net)?);
+    let (Some(worker), Some(net)) = (number(worker), number(net)) else {
+        return Err(NO_NUMBER);
+    };
     Ok(Event::Commit(worker, net, tree_of_words(alloc, tree)?))
 }
 

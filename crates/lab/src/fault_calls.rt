@@ -2,26 +2,24 @@
 
 use crate::answer::put;
 use crate::run_calls::put_taken;
-use crate::session::Session;
 use crate::sinks::{ShortSink, sink};
 use crate::unanswered::Unanswered;
 use crate::words::Call;
 use runs::{AppFault, InputFile, print_fault, status};
 use std::alloc::Global;
-use std::rt::Runtime;
 
 /// How the call is written.
 const FAULT: &str = "fault_line unwritten, memory, no_thread, astray, or unread and a file's kind";
 
 /// Makes a call, and adds its answer.
 pub fn call(
-    rt: &(impl Runtime + AllocGlobal),
-    session: &Session,
+    alloc: Global,
+    room: Option<usize>,
     call: Call<'_>,
     out: &mut String,
 ) -> Result<(), Unanswered> {
     match call.name {
-        "fault_line" => put_line(rt.alloc(), session.files.out_room, fault(call.given)?, out),
+        "fault_line" => put_line(alloc, room, fault(call.given)?, out),
         _ => Err(Unanswered::NoCall),
     }
 }

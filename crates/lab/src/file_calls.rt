@@ -1,33 +1,57 @@
 //! Calls that keep the files of a run of the program.
 
-use crate::answer::put;
-use crate::session::{RunFiles, RunText, Session};
+use crate::answer::{added, put};
+use crate::session::{RunFiles, RunText};
 use crate::sources::whole_source;
 use crate::unanswered::Unanswered;
-use crate::words::{Call, nothing, number};
+use crate::words::{Call, NO_NUMBER, NO_WORDS, number};
 use std::rt::Runtime;
 
 /// Makes a call, and adds its answer.
 pub fn call(
     rt: &(impl Runtime + AllocGlobal),
-    session: &mut Session,
+    files: &mut RunFiles,
     call: Call<'_>,
     out: &mut String,
 ) -> Result<(), Unanswered> {
     match call.name {
-        "run_arch" => session.files.arch = Some(run_text(rt, call, out)?),
-        "run_net" => session.files.net = Some(run_text(rt, call, out)?),
-        "run_place" => session.files.place = Some(run_text(rt, call, out)?),
-        "run_route" => session.files.route = Some(run_text(rt, call, out)?),
-        "route_sink" => session.files.route_room = room(call.given, out)?,
-        "out_sink" => session.files.out_room = room(call.given, out)?,
-        "dump_files" => {
-            nothing(call.given)?;
-            dump(&session.files, out)?;
+        "run_arch" | "run_net" | "run_place" | "run_route" => {
+            let (bytes, failing) = whole_source(rt, call)?;
+            let count = bytes.len();
+            keep(files, call.name, RunText { bytes, failing });
+            added(writeln!(out, "{count} bytes"))
         }
-        _ => return Err(Unanswered::NoCall),
+        "route_sink" | "out_sink" => {
+            keep_room(files, call.name, room(call.given, out)?);
+            Ok(())
+        }
+        "dump_files" => {
+            if !call.given.is_empty() {
+                return Err(NO_WORDS);
+            }
+            dump(files, out)
+        }
+        _ => Err(Unanswered::NoCall),
     }
-    Ok(())
+}
+
+/// Keeps the text of the file of a call's name.
+fn keep(files: &mut RunFiles, name: &str, text: RunText) {
+    let file = match name {
+        "run_arch" => &mut files.arch,
+        "run_net" => &mut files.net,
+        "run_place" => &mut files.place,
+        _ => &mut files.route,
+    };
+    *file = Some(text);
+}
+
+/// Keeps behind how many bytes the sink of a call's name fails.
+fn keep_room(files: &mut RunFiles, name: &str, room: Option<usize>) {
+    match name {
+        "route_sink" => files.route_room = room,
+        _ => files.out_room = room,
+    }
 }
 
 /// Adds a line for each file, and for each sink.
@@ -47,10 +71,7 @@ fn put_file(name: &str, file: &Option<RunText>, out: &mut String) -> Result<(), 
             write!(out, "{name}: {} bytes, ", text.bytes.len())?;
             put_room("source", text.failing, out)
         }
-        None => {
-            writeln!(out, "{name}: none")?;
-            Ok(())
-        }
+        None => { added(writeln!(out, "{name}: none")) }
     }
 }
 
@@ -63,22 +84,14 @@ fn put_room(name: &str, room: Option<usize>, out: &mut String) -> Result<(), Una
     Ok(())
 }
 
-/// The text of a file, unread; tells how many bytes there are.
-fn run_text(
-    rt: &(impl Runtime + AllocGlobal),
-    call: Call<'_>,
-    out: &mut String,
-) -> Result<RunText, Unanswered> {
-    let (bytes, failing) = whole_source(rt, call)?;
-    writeln!(out, "{} bytes", bytes.len())?;
-    Ok(RunText { bytes, failing })
-}
-
 /// Behind how many bytes a sink is to fail, if it is.
 fn room(given: &[&str], out: &mut String) -> Result<Option<usize>, Unanswered> {
     let room = match given {
         [word] if *word == "whole" => None,
-        [word, count] if *word == "failing" => Some(number(count)? as usize),
+        [word, count] if *word == "failing" => match number(count) {
+            Some(count) => Some(count as usize),
+            None => return Err(NO_NUMBER),
+        },
         _ => return Err(Unanswered::Misread("the sink and `whole` or `failing N` behind it")),
     };
     put(out, "ok")?;

@@ -5,8 +5,8 @@ use crate::holding::Holding;
 use crate::meeting::Meeting;
 use crate::timing::Timing;
 use crate::unanswered::Unanswered;
-use crate::words::number;
-use net_workers::{Gate, OpenGate, TrialEnd};
+use crate::words::{NO_NUMBER, number};
+use net_workers::{Gate, TrialEnd};
 use std::alloc::AllocError;
 use std::sync::Wait;
 use std::time::Clock;
@@ -32,7 +32,10 @@ pub fn gate_words(given: &[&str], workers: u32) -> Result<GateWords, Unanswered>
     match given {
         [] => Ok(GateWords::Open),
         [word] => plain_gate(word),
-        [word, count] => numbered_gate(word, number(count)?, workers),
+        [word, count] => match number(count) {
+            Some(count) => numbered_gate(word, count, workers),
+            None => Err(NO_NUMBER),
+        },
         _ => Err(Unanswered::Misread(GATES)),
     }
 }
@@ -63,7 +66,7 @@ fn numbered_gate(word: &str, number: u32, workers: u32) -> Result<GateWords, Una
 /// One of the gates.
 #[derive(Drop)]
 pub enum LabGate<'a, R: Wait + Clock> {
-    Open(OpenGate),
+    Open,
     Meeting(Meeting),
     Holding(Holding),
     Counting(Counting<'a, R>),
@@ -74,7 +77,7 @@ impl<'a, R: Wait + Clock + AllocGlobal> LabGate<'a, R> {
     /// The gate that a call names, for so many nets.
     pub fn new(rt: &'a R, words: GateWords, nets: u32) -> Result<LabGate<'a, R>, AllocError> {
         match words {
-            GateWords::Open => Ok(LabGate::Open(OpenGate)),
+            GateWords::Open => Ok(LabGate::Open),
             GateWords::Meeting(count) => Ok(LabGate::Meeting(Meeting::of(count))),
             GateWords::Holding(worker) => Ok(LabGate::Holding(Holding::of(worker, nets))),
             GateWords::Counting => Ok(LabGate::Counting(Counting::new(rt, rt.alloc()))),
@@ -85,7 +88,7 @@ impl<'a, R: Wait + Clock + AllocGlobal> LabGate<'a, R> {
     /// Adds the gate's own lines.
     pub fn put(&self, out: &mut String) -> Result<(), Unanswered> {
         match self {
-            LabGate::Open(_) => Ok(()),
+            LabGate::Open => Ok(()),
             LabGate::Meeting(gate) => gate.put(out),
             LabGate::Holding(gate) => gate.put(out),
             LabGate::Counting(gate) => gate.put(out),
@@ -97,61 +100,55 @@ impl<'a, R: Wait + Clock + AllocGlobal> LabGate<'a, R> {
 impl<R: Wait + Clock> Gate for LabGate<'_, R> {
     fn opened(&self, iteration: u32, nets: u32) {
         match self {
-            LabGate::Open(gate) => gate.opened(iteration, nets),
-            LabGate::Meeting(gate) => gate.opened(iteration, nets),
+            LabGate::Open => (),
+            LabGate::Meeting(gate) => gate.opened(iteration),
             LabGate::Holding(gate) => gate.opened(iteration, nets),
             LabGate::Counting(gate) => gate.opened(iteration, nets),
-            LabGate::Timing(gate) => gate.opened(iteration, nets),
+            LabGate::Timing(gate) => gate.opened(),
         }
     }
 
     fn between(&self, worker: u32, net: u32) {
         match self {
-            LabGate::Open(gate) => gate.between(worker, net),
-            LabGate::Meeting(gate) => gate.between(worker, net),
-            LabGate::Holding(gate) => gate.between(worker, net),
-            LabGate::Counting(gate) => gate.between(worker, net),
-            LabGate::Timing(gate) => gate.between(worker, net),
+            LabGate::Open => (),
+            LabGate::Meeting(gate) => gate.between(net),
+            LabGate::Holding(gate) => gate.between(worker),
+            LabGate::Counting(gate) => gate.between(worker),
+            LabGate::Timing(gate) => gate.between(worker),
         }
     }
 
     fn searched(&self, worker: u32, net: u32) {
         match self {
-            LabGate::Open(gate) => gate.searched(worker, net),
-            LabGate::Meeting(gate) => gate.searched(worker, net),
-            LabGate::Holding(gate) => gate.searched(worker, net),
-            LabGate::Counting(gate) => gate.searched(worker, net),
-            LabGate::Timing(gate) => gate.searched(worker, net),
+            LabGate::Open => (),
+            LabGate::Meeting(gate) => gate.searched(net),
+            LabGate::Holding(gate) => gate.searched(worker),
+            LabGate::Counting(gate) => gate.searched(worker),
+            LabGate::Timing(gate) => gate.searched(worker),
         }
     }
 
     fn closed(&self, iteration: u32, unrouted: u32, overused: u32) {
         match self {
-            LabGate::Open(gate) => gate.closed(iteration, unrouted, overused),
-            LabGate::Meeting(gate) => gate.closed(iteration, unrouted, overused),
-            LabGate::Holding(gate) => gate.closed(iteration, unrouted, overused),
             LabGate::Counting(gate) => gate.closed(iteration, unrouted, overused),
-            LabGate::Timing(gate) => gate.closed(iteration, unrouted, overused),
+            LabGate::Timing(gate) => gate.closed(iteration),
+            _ => (),
         }
     }
 
     fn tries(&self, width: u32) {
         match self {
-            LabGate::Open(gate) => gate.tries(width),
-            LabGate::Meeting(gate) => gate.tries(width),
-            LabGate::Holding(gate) => gate.tries(width),
             LabGate::Counting(gate) => gate.tries(width),
-            LabGate::Timing(gate) => gate.tries(width),
+            LabGate::Timing(gate) => gate.tries(),
+            _ => (),
         }
     }
 
     fn tried(&self, width: u32, end: TrialEnd) {
         match self {
-            LabGate::Open(gate) => gate.tried(width, end),
-            LabGate::Meeting(gate) => gate.tried(width, end),
-            LabGate::Holding(gate) => gate.tried(width, end),
             LabGate::Counting(gate) => gate.tried(width, end),
-            LabGate::Timing(gate) => gate.tried(width, end),
+            LabGate::Timing(gate) => gate.tried(width),
+            _ => (),
         }
     }
 }

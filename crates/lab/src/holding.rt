@@ -2,7 +2,6 @@
 
 use crate::patience::Patience;
 use crate::unanswered::Unanswered;
-use net_workers::Gate;
 use std::sync::atomic::{AtomicBool, AtomicU32, Ordering};
 
 /// Holds a worker at its first net, after its search, until all other nets were searched for. The other workers wait behind their
@@ -60,8 +59,9 @@ impl Holding {
     }
 }
 
-impl Gate for Holding {
-    fn opened(&self, iteration: u32, nets: u32) {
+/// What it does when it is called.
+impl Holding {
+    pub fn opened(&self, iteration: u32, nets: u32) {
         self.nets.store(nets, Ordering::SeqCst);
         self.drawn.store(0, Ordering::SeqCst);
         self.held.store(0, Ordering::SeqCst);
@@ -69,7 +69,7 @@ impl Gate for Holding {
         self.is_awake.store(iteration == 1, Ordering::SeqCst);
     }
 
-    fn between(&self, worker: u32, _net: u32) {
+    pub fn between(&self, worker: u32) {
         if !self.is_awake.load(Ordering::SeqCst) {
             return;
         }
@@ -80,7 +80,7 @@ impl Gate for Holding {
         }
     }
 
-    fn searched(&self, worker: u32, _net: u32) {
+    pub fn searched(&self, worker: u32) {
         if !self.is_awake.load(Ordering::SeqCst) {
             return;
         }

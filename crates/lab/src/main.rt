@@ -23,6 +23,7 @@ mod patience;
 mod problem_calls;
 mod progress_calls;
 mod reading_back;
+mod report_calls;
 mod route_text_calls;
 mod routing_calls;
 mod run_calls;

@@ -3,7 +3,6 @@
 use crate::answer::put;
 use crate::patience::Patience;
 use crate::unanswered::Unanswered;
-use net_workers::Gate;
 use std::sync::atomic::{AtomicBool, AtomicU32, Ordering};
 
 /// The flag of a net, or of a worker; none from 32 on.
@@ -66,21 +65,22 @@ impl Meeting {
     }
 }
 
-impl Gate for Meeting {
-    fn opened(&self, iteration: u32, _nets: u32) {
+/// What it does when it is called.
+impl Meeting {
+    pub fn opened(&self, iteration: u32) {
         self.drawn.store(0, Ordering::SeqCst);
         self.searched.store(0, Ordering::SeqCst);
         self.is_awake.store(iteration == 1, Ordering::SeqCst);
     }
 
-    fn between(&self, _worker: u32, net: u32) {
+    pub fn between(&self, net: u32) {
         if self.holds(net) {
             self.completes(&self.drawn, net);
             self.patience.await_number(&self.drawn, self.all());
         }
     }
 
-    fn searched(&self, _worker: u32, net: u32) {
+    pub fn searched(&self, net: u32) {
         if self.holds(net) {
             if self.completes(&self.searched, net) && !self.patience.is_gone() {
                 self.met.fetch_add(1, Ordering::SeqCst);

@@ -1,25 +1,25 @@
 //! Calls of `rr_graph`: the nodes and edges of a device, by their numbers.
 
-use crate::answer::{put, put_maybe, put_maybe_named, put_numbers};
-use crate::session::Session;
+use crate::answer::{added, put, put_maybe, put_maybe_named, put_numbers};
+use crate::session::NO_DEVICE;
 use crate::unanswered::Unanswered;
-use crate::words::{Call, nothing, number, number_list, numbers};
-use rr_graph::{Device, EdgeFinder, Kind, Node, Span};
+use crate::words::{Call, NO_NUMBER, NO_WORDS, number, number_list, numbers};
+use rr_graph::{Device, EdgeFinder, Kind, Node, NodeRange, Span};
 use smallvec::SmallVec;
 use std::alloc::Global;
 
 /// Makes a call, and adds its answer.
 pub fn call(
     alloc: Global,
-    session: &Session,
+    device: &Option<Device>,
     call: Call<'_>,
     out: &mut String,
 ) -> Result<(), Unanswered> {
     match call.name {
-        "id" => put_id(session.device()?, call.given, out),
-        "edge" => put_edge(session.device()?, call.given, out),
-        "lacks_edge" => put_lacks_edge(alloc, session.device()?, call.given, out),
-        "joins" => put_joins(alloc, session.device()?, call.given, out),
+        "id" | "edge" | "lacks_edge" | "joins" => match device {
+            Some(device) => look_for(alloc, device, call, out),
+            None => Err(NO_DEVICE),
+        },
         "successors"
         | "node"
         | "kind"
@@ -32,13 +32,43 @@ pub fn call(
         | "is_sink"
         | "pins_beside" => {
             let [id] = numbers::<1>(call.given)?;
-            look_up(alloc, session.device()?, call.name, id, out)
+            match device {
+                Some(device) => look_up(alloc, device, call.name, id, out),
+                None => Err(NO_DEVICE),
+            }
         }
-        "node_count" | "edge_count" | "first_wire" | "most_successors" | "input_pins" | "parts" => {
-            nothing(call.given)?;
-            count(session.device()?, call.name, out)
+        "node_count"
+        | "edge_count"
+        | "first_wire"
+        | "most_successors"
+        | "input_pins"
+        | "parts"
+        | "dump_device"
+        | "copy_device" => {
+            if !call.given.is_empty() {
+                return Err(NO_WORDS);
+            }
+            match device {
+                Some(device) => look_at_all(alloc, device, call.name, out),
+                None => Err(NO_DEVICE),
+            }
         }
         _ => Err(Unanswered::NoCall),
+    }
+}
+
+/// Looks for a node, or for edges.
+fn look_for(
+    alloc: Global,
+    device: &Device,
+    call: Call<'_>,
+    out: &mut String,
+) -> Result<(), Unanswered> {
+    match call.name {
+        "id" => put_id(device, call.given, out),
+        "edge" => put_edge(device, call.given, out),
+        "lacks_edge" => put_lacks_edge(alloc, device, call.given, out),
+        _ => put_joins(alloc, device, call.given, out),
     }
 }
 
@@ -61,38 +91,49 @@ fn look_up(
         "sink_of" => put_maybe(out, device.sink_of(id)),
         "is_source" => put(out, device.is_source(id)),
         "is_sink" => put(out, device.is_sink(id)),
-        _ => put_pins_beside(device, id, out),
+        _ => put_pins(device.pins_beside(id), out),
     }
 }
 
 /// Makes a look-up of the whole device.
-fn count(device: &Device, name: &str, out: &mut String) -> Result<(), Unanswered> {
+fn look_at_all(
+    alloc: Global,
+    device: &Device,
+    name: &str,
+    out: &mut String,
+) -> Result<(), Unanswered> {
     match name {
         "node_count" => put(out, device.node_count()),
         "edge_count" => put(out, device.edge_count()),
         "first_wire" => put(out, device.first_wire()),
         "most_successors" => put(out, device.most_successors()),
-        "input_pins" => put_input_pins(device, out),
-        _ => put_parts(device, out),
+        "input_pins" => put_pins(device.input_pins(), out),
+        "parts" => put_parts(device, out),
+        "dump_device" => dump(alloc, device, out),
+        _ => copy(alloc, device, out),
     }
+}
+
+/// Copies the device, and tells whether the copy is equal.
+fn copy(alloc: Global, device: &Device, out: &mut String) -> Result<(), Unanswered> {
+    let copy = device.copy(alloc)?;
+    put(out, copy == *device)
 }
 
 /// Adds a node: its kind, its place and its number there.
 fn put_node(node: Option<Node>, out: &mut String) -> Result<(), Unanswered> {
     match node {
-        Some(Node { kind, x, y, number }) => writeln!(out, "{kind:?} {x} {y} {number}")?,
-        None => put(out, "none")?,
+        Some(Node { kind, x, y, number }) => { added(writeln!(out, "{kind:?} {x} {y} {number}")) }
+        None => put(out, "none"),
     }
-    Ok(())
 }
 
 /// Adds a span: its lower end, and its upper end.
 fn put_span(span: Option<Span>, out: &mut String) -> Result<(), Unanswered> {
     match span {
-        Some(Span { x1, y1, x2, y2 }) => writeln!(out, "{x1} {y1} {x2} {y2}")?,
-        None => put(out, "none")?,
+        Some(Span { x1, y1, x2, y2 }) => { added(writeln!(out, "{x1} {y1} {x2} {y2}")) }
+        None => put(out, "none"),
     }
-    Ok(())
 }
 
 /// Adds a wire: its kind, its span, and how many places the wires of its track pass at most.
@@ -106,24 +147,15 @@ fn put_wire(device: &Device, id: u32, out: &mut String) -> Result<(), Unanswered
     }
 }
 
-fn put_input_pins(device: &Device, out: &mut String) -> Result<(), Unanswered> {
-    let range = device.input_pins();
-    writeln!(out, "{} {}", range.first, range.end)?;
-    Ok(())
-}
-
-fn put_pins_beside(device: &Device, id: u32, out: &mut String) -> Result<(), Unanswered> {
-    let range = device.pins_beside(id);
-    writeln!(out, "{} {}", range.first, range.end)?;
-    Ok(())
+fn put_pins(range: NodeRange, out: &mut String) -> Result<(), Unanswered> {
+    added(writeln!(out, "{} {}", range.first, range.end))
 }
 
 /// Adds the array, the width and the mode.
 fn put_parts(device: &Device, out: &mut String) -> Result<(), Unanswered> {
     let (nx, ny) = (device.nx(), device.ny());
     let (width, mode) = (device.width(), device.mode());
-    writeln!(out, "{nx} x {ny}, W {width}, {mode:?}")?;
-    Ok(())
+    added(writeln!(out, "{nx} x {ny}, W {width}, {mode:?}"))
 }
 
 /// The kind that a word names.
@@ -144,8 +176,10 @@ fn put_id(device: &Device, given: &[&str], out: &mut String) -> Result<(), Unans
     let [word, x, y, number_word] = given else {
         return Err(Unanswered::Misread("id KIND X Y NUMBER"));
     };
-    let (kind, x, y) = (kind(word)?, number(x)?, number(y)?);
-    let number = number(number_word)?;
+    let kind = kind(word)?;
+    let (Some(x), Some(y), Some(number)) = (number(x), number(y), number(number_word)) else {
+        return Err(NO_NUMBER);
+    };
     put_maybe(out, device.id(Node { kind, x, y, number }))
 }
 
@@ -222,7 +256,7 @@ pub fn put_successors(
 }
 
 /// Adds a line for each node: its number, what look-ups say of it, and where it leads.
-pub fn dump(alloc: Global, device: &Device, out: &mut String) -> Result<(), Unanswered> {
+fn dump(alloc: Global, device: &Device, out: &mut String) -> Result<(), Unanswered> {
     for id in 0..device.node_count() {
         write!(out, "{id} ")?;
         dump_node(device, id, out)?;

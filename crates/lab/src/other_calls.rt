@@ -2,20 +2,21 @@
 
 use crate::answer::put;
 use crate::design_calls::are_suited;
-use crate::session::{DesignTexts, Others, Session};
+use crate::session::{
+    Design, DesignTexts, NO_ARCHITECTURE, NO_DEVICE, NO_PROBLEM, NO_TREE, Session,
+};
 use crate::unanswered::Unanswered;
-use crate::words::{Call, nothing, one};
+use crate::words::{Call, NO_WORDS, one};
 use net_file::Netlist;
 use rr_graph::Device;
 use std::alloc::Global;
-use std::rt::Runtime;
 
 /// The kinds of which there is another value.
 const KINDS: &str = "other or same, and arch, net, device, problem, tree, counts or view";
 
 /// Makes a call, and adds its answer.
 pub fn call(
-    rt: &(impl Runtime + AllocGlobal),
+    alloc: Global,
     session: &mut Session,
     call: Call<'_>,
     out: &mut String,
@@ -27,8 +28,13 @@ pub fn call(
         }
         "same" => put(out, are_same(session, one(call.given)?)?),
         "suits_other" => {
-            nothing(call.given)?;
-            put(out, suits_other(rt.alloc(), session)?)
+            if !call.given.is_empty() {
+                return Err(NO_WORDS);
+            }
+            put(
+                out,
+                suits_other(alloc, &session.design, &session.device, &session.others.net)?,
+            )
         }
         _ => Err(Unanswered::NoCall),
     }
@@ -44,29 +50,18 @@ fn swap<T: Drop>(one: &mut Option<T>, other: &mut Option<T>) -> bool {
 
 /// Exchanges the value of a kind with the other one; whether there is one then.
 fn exchange(session: &mut Session, kind: &str) -> Result<bool, Unanswered> {
-    let Session {
-        arch,
-        net,
-        device,
-        problem,
-        searching,
-        tree,
-        counts,
-        view,
-        others,
-        ..
-    } = session;
+    let others = &mut session.others;
     match kind {
-        "arch" => Ok(swap(arch, &mut others.arch)),
-        "net" => Ok(swap(net, &mut others.net)),
-        "device" => Ok(swap(device, &mut others.device)),
+        "arch" => Ok(swap(&mut session.design.arch, &mut others.arch)),
+        "net" => Ok(swap(&mut session.design.net, &mut others.net)),
+        "device" => Ok(swap(&mut session.device, &mut others.device)),
         "problem" => {
-            *searching = None;
-            Ok(swap(problem, &mut others.problem))
+            session.searching = None;
+            Ok(swap(&mut session.problem, &mut others.problem))
         }
-        "tree" => Ok(swap(tree, &mut others.tree)),
-        "counts" => Ok(swap(counts, &mut others.counts)),
-        "view" => Ok(swap(view, &mut others.view)),
+        "tree" => Ok(swap(&mut session.tree, &mut others.tree)),
+        "counts" => Ok(swap(&mut session.counts, &mut others.counts)),
+        "view" => Ok(swap(&mut session.books.view, &mut others.view)),
         _ => Err(Unanswered::Misread(KINDS)),
     }
 }
@@ -75,31 +70,41 @@ fn exchange(session: &mut Session, kind: &str) -> Result<bool, Unanswered> {
 fn are_same(session: &Session, kind: &str) -> Result<bool, Unanswered> {
     let others = &session.others;
     match kind {
-        "arch" => same(session.arch()?, &others.arch),
-        "device" => same(session.device()?, &others.device),
-        "problem" => same(session.problem()?, &others.problem),
-        "tree" => same(session.tree()?, &others.tree),
+        "arch" => same(&session.design.arch, &others.arch, NO_ARCHITECTURE),
+        "device" => same(&session.device, &others.device, NO_DEVICE),
+        "problem" => same(&session.problem, &others.problem, NO_PROBLEM),
+        "tree" => same(&session.tree, &others.tree, NO_TREE),
         _ => Err(Unanswered::Misread(KINDS)),
     }
 }
 
-fn same<T: PartialEq>(one: &T, other: &Option<T>) -> Result<bool, Unanswered> {
-    match other {
-        Some(other) => Ok(*one == *other && *other == *one),
-        None => Err(Unanswered::Refused("there is no other one")),
+/// Whether two values are equal, either way round. Where the first one is missing that is told.
+fn same<T: PartialEq>(
+    one: &Option<T>,
+    other: &Option<T>,
+    missing: Unanswered,
+) -> Result<bool, Unanswered> {
+    match (one, other) {
+        (Some(one), Some(other)) => Ok(*one == *other && *other == *one),
+        (None, _) => Err(missing),
+        _ => Err(Unanswered::Refused("there is no other one")),
     }
 }
 
 /// Whether the device suits the netlist, and the placement as it is read for the other netlist.
-fn suits_other(alloc: Global, session: &Session) -> Result<bool, Unanswered> {
-    let Others {
-        net: Some(other),
-        ..
-    } = &session.others
-    else {
+fn suits_other(
+    alloc: Global,
+    design: &Design,
+    device: &Option<Device>,
+    other: &Option<Vec<u8>>,
+) -> Result<bool, Unanswered> {
+    let Some(other) = other else {
         return Err(Unanswered::Refused("there is no other netlist"));
     };
-    let (design, device) = (session.design()?, session.device()?);
+    let design = design.texts()?;
+    let Some(device) = device else {
+        return Err(NO_DEVICE);
+    };
     let netlist = net_file::parse(alloc, design.net, design.arch)?;
     suits_both(alloc, design, device, &netlist, other.as_slice())
 }

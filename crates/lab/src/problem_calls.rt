@@ -4,47 +4,60 @@ ghost use Rattle.std.specs.Prelude.{◌≤◌, List, ℕ};
 ghost use Rattle.net_file.specs.Reads.{ReadsBytes};
 ghost use Rattle.rr_graph.specs.Fabric.{most_tracks};
 
-use crate::answer::{put, put_numbers};
+use crate::answer::{added, put, put_numbers};
 use crate::bounds::channel_width;
 use crate::route_text_calls::problem_of;
-use crate::session::{DesignTexts, Session};
+use crate::session::{Design, DesignTexts, NO_DEVICE, NO_PROBLEM, Session};
 use crate::sources::BELOW;
 use crate::unanswered::Unanswered;
-use crate::words::{Call, mode, nothing, number, number_list, numbers, text_of, words};
+use crate::words::{Call, NO_NUMBER, NO_WORDS, mode, number, number_list, numbers, text_of, words};
 use net_file::Netlist;
 use rr_graph::{Device, Mode, Problem, Terminals};
 use std::alloc::Global;
-use std::rt::Runtime;
 
 /// How a line of a problem's parts is written.
 const NET_LINE: &str = "net NUMBER: SOURCE -> SINK ..";
 
 /// Makes a call, and adds its answer.
 pub fn call(
-    rt: &(impl Runtime + AllocGlobal),
+    alloc: Global,
     session: &mut Session,
     call: Call<'_>,
     out: &mut String,
 ) -> Result<(), Unanswered> {
     match call.name {
-        "problem" => make(rt.alloc(), session, call, out),
-        "nets" => {
-            nothing(call.given)?;
-            put(out, session.problem()?.nets())
-        }
+        "problem" => make(alloc, session, call, out),
         "net_number" | "source" | "sinks" => {
             let [net] = numbers::<1>(call.given)?;
-            look_up(session.problem()?, call.name, net, out)
+            match &session.problem {
+                Some(problem) => look_up(problem, call.name, net, out),
+                None => Err(NO_PROBLEM),
+            }
         }
-        "copy_problem" => {
-            nothing(call.given)?;
-            copy(rt.alloc(), session.problem()?, out)
-        }
-        "dump_problem" => {
-            nothing(call.given)?;
-            dump(session.problem()?, out)
+        "nets" | "copy_problem" | "dump_problem" => {
+            if !call.given.is_empty() {
+                return Err(NO_WORDS);
+            }
+            match &session.problem {
+                Some(problem) => look_at_all(alloc, problem, call.name, out),
+                None => Err(NO_PROBLEM),
+            }
         }
         _ => Err(Unanswered::NoCall),
+    }
+}
+
+/// Makes a look-up of the whole problem.
+fn look_at_all(
+    alloc: Global,
+    problem: &Problem,
+    name: &str,
+    out: &mut String,
+) -> Result<(), Unanswered> {
+    match name {
+        "nets" => put(out, problem.nets()),
+        "copy_problem" => copy(alloc, problem, out),
+        _ => dump(problem, out),
     }
 }
 
@@ -55,20 +68,37 @@ fn make(
     call: Call<'_>,
     out: &mut String,
 ) -> Result<(), Unanswered> {
-    let problem = match call.given {
-        [] => of_design(alloc, session)?,
-        [word] if *word == BELOW => of_parts(alloc, session.device()?, call.text)?,
-        [width, rest @ ..] => at_width(alloc, session, channel_width(width)?, mode(rest)?)?,
-    };
-    writeln!(out, "{} nets", problem.nets())?;
+    let problem = made(alloc, &session.design, &session.device, call)?;
+    let nets = problem.nets();
     session.problem = Some(problem);
     session.searching = None;
-    Ok(())
+    added(writeln!(out, "{nets} nets"))
 }
 
-/// The problem of the session's netlist and placement on its device.
-fn of_design(alloc: Global, session: &Session) -> Result<Problem, Unanswered> {
-    let (design, device) = (session.design()?, session.device()?);
+/// The problem for which a call asks.
+fn made(
+    alloc: Global,
+    design: &Design,
+    device: &Option<Device>,
+    call: Call<'_>,
+) -> Result<Problem, Unanswered> {
+    match call.given {
+        [] => of_design(alloc, design, device),
+        [word] if *word == BELOW => of_parts(alloc, device, call.text),
+        [width, rest @ ..] => at_width(alloc, design, channel_width(width)?, mode(rest)?),
+    }
+}
+
+/// The problem of the netlist and the placement on the device.
+fn of_design(
+    alloc: Global,
+    design: &Design,
+    device: &Option<Device>,
+) -> Result<Problem, Unanswered> {
+    let design = design.texts()?;
+    let Some(device) = device else {
+        return Err(NO_DEVICE);
+    };
     let netlist = net_file::parse(alloc, design.net, design.arch)?;
     of_netlist(alloc, design, device, &netlist)
 }
@@ -84,11 +114,11 @@ fn of_netlist(
     problem_of(alloc, device, netlist, &placement)
 }
 
-/// The problem of the session's netlist and placement on the device of their array.
-fn at_width(alloc: Global, session: &Session, width: u32, mode: Mode) -> Result<Problem, Unanswered>
+/// The problem of the netlist and the placement on the device of their array.
+fn at_width(alloc: Global, design: &Design, width: u32, mode: Mode) -> Result<Problem, Unanswered>
     requires width { (1 ≤ width) × (width ≤ most_tracks) }
 {
-    let design = session.design()?;
+    let design = design.texts()?;
     let netlist = net_file::parse(alloc, design.net, design.arch)?;
     of_netlist_at(alloc, design, &netlist, width, mode)
 }
@@ -110,7 +140,10 @@ fn of_netlist_at(
 }
 
 /// The problem of the nets that a text tells, on a device.
-fn of_parts(alloc: Global, device: &Device, text: &[u8]) -> Result<Problem, Unanswered> {
+fn of_parts(alloc: Global, device: &Option<Device>, text: &[u8]) -> Result<Problem, Unanswered> {
+    let Some(device) = device else {
+        return Err(NO_DEVICE);
+    };
     let nets = net_lines(alloc, text_of(text)?)?;
     Ok(Problem::from_parts(device.copy(alloc)?, nets)?)
 }
@@ -142,10 +175,14 @@ fn net_line(alloc: Global, words: &[&str]) -> Result<Terminals, Unanswered> {
     let Some(name) = name.strip_suffix(':') else {
         return Err(Unanswered::Misread(NET_LINE));
     };
+    let (Some(number), Some(source)) = (number(name), number(source)) else {
+        return Err(NO_NUMBER);
+    };
+    let sinks = number_list(alloc, sinks)?;
     Ok(Terminals {
-        number: number(name)?,
-        source: number(source)?,
-        sinks: number_list(alloc, sinks)?,
+        number,
+        source,
+        sinks,
     })
 }
 

@@ -1,9 +1,9 @@
 //! Calls of `runs`: the progress of a negotiation, on a terminal that keeps what is written and by a clock that a script sets.
 
-use crate::answer::put;
+use crate::answer::{added, put};
 use crate::sources::BELOW;
 use crate::unanswered::Unanswered;
-use crate::words::{Call, nothing, number, numbers, words};
+use crate::words::{Call, NO_NUMBER, NO_WORDS, number, numbers, words};
 use net_workers::{Gate, TrialEnd};
 use runs::Progress;
 use std::alloc::Global;
@@ -108,8 +108,7 @@ impl<'a, R: Wait> Terminal<'a, R> {
         if written.is_empty() {
             return put(out, "none");
         }
-        out.push_str(written.as_str())?;
-        Ok(())
+        added(out.push_str(written.as_str()))
     }
 }
 
@@ -198,8 +197,13 @@ fn show_line<R: Wait>(
 
 /// Sets the clock to the milliseconds that a word is.
 fn set_clock<R: Wait>(terminal: &Terminal<'_, R>, word: &str) -> Result<(), Unanswered> {
-    terminal.set_clock(number(word)?);
-    Ok(())
+    match number(word) {
+        Some(time) => {
+            terminal.set_clock(time);
+            Ok(())
+        }
+        None => Err(NO_NUMBER),
+    }
 }
 
 /// Tells the progress what a line says.
@@ -220,7 +224,9 @@ fn step<T: Eprint + Clock>(
             Ok(())
         }
         "end" => {
-            nothing(given)?;
+            if !given.is_empty() {
+                return Err(NO_WORDS);
+            }
             progress.end();
             Ok(())
         }
@@ -257,7 +263,9 @@ fn tried(given: &[&str]) -> Result<(u32, TrialEnd), Unanswered> {
     let [width, word, rest @ ..] = given else {
         return Err(Unanswered::Misread(PROGRESS));
     };
-    let width = number(width)?;
+    let Some(width) = number(width) else {
+        return Err(NO_NUMBER);
+    };
     match *word {
         "routed" => {
             let [iterations] = numbers::<1>(rest)?;

@@ -9,9 +9,9 @@ ghost use Rattle.route_check.specs.Routed.{IsRouted};
 
 use crate::answer::put;
 use crate::route_text_calls::problem_of;
-use crate::session::{DesignTexts, Session};
+use crate::session::{Design, DesignTexts, NO_DEVICE, NO_ROUTING, Session};
 use crate::unanswered::Unanswered;
-use crate::words::{Call, nothing};
+use crate::words::{Call, NO_WORDS};
 use net_file::Netlist;
 use place_file::Placement;
 use route_check::check_routing;
@@ -33,8 +33,11 @@ pub fn call(
 ) -> Result<(), Unanswered> {
     match call.name {
         "read_back" => {
-            nothing(call.given)?;
-            put(out, is_read_back(rt, session)?)
+            if !call.given.is_empty() {
+                return Err(NO_WORDS);
+            }
+            let is_so = is_read_back(rt, &session.design, &session.device, &session.routing)?;
+            put(out, is_so)
         }
         _ => Err(Unanswered::NoCall),
     }
@@ -43,10 +46,17 @@ pub fn call(
 /// Whether the text of the design's routing on the device, which must be legal, is read as the routing.
 fn is_read_back(
     rt: &(impl Runtime + Threads + Sync + AllocGlobal),
-    session: &Session,
+    design: &Design,
+    device: &Option<Device>,
+    routing: &Option<Routing>,
 ) -> Result<bool, Unanswered> {
-    let (design, device) = (session.design()?, session.device()?);
-    let routing = session.routing()?;
+    let design = design.texts()?;
+    let Some(device) = device else {
+        return Err(NO_DEVICE);
+    };
+    let Some(routing) = routing else {
+        return Err(NO_ROUTING);
+    };
     let netlist = net_file::parse(rt.alloc(), design.net, design.arch)?;
     is_read_back_on(rt, design, device, &netlist, routing)
 }

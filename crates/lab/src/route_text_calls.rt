@@ -5,9 +5,9 @@ ghost use Rattle.net_file.specs.Routed.{routed_numbers};
 ghost use Rattle.rr_graph.specs.Designs.{suits_design};
 ghost use Rattle.route_file.specs.Design.{IsDesign};
 
-use crate::answer::put_name;
+use crate::answer::{added, put_name};
 use crate::routing_calls::keep;
-use crate::session::{DesignTexts, Session};
+use crate::session::{Design, DesignTexts, NO_DEVICE, NO_ROUTING, Session};
 use crate::sinks::{ShortSink, sink};
 use crate::sources::{bytes_before_failing, source};
 use crate::unanswered::Unanswered;
@@ -29,13 +29,13 @@ pub fn call(
 ) -> Result<(), Unanswered> {
     match call.name {
         "route" => {
-            let text = source(rt, call)?;
-            let routing = read(rt.alloc(), session, text.as_slice())?;
-            keep(session, routing, out)
+            let routing = read_source(rt, &session.design, &session.device, call)?;
+            keep(&mut session.routing, routing, out)
         }
         "write" => {
             let left = bytes_before_failing(call.given)?;
-            put_text(rt.alloc(), session, left, out)
+            let (design, device) = (&session.design, &session.device);
+            put_text(rt.alloc(), design, device, &session.routing, left, out)
         }
         _ => Err(Unanswered::NoCall),
     }
@@ -76,9 +76,28 @@ pub fn problem_of(
     Ok(problem)
 }
 
-/// Reads a routing of the session's design on its device.
-fn read(alloc: Global, session: &Session, text: &[u8]) -> Result<Routing, Unanswered> {
-    let (design, device) = (session.design()?, session.device()?);
+/// Reads the file or the text that a call names.
+fn read_source(
+    rt: &(impl Runtime + AllocGlobal),
+    design: &Design,
+    device: &Option<Device>,
+    call: Call<'_>,
+) -> Result<Routing, Unanswered> {
+    let text = source(rt, call)?;
+    read(rt.alloc(), design, device, text.as_slice())
+}
+
+/// Reads a routing of the design on the device.
+fn read(
+    alloc: Global,
+    design: &Design,
+    device: &Option<Device>,
+    text: &[u8],
+) -> Result<Routing, Unanswered> {
+    let design = design.texts()?;
+    let Some(device) = device else {
+        return Err(NO_DEVICE);
+    };
     let netlist = net_file::parse(alloc, design.net, design.arch)?;
     read_placed(alloc, design, device, &netlist, text)
 }
@@ -107,69 +126,68 @@ fn read_on(
     Ok(parse(alloc, text, netlist, &problem)?)
 }
 
-/// Writes the routing of the session's design on its device, and adds its text.
+/// Writes the routing of the design on the device, and adds its text.
 fn put_text(
     alloc: Global,
-    session: &Session,
+    design: &Design,
+    device: &Option<Device>,
+    routing: &Option<Routing>,
     left: Option<usize>,
     out: &mut String,
 ) -> Result<(), Unanswered> {
-    let (design, device) = (session.design()?, session.device()?);
-    let routing = session.routing()?;
+    let design = design.texts()?;
+    let Some(device) = device else {
+        return Err(NO_DEVICE);
+    };
+    let Some(routing) = routing else {
+        return Err(NO_ROUTING);
+    };
     let netlist = net_file::parse(alloc, design.net, design.arch)?;
-    let written = written_placed(alloc, design, device, &netlist, routing, left)?;
-    put_written(&written, out)
+    put_placed(alloc, design, device, &netlist, routing, left, out)
 }
 
-/// What was written of a routing, and whether that was all of it.
-#[derive(Drop)]
-struct Written {
-    sink: ShortSink,
-    is_whole: bool,
-}
-
-/// Writes a routing of a design with this netlist on a device.
-fn written_placed(
+/// Writes a routing of a design with this netlist on a device, and adds its text.
+fn put_placed(
     alloc: Global,
     design: DesignTexts<'_>,
     device: &Device,
     netlist: &Netlist<'_>,
     routing: &Routing,
     left: Option<usize>,
-) -> Result<Written, Unanswered> {
+    out: &mut String,
+) -> Result<(), Unanswered> {
     let placement = place_file::parse(alloc, design.place, design.arch, netlist)?;
-    written_on(alloc, device, netlist, &placement, routing, left)
+    put_on(alloc, device, netlist, &placement, routing, left, out)
 }
 
-/// Writes a routing of a placed design on a device.
-fn written_on(
+/// Writes a routing of a placed design on a device, and adds its text.
+fn put_on(
     alloc: Global,
     device: &Device,
     netlist: &Netlist<'_>,
     placement: &Placement,
     routing: &Routing,
     left: Option<usize>,
-) -> Result<Written, Unanswered> {
+    out: &mut String,
+) -> Result<(), Unanswered> {
     let problem = problem_of(alloc, device, netlist, placement)?;
     if !fits(&problem, routing) {
         return Err(Unanswered::Refused("the routing does not fit the problem"));
     }
     let mut taken = sink(alloc, left);
     let is_whole = write(netlist, placement, &problem, routing, &mut taken).is_ok();
-    let sink = taken.into_inner();
-    Ok(Written { sink, is_whole })
+    put_written(&taken.into_inner(), is_whole, out)
 }
 
 /// Adds what was written, or tells how much of it was before the sink failed.
-fn put_written(written: &Written, out: &mut String) -> Result<(), Unanswered> {
-    let bytes = written.sink.bytes.as_slice();
-    if written.sink.lacked {
+fn put_written(sink: &ShortSink, is_whole: bool, out: &mut String) -> Result<(), Unanswered> {
+    let bytes = sink.bytes.as_slice();
+    if sink.lacked {
         return Err(Unanswered::Memory);
     }
-    if written.is_whole {
+    if is_whole {
         return put_name(out, bytes);
     }
     let count = bytes.len();
-    writeln!(out, "fault: write: Failed, {count} bytes were taken")?;
-    Ok(())
+    added(writeln!(out, "fault: write: Failed, {count} bytes were taken"))
 }

@@ -1,13 +1,14 @@
 //! Calls of `route_tree` and `route_check`: routings.
 
-use crate::answer::put;
+use crate::answer::{added, put, put_named};
 use crate::node_calls::pairs;
-use crate::session::Session;
+use crate::session::{NO_PROBLEM, NO_ROUTING, Session};
 use crate::tree_calls::tree_of_words;
 use crate::unanswered::Unanswered;
-use crate::words::{Call, nothing, text_below, words};
+use crate::words::{Call, NO_WORDS, text_below, words};
 use route_check::check_routing;
 use route_tree::{Pairs, Routing, Tree, fits};
+use rr_graph::Problem;
 use std::alloc::Global;
 use std::rt::Runtime;
 use std::thread::Threads;
@@ -22,33 +23,44 @@ pub fn call(
     match call.name {
         "routing" => {
             let routing = of_pairs(rt.alloc(), text_below(call)?)?;
-            keep(session, routing, out)
+            keep(&mut session.routing, routing, out)
         }
         "routing_of_trees" => {
             let routing = of_trees(rt.alloc(), text_below(call)?)?;
-            keep(session, routing, out)
+            keep(&mut session.routing, routing, out)
         }
-        "fits" => {
-            nothing(call.given)?;
-            put(out, fits(session.problem()?, session.routing()?))
-        }
-        "check" => {
-            nothing(call.given)?;
-            check(rt, session, out)
+        "fits" | "check" => {
+            if !call.given.is_empty() {
+                return Err(NO_WORDS);
+            }
+            match (&session.problem, &session.routing) {
+                (Some(problem), Some(routing)) => judge(rt, problem, routing, call.name, out),
+                (None, _) => Err(NO_PROBLEM),
+                _ => Err(NO_ROUTING),
+            }
         }
         "dump_routing" => {
-            nothing(call.given)?;
-            dump(session.routing()?, out)
+            if !call.given.is_empty() {
+                return Err(NO_WORDS);
+            }
+            match &session.routing {
+                Some(routing) => dump(routing, out),
+                None => Err(NO_ROUTING),
+            }
         }
         _ => Err(Unanswered::NoCall),
     }
 }
 
 /// Keeps a routing, and tells how many entries it has.
-pub fn keep(session: &mut Session, routing: Routing, out: &mut String) -> Result<(), Unanswered> {
-    writeln!(out, "{} lists", routing.lists.len())?;
-    session.routing = Some(routing);
-    Ok(())
+pub fn keep(
+    kept: &mut Option<Routing>,
+    routing: Routing,
+    out: &mut String,
+) -> Result<(), Unanswered> {
+    let lists = routing.lists.len();
+    *kept = Some(routing);
+    added(writeln!(out, "{lists} lists"))
 }
 
 /// The pairs that the words of a line tell, or none.
@@ -116,17 +128,31 @@ fn add_tree(alloc: Global, trees: &mut Vec<Option<Tree>>, line: &str) -> Result<
     Ok(trees.push(tree)?)
 }
 
-/// Judges the routing.
-fn check(
+/// Adds whether a routing fits a problem, or what is wrong with it.
+fn judge(
     rt: &(impl Runtime + Threads + Sync + AllocGlobal),
-    session: &Session,
+    problem: &Problem,
+    routing: &Routing,
+    name: &str,
     out: &mut String,
 ) -> Result<(), Unanswered> {
-    match check_routing(rt, rt.alloc(), session.problem()?, session.routing()?)? {
-        None => put(out, "legal")?,
-        Some(fault) => writeln!(out, "{fault:?}")?,
+    match name {
+        "fits" => put(out, fits(problem, routing)),
+        _ => check(rt, problem, routing, out),
     }
-    Ok(())
+}
+
+/// Judges a routing.
+fn check(
+    rt: &(impl Runtime + Threads + Sync + AllocGlobal),
+    problem: &Problem,
+    routing: &Routing,
+    out: &mut String,
+) -> Result<(), Unanswered> {
+    match check_routing(rt, rt.alloc(), problem, routing)? {
+        None => put(out, "legal"),
+        Some(fault) => put_named(out, fault),
+    }
 }
 
 /// Adds a line for each entry: the pairs, or `none`.
@@ -146,6 +172,5 @@ fn put_pairs(pairs: &Pairs, out: &mut String) -> Result<(), Unanswered> {
     for (from, to) in pairs.items.as_slice() {
         write!(out, " {from} {to}")?;
     }
-    out.push('\n')?;
-    Ok(())
+    added(out.push('\n'))
 }

@@ -4,16 +4,17 @@ ghost use Rattle.std.specs.Prelude.{◌≤◌};
 ghost use Rattle.rr_graph.specs.Fabric.{most_tracks};
 ghost use Rattle.node_cost.specs.Options.{most_workers};
 
-use crate::answer::put_name;
+use crate::answer::{added, put_name};
 use crate::bounds::{array_side, channel_width, worker_count};
 use crate::gates::{LabGate, gate_words};
-use crate::session::{RunFiles, RunText, Session};
+use crate::session::{RunFiles, RunText};
 use crate::sinks::{ShortSink, sink};
 use crate::sources::{Failing, failing_source};
 use crate::unanswered::Unanswered;
 use crate::words::{Call, mode};
 use crate::work_calls::mode_before;
 use net_workers::WorkFault;
+use node_cost::Settings;
 use rr_graph::Mode;
 use runs::{
     AppFault, check_run, graph_run, outcome_status, print_fault, report_status, route_run, status,
@@ -34,15 +35,16 @@ const NO_PLACE: &str = "there is no run_place";
 /// Makes a call, and adds its answer.
 pub fn call(
     rt: &(impl Runtime + Threads + Wait + Sync + AllocGlobal),
-    session: &Session,
+    files: &RunFiles,
+    settings: &Settings,
     call: Call<'_>,
     out: &mut String,
 ) -> Result<(), Unanswered> {
     match call.name {
-        "graph_run" => run_graph(rt.alloc(), session, call.given, out),
-        "route_run" => run_route(rt, session, call.given, out),
-        "width_run" => run_width(rt, session, call.given, out),
-        "check_run" => run_check(rt, session, call.given, out),
+        "graph_run" => run_graph(rt.alloc(), files, call.given, out),
+        "route_run" => run_route(rt, files, settings, call.given, out),
+        "width_run" => run_width(rt, files, settings, call.given, out),
+        "check_run" => run_check(rt, files, call.given, out),
         _ => Err(Unanswered::NoCall),
     }
 }
@@ -55,7 +57,7 @@ fn source_of(file: &RunText) -> Adapted<Failing<&[u8]>> {
 /// Runs `graph`.
 fn run_graph(
     alloc: Global,
-    session: &Session,
+    files: &RunFiles,
     given: &[&str],
     out: &mut String,
 ) -> Result<(), Unanswered> {
@@ -64,10 +66,10 @@ fn run_graph(
     };
     let (nx, ny) = (array_side(nx)?, array_side(ny)?);
     let (width, mode) = (channel_width(width)?, mode(rest)?);
-    let Some(arch) = &session.files.arch else {
+    let Some(arch) = &files.arch else {
         return Err(Unanswered::Refused(NO_ARCH));
     };
-    let mut printed = sink(alloc, session.files.out_room);
+    let mut printed = sink(alloc, files.out_room);
     let answer = graph_run(
         alloc,
         &mut source_of(arch),
@@ -101,7 +103,8 @@ fn kept_design(files: &RunFiles) -> Result<DesignFiles<'_>, Unanswered> {
 /// Runs `route`.
 fn run_route(
     rt: &(impl Runtime + Threads + Wait + Sync + AllocGlobal),
-    session: &Session,
+    files: &RunFiles,
+    settings: &Settings,
     given: &[&str],
     out: &mut String,
 ) -> Result<(), Unanswered> {
@@ -112,16 +115,19 @@ fn run_route(
     };
     let (width, workers) = (channel_width(width)?, worker_count(workers)?);
     let (mode, rest) = mode_before(rest);
-    let files = kept_design(&session.files)?;
+    let design = kept_design(files)?;
     let gate = LabGate::new(rt, gate_words(rest, workers)?, 0)?;
-    route_design(rt, session, files, width, mode, workers, &gate, out)
+    route_design(
+        rt, files, design, settings, width, mode, workers, &gate, out,
+    )
 }
 
 /// Runs `route` over the files of a design, under a gate.
 fn route_design<R: Runtime + Threads + Wait + Sync + AllocGlobal>(
     rt: &R,
-    session: &Session,
-    files: DesignFiles<'_>,
+    files: &RunFiles,
+    design: DesignFiles<'_>,
+    settings: &Settings,
     width: u32,
     mode: Mode,
     workers: u32,
@@ -131,18 +137,18 @@ fn route_design<R: Runtime + Threads + Wait + Sync + AllocGlobal>(
     requires width { (1 ≤ width) × (width ≤ most_tracks) }
     requires workers { (1 ≤ workers) × (workers ≤ most_workers) }
 {
-    let mut written = sink(rt.alloc(), session.files.route_room);
-    let mut printed = sink(rt.alloc(), session.files.out_room);
+    let mut written = sink(rt.alloc(), files.route_room);
+    let mut printed = sink(rt.alloc(), files.out_room);
     let answer = route_run(
         rt,
-        &mut source_of(files.net),
-        &mut source_of(files.arch),
-        &mut source_of(files.place),
+        &mut source_of(design.net),
+        &mut source_of(design.arch),
+        &mut source_of(design.place),
         &mut written,
         &mut printed,
         width,
         mode,
-        &session.settings(),
+        settings,
         workers,
         gate,
     );
@@ -160,7 +166,8 @@ fn route_design<R: Runtime + Threads + Wait + Sync + AllocGlobal>(
 /// Runs `width`.
 fn run_width(
     rt: &(impl Runtime + Threads + Wait + Sync + AllocGlobal),
-    session: &Session,
+    files: &RunFiles,
+    settings: &Settings,
     given: &[&str],
     out: &mut String,
 ) -> Result<(), Unanswered> {
@@ -171,16 +178,19 @@ fn run_width(
     };
     let (start, workers) = (channel_width(start)?, worker_count(workers)?);
     let (mode, rest) = mode_before(rest);
-    let files = kept_design(&session.files)?;
+    let design = kept_design(files)?;
     let gate = LabGate::new(rt, gate_words(rest, workers)?, 0)?;
-    search_design(rt, session, files, start, mode, workers, &gate, out)
+    search_design(
+        rt, files, design, settings, start, mode, workers, &gate, out,
+    )
 }
 
 /// Runs `width` over the files of a design, under a gate.
 fn search_design<R: Runtime + Threads + Wait + Sync + AllocGlobal>(
     rt: &R,
-    session: &Session,
-    files: DesignFiles<'_>,
+    files: &RunFiles,
+    design: DesignFiles<'_>,
+    settings: &Settings,
     start: u32,
     mode: Mode,
     workers: u32,
@@ -190,18 +200,18 @@ fn search_design<R: Runtime + Threads + Wait + Sync + AllocGlobal>(
     requires start { (1 ≤ start) × (start ≤ most_tracks) }
     requires workers { (1 ≤ workers) × (workers ≤ most_workers) }
 {
-    let mut written = sink(rt.alloc(), session.files.route_room);
-    let mut printed = sink(rt.alloc(), session.files.out_room);
+    let mut written = sink(rt.alloc(), files.route_room);
+    let mut printed = sink(rt.alloc(), files.out_room);
     let answer = width_run(
         rt,
-        &mut source_of(files.net),
-        &mut source_of(files.arch),
-        &mut source_of(files.place),
+        &mut source_of(design.net),
+        &mut source_of(design.arch),
+        &mut source_of(design.place),
         &mut written,
         &mut printed,
         start,
         mode,
-        &session.settings(),
+        settings,
         workers,
         gate,
     );
@@ -219,7 +229,7 @@ fn search_design<R: Runtime + Threads + Wait + Sync + AllocGlobal>(
 /// Runs `check`.
 fn run_check(
     rt: &(impl Runtime + Threads + Sync + AllocGlobal),
-    session: &Session,
+    files: &RunFiles,
     given: &[&str],
     out: &mut String,
 ) -> Result<(), Unanswered> {
@@ -227,18 +237,18 @@ fn run_check(
         return Err(Unanswered::Misread("check_run W, or with `global` behind it"));
     };
     let (width, mode) = (channel_width(width)?, mode(rest)?);
-    let files = kept_design(&session.files)?;
-    let Some(route) = &session.files.route else {
+    let design = kept_design(files)?;
+    let Some(route) = &files.route else {
         return Err(Unanswered::Refused("there is no run_route"));
     };
-    check_design(rt, session, files, route, width, mode, out)
+    check_design(rt, files, design, route, width, mode, out)
 }
 
 /// Runs `check` over the files of a design and a routing.
 fn check_design(
     rt: &(impl Runtime + Threads + Sync + AllocGlobal),
-    session: &Session,
-    files: DesignFiles<'_>,
+    files: &RunFiles,
+    design: DesignFiles<'_>,
     route: &RunText,
     width: u32,
     mode: Mode,
@@ -246,12 +256,12 @@ fn check_design(
 ) -> Result<(), Unanswered>
     requires width { (1 ≤ width) × (width ≤ most_tracks) }
 {
-    let mut printed = sink(rt.alloc(), session.files.out_room);
+    let mut printed = sink(rt.alloc(), files.out_room);
     let answer = check_run(
         rt,
-        &mut source_of(files.net),
-        &mut source_of(files.arch),
-        &mut source_of(files.place),
+        &mut source_of(design.net),
+        &mut source_of(design.arch),
+        &mut source_of(design.place),
         &mut source_of(route),
         &mut printed,
         width,
@@ -307,10 +317,7 @@ fn put_end(
     let is_untouched = sinks.iter().all(|sink| sink.bytes.is_empty());
     match answer {
         _ if sinks.iter().any(|sink| sink.lacked) => Err(Unanswered::Memory),
-        Ok(code) => {
-            writeln!(out, "status {code}")?;
-            Ok(())
-        }
+        Ok(code) => { added(writeln!(out, "status {code}")) }
         Err(AppFault::Memory) if is_untouched => Err(Unanswered::Memory),
         Err(AppFault::NoThread) if is_untouched => Err(Unanswered::Work(WorkFault::NoThread)),
         Err(fault) => {

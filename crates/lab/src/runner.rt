@@ -1,5 +1,6 @@
 //! Runs a script: reads its lines, makes its calls, prints their answers and compares them.
 
+use crate::answer::added;
 use crate::calls::make_call;
 use crate::session::Session;
 use crate::unanswered::Unanswered;
@@ -115,8 +116,7 @@ impl Answer {
     /// Tells why there is none.
     fn refuse(&mut self, why: &Unanswered) -> Result<(), Unanswered> {
         self.text.clear();
-        writeln!(self.text, "{why}")?;
-        Ok(())
+        added(writeln!(self.text, "{why}"))
     }
 }
 
@@ -244,7 +244,7 @@ impl<R: Runtime + Threads + Wait + Sync + AllocGlobal, I: BufRead> Run<'_, R, I>
 
     /// Answers a call, and where it lacked memory, answers it once more. No event of a list stands before.
     fn answer(&mut self, call: Call<'_>) -> IoResult<()> {
-        self.session.standing = 0;
+        self.session.books.standing = 0;
         let lacked = self.answer_once(call)?;
         if lacked && self.repeats {
             self.answer_once(call)?;

@@ -3,20 +3,21 @@
 ghost use Rattle.std.specs.Prelude.{◌≡◌};
 ghost use Rattle.rr_graph.specs.Nodes.{node_count_of};
 
-use crate::session::{Searching, Session};
+use crate::answer::added;
+use crate::session::{NO_PROBLEM, NO_VIEW, Searching, Session};
 use crate::tree_calls::put_tree;
 use crate::unanswered::Unanswered;
-use crate::words::{Call, nothing, numbers};
+use crate::words::{Call, NO_WORDS, numbers};
 use group_wave::{PreparedProblem, Scratch, route_net};
 use node_cost::{GREATEST_PRESENT, View};
 use route_tree::Tree;
-use std::alloc::Global;
-use std::rt::Runtime;
+use rr_graph::Problem;
+use std::alloc::{AllocError, Global};
 use wavefront::{Found, SearchFault};
 
 /// Makes a call, and adds its answer.
 pub fn call(
-    rt: &(impl Runtime + AllocGlobal),
+    alloc: Global,
     session: &mut Session,
     call: Call<'_>,
     out: &mut String,
@@ -24,10 +25,12 @@ pub fn call(
     match call.name {
         "search" => {
             let [net, present, bb] = numbers::<3>(call.given)?;
-            search(rt.alloc(), session, Asked { net, present, bb }, out)
+            search(alloc, session, Asked { net, present, bb }, out)
         }
         "search_faults" => {
-            nothing(call.given)?;
+            if !call.given.is_empty() {
+                return Err(NO_WORDS);
+            }
             put_fault(SearchFault::ViewSize, out)?;
             put_fault(SearchFault::Memory, out)
         }
@@ -37,8 +40,7 @@ pub fn call(
 
 /// Adds a fault's name, and what it says.
 fn put_fault(fault: SearchFault, out: &mut String) -> Result<(), Unanswered> {
-    writeln!(out, "{fault:?}: {fault}")?;
-    Ok(())
+    added(writeln!(out, "{fault:?}: {fault}"))
 }
 
 /// What is searched for: a net, at a present-congestion factor, so far from its terminals at most.
@@ -56,45 +58,58 @@ fn search(
     asked: Asked,
     out: &mut String,
 ) -> Result<(), Unanswered> {
-    prepare(alloc, session)?;
-    match found(alloc, session, asked)? {
-        Found::Tree(tree) => keep_tree(session, tree, out),
-        Found::NoPath(sink) => {
-            writeln!(out, "no path to {sink}")?;
-            Ok(())
-        }
+    prepare(alloc, &session.problem, &mut session.searching)?;
+    match found(alloc, &session.books.view, &mut session.searching, asked)? {
+        Found::Tree(tree) => keep_tree(&mut session.tree, tree, out),
+        Found::NoPath(sink) => { added(writeln!(out, "no path to {sink}")) }
     }
 }
 
 /// Tells the tree that was found, and keeps it.
-fn keep_tree(session: &mut Session, tree: Tree, out: &mut String) -> Result<(), Unanswered> {
+fn keep_tree(kept: &mut Option<Tree>, tree: Tree, out: &mut String) -> Result<(), Unanswered> {
     put_tree(&tree, out)?;
-    session.tree = Some(tree);
+    *kept = Some(tree);
     Ok(())
 }
 
 /// Prepares the session's problem for searches, unless that is done.
-fn prepare(alloc: Global, session: &mut Session) -> Result<(), Unanswered> {
-    if session.searching.is_some() {
+fn prepare(
+    alloc: Global,
+    problem: &Option<Problem>,
+    searching: &mut Option<Searching>,
+) -> Result<(), Unanswered> {
+    if searching.is_some() {
         return Ok(());
     }
-    let problem = session.problem()?.copy(alloc)?;
-    let prepared = PreparedProblem::new(alloc, problem)?;
-    let scratch = Scratch::new(alloc, &prepared)?;
-    session.searching = Some(Searching { prepared, scratch });
+    let Some(problem) = problem else {
+        return Err(NO_PROBLEM);
+    };
+    *searching = Some(searching_of(alloc, problem)?);
     Ok(())
 }
 
+/// What searches of a problem go over and work in.
+fn searching_of(alloc: Global, problem: &Problem) -> Result<Searching, AllocError> {
+    let prepared = PreparedProblem::new(alloc, problem.copy(alloc)?)?;
+    let scratch = Scratch::new(alloc, &prepared)?;
+    Ok(Searching { prepared, scratch })
+}
+
 /// What the search of a net by the session's view finds.
-fn found(alloc: Global, session: &mut Session, asked: Asked) -> Result<Found, Unanswered> {
-    let Some(view) = &session.view else {
-        return Err(Unanswered::Refused("there is no view"));
+fn found(
+    alloc: Global,
+    view: &Option<View>,
+    searching: &mut Option<Searching>,
+    asked: Asked,
+) -> Result<Found, Unanswered> {
+    let Some(view) = view else {
+        return Err(NO_VIEW);
     };
-    match &mut session.searching {
+    match searching {
         Some(Searching { prepared, scratch }) if scratch.fits(prepared.problem()) => {
             search_in(alloc, prepared, view, asked, scratch)
         }
-        _ => Err(Unanswered::Refused("there is no problem")),
+        _ => Err(NO_PROBLEM),
     }
 }
 

@@ -8,6 +8,36 @@ use node_cost::{Counts, Histories, Range, Settings, View};
 use route_tree::{Marks, Routing, Tree};
 use rr_graph::{Device, Problem};
 
+/// Where a call wants an architecture.
+pub const NO_ARCHITECTURE: Unanswered = Unanswered::Refused("there is no architecture");
+
+/// Where a call wants a netlist.
+pub const NO_NETLIST: Unanswered = Unanswered::Refused("there is no netlist");
+
+/// Where a call wants a device.
+pub const NO_DEVICE: Unanswered = Unanswered::Refused("there is no device");
+
+/// Where a call wants a problem.
+pub const NO_PROBLEM: Unanswered = Unanswered::Refused("there is no problem");
+
+/// Where a call wants a tree.
+pub const NO_TREE: Unanswered = Unanswered::Refused("there is no tree");
+
+/// Where a call wants a routing.
+pub const NO_ROUTING: Unanswered = Unanswered::Refused("there is no routing");
+
+/// Where a call wants counts.
+pub const NO_COUNTS: Unanswered = Unanswered::Refused("there are no counts");
+
+/// Where a call wants histories.
+pub const NO_HISTORIES: Unanswered = Unanswered::Refused("there are no histories");
+
+/// Where a call wants a view.
+pub const NO_VIEW: Unanswered = Unanswered::Refused("there is no view");
+
+/// Where a call wants a book.
+pub const NO_BOOK: Unanswered = Unanswered::Refused("there is no book");
+
 /// What was chosen of the settings, in the order of `Settings::new`.
 #[derive(Clone, Copy, Drop)]
 pub struct Choice {
@@ -88,6 +118,47 @@ pub struct DesignTexts<'a> {
     pub place: &'a [u8],
 }
 
+/// What a design is made of. A netlist and a placement are kept as the texts that they were read from, and are read again where a call
+/// looks into them.
+#[derive(Drop)]
+pub struct Design {
+    pub arch: Option<Arch>,
+    pub net: Option<Vec<u8>>,
+    pub place: Option<Vec<u8>>,
+}
+
+impl Design {
+    pub fn arch(&self) -> Result<&Arch, Unanswered> {
+        match &self.arch {
+            Some(arch) => Ok(arch),
+            None => Err(NO_ARCHITECTURE),
+        }
+    }
+
+    /// The architecture, the netlist and the placement.
+    pub fn texts(&self) -> Result<DesignTexts<'_>, Unanswered> {
+        match (&self.arch, &self.net, &self.place) {
+            (Some(arch), Some(net), Some(place)) => Ok(DesignTexts {
+                arch,
+                net: net.as_slice(),
+                place: place.as_slice(),
+            }),
+            (None, _, _) => Err(NO_ARCHITECTURE),
+            (_, None, _) => Err(NO_NETLIST),
+            _ => Err(Unanswered::Refused("there is no placement")),
+        }
+    }
+}
+
+/// The book, what is seen of it, and how far a list of events came.
+#[derive(Drop)]
+pub struct Books {
+    pub book: Option<Book>,
+    pub view: Option<View>,
+    /// How many events of a list stand that memory ran out for.
+    pub standing: usize,
+}
+
 /// What searches of the session's problem go over and work in, made for the first of them.
 #[derive(Drop)]
 pub struct Searching {
@@ -95,13 +166,10 @@ pub struct Searching {
     pub scratch: Scratch,
 }
 
-/// The values that calls made and later calls use. A netlist and a placement are kept as the texts
-/// that they were read from, and are read again where a call looks into them.
+/// The values that calls made and later calls use.
 #[derive(Drop)]
 pub struct Session {
-    pub arch: Option<Arch>,
-    pub net: Option<Vec<u8>>,
-    pub place: Option<Vec<u8>>,
+    pub design: Design,
     pub device: Option<Device>,
     pub problem: Option<Problem>,
     pub tree: Option<Tree>,
@@ -110,11 +178,8 @@ pub struct Session {
     pub choice: Choice,
     pub counts: Option<Counts>,
     pub histories: Option<Histories>,
-    pub view: Option<View>,
     pub searching: Option<Searching>,
-    pub book: Option<Book>,
-    /// How many events of a list stand that memory ran out for.
-    pub standing: usize,
+    pub books: Books,
     pub files: RunFiles,
     pub others: Others,
 }
@@ -122,9 +187,11 @@ pub struct Session {
 impl Session {
     pub fn new() -> Session {
         Session {
-            arch: None,
-            net: None,
-            place: None,
+            design: Design {
+                arch: None,
+                net: None,
+                place: None,
+            },
             device: None,
             problem: None,
             tree: None,
@@ -133,10 +200,12 @@ impl Session {
             choice: Choice::standard(),
             counts: None,
             histories: None,
-            view: None,
             searching: None,
-            book: None,
-            standing: 0,
+            books: Books {
+                book: None,
+                view: None,
+                standing: 0,
+            },
             files: RunFiles {
                 arch: None,
                 net: None,
@@ -162,82 +231,6 @@ impl Session {
         match self.choice.settings() {
             Ok(settings) => settings,
             Err(_) => Settings::standard(),
-        }
-    }
-
-    pub fn arch(&self) -> Result<&Arch, Unanswered> {
-        self.arch
-            .as_ref()
-            .ok_or(Unanswered::Refused("there is no architecture"))
-    }
-
-    pub fn device(&self) -> Result<&Device, Unanswered> {
-        self.device
-            .as_ref()
-            .ok_or(Unanswered::Refused("there is no device"))
-    }
-
-    pub fn problem(&self) -> Result<&Problem, Unanswered> {
-        self.problem
-            .as_ref()
-            .ok_or(Unanswered::Refused("there is no problem"))
-    }
-
-    pub fn tree(&self) -> Result<&Tree, Unanswered> {
-        self.tree
-            .as_ref()
-            .ok_or(Unanswered::Refused("there is no tree"))
-    }
-
-    pub fn routing(&self) -> Result<&Routing, Unanswered> {
-        self.routing
-            .as_ref()
-            .ok_or(Unanswered::Refused("there is no routing"))
-    }
-
-    pub fn counts(&self) -> Result<&Counts, Unanswered> {
-        self.counts
-            .as_ref()
-            .ok_or(Unanswered::Refused("there are no counts"))
-    }
-
-    pub fn histories(&self) -> Result<&Histories, Unanswered> {
-        self.histories
-            .as_ref()
-            .ok_or(Unanswered::Refused("there are no histories"))
-    }
-
-    pub fn view(&self) -> Result<&View, Unanswered> {
-        self.view
-            .as_ref()
-            .ok_or(Unanswered::Refused("there is no view"))
-    }
-
-    pub fn book(&self) -> Result<&Book, Unanswered> {
-        self.book
-            .as_ref()
-            .ok_or(Unanswered::Refused("there is no book"))
-    }
-
-    /// The architecture, the netlist and the placement.
-    pub fn design(&self) -> Result<DesignTexts<'_>, Unanswered> {
-        let (arch, net, place) = (self.arch()?, self.net()?, self.place()?);
-        Ok(DesignTexts { arch, net, place })
-    }
-
-    /// The text of the netlist.
-    pub fn net(&self) -> Result<&[u8], Unanswered> {
-        match &self.net {
-            Some(text) => Ok(text.as_slice()),
-            None => Err(Unanswered::Refused("there is no netlist")),
-        }
-    }
-
-    /// The text of the placement.
-    pub fn place(&self) -> Result<&[u8], Unanswered> {
-        match &self.place {
-            Some(text) => Ok(text.as_slice()),
-            None => Err(Unanswered::Refused("there is no placement")),
         }
     }
 }

@@ -1,26 +1,28 @@
 //! Calls of `node_cost`: settings, costs, and counts and histories of nodes.
 
-use crate::answer::put;
-use crate::session::{Choice, Session};
+use crate::answer::{added, put};
+use crate::session::{Choice, NO_COUNTS, NO_HISTORIES, Session};
 use crate::unanswered::Unanswered;
-use crate::words::{Call, nothing, number, numbers};
+use crate::words::{Call, NO_NUMBER, NO_WORDS, number, numbers};
 use node_cost::{
     Counts, GREATEST_HISTORY, GREATEST_OTHERS, GREATEST_PRESENT, Histories, Settings, cost,
 };
 use std::alloc::Global;
-use std::rt::Runtime;
 
 /// The number of a node that stands at a place.
 pub fn index_of(place: usize) -> u32 {
     u32::try_from(place).unwrap_or(u32::MAX)
 }
 
+/// Where a word is to be a history.
+pub const NO_HISTORY: Unanswered = Unanswered::Misread("a number below 2^64 for a history");
+
 /// What a node's number must be.
 pub const NO_NODE: Unanswered = Unanswered::Refused("there is no such node");
 
 /// Makes a call, and adds its answer.
 pub fn call(
-    rt: &(impl Runtime + AllocGlobal),
+    alloc: Global,
     session: &mut Session,
     call: Call<'_>,
     out: &mut String,
@@ -37,7 +39,7 @@ pub fn call(
             put_present(session.settings(), iteration, out)
         }
         "cost" => put_cost(call.given, out),
-        _ => call_counts(rt.alloc(), session, call, out),
+        _ => call_counts(alloc, session, call, out),
     }
 }
 
@@ -49,45 +51,96 @@ fn call_counts(
     out: &mut String,
 ) -> Result<(), Unanswered> {
     match call.name {
-        "counts" => make_counts(alloc, session, call.given, out),
-        "histories" => make_histories(alloc, session, call.given, out),
-        "count" => {
-            let [id] = numbers::<1>(call.given)?;
-            put(out, count(session.counts()?, id)?)
-        }
-        "history_at" => {
-            let [id] = numbers::<1>(call.given)?;
-            put(out, history(session.histories()?, id)?)
-        }
-        "is_none" => {
-            let [id] = numbers::<1>(call.given)?;
-            put(out, is_none(session.histories()?, id)?)
-        }
+        "counts" => make_counts(alloc, &mut session.counts, call.given, out),
+        "count" => put_count(&session.counts, call.given, out),
         "set_count" | "add_one" | "take_one" => match &mut session.counts {
             Some(counts) => change_count(counts, call.name, call.given, out),
-            None => Err(Unanswered::Refused("there are no counts")),
-        },
-        "set_history" => match &mut session.histories {
-            Some(histories) => set_history(histories, call.given, out),
-            None => Err(Unanswered::Refused("there are no histories")),
+            None => Err(NO_COUNTS),
         },
         "copy_counts" => {
-            nothing(call.given)?;
-            copy_counts(session, out)
+            if !call.given.is_empty() {
+                return Err(NO_WORDS);
+            }
+            copy_counts(&session.counts, &mut session.others.counts, out)
         }
         "dump_counts" => {
-            nothing(call.given)?;
-            dump_counts(session.counts()?, out)
+            if !call.given.is_empty() {
+                return Err(NO_WORDS);
+            }
+            match &session.counts {
+                Some(counts) => dump_counts(counts, out),
+                None => Err(NO_COUNTS),
+            }
         }
-        "copy_histories" => {
-            nothing(call.given)?;
-            copy_histories(alloc, session.histories()?, out)
+        _ => call_histories(alloc, &mut session.histories, call, out),
+    }
+}
+
+/// Makes a call of histories, and adds its answer.
+fn call_histories(
+    alloc: Global,
+    histories: &mut Option<Histories>,
+    call: Call<'_>,
+    out: &mut String,
+) -> Result<(), Unanswered> {
+    match call.name {
+        "histories" => make_histories(alloc, histories, call.given, out),
+        "history_at" | "is_none" => {
+            let [id] = numbers::<1>(call.given)?;
+            match histories {
+                Some(histories) => look_at_history(histories, call.name, id, out),
+                None => Err(NO_HISTORIES),
+            }
         }
-        "dump_histories" => {
-            nothing(call.given)?;
-            dump_histories(session.histories()?, out)
+        "set_history" => match histories {
+            Some(histories) => set_history(histories, call.given, out),
+            None => Err(NO_HISTORIES),
+        },
+        "copy_histories" | "dump_histories" => {
+            if !call.given.is_empty() {
+                return Err(NO_WORDS);
+            }
+            match histories {
+                Some(histories) => look_at_histories(alloc, histories, call.name, out),
+                None => Err(NO_HISTORIES),
+            }
         }
         _ => Err(Unanswered::NoCall),
+    }
+}
+
+/// Adds how many nets use a node.
+fn put_count(counts: &Option<Counts>, given: &[&str], out: &mut String) -> Result<(), Unanswered> {
+    let [id] = numbers::<1>(given)?;
+    match counts {
+        Some(counts) => put(out, count(counts, id)?),
+        None => Err(NO_COUNTS),
+    }
+}
+
+/// Makes a look-up of a node's history.
+fn look_at_history(
+    histories: &Histories,
+    name: &str,
+    id: u32,
+    out: &mut String,
+) -> Result<(), Unanswered> {
+    match name {
+        "history_at" => put(out, history(histories, id)?),
+        _ => put(out, is_none(histories, id)?),
+    }
+}
+
+/// Copies all histories, or adds them.
+fn look_at_histories(
+    alloc: Global,
+    histories: &Histories,
+    name: &str,
+    out: &mut String,
+) -> Result<(), Unanswered> {
+    match name {
+        "copy_histories" => copy_histories(alloc, histories, out),
+        _ => dump_histories(histories, out),
     }
 }
 
@@ -96,16 +149,22 @@ fn chosen(old: Choice, given: &[&str]) -> Result<Choice, Unanswered> {
     match given {
         [] => Ok(old),
         [word] if *word == "standard" => Ok(Choice::standard()),
-        [first, init, mult, acc, bb, iterations] => within_ranges(Choice {
-            first: number(first)?,
-            init: number(init)?,
-            mult: number(mult)?,
-            acc: number(acc)?,
-            bb: number(bb)?,
-            iterations: number(iterations)?,
-        }),
+        [_, _, _, _, _, _] => within_ranges(choice_of(given)?),
         _ => Err(Unanswered::Misread("settings FIRST INIT MULT ACC BB ITERATIONS")),
     }
+}
+
+/// The choice that numbers give.
+fn choice_of(given: &[&str]) -> Result<Choice, Unanswered> {
+    let [first, init, mult, acc, bb, iterations] = numbers::<6>(given)?;
+    Ok(Choice {
+        first,
+        init,
+        mult,
+        acc,
+        bb,
+        iterations,
+    })
 }
 
 /// The choice, as the settings have it that it makes.
@@ -118,8 +177,7 @@ fn put_choice(choice: Choice, out: &mut String) -> Result<(), Unanswered> {
     write!(out, "first {}, init {}", choice.first, choice.init)?;
     write!(out, ", mult {}, acc {}", choice.mult, choice.acc)?;
     write!(out, ", bb {}", choice.bb)?;
-    writeln!(out, ", iterations {}", choice.iterations)?;
-    Ok(())
+    added(writeln!(out, ", iterations {}", choice.iterations))
 }
 
 /// Adds the present-congestion factor of an iteration.
@@ -131,8 +189,11 @@ fn put_present(settings: Settings, iteration: u32, out: &mut String) -> Result<(
 }
 
 /// The number of up to 64 bits that a word is.
-pub fn long_number(word: &str) -> Result<u64, Unanswered> {
-    word.parse::<u64>().map_err(|_| Unanswered::Misread("a number below 2^64 for a history"))
+pub fn long_number(word: &str) -> Option<u64> {
+    match word.parse::<u64>() {
+        Ok(number) => Some(number),
+        Err(_) => None,
+    }
 }
 
 /// Adds what it costs to enter a node.
@@ -140,8 +201,19 @@ fn put_cost(given: &[&str], out: &mut String) -> Result<(), Unanswered> {
     let [base, history, capacity, others, present] = given else {
         return Err(Unanswered::Misread("cost BASE HISTORY CAPACITY OTHERS PRESENT"));
     };
-    let (base, history, capacity) = (number(base)?, long_number(history)?, number(capacity)?);
-    let (others, present) = (number(others)?, number(present)?);
+    let (Some(base), history) = (number(base), long_number(history)) else {
+        return Err(NO_NUMBER);
+    };
+    let Some(history) = history else {
+        return Err(NO_HISTORY);
+    };
+    let (Some(capacity), Some(others), Some(present)) = (
+        number(capacity),
+        number(others),
+        number(present),
+    ) else {
+        return Err(NO_NUMBER);
+    };
     if base > 20 || history > GREATEST_HISTORY || capacity < 1 {
         return Err(Unanswered::Refused("base cost, history or capacity is out of range"));
     }
@@ -159,26 +231,24 @@ fn nodes(given: &[&str]) -> Result<usize, Unanswered> {
 
 fn make_counts(
     alloc: Global,
-    session: &mut Session,
+    kept: &mut Option<Counts>,
     given: &[&str],
     out: &mut String,
 ) -> Result<(), Unanswered> {
-    let counts = Counts::new(alloc, nodes(given)?)?;
-    writeln!(out, "{} nodes", counts.len())?;
-    session.counts = Some(counts);
-    Ok(())
+    let nodes = nodes(given)?;
+    *kept = Some(Counts::new(alloc, nodes)?);
+    added(writeln!(out, "{nodes} nodes"))
 }
 
 fn make_histories(
     alloc: Global,
-    session: &mut Session,
+    kept: &mut Option<Histories>,
     given: &[&str],
     out: &mut String,
 ) -> Result<(), Unanswered> {
-    let histories = Histories::new(alloc, nodes(given)?)?;
-    writeln!(out, "{} nodes", histories.len())?;
-    session.histories = Some(histories);
-    Ok(())
+    let nodes = nodes(given)?;
+    *kept = Some(Histories::new(alloc, nodes)?);
+    added(writeln!(out, "{nodes} nodes"))
 }
 
 /// How many nets use a node.
@@ -215,26 +285,21 @@ fn change_count(
     given: &[&str],
     out: &mut String,
 ) -> Result<(), Unanswered> {
+    let id = changed(counts, name, given)?;
+    put(out, count(counts, id)?)
+}
+
+/// Changes how many nets use a node; the node.
+fn changed(counts: &mut Counts, name: &str, given: &[&str]) -> Result<u32, Unanswered> {
     match name {
-        "set_count" => {
-            let [id, value] = numbers::<2>(given)?;
-            set_count(counts, id, value)?;
-            put(out, count(counts, id)?)
-        }
-        "add_one" => {
-            let [id] = numbers::<1>(given)?;
-            add_one(counts, id)?;
-            put(out, count(counts, id)?)
-        }
-        _ => {
-            let [id] = numbers::<1>(given)?;
-            take_one(counts, id)?;
-            put(out, count(counts, id)?)
-        }
+        "set_count" => set_count(counts, given),
+        "add_one" => add_one(counts, given),
+        _ => take_one(counts, given),
     }
 }
 
-fn set_count(counts: &mut Counts, id: u32, value: u32) -> Result<(), Unanswered> {
+fn set_count(counts: &mut Counts, given: &[&str]) -> Result<u32, Unanswered> {
+    let [id, value] = numbers::<2>(given)?;
     if id as usize >= counts.len() {
         return Err(NO_NODE);
     }
@@ -242,27 +307,29 @@ fn set_count(counts: &mut Counts, id: u32, value: u32) -> Result<(), Unanswered>
         return Err(Unanswered::Refused("at most 65,535 nets use a node"));
     }
     counts.set(id, value);
-    Ok(())
+    Ok(id)
 }
 
-fn add_one(counts: &mut Counts, id: u32) -> Result<(), Unanswered> {
+fn add_one(counts: &mut Counts, given: &[&str]) -> Result<u32, Unanswered> {
+    let [id] = numbers::<1>(given)?;
     if count(counts, id)? >= 65535 {
         return Err(Unanswered::Refused("at most 65,535 nets use a node"));
     }
     if (id as usize) < counts.len() && counts.get(id) < 65535 {
         counts.add_one(id);
     }
-    Ok(())
+    Ok(id)
 }
 
-fn take_one(counts: &mut Counts, id: u32) -> Result<(), Unanswered> {
+fn take_one(counts: &mut Counts, given: &[&str]) -> Result<u32, Unanswered> {
+    let [id] = numbers::<1>(given)?;
     if count(counts, id)? == 0 {
         return Err(Unanswered::Refused("no net uses the node"));
     }
     if (id as usize) < counts.len() && counts.get(id) > 0 {
         counts.take_one(id);
     }
-    Ok(())
+    Ok(id)
 }
 
 /// Gives a node a history, and tells it.
@@ -274,7 +341,12 @@ fn set_history(
     let [id, value] = given else {
         return Err(Unanswered::Misread("set_history ID HISTORY"));
     };
-    let (id, value) = (number(id)?, long_number(value)?);
+    let (Some(id), value) = (number(id), long_number(value)) else {
+        return Err(NO_NUMBER);
+    };
+    let Some(value) = value else {
+        return Err(NO_HISTORY);
+    };
     if id as usize >= histories.len() {
         return Err(NO_NODE);
     }
@@ -286,19 +358,22 @@ fn set_history(
 }
 
 /// The other counts become these, of as many nodes.
-fn copy_counts(session: &mut Session, out: &mut String) -> Result<(), Unanswered> {
-    let Some(counts) = &session.counts else {
-        return Err(Unanswered::Refused("there are no counts"));
+fn copy_counts(
+    counts: &Option<Counts>,
+    other: &mut Option<Counts>,
+    out: &mut String,
+) -> Result<(), Unanswered> {
+    let Some(counts) = counts else {
+        return Err(NO_COUNTS);
     };
-    let Some(other) = &mut session.others.counts else {
+    let Some(other) = other else {
         return Err(Unanswered::Refused("there are no other counts"));
     };
     if other.len() != counts.len() {
         return Err(Unanswered::Refused("the counts are of different numbers of nodes"));
     }
     other.copy_from(counts);
-    writeln!(out, "{} nodes", other.len())?;
-    Ok(())
+    added(writeln!(out, "{} nodes", other.len()))
 }
 
 /// Adds a line for each node that a net uses.

@@ -1,7 +1,7 @@
 //! What the texts of values are read from.
 
 use crate::unanswered::Unanswered;
-use crate::words::{Call, number};
+use crate::words::{Call, NO_NUMBER, number};
 use std::alloc::Global;
 use std::fs;
 use std::io::{Error, ErrorKind, Read, Result as IoResult};
@@ -37,7 +37,10 @@ impl<R: Read> Read for Failing<R> {
 pub fn bytes_before_failing(given: &[&str]) -> Result<Option<usize>, Unanswered> {
     match given {
         [] => Ok(None),
-        [word, count] if *word == "failing" => Ok(Some(number(count)? as usize)),
+        [word, count] if *word == "failing" => match number(count) {
+            Some(count) => Ok(Some(count as usize)),
+            None => Err(NO_NUMBER),
+        },
         _ => Err(Unanswered::Misread("NAME FILE, NAME FILE failing N, or with `<<` for FILE")),
     }
 }

@@ -1,6 +1,6 @@
 //! Calls of `vpr_text`: the lines and words of a text, and numbers.
 
-use crate::answer::{put, put_maybe, put_name};
+use crate::answer::{added, put, put_maybe, put_name};
 use crate::sources::source;
 use crate::unanswered::Unanswered;
 use crate::words::{Call, one};
@@ -15,12 +15,29 @@ pub fn call(
     out: &mut String,
 ) -> Result<(), Unanswered> {
     match call.name {
-        "read" => put(out, source(rt, call)?.len()),
-        "lines" => put_lines(rt.alloc(), source(rt, call)?.as_slice(), out),
-        "number" => put_maybe(out, number(one(call.given)?.as_bytes())),
-        "fixed" => put_maybe(out, fixed(one(call.given)?.as_bytes())),
-        "is_decimal" => put(out, is_decimal(one(call.given)?.as_bytes())),
+        "read" | "lines" => {
+            let text = source(rt, call)?;
+            put_text(rt.alloc(), call.name, text.as_slice(), out)
+        }
+        "number" | "fixed" | "is_decimal" => look_up(call.name, one(call.given)?.as_bytes(), out),
         _ => Err(Unanswered::NoCall),
+    }
+}
+
+/// Adds how many bytes a text has, or its lines.
+fn put_text(alloc: Global, name: &str, text: &[u8], out: &mut String) -> Result<(), Unanswered> {
+    match name {
+        "read" => put(out, text.len()),
+        _ => put_lines(alloc, text, out),
+    }
+}
+
+/// Adds the number that a word is.
+fn look_up(name: &str, word: &[u8], out: &mut String) -> Result<(), Unanswered> {
+    match name {
+        "number" => put_maybe(out, number(word)),
+        "fixed" => put_maybe(out, fixed(word)),
+        _ => put(out, is_decimal(word)),
     }
 }
 
@@ -43,6 +60,5 @@ fn put_line(lines: &Lines<'_>, i: usize, out: &mut String) -> Result<(), Unanswe
         out.push(' ')?;
         put_name(out, lines.word(i, j).unwrap_or(b""))?;
     }
-    out.push('\n')?;
-    Ok(())
+    added(out.push('\n'))
 }

@@ -1,8 +1,8 @@
 //! A gate that looks at the clock.
 
+use crate::answer::added;
 use crate::told::{Told, ToldList};
 use crate::unanswered::Unanswered;
-use net_workers::{Gate, TrialEnd};
 use std::alloc::{AllocError, Global};
 use std::sync::Wait;
 use std::sync::atomic::{AtomicU64, Ordering};
@@ -83,13 +83,13 @@ impl<'a, R: Wait + Clock> Timing<'a, R> {
     pub fn put(&self, out: &mut String) -> Result<(), Unanswered> {
         self.told.put(out)?;
         let nets = self.nets.load(Ordering::SeqCst);
-        writeln!(out, "gate: {nets} searches in {} us", self.now())?;
-        Ok(())
+        added(writeln!(out, "gate: {nets} searches in {} us", self.now()))
     }
 }
 
-impl<R: Wait + Clock> Gate for Timing<'_, R> {
-    fn opened(&self, _iteration: u32, _nets: u32) {
+/// What it does when it is called.
+impl<R: Wait + Clock> Timing<'_, R> {
+    pub fn opened(&self) {
         let now = self.now();
         self.begin_at(now);
         self.opened.store(now, Ordering::SeqCst);
@@ -98,12 +98,12 @@ impl<R: Wait + Clock> Gate for Timing<'_, R> {
         self.turns.store(0, Ordering::SeqCst);
     }
 
-    fn between(&self, worker: u32, _net: u32) {
+    pub fn between(&self, worker: u32) {
         let time = self.come(worker, self.now());
         self.turns.fetch_add(time, Ordering::SeqCst);
     }
 
-    fn searched(&self, worker: u32, _net: u32) {
+    pub fn searched(&self, worker: u32) {
         let now = self.now();
         let time = self.come(worker, now);
         self.searches.fetch_add(time, Ordering::SeqCst);
@@ -111,7 +111,7 @@ impl<R: Wait + Clock> Gate for Timing<'_, R> {
         self.last.fetch_max(now, Ordering::SeqCst);
     }
 
-    fn closed(&self, iteration: u32, _unrouted: u32, _overused: u32) {
+    pub fn closed(&self, iteration: u32) {
         let now = self.now();
         self.told.add(Told::Iteration {
             iteration,
@@ -122,11 +122,11 @@ impl<R: Wait + Clock> Gate for Timing<'_, R> {
         });
     }
 
-    fn tries(&self, _width: u32) {
+    pub fn tries(&self) {
         self.tried.store(self.now(), Ordering::SeqCst);
     }
 
-    fn tried(&self, width: u32, _end: TrialEnd) {
+    pub fn tried(&self, width: u32) {
         let began = self.tried.load(Ordering::SeqCst);
         self.told.add(Told::Trial {
             width,

@@ -3,40 +3,53 @@
 ghost use Rattle.std.specs.Prelude.{◌≡◌};
 ghost use Rattle.rr_graph.specs.Nodes.{node_count_of};
 
-use crate::answer::{put, put_maybe, put_named};
-use crate::session::Session;
+use crate::answer::{added, put, put_maybe, put_named};
+use crate::session::{NO_PROBLEM, NO_TREE, Session};
 use crate::unanswered::Unanswered;
-use crate::words::{Call, nothing, number, number_list, numbers};
+use crate::words::{Call, NO_NUMBER, NO_WORDS, number, number_list, numbers};
 use route_tree::{Marks, Row, Tree, check_tree};
 use rr_graph::Problem;
 use std::alloc::{AllocError, Global};
-use std::rt::Runtime;
 
 /// How a tree is written: chains of nodes, those behind the first one each behind its row.
 const TREE: &str = "SOURCE NODE .., and for each further way ROW: NODE ..";
 
 /// Makes a call, and adds its answer.
 pub fn call(
-    rt: &(impl Runtime + AllocGlobal),
+    alloc: Global,
     session: &mut Session,
     call: Call<'_>,
     out: &mut String,
 ) -> Result<(), Unanswered> {
     match call.name {
-        "tree" => make(rt.alloc(), session, call.given, out),
-        "attach" => attach(rt.alloc(), session, call.given, out),
-        "check_tree" => check(rt.alloc(), session, call.given, out),
+        "tree" => make(alloc, &mut session.tree, call.given, out),
+        "attach" => attach(alloc, &mut session.tree, call.given, out),
+        "check_tree" => {
+            let [net] = numbers::<1>(call.given)?;
+            let (problem, tree) = (&session.problem, &session.tree);
+            check(alloc, problem, tree, &mut session.marks, net, out)
+        }
         "rows" | "pair_count" | "dump_tree" | "copy_tree" => {
-            nothing(call.given)?;
-            look_up(rt.alloc(), session.tree()?, call.name, out)
+            if !call.given.is_empty() {
+                return Err(NO_WORDS);
+            }
+            match &session.tree {
+                Some(tree) => look_up(alloc, tree, call.name, out),
+                None => Err(NO_TREE),
+            }
         }
         "marks_fit" => {
-            nothing(call.given)?;
-            put(out, marks_fit(session)?)
+            if !call.given.is_empty() {
+                return Err(NO_WORDS);
+            }
+            put_marks_fit(&session.problem, &session.marks, out)
         }
         "row_node" | "pair" | "covers" => {
             let [index] = numbers::<1>(call.given)?;
-            look_at(session.tree()?, call.name, index, out)
+            match &session.tree {
+                Some(tree) => look_at(tree, call.name, index, out),
+                None => Err(NO_TREE),
+            }
         }
         _ => Err(Unanswered::NoCall),
     }
@@ -45,14 +58,14 @@ pub fn call(
 /// Makes a tree, and tells how many rows it has.
 fn make(
     alloc: Global,
-    session: &mut Session,
+    kept: &mut Option<Tree>,
     given: &[&str],
     out: &mut String,
 ) -> Result<(), Unanswered> {
     let tree = tree_of_words(alloc, given)?;
-    writeln!(out, "{} rows", tree.rows())?;
-    session.tree = Some(tree);
-    Ok(())
+    let rows = tree.rows();
+    *kept = Some(tree);
+    added(writeln!(out, "{rows} rows"))
 }
 
 /// The tree that words tell.
@@ -60,7 +73,10 @@ pub fn tree_of_words(alloc: Global, given: &[&str]) -> Result<Tree, Unanswered> 
     let [source, rest @ ..] = given else {
         return Err(Unanswered::Misread(TREE));
     };
-    let mut growing = Growing::new(alloc, number(source)?)?;
+    let Some(source) = number(source) else {
+        return Err(NO_NUMBER);
+    };
+    let mut growing = Growing::new(alloc, source)?;
     growing.take_words(rest)?;
     Ok(growing.tree)
 }
@@ -95,14 +111,19 @@ impl Growing {
 
     /// Takes a word: the row of another way, or the next node of the one at hand.
     fn take(&mut self, word: &str) -> Result<(), Unanswered> {
-        match word.strip_suffix(':') {
-            Some(row) => self.begin_way(number(row)?),
-            None => self.lengthen_way(number(word)?),
+        let (row, node) = (word.strip_suffix(':'), number(word));
+        match (row, node) {
+            (None, Some(node)) => self.lengthen_way(node),
+            (Some(row), _) => self.begin_way(row),
+            _ => Err(NO_NUMBER),
         }
     }
 
     /// Begins another way, which is to be attached to a row.
-    fn begin_way(&mut self, row: u32) -> Result<(), Unanswered> {
+    fn begin_way(&mut self, row: &str) -> Result<(), Unanswered> {
+        let Some(row) = number(row) else {
+            return Err(NO_NUMBER);
+        };
         self.attach_way()?;
         self.row = row;
         self.way.clear();
@@ -131,88 +152,89 @@ fn attach_at(tree: &mut Tree, row: u32, way: &[u32]) -> Result<(), Unanswered> {
 /// Attaches a way to a row of the tree, and tells how many rows it has.
 fn attach(
     alloc: Global,
-    session: &mut Session,
+    tree: &mut Option<Tree>,
     given: &[&str],
     out: &mut String,
 ) -> Result<(), Unanswered> {
     let [row, way @ ..] = given else {
         return Err(Unanswered::Misread("attach ROW: NODE .."));
     };
-    let row = number(row.strip_suffix(':').unwrap_or(*row))?;
+    let Some(row) = number(row.strip_suffix(':').unwrap_or(*row)) else {
+        return Err(NO_NUMBER);
+    };
     let way = number_list(alloc, way)?;
-    attach_way(session, row, way.as_slice(), out)
+    attach_way(tree, row, way.as_slice(), out)
 }
 
 fn attach_way(
-    session: &mut Session,
+    tree: &mut Option<Tree>,
     row: u32,
     way: &[u32],
     out: &mut String,
 ) -> Result<(), Unanswered> {
-    let Some(tree) = &mut session.tree else {
-        return Err(Unanswered::Refused("there is no tree"));
+    let Some(tree) = tree else {
+        return Err(NO_TREE);
     };
     attach_at(tree, row, way)?;
-    writeln!(out, "{} rows", tree.rows())?;
-    Ok(())
+    added(writeln!(out, "{} rows", tree.rows()))
 }
 
-/// Whether the marks of the last check fit the problem.
-fn marks_fit(session: &Session) -> Result<bool, Unanswered> {
-    let problem = session.problem()?;
-    match &session.marks {
-        Some(marks) => Ok(marks.fits(problem)),
-        None => Err(Unanswered::Refused("nothing was checked")),
+/// Adds whether the marks of the last check fit the problem.
+fn put_marks_fit(
+    problem: &Option<Problem>,
+    marks: &Option<Marks>,
+    out: &mut String,
+) -> Result<(), Unanswered> {
+    match (problem, marks) {
+        (Some(problem), Some(marks)) => put(out, marks.fits(problem)),
+        (None, _) => Err(NO_PROBLEM),
+        _ => Err(Unanswered::Refused("nothing was checked")),
     }
 }
 
 /// Tells whether the tree routes a net of the problem. The marks of a check serve the next one, where they fit its problem.
 fn check(
     alloc: Global,
-    session: &mut Session,
-    given: &[&str],
-    out: &mut String,
-) -> Result<(), Unanswered> {
-    let [net] = numbers::<1>(given)?;
-    if marks_serve(session) {
-        check_again(session, net, out)
-    } else {
-        check_anew(alloc, session, net, out)
-    }
-}
-
-/// Whether there are marks of a check, and they fit the problem.
-fn marks_serve(session: &Session) -> bool {
-    match (&session.problem, &session.marks) {
-        (Some(problem), Some(marks)) => marks.fits(problem),
-        _ => false,
-    }
-}
-
-/// Tells whether the tree routes a net, by the marks of the last check, which must fit.
-fn check_again(session: &mut Session, net: u32, out: &mut String) -> Result<(), Unanswered> {
-    let Some(tree) = &session.tree else {
-        return Err(Unanswered::Refused("there is no tree"));
-    };
-    match (&session.problem, &mut session.marks) {
-        (Some(problem), Some(marks)) if marks.fits(problem) => {
-            put_check(problem, net, tree, marks, out)
-        }
-        _ => Err(Unanswered::Refused("nothing was checked")),
-    }
-}
-
-/// Tells whether the tree routes a net, by new marks, which are kept when that is told.
-fn check_anew(
-    alloc: Global,
-    session: &mut Session,
+    problem: &Option<Problem>,
+    tree: &Option<Tree>,
+    marks: &mut Option<Marks>,
     net: u32,
     out: &mut String,
 ) -> Result<(), Unanswered> {
-    let (tree, problem) = (session.tree()?, session.problem()?);
+    match (tree, problem) {
+        (Some(tree), Some(problem)) => check_with(alloc, problem, tree, marks, net, out),
+        (None, _) => Err(NO_TREE),
+        _ => Err(NO_PROBLEM),
+    }
+}
+
+/// Tells whether a tree routes a net of a problem, by the marks of the last check where they fit.
+fn check_with(
+    alloc: Global,
+    problem: &Problem,
+    tree: &Tree,
+    marks: &mut Option<Marks>,
+    net: u32,
+    out: &mut String,
+) -> Result<(), Unanswered> {
+    match marks {
+        Some(marks) if marks.fits(problem) => put_check(problem, net, tree, marks, out),
+        _ => check_anew(alloc, problem, tree, marks, net, out),
+    }
+}
+
+/// Tells whether a tree routes a net, by new marks, which are kept when that is told.
+fn check_anew(
+    alloc: Global,
+    problem: &Problem,
+    tree: &Tree,
+    kept: &mut Option<Marks>,
+    net: u32,
+    out: &mut String,
+) -> Result<(), Unanswered> {
     let mut marks = Marks::new(alloc, problem)?;
     put_check(problem, net, tree, &mut marks, out)?;
-    session.marks = Some(marks);
+    *kept = Some(marks);
     Ok(())
 }
 
@@ -268,8 +290,7 @@ fn put_pair(tree: &Tree, index: usize, out: &mut String) -> Result<(), Unanswere
         return put(out, "none");
     }
     let (from, to) = tree.pair(index);
-    writeln!(out, "{from} {to}")?;
-    Ok(())
+    added(writeln!(out, "{from} {to}"))
 }
 
 /// Adds a tree as it is written for `tree`: chains, those behind the first one each behind its row.
@@ -277,8 +298,7 @@ pub fn put_tree(tree: &Tree, out: &mut String) -> Result<(), Unanswered> {
     for (index, row) in tree.as_slice().iter().enumerate() {
         put_tree_row(*row, index, out)?;
     }
-    out.push('\n')?;
-    Ok(())
+    added(out.push('\n'))
 }
 
 /// Adds the node of a row, behind the row of the one before where that is not the last one.

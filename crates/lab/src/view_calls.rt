@@ -1,43 +1,64 @@
 //! Calls of `node_cost`: what a net sees of the others.
 
-use crate::answer::put;
-use crate::session::Session;
-use crate::settings_calls::{NO_NODE, index_of, long_number};
+use crate::answer::{added, put};
+use crate::session::{NO_COUNTS, NO_HISTORIES, NO_PROBLEM, NO_VIEW, Session};
+use crate::settings_calls::{NO_HISTORY, NO_NODE, index_of, long_number};
 use crate::unanswered::Unanswered;
-use crate::words::{Call, nothing, number, numbers};
-use node_cost::{GREATEST_HISTORY, GREATEST_OTHERS, Histories, View};
+use crate::words::{Call, NO_NUMBER, NO_WORDS, number, numbers};
+use node_cost::{Counts, GREATEST_HISTORY, GREATEST_OTHERS, Histories, View};
+use rr_graph::Problem;
 use std::alloc::Global;
-use std::rt::Runtime;
 use std::sync::Arc;
 
 /// Makes a call, and adds its answer.
 pub fn call(
-    rt: &(impl Runtime + AllocGlobal),
+    alloc: Global,
     session: &mut Session,
     call: Call<'_>,
     out: &mut String,
 ) -> Result<(), Unanswered> {
     match call.name {
-        "view" => make(rt.alloc(), session, call.given, out),
-        "seen" => {
+        "view" => make(
+            alloc,
+            &session.problem,
+            &mut session.books.view,
+            call.given,
+            out,
+        ),
+        "seen" | "is_free" => {
             let [id] = numbers::<1>(call.given)?;
-            put_seen(session.view()?, id, out)
+            match &session.books.view {
+                Some(view) => look_up(view, call.name, id, out),
+                None => Err(NO_VIEW),
+            }
         }
-        "is_free" => {
-            let [id] = numbers::<1>(call.given)?;
-            put(out, is_free(session.view()?, id)?)
-        }
-        "set" | "leave_out" => match &mut session.view {
+        "set" | "leave_out" => match &mut session.books.view {
             Some(view) => change(view, call.name, call.given, out),
-            None => Err(Unanswered::Refused("there is no view")),
+            None => Err(NO_VIEW),
         },
         "look_at" => {
-            nothing(call.given)?;
-            look_at(rt.alloc(), session, out)
+            if !call.given.is_empty() {
+                return Err(NO_WORDS);
+            }
+            let Some(histories) = &session.histories else {
+                return Err(NO_HISTORIES);
+            };
+            look_at(
+                alloc,
+                &session.counts,
+                histories,
+                &mut session.books.view,
+                out,
+            )
         }
         "dump_view" => {
-            nothing(call.given)?;
-            dump(session.view()?, out)
+            if !call.given.is_empty() {
+                return Err(NO_WORDS);
+            }
+            match &session.books.view {
+                Some(view) => dump(view, out),
+                None => Err(NO_VIEW),
+            }
         }
         _ => Err(Unanswered::NoCall),
     }
@@ -46,21 +67,34 @@ pub fn call(
 /// Makes a view of the problem's nodes, or of so many, and tells how many they are.
 fn make(
     alloc: Global,
-    session: &mut Session,
+    problem: &Option<Problem>,
+    kept: &mut Option<View>,
     given: &[&str],
     out: &mut String,
 ) -> Result<(), Unanswered> {
-    let nodes = match given {
-        [] => session.problem()?.device().node_count() as usize,
+    let nodes = nodes(problem, given)?;
+    *kept = Some(View::new(alloc, nodes)?);
+    added(writeln!(out, "{nodes} nodes"))
+}
+
+/// How many nodes the problem has, or as many as a word says.
+fn nodes(problem: &Option<Problem>, given: &[&str]) -> Result<usize, Unanswered> {
+    match (given, problem) {
+        ([], Some(problem)) => Ok(problem.device().node_count() as usize),
+        ([], None) => Err(NO_PROBLEM),
         _ => {
             let [nodes] = numbers::<1>(given)?;
-            nodes as usize
+            Ok(nodes as usize)
         }
-    };
-    let view = View::new(alloc, nodes)?;
-    writeln!(out, "{} nodes", view.len())?;
-    session.view = Some(view);
-    Ok(())
+    }
+}
+
+/// Makes a look-up of a node.
+fn look_up(view: &View, name: &str, id: u32, out: &mut String) -> Result<(), Unanswered> {
+    match name {
+        "seen" => put_seen(view, id, out),
+        _ => put(out, is_free(view, id)?),
+    }
 }
 
 /// Adds how many other nets use a node, and its history.
@@ -68,8 +102,7 @@ fn put_seen(view: &View, id: u32, out: &mut String) -> Result<(), Unanswered> {
     if id as usize >= view.len() {
         return Err(NO_NODE);
     }
-    writeln!(out, "{} {}", view.others(id), view.history(id))?;
-    Ok(())
+    added(writeln!(out, "{} {}", view.others(id), view.history(id)))
 }
 
 /// Whether no other net uses a node, and its history is 0.
@@ -86,11 +119,15 @@ fn change(view: &mut View, name: &str, given: &[&str], out: &mut String) -> Resu
     let [id, rest @ ..] = given else {
         return Err(Unanswered::Misread("set ID: OTHERS HISTORY, or leave_out ID"));
     };
-    let id = number(id.strip_suffix(':').unwrap_or(*id))?;
+    let Some(id) = number(id.strip_suffix(':').unwrap_or(*id)) else {
+        return Err(NO_NUMBER);
+    };
     match name {
         "set" => set(view, id, rest)?,
         _ => {
-            nothing(rest)?;
+            if !rest.is_empty() {
+                return Err(NO_WORDS);
+            }
             leave_out(view, id)?;
         }
     }
@@ -102,7 +139,12 @@ fn set(view: &mut View, id: u32, rest: &[&str]) -> Result<(), Unanswered> {
     let [others, history] = rest else {
         return Err(Unanswered::Misread("set ID: OTHERS HISTORY"));
     };
-    let (others, history) = (number(others)?, long_number(history)?);
+    let (Some(others), history) = (number(others), long_number(history)) else {
+        return Err(NO_NUMBER);
+    };
+    let Some(history) = history else {
+        return Err(NO_HISTORY);
+    };
     if id as usize >= view.len() {
         return Err(NO_NODE);
     }
@@ -125,30 +167,34 @@ fn leave_out(view: &mut View, id: u32) -> Result<(), Unanswered> {
     Ok(())
 }
 
-/// Makes the view one of the session's counts and histories, and tells how many nodes there are.
-fn look_at(alloc: Global, session: &mut Session, out: &mut String) -> Result<(), Unanswered> {
-    let histories = Arc::new(alloc, session.histories()?.copy(alloc)?)?;
-    look_with(session, &histories, out)
-}
-
-/// Makes the view one of the session's counts and of these histories.
-fn look_with(
-    session: &mut Session,
-    histories: &Arc<Histories, Global>,
+/// Makes the view one of the counts and histories, and tells how many nodes there are.
+fn look_at(
+    alloc: Global,
+    counts: &Option<Counts>,
+    histories: &Histories,
+    view: &mut Option<View>,
     out: &mut String,
 ) -> Result<(), Unanswered> {
-    let Some(counts) = &session.counts else {
-        return Err(Unanswered::Refused("there are no counts"));
-    };
-    let Some(view) = &mut session.view else {
-        return Err(Unanswered::Refused("there is no view"));
-    };
+    let histories = Arc::new(alloc, histories.copy(alloc)?)?;
+    match (counts, view) {
+        (Some(counts), Some(view)) => look_with(counts, &histories, view, out),
+        (None, _) => Err(NO_COUNTS),
+        _ => Err(NO_VIEW),
+    }
+}
+
+/// Makes a view one of these counts and histories.
+fn look_with(
+    counts: &Counts,
+    histories: &Arc<Histories, Global>,
+    view: &mut View,
+    out: &mut String,
+) -> Result<(), Unanswered> {
     if view.len() != counts.len() || view.len() != histories.len() {
         return Err(Unanswered::Refused("view, counts and histories differ in their nodes"));
     }
     view.look_at(counts, histories);
-    writeln!(out, "{} nodes", view.len())?;
-    Ok(())
+    added(writeln!(out, "{} nodes", view.len()))
 }
 
 /// Adds a line for each node that another net uses or that has a history.

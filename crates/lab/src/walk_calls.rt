@@ -1,12 +1,12 @@
 //! Calls of `rr_graph` that walk over a device: so many look-ups that they can be timed.
 
-use crate::session::Session;
+use crate::answer::added;
+use crate::session::NO_DEVICE;
 use crate::unanswered::Unanswered;
-use crate::words::{Call, number};
+use crate::words::{Call, NO_NUMBER, number};
 use rr_graph::{Device, EdgeFinder};
 use smallvec::SmallVec;
 use std::alloc::{AllocError, Global};
-use std::rt::Runtime;
 
 /// A prime above any count of nodes, so that as many steps of it come to each number below the count once.
 const STRIDE: u64 = 8_388_617;
@@ -53,14 +53,15 @@ impl Walked {
 
 /// Makes a call, and adds its answer.
 pub fn call(
-    rt: &(impl Runtime + AllocGlobal),
-    session: &Session,
+    alloc: Global,
+    device: &Option<Device>,
     call: Call<'_>,
     out: &mut String,
 ) -> Result<(), Unanswered> {
-    match walk_named(call.name) {
-        Some(walk) => put_walk(rt.alloc(), session.device()?, walk, call.given, out),
-        None => Err(Unanswered::NoCall),
+    match (walk_named(call.name), device) {
+        (Some(walk), Some(device)) => put_walk(alloc, device, walk, call.given, out),
+        (Some(_), None) => Err(NO_DEVICE),
+        _ => Err(Unanswered::NoCall),
     }
 }
 
@@ -80,7 +81,10 @@ fn walk_named(name: &str) -> Option<Walk> {
 /// How often a walk is made.
 fn rounds(given: &[&str]) -> Result<u32, Unanswered> {
     match given {
-        [word] => number(word),
+        [word] => match number(word) {
+            Some(rounds) => Ok(rounds),
+            None => Err(NO_NUMBER),
+        },
         _ => Err(Unanswered::Misread("the walk, and how many times it is made")),
     }
 }
@@ -95,8 +99,7 @@ fn put_walk(
 ) -> Result<(), Unanswered> {
     let rounds = rounds(given)?;
     let Walked { found, sum } = walk_again(alloc, device, walk, rounds)?;
-    writeln!(out, "{found}, sum {sum}")?;
-    Ok(())
+    added(writeln!(out, "{found}, sum {sum}"))
 }
 
 /// Walks so many times.

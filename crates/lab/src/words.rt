@@ -5,6 +5,12 @@ use crate::unanswered::Unanswered;
 use rr_graph::Mode;
 use std::alloc::Global;
 
+/// Where a call takes no words.
+pub const NO_WORDS: Unanswered = Unanswered::Misread("the call with no word behind it");
+
+/// Where a word is to be a number.
+pub const NO_NUMBER: Unanswered = Unanswered::Misread("a number below 2^32 in each place of one");
+
 /// A call of a script: its name, the words behind it, and the text that stands below its line.
 #[derive(Clone, Copy)]
 pub struct Call<'a> {
@@ -15,7 +21,10 @@ pub struct Call<'a> {
 
 /// A line up to a comment.
 pub fn code_of(line: &str) -> &str {
-    line.split_once('#').map_or(line, |(code, _)| code)
+    match line.split_once('#') {
+        Some((code, _)) => code,
+        None => line,
+    }
 }
 
 /// The words of a line, up to a comment.
@@ -29,8 +38,11 @@ pub fn has_text(line: &str) -> bool {
 }
 
 /// The number that a word is.
-pub fn number(word: &str) -> Result<u32, Unanswered> {
-    word.parse::<u32>().map_err(|_| Unanswered::Misread("a number below 2^32 in each place of one"))
+pub fn number(word: &str) -> Option<u32> {
+    match word.parse::<u32>() {
+        Ok(number) => Some(number),
+        Err(_) => None,
+    }
 }
 
 /// The numbers that the words are, so many.
@@ -40,7 +52,10 @@ pub fn numbers<const N: usize>(given: &[&str]) -> Result<[u32; N], Unanswered> {
     }
     let mut found = [0; N];
     for (slot, word) in found.iter_mut().zip(given) {
-        *slot = number(word)?;
+        match number(word) {
+            Some(number) => *slot = number,
+            None => return Err(NO_NUMBER),
+        }
     }
     Ok(found)
 }
@@ -49,17 +64,12 @@ pub fn numbers<const N: usize>(given: &[&str]) -> Result<[u32; N], Unanswered> {
 pub fn number_list(alloc: Global, given: &[&str]) -> Result<Vec<u32>, Unanswered> {
     let mut found = Vec::with_capacity(alloc, given.len())?;
     for word in given {
-        found.push(number(word)?)?;
+        let Some(number) = number(word) else {
+            return Err(NO_NUMBER);
+        };
+        found.push(number)?;
     }
     Ok(found)
-}
-
-/// No words.
-pub fn nothing(given: &[&str]) -> Result<(), Unanswered> {
-    match given {
-        [] => Ok(()),
-        _ => Err(Unanswered::Misread("the call with no word behind it")),
-    }
 }
 
 /// The lines of the text below a call to which nothing else is given.
@@ -72,7 +82,10 @@ pub fn text_below<'a>(call: Call<'a>) -> Result<&'a str, Unanswered> {
 
 /// The lines of a text.
 pub fn text_of(text: &[u8]) -> Result<&str, Unanswered> {
-    str::from_utf8(text).map_err(|_| Unanswered::Misread("a text below the call"))
+    match str::from_utf8(text) {
+        Ok(text) => Ok(text),
+        Err(_) => Err(Unanswered::Misread("a text below the call")),
+    }
 }
 
 /// The one word that is given.

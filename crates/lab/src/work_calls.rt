@@ -6,10 +6,10 @@ ghost use Rattle.rr_graph.specs.Fabric.{most_tracks};
 ghost use Rattle.node_cost.specs.Options.{most_iterations, most_workers};
 ghost use Rattle.congestion_book.specs.Contents.{IsFresh};
 
-use crate::answer::put;
+use crate::answer::{added, put};
 use crate::bounds::{channel_width, iteration_number, worker_count};
 use crate::gates::{LabGate, gate_words};
-use crate::session::{DesignTexts, Session};
+use crate::session::{Design, DesignTexts, NO_BOOK, NO_PROBLEM, Session};
 use crate::tree_calls::put_tree;
 use crate::unanswered::Unanswered;
 use crate::words::Call;
@@ -19,7 +19,7 @@ use net_file::Netlist;
 use net_workers::{Entry, Report, iterate};
 use node_cost::Settings;
 use route_tree::{Pairs, Routing};
-use rr_graph::Mode;
+use rr_graph::{Mode, Problem};
 use std::alloc::{AllocError, Global};
 use std::rt::Runtime;
 use std::sync::Wait;
@@ -31,37 +31,38 @@ use width_search::{Trial, WidthReport, least_width};
 pub fn call(
     rt: &(impl Runtime + Threads + Wait + Sync + AllocGlobal),
     session: &mut Session,
+    settings: &Settings,
     call: Call<'_>,
     out: &mut String,
 ) -> Result<(), Unanswered> {
     match call.name {
-        "iterate" | "iterate_nets" => make_iteration(rt, session, call, out),
-        "negotiate" => negotiate_routing(rt, session, call.given, out),
-        "least_width" => search_widths(rt, session, call.given, out),
+        "iterate" | "iterate_nets" => {
+            make_iteration(rt, &mut session.books.book, settings, call, out)
+        }
+        "negotiate" => {
+            let (problem, routing) = (&session.problem, &mut session.routing);
+            negotiate_routing(rt, problem, routing, settings, call.given, out)
+        }
+        "least_width" => {
+            let (design, routing) = (&session.design, &mut session.routing);
+            search_widths(rt, design, routing, settings, call.given, out)
+        }
         _ => Err(Unanswered::NoCall),
     }
 }
 
-/// A book in whose open iteration nothing was drawn.
-fn fresh_book(book: Book) -> Result<Book, Unanswered>
-    ensures { IfOk result IsFresh }
-{
-    if !book.fresh() {
-        return Err(Unanswered::Refused("the open iteration is begun"));
-    }
-    Ok(book)
-}
-
 /// Takes the book, where nothing was drawn in its open iteration; else it stays.
-pub fn take_fresh(session: &mut Session) -> Result<Book, Unanswered>
+pub fn take_fresh(kept: &mut Option<Book>) -> Result<Book, Unanswered>
     ensures { IfOk result IsFresh }
 {
-    if !session.book()?.fresh() {
-        return Err(Unanswered::Refused("the open iteration is begun"));
+    match kept {
+        Some(book) if book.fresh() => (),
+        Some(_) => return Err(Unanswered::Refused("the open iteration is begun")),
+        None => return Err(NO_BOOK),
     }
-    match session.book.take() {
-        Some(book) => fresh_book(book),
-        None => Err(Unanswered::Refused("there is no book")),
+    match kept.take() {
+        Some(book) => Ok(book),
+        None => Err(NO_BOOK),
     }
 }
 
@@ -69,7 +70,8 @@ pub fn take_fresh(session: &mut Session) -> Result<Book, Unanswered>
 /// go.
 fn make_iteration(
     rt: &(impl Runtime + Threads + Wait + Sync + AllocGlobal),
-    session: &mut Session,
+    book: &mut Option<Book>,
+    settings: &Settings,
     call: Call<'_>,
     out: &mut String,
 ) -> Result<(), Unanswered> {
@@ -79,15 +81,26 @@ fn make_iteration(
     let iteration = iteration_number(iteration)?;
     let workers = worker_count(workers)?;
     let words = gate_words(rest, workers)?;
-    let gate = LabGate::new(rt, words, session.book()?.problem().nets())?;
+    let gate = LabGate::new(rt, words, net_count(book)?)?;
     let is_by_net = call.name == "iterate_nets";
-    iterate_under(rt, session, iteration, workers, &gate, is_by_net, out)
+    iterate_under(
+        rt, book, settings, iteration, workers, &gate, is_by_net, out,
+    )
+}
+
+/// How many nets the book's problem has.
+fn net_count(book: &Option<Book>) -> Result<u32, Unanswered> {
+    match book {
+        Some(book) => Ok(book.problem().nets()),
+        None => Err(NO_BOOK),
+    }
 }
 
 /// Makes an iteration of the book under a gate, and tells what was done. The book is back when all is told.
 fn iterate_under<R: Runtime + Threads + Wait + Sync + AllocGlobal>(
     rt: &R,
-    session: &mut Session,
+    kept: &mut Option<Book>,
+    settings: &Settings,
     iteration: u32,
     workers: u32,
     gate: &LabGate<'_, R>,
@@ -97,12 +110,9 @@ fn iterate_under<R: Runtime + Threads + Wait + Sync + AllocGlobal>(
     requires iteration { (1 ≤ iteration) × (iteration ≤ most_iterations) }
     requires workers { (1 ≤ workers) × (workers ≤ most_workers) }
 {
-    let settings = session.settings();
-    let book = take_fresh(session)?;
-    let book = iterated(
-        rt, book, &settings, iteration, workers, gate, is_by_net, out,
-    )?;
-    session.book = Some(book);
+    let book = take_fresh(kept)?;
+    let book = iterated(rt, book, settings, iteration, workers, gate, is_by_net, out)?;
+    *kept = Some(book);
     Ok(())
 }
 
@@ -186,7 +196,9 @@ fn put_entry(entry: &Entry, out: &mut String) -> Result<(), Unanswered> {
 /// Negotiates a routing of a copy of the problem, and keeps it.
 fn negotiate_routing(
     rt: &(impl Runtime + Threads + Wait + Sync + AllocGlobal),
-    session: &mut Session,
+    problem: &Option<Problem>,
+    routing: &mut Option<Routing>,
+    settings: &Settings,
     given: &[&str],
     out: &mut String,
 ) -> Result<(), Unanswered> {
@@ -195,28 +207,37 @@ fn negotiate_routing(
     };
     let workers = worker_count(workers)?;
     let words = gate_words(rest, workers)?;
-    let gate = LabGate::new(rt, words, session.problem()?.nets())?;
-    negotiate_under(rt, session, workers, &gate, out)
+    let Some(problem) = problem else {
+        return Err(NO_PROBLEM);
+    };
+    let gate = LabGate::new(rt, words, problem.nets())?;
+    negotiate_under(rt, problem, routing, settings, workers, &gate, out)
 }
 
 /// Negotiates a routing of a copy of the problem under a gate, and keeps it when all is told.
 fn negotiate_under<R: Runtime + Threads + Wait + Sync + AllocGlobal>(
     rt: &R,
-    session: &mut Session,
+    problem: &Problem,
+    routing: &mut Option<Routing>,
+    settings: &Settings,
     workers: u32,
     gate: &LabGate<'_, R>,
     out: &mut String,
 ) -> Result<(), Unanswered>
     requires workers { (1 ≤ workers) × (workers ≤ most_workers) }
 {
-    let settings = session.settings();
-    let problem = session.problem()?.copy(rt.alloc())?;
-    let outcome = negotiate(rt, rt.alloc(), problem, &settings, workers, gate)?;
+    let problem = problem.copy(rt.alloc())?;
+    let outcome = negotiate(rt, rt.alloc(), problem, settings, workers, gate)?;
     put_negotiation(&outcome, gate, out)?;
-    if let Outcome::Success(routing, _) = outcome {
-        session.routing = Some(routing);
-    }
+    keep_routed(routing, outcome);
     Ok(())
+}
+
+/// Keeps the routing of a negotiation that has one.
+fn keep_routed(kept: &mut Option<Routing>, outcome: Outcome) {
+    if let Outcome::Success(routing, _) = outcome {
+        *kept = Some(routing);
+    }
 }
 
 /// Adds what a negotiation came to, and the gate's own lines.
@@ -256,7 +277,9 @@ pub fn mode_before<'a, 'b>(given: &'a [&'b str]) -> (Mode, &'a [&'b str]) {
 /// Searches for the least width at which the design is routed, and keeps the routing.
 fn search_widths(
     rt: &(impl Runtime + Threads + Wait + Sync + AllocGlobal),
-    session: &mut Session,
+    design: &Design,
+    routing: &mut Option<Routing>,
+    settings: &Settings,
     given: &[&str],
     out: &mut String,
 ) -> Result<(), Unanswered> {
@@ -269,13 +292,17 @@ fn search_widths(
     let workers = worker_count(workers)?;
     let (mode, rest) = mode_before(rest);
     let gate = LabGate::new(rt, gate_words(rest, workers)?, 0)?;
-    search_under(rt, session, start, mode, workers, &gate, out)
+    search_under(
+        rt, design, routing, settings, start, mode, workers, &gate, out,
+    )
 }
 
 /// Searches for the least width under a gate, and keeps the routing when all is told.
 fn search_under<R: Runtime + Threads + Wait + Sync + AllocGlobal>(
     rt: &R,
-    session: &mut Session,
+    design: &Design,
+    routing: &mut Option<Routing>,
+    settings: &Settings,
     start: u32,
     mode: Mode,
     workers: u32,
@@ -285,9 +312,9 @@ fn search_under<R: Runtime + Threads + Wait + Sync + AllocGlobal>(
     requires start { (1 ≤ start) × (start ≤ most_tracks) }
     requires workers { (1 ≤ workers) × (workers ≤ most_workers) }
 {
-    let report = width_report(rt, session, start, mode, workers, gate)?;
+    let report = width_report(rt, design, settings, start, mode, workers, gate)?;
     put_widths(&report, gate, out)?;
-    keep_least(rt.alloc(), session, &report)
+    keep_least(rt.alloc(), routing, &report)
 }
 
 /// Adds what a search of widths came to, and the gate's own lines.
@@ -304,11 +331,11 @@ fn put_widths<R: Wait + Clock + AllocGlobal>(
 /// Keeps a copy of the routing of the least width, if there is one.
 fn keep_least(
     alloc: Global,
-    session: &mut Session,
+    kept: &mut Option<Routing>,
     report: &WidthReport,
 ) -> Result<(), Unanswered> {
     if let Some(least) = report.least() {
-        session.routing = Some(copy_of(alloc, &least.routing)?);
+        *kept = Some(copy_of(alloc, &least.routing)?);
     }
     Ok(())
 }
@@ -316,7 +343,8 @@ fn keep_least(
 /// What a search of widths for the design comes to.
 fn width_report<R: Runtime + Threads + Wait + Sync + AllocGlobal>(
     rt: &R,
-    session: &Session,
+    design: &Design,
+    settings: &Settings,
     start: u32,
     mode: Mode,
     workers: u32,
@@ -325,9 +353,9 @@ fn width_report<R: Runtime + Threads + Wait + Sync + AllocGlobal>(
     requires start { (1 ≤ start) × (start ≤ most_tracks) }
     requires workers { (1 ≤ workers) × (workers ≤ most_workers) }
 {
-    let (design, settings) = (session.design()?, session.settings());
+    let design = design.texts()?;
     let netlist = net_file::parse(rt.alloc(), design.net, design.arch)?;
-    report_of(rt, design, &netlist, &settings, start, mode, workers, gate)
+    report_of(rt, design, &netlist, settings, start, mode, workers, gate)
 }
 
 /// What a search of widths for a design with this netlist comes to.
@@ -365,10 +393,9 @@ fn put_trials(trials: &[Trial], out: &mut String) -> Result<(), Unanswered> {
 /// Adds the least width that was routed, or `none`.
 fn put_least(report: &WidthReport, out: &mut String) -> Result<(), Unanswered> {
     match report.least() {
-        Some(least) => writeln!(out, "least {}", least.width)?,
-        None => put(out, "none")?,
+        Some(least) => { added(writeln!(out, "least {}", least.width)) }
+        None => put(out, "none"),
     }
-    Ok(())
 }
 
 /// A copy of a routing.
