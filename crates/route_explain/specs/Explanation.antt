@@ -1,5 +1,5 @@
 -- The explanation of what is wrong with a routing (ours).
-use Rattle.std.specs.Prelude.{ℕ, List, [], ◌++◌, codes, length, get_or, Option, None, Some, Result}
+use Rattle.std.specs.Prelude.{◌≡◌, ℕ, ◌<◌, List, [], ◌++◌, codes, length, get_or, Option, None, Some, Result}
 use Rattle.std.specs.List.{flat_map}
 use Rattle.net_file.specs.Netlist.{Netlist}
 use Rattle.rr_graph.specs.Fabric.{Fabric, numbers_below}
@@ -57,6 +57,13 @@ net_text_at netlist p lists faults i = net_text netlist p lists i (get_or faults
 abbrev pub net_lines : Netlist → RoutingProblem → Lists → List (Option RouteFault) → List ℕ
 net_lines netlist p lists faults =
     flat_map (net_text_at netlist p lists faults) (numbers_below (length p.nets))
+
+-- the fault is that of the first net that has a line
+pub record IsFirstLine (faults : List (Option RouteFault)) (fault : RouteFault) : Type 0 where
+  pub net : ℕ
+  pub within : net < length faults
+  pub there : get_or faults net None ≡ Some fault
+  pub none_before : (j : ℕ) → j < net → get_or faults j None ≡ None
 
 -- the nets that have a fault, how many nodes are overused, and a line for each of these
 unfoldable pub explanation_text : Netlist → RoutingProblem → Lists → List (Option RouteFault) → List ℕ

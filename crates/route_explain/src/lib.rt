@@ -2,6 +2,7 @@
 #![tactic(auto)]
 
 mod explanation;
+pub mod laws;
 mod nets;
 mod order;
 mod reasons;
