@@ -1,6 +1,7 @@
 //! The congestion book.
 
 ghost use Rattle.std.specs.Prelude.{◌≡◌, ◌==◌, ◌<◌, ◌≤◌, ◌↔◌, if◌then◌else◌, nat_le, length, Some, None, IsOk, IfOk, IfErr};
+ghost use Rattle.route_tree.specs.Faults.{IsRoute};
 ghost use Rattle.route_tree.specs.Rows.{pairs_of};
 ghost use Rattle.route_tree.specs.TreeLists.{list_of_tree};
 ghost use Rattle.node_cost.specs.Options.{most_iterations};
@@ -100,6 +101,25 @@ impl Book {
         }
         if let Err(fault) = check_tree(&self.problem, net, &tree, &mut self.marks) {
             return Err((CommitFault::Illegal(fault), tree));
+        }
+        self.end_turn(worker, net, Some(tree));
+        Ok(())
+    }
+
+    /// Records a tree of which it is known that it routes the net, as `commit` does: it isn't looked at again.
+    pub fn commit_routed(
+        &mut self,
+        worker: u32,
+        net: u32,
+        tree: Tree,
+    ) -> Result<(), (CommitFault, Tree)>
+        requires routes { IsRoute self.old.problem net (pairs_of tree) }
+        ensures exactly { IsOk result ↔ MayCommit self.old worker net (pairs_of tree) }
+        ensures step { Commits self.old worker net (pairs_of tree) (fault_alone result) self.new }
+        ensures back { IfErr result (λ e. e.1 ≡ tree) }
+    {
+        if !self.turns.holds(worker, net) {
+            return Err((CommitFault::NotHeld, tree));
         }
         self.end_turn(worker, net, Some(tree));
         Ok(())

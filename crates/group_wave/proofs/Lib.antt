@@ -5,6 +5,8 @@ mod Bucketed
 mod TrackBits
 mod LabelRows
 mod SightRows
+mod LooksAtOnce
+mod SideBySide
 mod Around
 mod Narrower
 pub mod Opened

@@ -74,13 +74,14 @@ no_base (Some n) is = by_kind_of n.kind is
     by_kind_of Sink is = refl
     by_kind_of _ is = absurd (false≢true is)
 
-pub free_sink_paid : (s : Space) (v : ℕ) → is_sink s.device v ≡ true → (others_in s.view v ≡ 0) × (history_in s.view v ≡ 0) → entry_cost s v ≡ 0
+-- a sink that was never overused
+pub new_sink_paid : (s : Space) (v : ℕ) → is_sink s.device v ≡ true → history_in s.view v ≡ 0 → entry_cost s v ≡ 0
 unfolding is_sink
-free_sink_paid s v is free =
+new_sink_paid s v is new =
     let room = room_of s.device (node_at s.device v) in
     cost_is s v
     ∙ ap (λ base. cost_of base (history_in s.view v) room (others_in s.view v) s.present) (no_base (node_at s.device v) is)
-    ∙ ap (λ history. cost_of 0 history room (others_in s.view v) s.present) (free.1)
+    ∙ ap (λ history. cost_of 0 history room (others_in s.view v) s.present) new
     ∙ zero-mul (16 + s.present * (others_in s.view v + 1 - room))
 
 -- a wire that nobody else uses and that has no history

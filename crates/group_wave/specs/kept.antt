@@ -3,6 +3,7 @@ pub mod Queues
 pub mod WaveState
 pub mod Grounds
 pub mod Boxes
+pub mod EightBoxes
 pub mod Wave
 pub mod Bits
 pub mod Marks

@@ -240,14 +240,14 @@ impl<'a> Ground<'a> {
         self.cost_by(19, 1, pin)
     }
 
-    /// What it costs to enter a sink: nothing, where nobody else uses it and it was never overused.
-    #[tactic(auto, using(crate::proofs::Opened::free_sink_paid))]
+    /// What it costs to enter a sink: nothing, where it was never overused.
+    #[tactic(auto, using(crate::proofs::Opened::new_sink_paid))]
     pub(crate) fn sink_cost(&self, sink: u32) -> u128
         requires node_in { sink < node_count self.now.space }
         requires is { is_sink self.now.space.device sink ≡ true }
         ensures { result ≡ entry_cost self.now.space sink }
     {
-        if self.view.is_free(sink) {
+        if self.view.history(sink) == 0 {
             return 0;
         }
         self.cost(sink)

@@ -5,6 +5,7 @@
 mod bits;
 mod boxes;
 mod buckets;
+mod eight_boxes;
 mod ground;
 mod keys;
 mod labels;
@@ -15,7 +16,6 @@ mod route;
 mod scratch;
 mod tables;
 mod wave;
-mod wires_left;
 
 pub use route::route_net;
 pub use scratch::Scratch;

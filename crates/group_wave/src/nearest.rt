@@ -1,13 +1,15 @@
 //! How many wires lead on from a group to the nearest sink, at least.
 
-ghost use Rattle.std.specs.Prelude.{◌≡◌, ◌<◌, ◌≤◌, ◌∷◌, ◌++◌, [], All, Some, None, length, map, replicate, get_or, slice_set, IfOk, IfSome, OnOk};
+ghost use Rattle.std.specs.Prelude.{◌≡◌, ◌<◌, ◌≤◌, ◌*◌, ◌∷◌, ◌++◌, ℕ, [], All, Some, None, length, map, replicate, get_or, slice_set, IfOk, IfSome, OnOk};
 ghost use Rattle.std.specs.List.Sorted.{IsPermutation};
+ghost use Rattle.wavefront.specs.Boxes as plain;
 ghost use Rattle.group_wave.specs.kept.Boxes.{IsLow, boxed};
-ghost use Rattle.group_wave.specs.kept.Nearest.{known_of, sink_box};
+ghost use Rattle.group_wave.specs.kept.EightBoxes.{StandsAt};
+ghost use Rattle.group_wave.specs.kept.Nearest.{sink_box};
 ghost use Rattle.group_wave.specs.kept.Wave.{wire_of};
 
 use crate::boxes::BoundingBox;
-use crate::wires_left::wires_to;
+use crate::eight_boxes::{EightBoxes, fewest_in, make_room, put_box};
 use std::alloc::{AllocError, Global};
 use std::marker::Model;
 use track_groups::Group;
@@ -80,31 +82,18 @@ fn is_live(live: &[u16], number: u16) -> bool {
     which < live.len() && live[which] == number
 }
 
-/// The fewer wires of two sights.
-fn fewer_of(sight: Sight, wires: u64, number: u16) -> Sight
-    ensures first { result.wires ≤ sight.wires }
-    ensures second { result.wires ≤ wires }
+/// Puts the box that stands in a place there, if one does.
+fn put_again(eights: &mut Vec<EightBoxes>, boxes: &[SinkBox], at: usize)
+    requires { at < 8 * length eights.old.items }
+    ensures count { length eights.new.items ≡ length eights.old.items }
+    ensures put { (d : SinkBox) → at < length boxes.now
+        → StandsAt eights.new.items at (boxed (get_or boxes.now at d).place) }
+    ensures others { (other : ℕ) (place : plain.BoundingBox) → (other ≡ at → ⊥)
+        → StandsAt eights.old.items other place → StandsAt eights.new.items other place }
 {
-    let wires = wires.min(u64::from(u16::MAX)) as u16;
-    if wires < sight.wires {
-        Sight { wires, number }
-    } else {
-        sight
+    if at < boxes.len() {
+        put_box(eights, at, boxes[at].place);
     }
-}
-
-/// The fewest wires of which a box tells, or as many as are kept.
-fn fewest_in(boxes: &[SinkBox], group: &Group) -> Sight
-    ensures { IsLow (map sink_box boxes.now) (wire_of group.now) result.wires }
-{
-    let mut fewest = Sight {
-        wires: u16::MAX,
-        number: 0,
-    };
-    for around in boxes {
-        fewest = fewer_of(fewest, wires_to(around.place, group), around.number);
-    }
-    fewest
 }
 
 /// Boxes around the sinks that the wave has yet to take; and of groups, how many wires lead on to
@@ -112,6 +101,8 @@ fn fewest_in(boxes: &[SinkBox], group: &Group) -> Sight
 #[derive(Drop)]
 pub(crate) struct Nearest {
     boxes: Vec<SinkBox>,
+    /// The same boxes, eight side by side, and others that are far off.
+    eights: Vec<EightBoxes>,
     /// The numbers of the boxes as they are now. One that is taken away or made narrower has
     /// another number from then on.
     live: Vec<u16>,
@@ -125,11 +116,11 @@ impl Model for Nearest {
 
     ghost Value = { Sights };
 
-    ghost use Rattle.group_wave.specs.kept.Nearest.{sights_of, AreStamped};
+    ghost use Rattle.group_wave.specs.kept.Nearest.{sights_of, IsNearestInside};
 
     ghost view = { sights_of };
 
-    ghost invariant = { AreStamped };
+    ghost invariant = { IsNearestInside };
 }
 
 impl Nearest {
@@ -140,6 +131,7 @@ impl Nearest {
     {
         Ok(Nearest {
             boxes: Vec::new(alloc),
+            eights: Vec::new(alloc),
             live: vec![in alloc; 0; 64]?,
             known: nothing_known(alloc, groups)?,
             stamp: 1,
@@ -164,6 +156,7 @@ impl Nearest {
         }
         self.stamp += 1;
         self.boxes.clear();
+        self.eights.clear();
     }
 
     /// Puts a box in for sinks from one place of their list to the one before another. What was
@@ -179,14 +172,17 @@ impl Nearest {
             ++ record { place = boxed place; from = from; until = until } ∷ []) }
         ensures known { self.new.known ≡ self.old.known }
     {
-        let number = (self.boxes.len() % 64) as u16;
+        let at = self.boxes.len();
+        let number = (at % 64) as u16;
         make_live(&mut self.live, number);
+        make_room(&mut self.eights, at)?;
         self.boxes.push(SinkBox {
             place,
             from,
             until,
             number,
         })?;
+        put_box(&mut self.eights, at, place);
         Ok(())
     }
 
@@ -221,6 +217,7 @@ impl Nearest {
             until: around.until,
             number,
         };
+        put_box(&mut self.eights, at, place);
     }
 
     /// Takes a box away. What was found for groups stays, and is no more than the boxes that are
@@ -233,6 +230,9 @@ impl Nearest {
     {
         let gone = self.boxes.swap_remove(at);
         make_live(&mut self.live, gone.number.wrapping_add(64));
+        let last = self.boxes.len();
+        put_box(&mut self.eights, last, BoundingBox::NOTHING);
+        put_again(&mut self.eights, &self.boxes, at);
         gone
     }
 
@@ -266,6 +266,19 @@ impl Nearest {
     pub(crate) fn fewest(&self, group: &Group) -> Sight
         ensures { IsLow self.now.boxes (wire_of group.now) result.wires }
     {
-        fewest_in(&self.boxes, group)
+        let fewest = fewest_in(&self.eights, group);
+        Sight {
+            wires: fewest / 64,
+            number: self.number_at(usize::from(fewest % 64)),
+        }
+    }
+
+    /// The number of a box, or one of no box.
+    fn number_at(&self, at: usize) -> u16 {
+        if at < self.boxes.len() {
+            self.boxes[at].number
+        } else {
+            0
+        }
     }
 }

@@ -137,6 +137,30 @@ impl<L: Round> Desk<L> {
         }
     }
 
+    /// Records a tree of which it is known that it routes the net, as `commit` does: it isn't looked at again.
+    pub(crate) fn commit_routed(
+        &mut self,
+        share: &mut Share<L>,
+        net: u32,
+        tree: Tree,
+    ) -> Result<(), (CommitFault, Tree)>
+        requires routes { IsRoute L.opening.problem net (pairs_of tree) }
+        ensures step { Commits self.old share.old.worker net (pairs_of tree)
+            (fault_alone result) self.new }
+        ensures counted { OnOk result (share.new ≡ one_more share.old) }
+        ensures uncounted { OnErr result (share.new ≡ share.old) }
+    {
+        let worker = share.worker();
+        let Desk { book, total, .. } = self;
+        match book.commit_routed(worker, net, tree) {
+            Ok(()) => {
+                share.count_turn(total, open_turns(book).len());
+                Ok(())
+            }
+            Err(refused) => Err(refused),
+        }
+    }
+
     /// Comes to commit the tree of a net, which was found with this view. Where a node of the tree is full now by the other nets, and was
     /// not by those in the view, the view becomes that of the net as the book is now, and the tree is let go; else it is committed as
     /// `commit` does.
@@ -157,6 +181,29 @@ impl<L: Round> Desk<L> {
             return Ok(TurnOrLook::Look);
         }
         match self.commit(share, net, tree) {
+            Ok(()) => Ok(TurnOrLook::Turn),
+            Err(back) => Err(back),
+        }
+    }
+
+    /// Comes to commit a tree of which it is known that it routes the net, as `commit_or_look` does.
+    pub(crate) fn commit_routed_or_look(
+        &mut self,
+        share: &mut Share<L>,
+        net: u32,
+        tree: Tree,
+        view: &mut View,
+    ) -> Result<TurnOrLook, (CommitFault, Tree)>
+        requires routes { IsRoute L.opening.problem net (pairs_of tree) }
+        ensures step { CommitsOrLooks self.old view.old share.old.worker net tree
+            (fault_alone result) self.new view.new }
+        ensures share { share.new ≡ part_with result share.old }
+        ensures shown { ShowsAgain L.opening net result view.new }
+    {
+        if self.looks_again(net, &tree, view) {
+            return Ok(TurnOrLook::Look);
+        }
+        match self.commit_routed(share, net, tree) {
             Ok(()) => Ok(TurnOrLook::Turn),
             Err(back) => Err(back),
         }

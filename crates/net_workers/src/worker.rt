@@ -7,7 +7,7 @@ ghost use Rattle.wavefront.specs.Growth.{space_of};
 ghost use Rattle.net_workers.specs.Parts.{one_more};
 ghost use Rattle.net_workers.specs.Searches.{AreFound, IsFound, IsFoundIn};
 ghost use Rattle.net_workers.specs.Looks.{part_with, ShowsAgain};
-ghost use Rattle.net_workers.specs.kept.Attempts.{most_looks, GoesOn, part_going_on, IsFoundAgain, entry_with};
+ghost use Rattle.net_workers.specs.kept.Attempts.{most_looks, GoesOn, part_going_on, IsFoundAgain, RoutesNet, entry_with};
 ghost use Rattle.congestion_book.specs.Contents.{net_count};
 
 use crate::desk::Desk;
@@ -69,6 +69,7 @@ fn search(
     requires fits { scratch.old ≡ node_count_of prepared.now.device }
     ensures found { IfOk result (λ r.
         IsFoundIn (space_of prepared.now net view.now options.present options.bb) r.0) }
+    ensures routes { IfOk result (λ r. RoutesNet prepared.now net r.0) }
     ensures copy { IfOk result (λ r. r.1 ≡ r.0) }
     ensures fits { scratch.new ≡ scratch.old }
 {
@@ -99,11 +100,12 @@ fn end_turn<L: Round, R: Wait>(
     net: u32,
     tree: Option<Tree>,
 ) -> Result<(), WorkFault>
+    requires routes { RoutesNet L.opening.problem net tree }
     ensures counted { OnOk result (share.new ≡ one_more share.old) }
     ensures uncounted { OnErr result (share.new ≡ share.old) }
 {
     let refused = match tree {
-        Some(tree) => desk.lock(rt).commit(share, net, tree).is_err(),
+        Some(tree) => desk.lock(rt).commit_routed(share, net, tree).is_err(),
         None => desk.lock(rt).pass(share, net).is_err(),
     };
     if refused {
@@ -122,6 +124,7 @@ fn try_turn<L: Round, R: Wait>(
     tree: Option<Tree>,
     view: &mut View,
 ) -> Result<TurnOrLook, WorkFault>
+    requires routes { RoutesNet L.opening.problem net tree }
     ensures share { share.new ≡ part_with result share.old }
     ensures shown { ShowsAgain L.opening net result view.new }
 {
@@ -129,7 +132,9 @@ fn try_turn<L: Round, R: Wait>(
         end_turn(rt, desk, share, net, None)?;
         return Ok(TurnOrLook::Turn);
     };
-    let made = desk.lock(rt).commit_or_look(share, net, tree, view);
+    let made = desk
+        .lock(rt)
+        .commit_routed_or_look(share, net, tree, view);
     match made {
         Ok(made) => Ok(made),
         Err(_) => Err(WorkFault::Astray),
@@ -153,6 +158,7 @@ fn turn_or_search<L: Round, R: Wait>(
     requires problem { prepared.now ≡ L.opening.problem }
     requires options { (options.present ≡ L.present) × (options.bb ≡ L.bb) }
     requires net { net < net_count L.opening }
+    requires routes { RoutesNet L.opening.problem net tree }
     requires fits { scratch.old ≡ node_count_of prepared.now.device }
     ensures found { GoesOn L.opening L.present L.bb net result view.new }
     ensures share { share.new ≡ part_going_on result share.old }

@@ -6,7 +6,7 @@ use Rattle.wavefront.specs.kept.Bounds.{wires_for, wires_over}
 divided : (k a b : ℕ) → a ≤ b → a / (k + 1) ≤ b / (k + 1)
 divided k a b up = (le-div_iff_mul-le (omega arith)).1 (let low = div-mul-le_self a (k + 1) in omega (arith, low, up))
 
-over_more : (steps a b : ℕ) → a ≤ b → wires_over steps a ≤ wires_over steps b
+pub over_more : (steps a b : ℕ) → a ≤ b → wires_over steps a ≤ wires_over steps b
 unfolding wires_over
 over_more steps a b up = divided steps (a + steps) (b + steps) (omega (arith, up))
 
@@ -69,3 +69,12 @@ none_left steps along across e =
     let a : along ≡ 0 = omega (arith, e) in
     let c : across ≡ 0 = omega (arith, e) in
     rw (a, c) (omega (arith, here))
+
+-- no fewer lead on from farther off
+pub for_more : (steps along across far beyond : ℕ) → along ≤ far → across ≤ beyond → wires_for steps along across ≤ wires_for steps far beyond
+for_more steps along across far beyond up over =
+    let first = over_more steps (max along (min 1 across)) (max far (min 1 beyond)) (omega (arith, up, over)) in
+    let second = over_more steps across beyond over in
+    let third = over_more steps (along - 1) (far - 1) (omega (arith, up)) in
+    let fourth = over_more steps (across + 1) (beyond + 1) (omega (arith, over)) in
+    omega (arith, first, second, third, fourth)

@@ -194,7 +194,7 @@ impl<K: Key> Wave<K> {
         requires wave { IsWave ground.now self.now }
         requires sink { IsOpen ground.now self.now sink }
     {
-        if ground.cost(sink) > 0 {
+        if ground.sink_cost(sink) > 0 {
             u64::from(sink)
         } else {
             (1 << 32) + u64::from(self.labels.row(sink).parent)

@@ -1,6 +1,9 @@
 -- What a worker has of a net that it holds, where it looks and searches again.
 use Rattle.std.specs.Prelude.{◌≡◌, ℕ, ◌==◌, if◌then◌else◌, List, Option, Some, None, Result, Ok, Err}
+use Rattle.rr_graph.specs.Problems.{RoutingProblem}
 use Rattle.route_tree.specs.declared.tree.Row.{Row}
+use Rattle.route_tree.specs.Faults.{IsRoute}
+use Rattle.route_tree.specs.Rows.{pairs_of}
 use Rattle.node_cost.specs.Views.{NetView}
 use Rattle.wavefront.specs.Growth.{space_of}
 use Rattle.congestion_book.specs.Contents.{Content}
@@ -19,10 +22,16 @@ Found = Option (List Row) × Option (List Row)
 abbrev pub entry_with : (net : ℕ) → Option (List Row) → Entry
 entry_with net tree = record { net = net; tree = tree }
 
+-- the tree, if there is one, routes the net
+abbrev pub RoutesNet : RoutingProblem → (net : ℕ) → Option (List Row) → Type 0
+RoutesNet p net (Some rows) = IsRoute p net (pairs_of rows)
+RoutesNet p net None = Unit {0}
+
 -- what a search found with this view, which is one that the net may see, and a copy of it
 pub record IsFoundAgain (c : Content) (present bb net : ℕ) (found : Found) (view : NetView) : Type 0 where
   pub seen : IsSeenIn c net view
   pub here : IsFoundIn (space_of c.problem net view present bb) found.0
+  pub routes : RoutesNet c.problem net found.0
   pub copy : found.1 ≡ found.0
 
 -- where no turn was made, another search found this

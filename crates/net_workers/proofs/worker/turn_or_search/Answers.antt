@@ -8,5 +8,6 @@ returns-in_ok-next-in-Look-clause-found g c =
     record {
       seen = seen;
       here = rw (c.requires.problem, c.requires.options.0, c.requires.options.1) at c.in_ok-next-in-Look.ensures.found;
+      routes = rw c.requires.problem at c.in_ok-next-in-Look.ensures.routes;
       copy = c.in_ok-next-in-Look.ensures.copy;
     }

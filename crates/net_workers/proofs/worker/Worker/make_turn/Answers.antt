@@ -9,6 +9,7 @@ settle-requires-clause-found g c =
     record {
       seen = seen;
       here = rw (c.requires.problem, c.requires.options.0, c.requires.options.1) at c.in_ok-found.ensures.found;
+      routes = rw c.requires.problem at c.in_ok-found.ensures.routes;
       copy = c.in_ok-found.ensures.copy;
     }
 
