@@ -1,6 +1,7 @@
 -- What neighbours of a group are offered.
-use Rattle.std.proofs.Common.{◌≡◌, ℕ, ◌+◌, ◌*◌, ◌<◌, List, [], ◌∷◌, length, map, get_or, Contains, true, false, inl, inr, sym, ap, ◌∙◌, subst, arith}
+use Rattle.std.proofs.Common.{◌≡◌, ℕ, ◌+◌, ◌*◌, ◌<◌, List, [], ◌∷◌, length, map, get_or, Contains, Bool, not, ◌||◌, true, false, refl, inl, inr, sym, ap, ◌∙◌, subst, arith}
 use Rattle.std.specs.Int.{bit_at}
+use Rattle.std.specs.Prelude.{IsFalse, IsTrue}
 use Rattle.std.proofs.lemmas.Bool.{cases_lt, false≢true}
 use Rattle.std.proofs.lemmas.List.Elements.{All-contains}
 use Rattle.track_groups.specs.declared.group.Group.{Group}
@@ -50,6 +51,15 @@ module _ (g : Ground) (e : Waiting) where
   took_next s t hs i h step at before took k lt within = elim (cases_lt k i) [
     | inl early ↦ took_then s t (get_or hs k 0) step (before k early within)
     | inr late ↦ let here : i ≡ k = omega (arith, lt, late) in subst (TookWires g t e) (sym at ∙ ap (λ x. get_or hs x 0) here) took
+  ]
+
+  -- one more that has it already, where none may be lowered
+  pub settled_next : (w : Wave) (hs : List ℕ) (i h : ℕ) (may settled : Bool) → get_or hs i 0 ≡ h → (IsFalse may → TookBefore g w e hs i) → (IsTrue settled → TookWires g w e h) → IsFalse (may || not settled) → TookBefore g w e hs (i + 1)
+  settled_next w hs i h true settled at before took none = absurd (false≢true (sym none))
+  settled_next w hs i h false false at before took none = absurd (false≢true (sym none))
+  settled_next w hs i h false true at before took none = λ k lt within. elim (cases_lt k i) [
+    | inl early ↦ before refl k early within
+    | inr late ↦ let here : i ≡ k = omega (arith, lt, late) in subst (TookWires g w e) (sym at ∙ ap (λ x. get_or hs x 0) here) (took refl)
   ]
 
   pub nearer_next : (s t : Wave) (wires : ℕ) (hs : List ℕ) (i h : ℕ) → Spreads g s t → get_or hs i 0 ≡ h → TookNearerBefore g s e wires hs i → TookNearer g t e wires h → TookNearerBefore g t e wires hs (i + 1)

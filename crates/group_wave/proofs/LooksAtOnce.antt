@@ -44,12 +44,12 @@ module _ (o : Outlook) (boxes : EightBoxes) (wire : Wire) (lane : ℕ) (place : 
   column_seen column low =
       let kind : wire.kind ≡ Chany = is.kind ∙ ap (λ c. cond c Chany Chanx) column in
       rw (kind, sym is.steps) (nearer o.steps _ _ _ _ wires
-        (seen_at boxes.bottom boxes.top lane place.bottom place.top wire.span.y1 wire.span.y2 o.y1 o.y2 keeps.bottom keeps.top is.y1 is.y2)
-        (seen_beside boxes.left boxes.right lane place.left place.right wire.span.x1 wire.span.x2 o.x1 o.x2 keeps.left keeps.right is.x1 is.x2) low)
+      (seen_at boxes.bottom boxes.top lane place.bottom place.top wire.span.y1 wire.span.y2 o.y1 o.y2 keeps.bottom keeps.top is.y1 is.y2)
+      (seen_beside boxes.left boxes.right lane place.left place.right wire.span.x1 wire.span.x2 o.x1 o.x2 keeps.left keeps.right is.x1 is.x2) low)
 
   pub row_seen : o.is_column ≡ false → wires ≤ wires_for o.steps (gap (slice_index boxes.left lane) (slice_index boxes.right lane) o.x1 o.x2) (gap (slice_index boxes.bottom lane - 1) (slice_index boxes.top lane) o.y1 o.y2) → wires ≤ wires_to place wire
   row_seen row low =
       let kind : wire.kind ≡ Chanx = is.kind ∙ ap (λ c. cond c Chany Chanx) row in
       rw (kind, sym is.steps) (nearer o.steps _ _ _ _ wires
-        (seen_at boxes.left boxes.right lane place.left place.right wire.span.x1 wire.span.x2 o.x1 o.x2 keeps.left keeps.right is.x1 is.x2)
-        (seen_beside boxes.bottom boxes.top lane place.bottom place.top wire.span.y1 wire.span.y2 o.y1 o.y2 keeps.bottom keeps.top is.y1 is.y2) low)
+      (seen_at boxes.left boxes.right lane place.left place.right wire.span.x1 wire.span.x2 o.x1 o.x2 keeps.left keeps.right is.x1 is.x2)
+      (seen_beside boxes.bottom boxes.top lane place.bottom place.top wire.span.y1 wire.span.y2 o.y1 o.y2 keeps.bottom keeps.top is.y1 is.y2) low)

@@ -65,10 +65,14 @@ fn long_wires(share: u16, steps: u16, along: u16, across: u16) -> u16
     requires { IsShare steps share }
     ensures { result ≤ wires_for steps along across }
 {
-    let last_along = wires_over(share, steps, along.max(across.min(1)))
-        .saturating_add(wires_over(share, steps, across));
-    let last_across = wires_over(share, steps, along.saturating_sub(1))
-        .saturating_add(wires_over(share, steps, across.saturating_add(1)));
+    let last_along = wires_over(share, steps, along.max(across.min(1))).saturating_add(wires_over(
+        share, steps, across,
+    ));
+    let last_across = wires_over(share, steps, along.saturating_sub(1)).saturating_add(wires_over(
+        share,
+        steps,
+        across.saturating_add(1),
+    ));
     last_along.min(last_across)
 }
 

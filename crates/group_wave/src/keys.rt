@@ -5,7 +5,7 @@ ghost use Rattle.std.proofs.Common.{arith};
 ghost use Rattle.group_wave.specs.kept.Buckets.{most_buckets, low_bucket_of, bucket_of};
 
 /// How many buckets there are.
-pub(crate) const BUCKETS: usize = 20_481;
+pub(crate) const BUCKETS: usize = 8193;
 
 /// A cost as it is kept: up to the greatest of its width, which stands for all that is above.
 pub(crate) trait Key: Copy + Drop {
@@ -154,12 +154,12 @@ fn low_bucket_of(key: u32) -> usize
         return key / 16;
     }
     if key < 0x10_0000 {
-        return 4096 + key / 256;
+        return 4096 + key / 1024;
     }
     if key < 0x100_0000 {
-        return 8192 + key / 4096;
+        return 5120 + key / 16_384;
     }
-    12288 + key / 65536
+    6144 + key / 262_144
 }
 
 /// The bucket of a key that fits.
@@ -171,5 +171,5 @@ fn bucket_of(key: u32) -> usize
     if key < 0x1000_0000 {
         return low_bucket_of(key);
     }
-    16384 + key as usize / 0x10_0000
+    7168 + key as usize / 0x40_0000
 }

@@ -1,7 +1,7 @@
 //! How a wave goes on from tracks of a group: first to those neighbours from which fewer wires lead
 //! on, later to all.
 
-ghost use Rattle.std.specs.Prelude.{◌≡◌, ◌+◌, ◌*◌, ◌^◌, ◌<◌, ◌↔◌, IsTrue, true, false};
+ghost use Rattle.std.specs.Prelude.{◌≡◌, ◌+◌, ◌*◌, ◌^◌, ◌<◌, ◌↔◌, IsTrue, IsFalse, true, false};
 ghost use Rattle.group_wave.specs.kept.Bits.{IsOnlyBit, PutsBit};
 
 use super::relaxing::Offer;
@@ -157,6 +157,28 @@ impl<K: Key> Wave<K> {
         Ok(())
     }
 
+    /// Whether the way from the one track of an entry may lower the label of a neighbour's wire. All
+    /// neighbours are looked at with no branch between, so that their rows are fetched side by side.
+    #[inline(always)]
+    fn may_lower(&self, ground: &Ground<'_>, entry: Entry<K>, group: &Group, track: u32) -> bool
+        requires ground { IsGround ground.now }
+        requires wave { IsWave ground.now self.now }
+        requires group { group.now ≡ group_at (groups_of ground.now) entry.group }
+        requires entry { IsLive ground.now self.now (entry_of K.value entry) }
+        requires fits { K.value entry.label < K.greatest }
+        requires track { IsOnlyBit entry.tracks track }
+        ensures { IsFalse result → TookBefore ground.now self.now (entry_of K.value entry)
+            (neighbours_of ground.now.tables entry.group)
+            (length (neighbours_of ground.now.tables entry.group)) }
+    {
+        let mut may_lower = false;
+        let neighbours = ground.neighbours(entry.group);
+        for neighbour in neighbours {
+            may_lower |= !self.is_settled(ground, entry, group, track, *neighbour);
+        }
+        may_lower
+    }
+
     /// Offers the wires of all neighbours the way from the one track of an entry.
     fn relax_all_alone(
         &mut self,
@@ -177,6 +199,9 @@ impl<K: Key> Wave<K> {
             (neighbours_of ground.now.tables entry.group)
             (length (neighbours_of ground.now.tables entry.group))) }
     {
+        if !self.may_lower(ground, entry, group, track) {
+            return Ok(());
+        }
         let neighbours = ground.neighbours(entry.group);
         for neighbour in neighbours {
             self.relax_one(ground, entry, group, track, *neighbour)?;

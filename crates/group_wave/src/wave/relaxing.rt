@@ -324,6 +324,32 @@ impl<K: Key> Wave<K> {
         Ok(())
     }
 
+    /// Whether the wire of a neighbour has a label that the way from the one track of an entry can't
+    /// lower.
+    #[inline(always)]
+    pub(super) fn is_settled(
+        &self,
+        ground: &Ground<'_>,
+        entry: Entry<K>,
+        group: &Group,
+        track: u32,
+        neighbour: u32,
+    ) -> bool
+        requires ground { IsGround ground.now }
+        requires wave { IsWave ground.now self.now }
+        requires group { group.now ≡ group_at (groups_of ground.now) entry.group }
+        requires entry { IsLive ground.now self.now (entry_of K.value entry) }
+        requires fits { K.value entry.label < K.greatest }
+        requires track { IsOnlyBit entry.tracks track }
+        requires beside { Contains (neighbours_of ground.now.tables entry.group) neighbour }
+        ensures { IsTrue result
+            → TookWires ground.now self.now (entry_of K.value entry) neighbour }
+    {
+        let beside = ground.group(neighbour);
+        let row = self.labels.row(beside.base + track * beside.stride);
+        row.cost.is_below(entry.label.plus(K::cut(WIRE)))
+    }
+
     /// Offers the wire of a neighbour the way from the one track of an entry, if it is inside the
     /// net's box.
     #[inline(always)]

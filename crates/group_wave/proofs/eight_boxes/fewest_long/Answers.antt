@@ -13,5 +13,5 @@ loop-lane-preserved c k lt =
       | inr after ↦
           let here : at ≡ k = omega (arith, lt, after) in
           subst (λ i. c.min-fewest.result / 64 ≤ wires_for c.args.steps (gap_at c.args.along.now i) (gap_beside c.args.across.now i)) here
-            (nearer c.args.steps _ _ _ _ _ c.gap_at.ensures c.gap_beside.ensures (omega (arith, c.min-fewest.ensures, c.numbered.ensures, c.long_wires-wires.ensures)))
+          (nearer c.args.steps _ _ _ _ _ c.gap_at.ensures c.gap_beside.ensures (omega (arith, c.min-fewest.ensures, c.numbered.ensures, c.long_wires-wires.ensures)))
     ]

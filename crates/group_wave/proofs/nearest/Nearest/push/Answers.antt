@@ -29,7 +29,7 @@ invariant_of-self-2 c =
     record {
       stamped = c.self.invariant.stamped;
       eights = rw c.in_ok-push.ensures.items (one_behind boxes room old _ c.put_box.new.eights.items
-        (omega (arith, c.len-at.ensures, c.in_ok-make_room.ensures.room, c.put_box.ensures.count))
-        (subst (λ n. StandsAt c.put_box.new.eights.items n (boxed c.args.place)) same c.put_box.ensures.put)
-        (λ k d lt. c.put_box.ensures.others k _ (λ same. omega (arith, same, lt, c.len-at.ensures)) (old.stand k d lt)));
+          (omega (arith, c.len-at.ensures, c.in_ok-make_room.ensures.room, c.put_box.ensures.count))
+          (subst (λ n. StandsAt c.put_box.new.eights.items n (boxed c.args.place)) same c.put_box.ensures.put)
+          (λ k d lt. c.put_box.ensures.others k _ (λ same. omega (arith, same, lt, c.len-at.ensures)) (old.stand k d lt)));
     }

@@ -15,5 +15,5 @@ invariant_of-self c =
     record {
       stamped = c.self.invariant.stamped;
       eights = one_put c.self.inside.boxes.items c.self.inside.eights.items side c.args.at _ c.put_box.new.eights.items within c.put_box.ensures.count c.put_box.ensures.put
-        (λ k d ne lt. c.put_box.ensures.others k _ ne (side.stand k d lt));
+          (λ k d ne lt. c.put_box.ensures.others k _ ne (side.stand k d lt));
     }

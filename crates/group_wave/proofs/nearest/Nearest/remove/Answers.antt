@@ -29,7 +29,7 @@ invariant_of-self c =
     record {
       stamped = c.self.invariant.stamped;
       eights = rw items (one_gone boxes c.self.inside.eights.items side c.args.at gone now within
-        (c.put_again.ensures.count ∙ c.put_box.ensures.count)
-        (λ d lt. subst (λ bs. StandsAt now c.args.at (boxed (get_or bs c.args.at d).place)) same (c.put_again.ensures.put d (omega (arith, lt, size))))
-        (λ k d ne lt. c.put_again.ensures.others k _ ne (c.put_box.ensures.others k _ (λ same. omega (arith, same, lt, left, c.len-last.ensures)) (side.stand k d (omega (arith, lt, less))))));
+          (c.put_again.ensures.count ∙ c.put_box.ensures.count)
+          (λ d lt. subst (λ bs. StandsAt now c.args.at (boxed (get_or bs c.args.at d).place)) same (c.put_again.ensures.put d (omega (arith, lt, size))))
+          (λ k d ne lt. c.put_again.ensures.others k _ ne (c.put_box.ensures.others k _ (λ same. omega (arith, same, lt, left, c.len-last.ensures)) (side.stand k d (omega (arith, lt, less))))));
     }

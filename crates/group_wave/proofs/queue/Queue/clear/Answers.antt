@@ -7,7 +7,7 @@ invariant_of-self g c =
     let now = c.clear.new.self in
     let emptied = c.clear.ensures in
     let none = all_emptied g.K.Key.value c.self.inside.buckets now c.self.inside.low c.self.inside.end c.self.invariant.placed emptied.empty emptied.kept in
-    bucketed_none g.K.Key.value now 20481 (emptied.count ∙ c.self.invariant.whole) none
+    bucketed_none g.K.Key.value now 8193 (emptied.count ∙ c.self.invariant.whole) none
 
 pub returns : goal.returns
 returns g c =
