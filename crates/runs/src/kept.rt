@@ -84,9 +84,7 @@ impl<T: Threads + Sync + AllocGlobal, S: SideFiles> Gate for KeptTrials<'_, '_, 
     fn searched(&self, _worker: u32, _net: u32) {}
 
     fn found(&self, problem: &Problem, routing: &Routing) {
-        let device = problem.device();
-        let _limits = device.nx();
-        let width = device.width();
+        let width = problem.device().width();
         let Some(mut file) = self.files.file(width) else {
             return;
         };

@@ -70,20 +70,20 @@ fn is_written<W: ByteSink>(alloc: Global, design: &Design<'_>, book: &Book, file
     *book.problem() == *design.problem() && write_recorded(alloc, design, book, file).is_ok()
 }
 
-/// Prints that no way leads to a sink of a net.
+/// Prints that no way leads to a sink of a net, of these two.
 #[tactic(auto, unfolding(crate::specs::kept::Left::stuck_line))]
 fn put_stuck<W: ByteSink>(
     out: &mut OutputBuffer,
     words: &mut W,
     netlist: &Netlist<'_>,
     problem: &Problem,
-    net: u32,
-    sink: u32,
+    stuck: (u32, u32),
 )
     ensures { Sends (stream (W.taken words.old) (W.failed words.old) out.old)
         (stream (W.taken words.new) (W.failed words.new) out.new)
-        (stuck_line netlist.now problem.now (net, sink)) }
+        (stuck_line netlist.now problem.now stuck) }
 {
+    let (net, sink) = stuck;
     let name = net_name(netlist, number_of_net(problem, net));
     out.push(words, b"net ");
     out.push(words, name);
@@ -104,8 +104,8 @@ fn put_all_stuck<W: ByteSink>(
         (stream (W.taken words.new) (W.failed words.new) out.new)
         (stuck_text netlist.now problem.now stuck.now) }
 {
-    for (net, sink) in stuck {
-        put_stuck(out, words, netlist, problem, *net, *sink);
+    for entry in stuck {
+        put_stuck(out, words, netlist, problem, *entry);
     }
 }
 
