@@ -6,6 +6,7 @@ pub mod Recording
 pub mod Seeing
 pub mod Filled
 pub mod Rows
+pub mod Lengths
 pub mod Soundness
 pub mod Stepping
 pub mod Running

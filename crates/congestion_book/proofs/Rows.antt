@@ -1,6 +1,6 @@
 -- The row of an iteration, node by node.
 use Rattle.std.proofs.Common.{◌≡◌, inl, inr, ℕ, ◌+◌, ◌-◌, ◌<◌, ◌≤◌, ◌==◌, zero, suc, Bool, true, false, cond, nat_lt, List, [], ◌∷◌, ◌++◌, length, map, get_or, refl, sym, ap, ◌∙◌, arith, add-one, add-zero, All, subst}
-use Rattle.std.specs.List.{filter}
+use Rattle.std.specs.List.{filter, sum_by}
 use Rattle.std.proofs.lemmas.List.{map-append, append-nil}
 use Rattle.std.proofs.lemmas.List.Elements.{filter-append, All-append, All-cons, All-nil, All-head, All-tail}
 use Rattle.std.proofs.lemmas.List.Sums.{sum_by-cons, sum_by-append}
@@ -11,11 +11,11 @@ use Rattle.route_tree.specs.Usage.{use_of, overuse_of, room_of, Lists}
 use Rattle.route_tree.proofs.Uses.{overuse_counted, few_uses}
 use Rattle.rr_graph.specs.Nodes.{node_at, node_count_of}
 use Rattle.rr_graph.specs.Problems.{RoutingProblem, IsProblem}
-use Rattle.congestion_book.specs.Recorded.{overused_in}
+use Rattle.congestion_book.specs.Recorded.{overused_in, excess_in}
 use Rattle.rr_graph.specs.Fabric.{Fabric, numbers_below}
 use Rattle.rr_graph.proofs.Ranges.{below_next}
 use Rattle.congestion_book.specs.Histories.{Amount, AscendFrom, IsRow, amount_in, row_of}
-use Rattle.congestion_book.specs.kept.Usage.{excess_of, row_by, entry_of, is_over, overused_by}
+use Rattle.congestion_book.specs.kept.Usage.{excess_of, row_by, entry_of, excess_by, is_over, overused_by}
 use Rattle.congestion_book.proofs.Counting.{same_counts}
 
 -- the entries of the first n nodes
@@ -156,6 +156,14 @@ row_of_lists p lists counts size uses =
 pub row_bounded : (p : RoutingProblem) (lists : Lists) (counts : List ℕ) → IsProblem p → ((a : ℕ) → get_or counts a 0 ≡ use_of p.nets lists a) →
     (a : ℕ) → amount_in (row_by p.device counts) a ≤ 65535
 row_bounded p lists counts limits uses a = omega (arith, amount_bounded p.device counts a, uses a, few_uses p.nets lists a, limits.few)
+
+-- where the counts are the uses, all nodes are overused by as much by them as by the lists
+pub excess_is : (p : RoutingProblem) (lists : Lists) (counts : List ℕ) → length counts ≡ node_count_of p.device →
+    ((a : ℕ) → get_or counts a 0 ≡ use_of p.nets lists a) → excess_by p.device counts ≡ excess_in p lists
+unfolding excess_by excess_in
+excess_is p lists counts size uses =
+    ap (λ g. sum_by g (numbers_below (length counts))) (λ i a. sym (overuse_counted p lists a (get_or counts a 0) (uses a)) i)
+    ∙ ap (λ n. sum_by (overuse_of p lists) (numbers_below n)) size
 
 -- where the counts are the uses, as many nodes are overused by them as by the lists
 over_alike : (n room : ℕ) → nat_lt room n ≡ nat_lt 0 (n - room)

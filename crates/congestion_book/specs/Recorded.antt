@@ -1,11 +1,14 @@
--- What the recorded lists come to: how many nets use each node, how many nodes are overused, and how many nets have no list.
-use Rattle.std.specs.Prelude.{◌≡◌, ℕ, nat_lt, List, map, Some, is_none, count_by}
+-- What the recorded lists come to: how many nets use each node, how many nodes are overused and by how much, how many nets have no list,
+-- and how long all nets are.
+use Rattle.std.specs.Prelude.{◌≡◌, ℕ, nat_lt, List, map, sum, Some, is_none, count_by}
+use Rattle.std.specs.List.{sum_by}
 use Rattle.rr_graph.specs.Fabric.{numbers_below}
 use Rattle.rr_graph.specs.Nodes.{node_count_of}
 use Rattle.rr_graph.specs.Problems.{RoutingProblem}
 use Rattle.route_tree.specs.Paths.{Pair}
 use Rattle.route_tree.specs.Faults.{IsRoute}
 use Rattle.route_tree.specs.Usage.{use_of, overuse_of, Lists, list_in}
+use Rattle.route_report.specs.Wirelength.{wirelengths_of}
 
 -- each recorded list routes its net
 abbrev pub AreRoutes : RoutingProblem → Lists → Type 0
@@ -22,3 +25,11 @@ unrouted_in lists = count_by is_none lists
 -- how many nodes more nets use than they have room for
 unfoldable pub overused_in : RoutingProblem → Lists → ℕ
 overused_in p lists = count_by (λ a. nat_lt 0 (overuse_of p lists a)) (numbers_below (node_count_of p.device))
+
+-- by how many nets more than they have room for all nodes are used together
+unfoldable pub excess_in : RoutingProblem → Lists → ℕ
+excess_in p lists = sum_by (overuse_of p lists) (numbers_below (node_count_of p.device))
+
+-- the wirelength of all nets together
+unfoldable pub wirelength_in : RoutingProblem → Lists → ℕ
+wirelength_in p lists = sum (wirelengths_of p lists)

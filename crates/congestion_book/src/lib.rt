@@ -13,6 +13,7 @@ mod showing;
 mod turn;
 mod turns;
 mod usage;
+mod wirelength;
 
 pub use book::Book;
 pub use events::{Event, Reply, RunFault};

@@ -5,7 +5,7 @@ ghost use Rattle.route_tree.specs.Rows.{pairs_of};
 ghost use Rattle.route_tree.specs.Faults.{IsRoute};
 ghost use Rattle.route_tree.specs.Usage.{use_of, list_in};
 ghost use Rattle.node_cost.specs.Options.{most_iterations};
-ghost use Rattle.congestion_book.specs.Recorded.{unrouted_in, overused_in};
+ghost use Rattle.congestion_book.specs.Recorded.{unrouted_in, overused_in, excess_in, wirelength_in};
 ghost use Rattle.congestion_book.specs.Histories.{history_of};
 ghost use Rattle.congestion_book.specs.Contents.{IsSound, IsFresh, net_count, node_total, turns_of};
 ghost use Rattle.congestion_book.specs.Looks.{Looks, have_filled};
@@ -93,6 +93,24 @@ impl Book {
         ensures { result ≡ unrouted_in self.now.lists }
     {
         self.routes.unrouted
+    }
+
+    /// By how many nets more than they have room for all nodes are used together. It looks at every
+    /// node.
+    pub fn excess(&self) -> u64
+        ensures { result ≡ excess_in self.now.problem self.now.lists }
+    {
+        let device = self.problem.device();
+        let _limits = device.nx();
+        self.routes.usage.total_excess(device)
+    }
+
+    /// The wirelength of all nets together: the places of all wires that each covers, each wire
+    /// once; 0 for a net without a recorded tree. It looks at every row of every tree.
+    pub fn wirelength(&self) -> u64
+        ensures { result ≡ wirelength_in self.now.problem self.now.lists }
+    {
+        self.routes.wirelength(&self.problem)
     }
 
     /// Fills the view of a net as a draw does, by the trees as they are now. A view of another size is refused, and stays as it was.

@@ -6,7 +6,7 @@ ghost use Rattle.rr_graph.specs.Nodes.{node_at, node_count_of};
 ghost use Rattle.route_tree.specs.kept.Marked.{nodes_of};
 ghost use Rattle.route_tree.specs.Usage.{room_of};
 ghost use Rattle.congestion_book.specs.Turns.{one_if};
-ghost use Rattle.congestion_book.specs.kept.Usage.{overused_by, excess_of, row_by, entry_of, times_in, AddsEach, TakesEach};
+ghost use Rattle.congestion_book.specs.kept.Usage.{overused_by, excess_of, row_by, entry_of, excess_by, times_in, AddsEach, TakesEach};
 
 use node_cost::Counts;
 use route_tree::Row;
@@ -137,6 +137,20 @@ impl Usage {
             Some(capacity) => count.saturating_sub(capacity),
             None => count,
         }
+    }
+
+    /// By how many nets more than they have room for all nodes are used together.
+    #[tactic(auto, using(rr_graph::proofs::Ranges::sum_next), unfolding(crate::specs::kept::Usage::excess_by))]
+    pub(crate) fn total_excess(&self, device: &Device) -> u64
+        requires limits { IsFabric device.now }
+        requires each { length self.now.counts ≡ node_count_of device.now }
+        ensures { result ≡ excess_by device.now self.now.counts }
+    {
+        let mut total = 0u64;
+        for id in 0..device.node_count() {
+            total += u64::from(self.excess(device, id));
+        }
+        total
     }
 
     /// The overused nodes, ascending, each with by how many nets.

@@ -14,15 +14,16 @@ ghost use Rattle.node_cost.specs.Options.{most_workers};
 use clap::error::ErrorKind;
 use clap::{ArgMatches, Error as ClapError};
 use command::{CheckWords, GraphWords, ReportWords, RouteWords, WidthWords};
-use files::{BehindProgress, NewFile};
+use files::{BehindProgress, NewFile, RestFile, SideFile, TrialFiles};
 use iteration::Outcome;
+use net_workers::BothGates;
 use report_run::report_run;
 use route_check::RouteFault;
 use route_explain::explain_run;
 use rr_graph::Mode;
 use runs::{
-    AppFault, InputFile, Progress, check_run, graph_run, outcome_status, print_fault,
-    report_status, route_run, status, verdict_status, width_run,
+    AppFault, FileNames, InputFile, Log, Progress, RunWords, check_run, graph_run, outcome_status,
+    print_fault, report_status, route_run, status, verdict_status, width_run,
 };
 use std::io::{IsTerminal, Write};
 use std::process::ExitCode;
@@ -32,7 +33,7 @@ use std::thread::Threads;
 use std::{env, fs, io};
 use terminal::{columns, takes_lines_back};
 use vpr_text::Adapted;
-use warning::doubt_of;
+use warning::{doubt_of, side_doubt_of};
 use width_search::WidthReport;
 
 /// The status of words that the command line may not have.
@@ -46,11 +47,14 @@ fn main(rt: HostRuntime) -> ExitCode {
 
 /// Runs the command that the command line names, and answers its exit status. Where standard error
 /// is watched, on a terminal, it shows how far a negotiation is.
-fn run(
-    rt: &(impl Runtime + Threads + Wait + Sync + AllocGlobal),
+fn run<R: Runtime + Threads + Wait + Sync + AllocGlobal>(
+    rt: &R,
     errors: &mut impl Write,
     is_watched: bool,
-) -> u8 {
+) -> u8
+where
+    R::File: Send,
+{
     let words = match words(rt) {
         Ok(words) => words,
         Err(error) if error.kind() == io::ErrorKind::OutOfMemory => return refused(
@@ -80,11 +84,14 @@ fn run(
 }
 
 /// Runs `route`, and answers its status.
-fn run_route(
-    rt: &(impl Runtime + Threads + Wait + Sync + AllocGlobal),
+fn run_route<R: Runtime + Threads + Wait + Sync + AllocGlobal>(
+    rt: &R,
     given: &ArgMatches<'_>,
     is_watched: bool,
-) -> u8 {
+) -> u8
+where
+    R::File: Send,
+{
     let Some(given) = command::route_words(given) else {
         return BAD_WORDS;
     };
@@ -98,11 +105,14 @@ fn run_route(
 }
 
 /// Runs `width`, and answers its status.
-fn run_width(
-    rt: &(impl Runtime + Threads + Wait + Sync + AllocGlobal),
+fn run_width<R: Runtime + Threads + Wait + Sync + AllocGlobal>(
+    rt: &R,
     given: &ArgMatches<'_>,
     is_watched: bool,
-) -> u8 {
+) -> u8
+where
+    R::File: Send,
+{
     let Some(given) = command::width_words(given) else {
         return BAD_WORDS;
     };
@@ -192,6 +202,67 @@ fn warn<'a>(rt: &impl Runtime, route: &'a str, inputs: [&'a str; 3]) {
     }
 }
 
+/// The log of a run, which is written nowhere where none is wanted, or where it can't be or
+/// shouldn't be written.
+fn log_of<'a, R: Runtime + Wait + AllocGlobal>(
+    rt: &'a R,
+    log: Option<&'a str>,
+    run: RunWords<'a>,
+    progress: &'a Progress<'a, R>,
+) -> Log<'a, R, BehindProgress<'a, 'a, SideFile<'a, R>, R>> {
+    let name = log.unwrap_or("");
+    let file = match log {
+        None => None,
+        Some("-") => Some(SideFile::Errors(rt)),
+        Some(name) => log_file(rt, name, run.files),
+    };
+    Log::new(
+        rt,
+        name,
+        run,
+        file.map(|file| BehindProgress::new(file, progress)),
+    )
+}
+
+/// The files of a run over which no further one is written: the inputs, ROUTE and the log.
+fn others_of<'a>(files: FileNames<'a>, log: Option<&'a str>) -> [&'a str; 5] {
+    let FileNames {
+        net,
+        arch,
+        place,
+        route,
+    } = files;
+    [net, arch, place, route, log.unwrap_or(route)]
+}
+
+/// The file of a log, or a warning why there is none.
+fn log_file<'a, R: Runtime>(
+    rt: &'a R,
+    name: &'a str,
+    files: FileNames<'a>,
+) -> Option<SideFile<'a, R>> {
+    let others = [files.net, files.arch, files.place, files.route];
+    if let Some(doubt) = side_doubt_of(rt, name, others) {
+        let _ = eprintln!(rt; "warning: the log {name} {doubt}");
+        return None;
+    }
+    Some(SideFile::New(NewFile::new(rt, name)))
+}
+
+/// The name of the file of the trees that were left, or a warning why there is none.
+fn rest_name<'a>(
+    rt: &impl Runtime,
+    name: Option<&'a str>,
+    others: [&'a str; 5],
+) -> Option<&'a str> {
+    let name = name?;
+    if let Some(doubt) = side_doubt_of(rt, name, others) {
+        let _ = eprintln!(rt; "warning: {name} {doubt}");
+        return None;
+    }
+    Some(name)
+}
+
 /// The mode in which nets are routed.
 fn mode_of(global: bool) -> Mode {
     if global { Mode::Global } else { Mode::Detailed }
@@ -213,6 +284,8 @@ fn route<R: Runtime + Threads + Wait + Sync + AllocGlobal>(
     given: RouteWords<'_>,
     progress: &Progress<'_, R>,
 ) -> Result<Outcome, AppFault>
+where
+    R::File: Send,
     requires tracks { (1 ≤ given.width) × (given.width ≤ most_tracks) }
     requires workers { (1 ≤ given.workers) × (given.workers ≤ most_workers) }
 {
@@ -223,6 +296,28 @@ fn route<R: Runtime + Threads + Wait + Sync + AllocGlobal>(
     let file = NewFile::new(rt, given.route);
     let mut route = Adapted::new(BehindProgress::new(file, progress));
     let mut out = Adapted::new(BehindProgress::new(io::writer(rt), progress));
+    let run = RunWords {
+        version: help::VERSION,
+        files: FileNames {
+            net: given.net,
+            arch: given.arch,
+            place: given.place,
+            route: given.route,
+        },
+        workers: given.workers,
+        settings: given.settings,
+    };
+    let others = others_of(run.files, given.log);
+    let rest = RestFile {
+        rt,
+        name: rest_name(rt, given.rest, others),
+        progress,
+    };
+    let log = log_of(rt, given.log, run, progress);
+    let gate = BothGates {
+        first: progress,
+        second: &log,
+    };
     let (width, mode, settings) = (given.width, mode_of(given.global), given.settings);
     route_run(
         rt,
@@ -235,7 +330,8 @@ fn route<R: Runtime + Threads + Wait + Sync + AllocGlobal>(
         mode,
         &settings,
         given.workers,
-        progress,
+        &gate,
+        &rest,
     )
 }
 
@@ -245,6 +341,8 @@ fn width<R: Runtime + Threads + Wait + Sync + AllocGlobal>(
     given: WidthWords<'_>,
     progress: &Progress<'_, R>,
 ) -> Result<WidthReport, AppFault>
+where
+    R::File: Send,
     requires start { (1 ≤ given.start) × (given.start ≤ most_tracks) }
     requires workers { (1 ≤ given.workers) × (given.workers ≤ most_workers) }
 {
@@ -255,6 +353,28 @@ fn width<R: Runtime + Threads + Wait + Sync + AllocGlobal>(
     let file = NewFile::new(rt, given.route);
     let mut route = Adapted::new(BehindProgress::new(file, progress));
     let mut out = Adapted::new(BehindProgress::new(io::writer(rt), progress));
+    let run = RunWords {
+        version: help::VERSION,
+        files: FileNames {
+            net: given.net,
+            arch: given.arch,
+            place: given.place,
+            route: given.route,
+        },
+        workers: given.workers,
+        settings: given.settings,
+    };
+    let kept = TrialFiles {
+        rt,
+        prefix: given.keep,
+        others: others_of(run.files, given.log),
+        progress,
+    };
+    let log = log_of(rt, given.log, run, progress);
+    let gate = BothGates {
+        first: progress,
+        second: &log,
+    };
     let (start, mode, settings) = (given.start, mode_of(given.global), given.settings);
     width_run(
         rt,
@@ -267,7 +387,9 @@ fn width<R: Runtime + Threads + Wait + Sync + AllocGlobal>(
         mode,
         &settings,
         given.workers,
-        progress,
+        &gate,
+        &kept,
+        given.verify,
     )
 }
 

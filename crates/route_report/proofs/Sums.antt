@@ -20,7 +20,7 @@ pub sum_more : (g : ℕ → ℕ) (i : ℕ) → sum_by g (numbers_below (i + 1)) 
 sum_more g i = sum_next g i
 
 -- ---- the wirelengths of nets
-length_short : (p : RoutingProblem) (lists : Lists) (i : ℕ) → IsFabric p.device → wirelength_of p lists i ≤ 2 ^ 40
+pub length_short : (p : RoutingProblem) (lists : Lists) (i : ℕ) → IsFabric p.device → wirelength_of p lists i ≤ 2 ^ 40
 unfolding wirelength_of
 length_short p lists i within =
     let most = sum_by-le (places_at p.device) 128 (nodes_covered p lists i) (λ k d l. places_few p.device within (get_or (nodes_covered p lists i) k d)) in

@@ -61,7 +61,7 @@ module _ (p : RoutingProblem) (lists : Lists) where
   abbrev nodes : ℕ
   nodes = node_count_of p.device
 
-  net_is : (i : ℕ) → wirelength_of p lists i ≡ sum_by (λ a. use_by (net_in p.nets i) (list_in lists i) a * places a) (numbers_below nodes)
+  pub net_is : (i : ℕ) → wirelength_of p lists i ≡ sum_by (λ a. use_by (net_in p.nets i) (list_in lists i) a * places a) (numbers_below nodes)
   unfolding wirelength_of nodes_covered
   net_is i = kept_sum (covers_by (net_in p.nets i) (list_in lists i)) places (numbers_below nodes)
 

@@ -1,6 +1,6 @@
 -- How many nets use each node by what is counted, and how many nodes are overused.
 use Rattle.std.specs.Prelude.{◌≡◌, ℕ, ◌+◌, ◌-◌, ◌==◌, Bool, cond, nat_lt, List, [], ◌∷◌, length, map, get_or, count_by}
-use Rattle.std.specs.List.{filter}
+use Rattle.std.specs.List.{filter, sum_by}
 use Rattle.rr_graph.specs.Fabric.{Fabric, numbers_below}
 use Rattle.rr_graph.specs.Nodes.{node_at}
 use Rattle.route_tree.specs.Usage.{room_of}
@@ -16,6 +16,10 @@ overused_by f counts = count_by (is_over f counts) (numbers_below (length counts
 -- by how many nets more than it has room for a node is used
 abbrev pub excess_of : Fabric → (counts : List ℕ) → ℕ → ℕ
 excess_of f counts a = get_or counts a 0 - room_of f (node_at f a)
+
+-- by how many nets more than they have room for all nodes are used together
+unfoldable pub excess_by : Fabric → (counts : List ℕ) → ℕ
+excess_by f counts = sum_by (excess_of f counts) (numbers_below (length counts))
 
 -- the overused nodes, ascending, each with by how many nets
 unfoldable pub row_by : Fabric → (counts : List ℕ) → List (ℕ × ℕ)
