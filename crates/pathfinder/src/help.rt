@@ -1,7 +1,7 @@
 //! What the helps and the version say in more than a line.
 
 /// What `--version` prints after the name: the version, and what the program routes by.
-pub const VERSION: &str = "1.1.0 (formats of VPR 4.30, negotiated congestion)";
+pub const VERSION: &str = "1.2.0 (formats of VPR 4.30, negotiated congestion)";
 
 /// The end of the program's help.
 pub const PROGRAM: &str = "\
@@ -73,10 +73,13 @@ It prints `legal`, or what is wrong first, as
   not legal: net 0 (a): NoSwitch
   not legal: node 39 CHANY (0,1) Track: 0 overused by 1
 docs/FORMATS.md has the cause of each fault, and what to do. With `--explain` standard error gets a
-line for each net that has a fault, and one for each overused node:
-  net a: MissingSink: no step leads to a sink of the net; none to SINK (1,1) Class: 0
+line for each net that has a fault, with the line of ROUTE that it is about, one for each overused
+node, and one for each line of ROUTE that names such a node:
+  a.route:5: net a: MissingSink: no step leads to a sink of the net; none to SINK (1,1) Class: 0
   overused 1
   node 39 CHANY (0,1) Track: 0 used 2 of 1 nets a b
+  a.route:9: net a uses node 39 CHANY (0,1) Track: 0
+  a.route:18: net b uses node 39 CHANY (0,1) Track: 0
 
 Example, in examples/uart:
   $ pathfinder check uart.net k4n1.arch uart.place uart.route --width 6

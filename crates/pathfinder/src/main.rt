@@ -411,7 +411,16 @@ fn check(
     if given.explain {
         let mut words = Adapted::new(errors);
         return explain_run(
-            rt, &mut net, &mut arch, &mut place, &mut route, &mut out, &mut words, width, mode,
+            rt,
+            given.route.as_bytes(),
+            &mut net,
+            &mut arch,
+            &mut place,
+            &mut route,
+            &mut out,
+            &mut words,
+            width,
+            mode,
         );
     }
     check_run(

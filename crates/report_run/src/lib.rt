@@ -13,6 +13,7 @@ mod run;
 mod text;
 mod wire_types;
 
+pub use named::overused_on;
 pub use overused::put_overused;
 pub use run::report_run;
 pub use text::put_name;

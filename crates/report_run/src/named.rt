@@ -2,7 +2,7 @@
 
 ghost use Rattle.std.specs.Prelude.{◌≡◌, ◌<◌, length, option_copied};
 ghost use Rattle.vpr_text.specs.Output.{Sends, stream};
-ghost use Rattle.report_run.specs.Named.{named_at, named_text, naming_line, naming_lines};
+ghost use Rattle.report_run.specs.Named.{named_at, named_text, naming_line, naming_lines, overused_on};
 
 use route_file::node_named;
 use route_file::text::put_number;
@@ -22,23 +22,26 @@ fn put_naming<W: ByteSink>(out: &mut OutputBuffer, sink: &mut W, line: u32, node
     out.push(sink, b"\n");
 }
 
-/// Prints that a line names a node, if it names one and that is overused.
-fn put_named<W: ByteSink>(
-    out: &mut OutputBuffer,
-    sink: &mut W,
-    device: &Device,
-    uses: &[u16],
-    line: u32,
-    node: Option<u32>,
-)
-    ensures { Sends (stream (W.taken sink.old) (W.failed sink.old) out.old)
-        (stream (W.taken sink.new) (W.failed sink.new) out.new)
-        (named_text device.now uses.now line node) }
+/// The overused node that a line of the file names, if it names one.
+pub fn overused_on(lines: &Lines<'_>, device: &Device, uses: &[u16], index: usize) -> Option<u32>
+    ensures { result ≡ overused_on device.now uses.now lines.now index }
 {
-    let Some(node) = node else {
-        return;
+    let Some(node) = node_named(lines, device, index) else {
+        return None;
     };
     if is_over(device, uses, node) {
+        Some(node)
+    } else {
+        None
+    }
+}
+
+/// Prints that a line names an overused node, if it does.
+fn put_named<W: ByteSink>(out: &mut OutputBuffer, sink: &mut W, line: u32, node: Option<u32>)
+    ensures { Sends (stream (W.taken sink.old) (W.failed sink.old) out.old)
+        (stream (W.taken sink.new) (W.failed sink.new) out.new) (named_text line node) }
+{
+    if let Some(node) = node {
         put_naming(out, sink, line, node);
     }
 }
@@ -57,8 +60,8 @@ fn put_named_at<W: ByteSink>(
         (stream (W.taken sink.new) (W.failed sink.new) out.new)
         (named_at device.now uses.now lines.now index) }
 {
-    let node = node_named(lines, device, index);
-    put_named(out, sink, device, uses, lines.at(index), node);
+    let node = overused_on(lines, device, uses, index);
+    put_named(out, sink, lines.at(index), node);
 }
 
 /// Prints which lines of the file name what is overused by these uses.

@@ -1,6 +1,7 @@
 -- The explanation of what is wrong with a routing (ours).
 use Rattle.std.specs.Prelude.{◌≡◌, ℕ, ◌<◌, List, [], ◌++◌, codes, length, get_or, Option, None, Some, Result}
 use Rattle.std.specs.List.{flat_map}
+use Rattle.vpr_text.specs.Words.{Line}
 use Rattle.net_file.specs.Netlist.{Netlist}
 use Rattle.rr_graph.specs.Fabric.{Fabric, numbers_below}
 use Rattle.rr_graph.specs.Problems.{Net, RoutingProblem, net_in}
@@ -10,13 +11,17 @@ use Rattle.route_tree.specs.Usage.{Lists, list_in}
 use Rattle.route_check.specs.declared.fault.RouteFault.{RouteFault}
 use Rattle.route_check.specs.declared.fault.RouteFault.TheVariants.{Tree}
 use Rattle.route_check.specs.Nets.{AreJudged}
+use Rattle.route_report.specs.Covered.{uses_of}
 use Rattle.route_report.specs.Overused.{overused_nodes}
 use Rattle.runs.specs.declared.fault.AppFault.{AppFault}
 use Rattle.runs.specs.Runs.{PrintsText, Writing}
 use Rattle.runs.specs.Verdict.{tree_fault_text}
 use Rattle.report_run.specs.Overused.{overuse_lines}
 use Rattle.report_run.specs.Texts.{name_text}
+use Rattle.route_explain.specs.Lines.{line_of_spot, starts_of, where_text}
 use Rattle.route_explain.specs.Reasons.{reason_text}
+use Rattle.route_explain.specs.Spots.{fault_spot}
+use Rattle.route_explain.specs.Uses.{use_lines}
 
 -- a fault's name and what it means, of these pairs for a net
 unfoldable pub tree_fault_words : Fabric → Net → List Pair → TreeFault → List ℕ
@@ -38,25 +43,37 @@ abbrev pub fault_words : Fabric → Net → List Pair → Option TreeFault → L
 fault_words f n pairs None = codes "Unrouted: it has no list"
 fault_words f n pairs (Some fault) = tree_fault_words f n pairs fault
 
+-- the line of the file that the fault of net i is about; 0 where there is none
+unfoldable pub fault_line_number : Netlist → RoutingProblem → List Line → Lists → ℕ → RouteFault → ℕ
+fault_line_number netlist p lines lists i fault =
+    let n = net_in p.nets i in
+    line_of_spot p.device lines (get_or (starts_of netlist lines) n.number 0)
+    (fault_spot p.device n (pairs_in (list_in lists i)) (tree_fault_in fault))
+
 -- net i, as `net n_7: NoSwitch: no switch from CHANX (5,11) Track: 3 to CHANY (5,10) Track: 3`
-unfoldable pub fault_line : Netlist → RoutingProblem → Lists → ℕ → RouteFault → List ℕ
-fault_line netlist p lists i fault =
+unfoldable pub fault_text : Netlist → RoutingProblem → Lists → ℕ → RouteFault → List ℕ
+fault_text netlist p lists i fault =
     codes "net" ++ (name_text netlist p i
     ++ (codes ": " ++ (fault_words p.device (net_in p.nets i) (pairs_in (list_in lists i)) (tree_fault_in fault) ++ codes "\n")))
 
+-- the same, behind the line of the file, as `a.route:123: net n_7: ..`
+unfoldable pub fault_line : (path : List ℕ) → Netlist → RoutingProblem → List Line → Lists → ℕ → RouteFault → List ℕ
+fault_line path netlist p lines lists i fault =
+    where_text path (fault_line_number netlist p lines lists i fault) ++ fault_text netlist p lists i fault
+
 -- nothing, unless the net has a fault
-abbrev pub net_text : Netlist → RoutingProblem → Lists → ℕ → Option RouteFault → List ℕ
-net_text netlist p lists i None = []
-net_text netlist p lists i (Some fault) = fault_line netlist p lists i fault
+abbrev pub net_text : (path : List ℕ) → Netlist → RoutingProblem → List Line → Lists → ℕ → Option RouteFault → List ℕ
+net_text path netlist p lines lists i None = []
+net_text path netlist p lines lists i (Some fault) = fault_line path netlist p lines lists i fault
 
 -- what is said of net i, where these are the nets' faults
-unfoldable pub net_text_at : Netlist → RoutingProblem → Lists → List (Option RouteFault) → ℕ → List ℕ
-net_text_at netlist p lists faults i = net_text netlist p lists i (get_or faults i None)
+unfoldable pub net_text_at : (path : List ℕ) → Netlist → RoutingProblem → List Line → Lists → List (Option RouteFault) → ℕ → List ℕ
+net_text_at path netlist p lines lists faults i = net_text path netlist p lines lists i (get_or faults i None)
 
 -- a line for each net that has a fault
-abbrev pub net_lines : Netlist → RoutingProblem → Lists → List (Option RouteFault) → List ℕ
-net_lines netlist p lists faults =
-    flat_map (net_text_at netlist p lists faults) (numbers_below (length p.nets))
+abbrev pub net_lines : (path : List ℕ) → Netlist → RoutingProblem → List Line → Lists → List (Option RouteFault) → List ℕ
+net_lines path netlist p lines lists faults =
+    flat_map (net_text_at path netlist p lines lists faults) (numbers_below (length p.nets))
 
 -- the fault is that of the first net that has a line
 pub record IsFirstLine (faults : List (Option RouteFault)) (fault : RouteFault) : Type 0 where
@@ -65,14 +82,15 @@ pub record IsFirstLine (faults : List (Option RouteFault)) (fault : RouteFault) 
   pub there : get_or faults net None ≡ Some fault
   pub none_before : (j : ℕ) → j < net → get_or faults j None ≡ None
 
--- the nets that have a fault, how many nodes are overused, and a line for each of these
-unfoldable pub explanation_text : Netlist → RoutingProblem → Lists → List (Option RouteFault) → List ℕ
-explanation_text netlist p lists faults =
-    net_lines netlist p lists faults ++ overuse_lines netlist p (overused_nodes p lists)
+-- the nets that have a fault, how many nodes are overused, a line for each of these, and one for each line of the file that names one
+unfoldable pub explanation_text : (path : List ℕ) → Netlist → RoutingProblem → List Line → Lists → List (Option RouteFault) → List ℕ
+explanation_text path netlist p lines lists faults =
+    net_lines path netlist p lines lists faults
+    ++ (overuse_lines netlist p (overused_nodes p lists) ++ use_lines path netlist p.device (uses_of p lists) lines)
 
 -- the explanation is printed of what is wrong with each net
-abbrev pub PrintsExplanation : (out : Writing) → Netlist → RoutingProblem → Lists → Result (Unit {0}) AppFault → Type 0
-PrintsExplanation out netlist p lists result =
+abbrev pub PrintsExplanation : (out : Writing) → (path : List ℕ) → Netlist → RoutingProblem → List Line → Lists → Result (Unit {0}) AppFault → Type 0
+PrintsExplanation out path netlist p lines lists result =
     (faults : List (Option RouteFault))
     × AreJudged p lists faults
-    × PrintsText out (explanation_text netlist p lists faults) tt result
+    × PrintsText out (explanation_text path netlist p lines lists faults) tt result

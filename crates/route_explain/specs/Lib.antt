@@ -1,5 +1,9 @@
 pub mod Steps
+pub mod Spots
+pub mod Lines
 pub mod Switches
 pub mod Reasons
+pub mod Uses
 pub mod Explanation
 pub mod ExplainRun
+pub mod kept

@@ -1,10 +1,9 @@
 -- Which step of a net's list a fault is about: the row of the first that shows it (ours).
-use Rattle.std.specs.Prelude.{ℕ, ◌==◌, Bool, not, ◌&&◌, ◌||◌, ◌-◌, nat_lt, List, length, count_by, find, get_or, Option, if◌then◌else◌}
-use Rattle.std.specs.List.{list_any}
+use Rattle.std.specs.Prelude.{ℕ, ◌==◌, Bool, not, ◌&&◌, ◌||◌, ◌-◌, nat_lt, List, length, map, take, find, get_or, Option, if◌then◌else◌}
 use Rattle.rr_graph.specs.Fabric.{Fabric, numbers_below}
 use Rattle.rr_graph.specs.Edges.{edge_between}
 use Rattle.rr_graph.specs.Problems.{is_sink}
-use Rattle.route_tree.specs.Paths.{Pair}
+use Rattle.route_tree.specs.Paths.{Pair, ends_of}
 use Rattle.route_tree.specs.Legality.{is_among}
 
 -- the step at row k; past the last one that of no use
@@ -15,20 +14,31 @@ pair_at pairs k = get_or pairs k (0, 0)
 abbrev pub first_row : (ℕ → Bool) → List Pair → Option ℕ
 first_row test pairs = find test (numbers_below (length pairs))
 
--- a step begins at the node; one ends there
+-- where the steps begin, in their order
+abbrev pub begins_of : List Pair → List ℕ
+begins_of pairs = map (λ q. q.0) pairs
+
+-- a step begins at the node; one ends there; one of the first k does
 abbrev pub begins_at : List Pair → ℕ → Bool
-begins_at pairs a = list_any (λ q. q.0 == a) pairs
+begins_at pairs a = is_among (begins_of pairs) a
 
 abbrev pub ends_at : List Pair → ℕ → Bool
-ends_at pairs a = list_any (λ q. q.1 == a) pairs
+ends_at pairs a = is_among (ends_of pairs) a
+
+abbrev pub ends_before : List Pair → (k : ℕ) → ℕ → Bool
+ends_before pairs k a = is_among (take k (ends_of pairs)) a
 
 -- the step is no switch of the device
 abbrev pub lacks_switch : Fabric → Pair → Bool
 lacks_switch f p = not (edge_between f p.0 p.1)
 
--- the step ends at the source, or where another one does
-abbrev pub ends_again : (source : ℕ) → List Pair → Pair → Bool
-ends_again source pairs p = p.1 == source || nat_lt 1 (count_by (λ q. q.1 == p.1) pairs)
+-- the step at row k ends at the source, or where an earlier one does
+abbrev pub ends_again : (source : ℕ) → List Pair → (k : ℕ) → Bool
+ends_again source pairs k = (pair_at pairs k).1 == source || ends_before pairs k (pair_at pairs k).1
+
+-- the step at row k leaves the source, and isn't the first one
+abbrev pub leaves_again : (source : ℕ) → List Pair → (k : ℕ) → Bool
+leaves_again source pairs k = nat_lt 0 k && (pair_at pairs k).0 == source
 
 -- the step ends at a sink of the device that is none of these
 abbrev pub is_foreign : Fabric → (sinks : List ℕ) → Pair → Bool
@@ -41,10 +51,6 @@ is_dead_end sinks pairs p = not (is_among sinks p.1) && not (begins_at pairs p.1
 -- the step begins at a node that isn't the source, and at which no step ends
 abbrev pub is_cut_off : (source : ℕ) → List Pair → Pair → Bool
 is_cut_off source pairs p = not (p.0 == source) && not (ends_at pairs p.0)
-
--- one of the first k steps ends at the node
-abbrev pub ends_before : List Pair → (k : ℕ) → ℕ → Bool
-ends_before pairs k a = list_any (λ j. (pair_at pairs j).1 == a) (numbers_below k)
 
 -- the step at row k may begin where it does, after one that ends at a node: there; or, where that is a sink, at the source or where
 -- an earlier one ends
@@ -61,7 +67,10 @@ abbrev pub row_without_switch : Fabric → List Pair → Option ℕ
 row_without_switch f pairs = first_row (λ k. lacks_switch f (pair_at pairs k)) pairs
 
 abbrev pub row_that_ends_again : (source : ℕ) → List Pair → Option ℕ
-row_that_ends_again source pairs = first_row (λ k. ends_again source pairs (pair_at pairs k)) pairs
+row_that_ends_again source pairs = first_row (ends_again source pairs) pairs
+
+abbrev pub row_leaving_again : (source : ℕ) → List Pair → Option ℕ
+row_leaving_again source pairs = first_row (leaves_again source pairs) pairs
 
 abbrev pub row_to_foreign_sink : Fabric → (sinks : List ℕ) → List Pair → Option ℕ
 row_to_foreign_sink f sinks pairs = first_row (λ k. is_foreign f sinks (pair_at pairs k)) pairs

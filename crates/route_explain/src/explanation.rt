@@ -1,86 +1,100 @@
 //! The explanation of what is wrong with a routing.
 
-ghost use Rattle.std.specs.Prelude.{◌≡◌, ◌≢◌, Err, IfOk, length};
+ghost use Rattle.std.specs.Prelude.{◌≡◌, ◌≢◌, Err, length};
 ghost use Rattle.vpr_text.specs.Output.{Sends, stream};
-ghost use Rattle.route_report.specs.Overused.{overused_nodes};
 ghost use Rattle.runs.specs.Runs.{PrintsText, TakesNothing, writing};
 ghost use Rattle.route_explain.specs.Explanation.{PrintsExplanation, explanation_text};
+ghost use Rattle.route_explain.specs.kept.Findings.{AreFindings};
 
+use crate::findings::Findings;
 use crate::nets::put_nets;
+use crate::uses::put_use_lines;
 use net_file::Netlist;
 use report_run::put_overused;
-use route_check::{RouteFault, net_faults};
-use route_report::{OverusedNode, node_uses, overused_nodes};
 use route_tree::{Pairs, Routing};
 use rr_graph::Problem;
 use runs::AppFault;
-use std::alloc::{AllocError, AllocGlobal, Global};
+use std::alloc::AllocGlobal;
 use std::thread::Threads;
-use vpr_text::{ByteSink, OutputBuffer};
+use vpr_text::{ByteSink, Lines, OutputBuffer};
 
 /// Prints an explanation through a buffer.
 fn put_explanation<W: ByteSink>(
     out: &mut OutputBuffer,
     sink: &mut W,
+    path: &[u8],
     netlist: &Netlist<'_>,
     problem: &Problem,
+    lines: &Lines<'_>,
     lists: &[Option<Pairs>],
-    faults: &[Option<RouteFault>],
-    overused: &[OverusedNode],
+    found: &Findings,
 )
-    requires { overused.now ≡ overused_nodes problem.now lists.now }
+    requires { AreFindings netlist.now problem.now lines.now lists.now found.now }
     ensures { Sends (stream (W.taken sink.old) (W.failed sink.old) out.old)
         (stream (W.taken sink.new) (W.failed sink.new) out.new)
-        (explanation_text netlist.now problem.now lists.now faults.now) }
+        (explanation_text path.now netlist.now problem.now lines.now lists.now
+        found.now.faults.items) }
 {
-    put_nets(out, sink, netlist, problem, lists, faults);
-    put_overused(out, sink, netlist, problem, overused);
+    put_nets(out, sink, path, netlist, problem, lines, lists, found);
+    put_overused(out, sink, netlist, problem, &found.overused);
+    put_use_lines(
+        out,
+        sink,
+        path,
+        netlist,
+        problem.device(),
+        &found.uses,
+        lines,
+    );
 }
 
 /// Prints an explanation to a sink.
 fn print_explanation<W: ByteSink>(
+    path: &[u8],
     netlist: &Netlist<'_>,
     problem: &Problem,
+    lines: &Lines<'_>,
     lists: &[Option<Pairs>],
-    faults: &[Option<RouteFault>],
-    overused: &[OverusedNode],
+    found: &Findings,
     out: &mut W,
 ) -> Result<(), AppFault>
-    requires { overused.now ≡ overused_nodes problem.now lists.now }
+    requires { AreFindings netlist.now problem.now lines.now lists.now found.now }
     ensures { PrintsText (writing (W.taken out.old) (W.taken out.new) (W.failed out.new))
-        (explanation_text netlist.now problem.now lists.now faults.now) tt result }
+        (explanation_text path.now netlist.now problem.now lines.now lists.now
+        found.now.faults.items) tt result }
 {
     let mut buffer = OutputBuffer::new();
-    put_explanation(&mut buffer, out, netlist, problem, lists, faults, overused);
+    put_explanation(
+        &mut buffer,
+        out,
+        path,
+        netlist,
+        problem,
+        lines,
+        lists,
+        found,
+    );
     match buffer.finish(out) {
         Ok(()) => Ok(()),
         Err(_) => Err(AppFault::Unwritten),
     }
 }
 
-/// The overused nodes of a routing.
-fn overused_in(
-    alloc: Global,
-    problem: &Problem,
-    routing: &Routing,
-) -> Result<Vec<OverusedNode>, AllocError>
-    ensures { IfOk result (λ v. v.items ≡ overused_nodes problem.now routing.now) }
-{
-    let uses = node_uses(alloc, problem, routing)?;
-    overused_nodes(alloc, problem, routing, &uses)
-}
-
-/// Prints what is wrong with a routing of a problem: a line for each net that has a fault, its
-/// first one, in words and with the nodes that it is about; then how many nodes are overused, and a
-/// line for each. It waits for threads that judge the nets.
+/// Prints what is wrong with a routing of a problem, which was read from a file of this name with
+/// these lines: a line for each net that has a fault, its first one, in words and with the nodes
+/// that it is about, behind the line of the file; then how many nodes are overused, and a line for
+/// each; then a line for each line of the file that names one. It waits for threads that judge the
+/// nets.
 ///
 /// # Errors
 /// Memory, and then nothing was printed; else Unwritten exactly where the sink failed, which
 /// received a front of the explanation.
 pub fn explain<W: ByteSink>(
     rt: &(impl Threads + Sync + AllocGlobal),
+    path: &[u8],
     netlist: &Netlist<'_>,
     problem: &Problem,
+    lines: &Lines<'_>,
     routing: &Routing,
     out: &mut W,
 ) -> Result<(), AppFault>
@@ -88,19 +102,14 @@ pub fn explain<W: ByteSink>(
     // The explanation is that of each net's first fault.
     ensures prints { result ≢ Err AppFault.Memory
         → PrintsExplanation (writing (W.taken out.old) (W.taken out.new) (W.failed out.new))
-        netlist.now problem.now routing.now result }
+        path.now netlist.now problem.now lines.now routing.now result }
     // Nothing is written where memory runs out.
     ensures memory { result ≡ Err AppFault.Memory
         → TakesNothing (writing (W.taken out.old) (W.taken out.new) (W.failed out.new)) }
 {
-    let lists = &routing.lists;
-    let faults = match net_faults(rt, rt.alloc(), problem, lists) {
-        Ok(faults) => faults,
+    let found = match Findings::new(rt, netlist, problem, lines, routing) {
+        Ok(found) => found,
         Err(_) => return Err(AppFault::Memory),
     };
-    let overused = match overused_in(rt.alloc(), problem, routing) {
-        Ok(overused) => overused,
-        Err(_) => return Err(AppFault::Memory),
-    };
-    print_explanation(netlist, problem, lists, &faults, &overused, out)
+    print_explanation(path, netlist, problem, lines, &routing.lists, &found, out)
 }

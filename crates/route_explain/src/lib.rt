@@ -2,14 +2,21 @@
 #![tactic(auto)]
 
 mod explanation;
+mod findings;
+mod index;
 pub mod laws;
+mod lines;
 mod nets;
 mod order;
+mod places;
 mod reasons;
 mod run;
+mod spots;
+mod starts;
 mod steps;
 mod switches;
 mod text;
+mod uses;
 
 pub use explanation::explain;
 pub use run::explain_run;

@@ -1,30 +1,41 @@
 //! The lines on the nets that have a fault.
 
-ghost use Rattle.std.specs.Prelude.{◌≡◌, ◌<◌, None, get_or, length};
+ghost use Rattle.std.specs.Prelude.{◌≡◌, ◌<◌, None, Some, get_or, length};
 ghost use Rattle.vpr_text.specs.Output.{Sends, stream};
 ghost use Rattle.rr_graph.specs.Problems.{net_in};
 ghost use Rattle.route_tree.specs.Usage.{list_in};
-ghost use Rattle.route_explain.specs.Explanation.{fault_line, fault_words, net_lines, net_text, net_text_at, pairs_in, tree_fault_in, tree_fault_words};
+ghost use Rattle.route_explain.specs.Explanation.{fault_line, fault_text, fault_words, net_lines, net_text, net_text_at, pairs_in, tree_fault_in, tree_fault_words};
+ghost use Rattle.route_explain.specs.Lines.{starts_of};
+ghost use Rattle.route_explain.specs.kept.Findings.{AreFindings, AreIndexes, IsIndexOf, line_from};
+ghost use Rattle.route_explain.specs.kept.Places.{IsIndex};
 
+use crate::findings::Findings;
+use crate::index::NetIndex;
+use crate::lines::line_of_spot;
 use crate::reasons::put_reason;
+use crate::spots::fault_spot;
+use crate::starts::start_at;
+use crate::text::put_where;
 use net_file::Netlist;
 use report_run::put_name;
 use route_check::RouteFault;
 use route_tree::{Pairs, TreeFault};
 use rr_graph::Problem;
-use runs::tree_fault_name;
-use vpr_text::{ByteSink, OutputBuffer};
+use runs::{number_of_net, tree_fault_name};
+use vpr_text::{ByteSink, Lines, OutputBuffer};
 
 /// Prints the name of a fault of a net's list, and what it means.
 fn put_tree_fault<W: ByteSink>(
     out: &mut OutputBuffer,
     sink: &mut W,
+    index: &NetIndex,
     problem: &Problem,
     net: u32,
     pairs: &[(u32, u32)],
     fault: TreeFault,
 )
-    requires { net < length problem.now.nets }
+    requires there { net < length problem.now.nets }
+    requires index { IsIndex (net_in problem.now.nets net).sinks pairs.now index.now }
     ensures { Sends (stream (W.taken sink.old) (W.failed sink.old) out.old)
         (stream (W.taken sink.new) (W.failed sink.new) out.new)
         (tree_fault_words problem.now.device (net_in problem.now.nets net) pairs.now fault) }
@@ -34,31 +45,33 @@ fn put_tree_fault<W: ByteSink>(
     let sinks = problem.sinks(net);
     out.push(sink, tree_fault_name(fault));
     out.push(sink, b": ");
-    put_reason(out, sink, device, source, sinks, pairs, fault);
+    put_reason(out, sink, index, device, source, sinks, pairs, fault);
 }
 
 /// Prints the name of a net's fault, and what it means.
 fn put_fault_words<W: ByteSink>(
     out: &mut OutputBuffer,
     sink: &mut W,
+    index: &NetIndex,
     problem: &Problem,
     net: u32,
     pairs: &[(u32, u32)],
     fault: Option<TreeFault>,
 )
-    requires { net < length problem.now.nets }
+    requires there { net < length problem.now.nets }
+    requires index { IsIndex (net_in problem.now.nets net).sinks pairs.now index.now }
     ensures { Sends (stream (W.taken sink.old) (W.failed sink.old) out.old)
         (stream (W.taken sink.new) (W.failed sink.new) out.new)
         (fault_words problem.now.device (net_in problem.now.nets net) pairs.now fault) }
 {
     match fault {
         None => out.push(sink, b"Unrouted: it has no list"),
-        Some(fault) => put_tree_fault(out, sink, problem, net, pairs, fault),
+        Some(fault) => put_tree_fault(out, sink, index, problem, net, pairs, fault),
     }
 }
 
 /// What is wrong with the list of a net that has one.
-fn tree_fault_in(fault: RouteFault) -> Option<TreeFault>
+pub(crate) fn tree_fault_in(fault: RouteFault) -> Option<TreeFault>
     ensures { result ≡ tree_fault_in fault }
 {
     match fault {
@@ -68,7 +81,7 @@ fn tree_fault_in(fault: RouteFault) -> Option<TreeFault>
 }
 
 /// The pairs of a net's list; none where it has no list.
-fn pairs_at(lists: &[Option<Pairs>], net: u32) -> &[(u32, u32)]
+pub(crate) fn pairs_at(lists: &[Option<Pairs>], net: u32) -> &[(u32, u32)]
     ensures { result.now ≡ pairs_in (list_in lists.now net) }
 {
     match lists.get(net as usize) {
@@ -79,7 +92,7 @@ fn pairs_at(lists: &[Option<Pairs>], net: u32) -> &[(u32, u32)]
 }
 
 /// The fault of a net, if it has one.
-fn fault_at(faults: &[Option<RouteFault>], net: u32) -> Option<RouteFault>
+pub(crate) fn fault_at(faults: &[Option<RouteFault>], net: u32) -> Option<RouteFault>
     ensures { result ≡ get_or faults.now net None }
 {
     match faults.get(net as usize) {
@@ -88,83 +101,169 @@ fn fault_at(faults: &[Option<RouteFault>], net: u32) -> Option<RouteFault>
     }
 }
 
-/// Prints the line of a net that has a fault.
-fn put_fault_line<W: ByteSink>(
+/// The line of the file that the fault of a net is about; 0 where there is none.
+fn fault_line_number(
+    problem: &Problem,
+    lines: &Lines<'_>,
+    lists: &[Option<Pairs>],
+    found: &Findings,
+    index: &NetIndex,
+    net: u32,
+    fault: RouteFault,
+) -> u32
+    requires there { net < length problem.now.nets }
+    requires index { IsIndexOf problem.now lists.now net index.now }
+    ensures { result ≡ line_from found.now.starts.items problem.now lines.now lists.now net fault }
+{
+    let start = start_at(&found.starts, number_of_net(problem, net));
+    let pairs = pairs_at(lists, net);
+    let spot = fault_spot(index, problem, net, pairs, tree_fault_in(fault));
+    line_of_spot(problem.device(), lines, start, spot)
+}
+
+/// Prints what is wrong with a net.
+fn put_fault<W: ByteSink>(
     out: &mut OutputBuffer,
     sink: &mut W,
     netlist: &Netlist<'_>,
     problem: &Problem,
     lists: &[Option<Pairs>],
+    index: &NetIndex,
     net: u32,
     fault: RouteFault,
 )
-    requires { net < length problem.now.nets }
+    requires there { net < length problem.now.nets }
+    requires index { IsIndexOf problem.now lists.now net index.now }
     ensures { Sends (stream (W.taken sink.old) (W.failed sink.old) out.old)
         (stream (W.taken sink.new) (W.failed sink.new) out.new)
-        (fault_line netlist.now problem.now lists.now net fault) }
+        (fault_text netlist.now problem.now lists.now net fault) }
 {
     let pairs = pairs_at(lists, net);
     let fault = tree_fault_in(fault);
     out.push(sink, b"net");
     put_name(out, sink, netlist, problem, net);
     out.push(sink, b": ");
-    put_fault_words(out, sink, problem, net, pairs, fault);
+    put_fault_words(out, sink, index, problem, net, pairs, fault);
     out.push(sink, b"\n");
+}
+
+/// Prints the line of a net that has a fault.
+fn put_fault_line<W: ByteSink>(
+    out: &mut OutputBuffer,
+    sink: &mut W,
+    path: &[u8],
+    netlist: &Netlist<'_>,
+    problem: &Problem,
+    lines: &Lines<'_>,
+    lists: &[Option<Pairs>],
+    found: &Findings,
+    index: &NetIndex,
+    net: u32,
+    fault: RouteFault,
+)
+    requires there { net < length problem.now.nets }
+    requires index { IsIndexOf problem.now lists.now net index.now }
+    requires starts { found.now.starts.items ≡ starts_of netlist.now lines.now }
+    ensures { Sends (stream (W.taken sink.old) (W.failed sink.old) out.old)
+        (stream (W.taken sink.new) (W.failed sink.new) out.new)
+        (fault_line path.now netlist.now problem.now lines.now lists.now net fault) }
+{
+    let line = fault_line_number(problem, lines, lists, found, index, net, fault);
+    put_where(out, sink, path, line);
+    put_fault(out, sink, netlist, problem, lists, index, net, fault);
+}
+
+/// The index of a net's list, of a net that has a fault.
+fn index_at<'a>(
+    problem: &Problem,
+    lists: &[Option<Pairs>],
+    found: &'a Findings,
+    net: u32,
+    fault: RouteFault,
+) -> &'a NetIndex
+    requires there { net < length problem.now.nets }
+    requires indexed { AreIndexes problem.now lists.now found.now.faults.items
+        (length problem.now.nets) found.now.indexes.items }
+    requires faulty { Some fault ≡ get_or found.now.faults.items net None }
+    ensures { IsIndexOf problem.now lists.now net result.now }
+{
+    let _ = problem;
+    let _ = lists;
+    let _ = fault;
+    &found.indexes[net as usize]
 }
 
 /// Prints the line of a net, if it has a fault.
 fn put_net<W: ByteSink>(
     out: &mut OutputBuffer,
     sink: &mut W,
+    path: &[u8],
     netlist: &Netlist<'_>,
     problem: &Problem,
+    lines: &Lines<'_>,
     lists: &[Option<Pairs>],
+    found: &Findings,
     net: u32,
     fault: Option<RouteFault>,
 )
-    requires { net < length problem.now.nets }
+    requires there { net < length problem.now.nets }
+    requires found { AreFindings netlist.now problem.now lines.now lists.now found.now }
+    requires fault { fault ≡ get_or found.now.faults.items net None }
     ensures { Sends (stream (W.taken sink.old) (W.failed sink.old) out.old)
         (stream (W.taken sink.new) (W.failed sink.new) out.new)
-        (net_text netlist.now problem.now lists.now net fault) }
+        (net_text path.now netlist.now problem.now lines.now lists.now net fault) }
 {
     if let Some(fault) = fault {
-        put_fault_line(out, sink, netlist, problem, lists, net, fault);
+        let index = index_at(problem, lists, found, net, fault);
+        put_fault_line(
+            out, sink, path, netlist, problem, lines, lists, found, index, net, fault,
+        );
     }
 }
 
-/// Prints what is said of a net, where these are the faults of the nets.
+/// Prints what is said of a net.
 fn put_net_at<W: ByteSink>(
     out: &mut OutputBuffer,
     sink: &mut W,
+    path: &[u8],
     netlist: &Netlist<'_>,
     problem: &Problem,
+    lines: &Lines<'_>,
     lists: &[Option<Pairs>],
-    faults: &[Option<RouteFault>],
+    found: &Findings,
     net: u32,
 )
-    requires { net < length problem.now.nets }
+    requires there { net < length problem.now.nets }
+    requires found { AreFindings netlist.now problem.now lines.now lists.now found.now }
     ensures { Sends (stream (W.taken sink.old) (W.failed sink.old) out.old)
         (stream (W.taken sink.new) (W.failed sink.new) out.new)
-        (net_text_at netlist.now problem.now lists.now faults.now net) }
+        (net_text_at path.now netlist.now problem.now lines.now lists.now
+        found.now.faults.items net) }
 {
-    let fault = fault_at(faults, net);
-    put_net(out, sink, netlist, problem, lists, net, fault);
+    let fault = fault_at(&found.faults, net);
+    put_net(
+        out, sink, path, netlist, problem, lines, lists, found, net, fault,
+    );
 }
 
 /// Prints a line for each net that has a fault.
 pub(crate) fn put_nets<W: ByteSink>(
     out: &mut OutputBuffer,
     sink: &mut W,
+    path: &[u8],
     netlist: &Netlist<'_>,
     problem: &Problem,
+    lines: &Lines<'_>,
     lists: &[Option<Pairs>],
-    faults: &[Option<RouteFault>],
+    found: &Findings,
 )
+    requires { AreFindings netlist.now problem.now lines.now lists.now found.now }
     ensures { Sends (stream (W.taken sink.old) (W.failed sink.old) out.old)
         (stream (W.taken sink.new) (W.failed sink.new) out.new)
-        (net_lines netlist.now problem.now lists.now faults.now) }
+        (net_lines path.now netlist.now problem.now lines.now lists.now
+        found.now.faults.items) }
 {
     for net in 0..problem.nets() {
-        put_net_at(out, sink, netlist, problem, lists, faults, net);
+        put_net_at(out, sink, path, netlist, problem, lines, lists, found, net);
     }
 }

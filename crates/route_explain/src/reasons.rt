@@ -3,8 +3,10 @@
 ghost use Rattle.std.specs.Prelude.{◌≡◌, ◌++◌, codes};
 ghost use Rattle.std.specs.List.{flat_map};
 ghost use Rattle.vpr_text.specs.Output.{Sends, stream};
+ghost use Rattle.route_explain.specs.kept.Places.{IsIndex};
 ghost use Rattle.route_explain.specs.Reasons.{apart_text, beginning_text, dangling_text, foreign_sink_text, leaving_text, loose_text, met_again_text, missing_sinks_text, missing_text, no_switch_text, other_beginning_text, out_of_order_text, outputs_text, reason_text, why_text};
 
+use crate::index::NetIndex;
 use crate::order::row_out_of_order;
 use crate::steps::{
     ends_at, pair_at, row_cut_off, row_that_ends_again, row_to_dead_end, row_to_foreign_sink,
@@ -100,15 +102,18 @@ fn put_no_switch<W: ByteSink>(
 fn put_met_again<W: ByteSink>(
     out: &mut OutputBuffer,
     sink: &mut W,
+    index: &NetIndex,
     device: &Device,
     source: u32,
+    sinks: &[u32],
     pairs: &[(u32, u32)],
 )
+    requires { IsIndex sinks.now pairs.now index.now }
     ensures { Sends (stream (W.taken sink.old) (W.failed sink.old) out.old)
         (stream (W.taken sink.new) (W.failed sink.new) out.new)
         (met_again_text device.now source pairs.now) }
 {
-    let row = row_that_ends_again(source, pairs);
+    let row = row_that_ends_again(index, source, sinks, pairs);
     out.push(sink, b"the steps come again to ");
     put_end(out, sink, device, pairs, row);
 }
@@ -168,15 +173,17 @@ fn put_outputs<W: ByteSink>(
 fn put_foreign_sink<W: ByteSink>(
     out: &mut OutputBuffer,
     sink: &mut W,
+    index: &NetIndex,
     device: &Device,
     sinks: &[u32],
     pairs: &[(u32, u32)],
 )
+    requires { IsIndex sinks.now pairs.now index.now }
     ensures { Sends (stream (W.taken sink.old) (W.failed sink.old) out.old)
         (stream (W.taken sink.new) (W.failed sink.new) out.new)
         (foreign_sink_text device.now sinks.now pairs.now) }
 {
-    let row = row_to_foreign_sink(device, sinks, pairs);
+    let row = row_to_foreign_sink(index, device, sinks, pairs);
     out.push(sink, b"no sink of the net is ");
     put_end(out, sink, device, pairs, row);
 }
@@ -209,17 +216,26 @@ fn put_apart<W: ByteSink>(
 fn put_loose<W: ByteSink>(
     out: &mut OutputBuffer,
     sink: &mut W,
+    index: &NetIndex,
     device: &Device,
     source: u32,
+    sinks: &[u32],
     pairs: &[(u32, u32)],
     row: Option<usize>,
 )
+    requires { IsIndex sinks.now pairs.now index.now }
     ensures { Sends (stream (W.taken sink.old) (W.failed sink.old) out.old)
         (stream (W.taken sink.new) (W.failed sink.new) out.new)
         (loose_text device.now source pairs.now row) }
 {
     match row {
-        None => put_apart(out, sink, device, pairs, row_cut_off(source, pairs)),
+        None => put_apart(
+            out,
+            sink,
+            device,
+            pairs,
+            row_cut_off(index, source, sinks, pairs),
+        ),
         Some(row) => put_after(
             out,
             sink,
@@ -234,32 +250,37 @@ fn put_loose<W: ByteSink>(
 fn put_dangling<W: ByteSink>(
     out: &mut OutputBuffer,
     sink: &mut W,
+    index: &NetIndex,
     device: &Device,
     source: u32,
     sinks: &[u32],
     pairs: &[(u32, u32)],
 )
+    requires { IsIndex sinks.now pairs.now index.now }
     ensures { Sends (stream (W.taken sink.old) (W.failed sink.old) out.old)
         (stream (W.taken sink.new) (W.failed sink.new) out.new)
         (dangling_text device.now source sinks.now pairs.now) }
 {
-    let row = row_to_dead_end(sinks, pairs);
-    put_loose(out, sink, device, source, pairs, row);
+    let row = row_to_dead_end(index, sinks, pairs);
+    put_loose(out, sink, index, device, source, sinks, pairs, row);
 }
 
 /// Prints a sink, unless a step leads there.
 fn put_missing<W: ByteSink>(
     out: &mut OutputBuffer,
     sink: &mut W,
+    index: &NetIndex,
     device: &Device,
+    sinks: &[u32],
     pairs: &[(u32, u32)],
     node: u32,
 )
+    requires { IsIndex sinks.now pairs.now index.now }
     ensures { Sends (stream (W.taken sink.old) (W.failed sink.old) out.old)
         (stream (W.taken sink.new) (W.failed sink.new) out.new)
         (missing_text device.now pairs.now node) }
 {
-    if !ends_at(pairs, node) {
+    if !ends_at(index, sinks, pairs, node) {
         put_after(out, sink, device, b"; none to ", node);
     }
 }
@@ -268,16 +289,18 @@ fn put_missing<W: ByteSink>(
 fn put_all_missing<W: ByteSink>(
     out: &mut OutputBuffer,
     sink: &mut W,
+    index: &NetIndex,
     device: &Device,
     sinks: &[u32],
     pairs: &[(u32, u32)],
 )
+    requires { IsIndex sinks.now pairs.now index.now }
     ensures { Sends (stream (W.taken sink.old) (W.failed sink.old) out.old)
         (stream (W.taken sink.new) (W.failed sink.new) out.new)
         (flat_map (missing_text device.now pairs.now) sinks.now) }
 {
     for node in sinks {
-        put_missing(out, sink, device, pairs, *node);
+        put_missing(out, sink, index, device, sinks, pairs, *node);
     }
 }
 
@@ -285,31 +308,36 @@ fn put_all_missing<W: ByteSink>(
 fn put_missing_sinks<W: ByteSink>(
     out: &mut OutputBuffer,
     sink: &mut W,
+    index: &NetIndex,
     device: &Device,
     sinks: &[u32],
     pairs: &[(u32, u32)],
 )
+    requires { IsIndex sinks.now pairs.now index.now }
     ensures { Sends (stream (W.taken sink.old) (W.failed sink.old) out.old)
         (stream (W.taken sink.new) (W.failed sink.new) out.new)
         (missing_sinks_text device.now sinks.now pairs.now) }
 {
     out.push(sink, b"no step leads to a sink of the net");
-    put_all_missing(out, sink, device, sinks, pairs);
+    put_all_missing(out, sink, index, device, sinks, pairs);
 }
 
 /// Prints the first step that may not stand where it does.
 fn put_out_of_order<W: ByteSink>(
     out: &mut OutputBuffer,
     sink: &mut W,
+    index: &NetIndex,
     device: &Device,
     source: u32,
+    sinks: &[u32],
     pairs: &[(u32, u32)],
 )
+    requires { IsIndex sinks.now pairs.now index.now }
     ensures { Sends (stream (W.taken sink.old) (W.failed sink.old) out.old)
         (stream (W.taken sink.new) (W.failed sink.new) out.new)
         (out_of_order_text device.now source pairs.now) }
 {
-    let row = row_out_of_order(device, source, pairs);
+    let row = row_out_of_order(index, device, source, sinks, pairs);
     out.push(sink, b"out of order is ");
     put_step(out, sink, device, pairs, row);
 }
@@ -318,12 +346,14 @@ fn put_out_of_order<W: ByteSink>(
 pub(crate) fn put_reason<W: ByteSink>(
     out: &mut OutputBuffer,
     sink: &mut W,
+    index: &NetIndex,
     device: &Device,
     source: u32,
     sinks: &[u32],
     pairs: &[(u32, u32)],
     fault: TreeFault,
 )
+    requires { IsIndex sinks.now pairs.now index.now }
     ensures { Sends (stream (W.taken sink.old) (W.failed sink.old) out.old)
         (stream (W.taken sink.new) (W.failed sink.new) out.new)
         (reason_text device.now source sinks.now pairs.now fault) }
@@ -332,11 +362,11 @@ pub(crate) fn put_reason<W: ByteSink>(
         TreeFault::NoNet => out.push(sink, b"there is no such net"),
         TreeFault::WrongSource => put_beginning(out, sink, device, source, pairs),
         TreeFault::NoSwitch => put_no_switch(out, sink, device, pairs),
-        TreeFault::NodeTwice => put_met_again(out, sink, device, source, pairs),
+        TreeFault::NodeTwice => put_met_again(out, sink, index, device, source, sinks, pairs),
         TreeFault::SecondOutput => put_outputs(out, sink, device, source, pairs),
-        TreeFault::ForeignSink => put_foreign_sink(out, sink, device, sinks, pairs),
-        TreeFault::Dangling => put_dangling(out, sink, device, source, sinks, pairs),
-        TreeFault::MissingSink => put_missing_sinks(out, sink, device, sinks, pairs),
-        TreeFault::Order => put_out_of_order(out, sink, device, source, pairs),
+        TreeFault::ForeignSink => put_foreign_sink(out, sink, index, device, sinks, pairs),
+        TreeFault::Dangling => put_dangling(out, sink, index, device, source, sinks, pairs),
+        TreeFault::MissingSink => put_missing_sinks(out, sink, index, device, sinks, pairs),
+        TreeFault::Order => put_out_of_order(out, sink, index, device, source, sinks, pairs),
     }
 }

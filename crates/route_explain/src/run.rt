@@ -3,39 +3,63 @@
 ghost use Rattle.std.specs.Prelude.{◌≡◌, ◌≢◌, ◌≤◌, true, false, length, Err};
 ghost use Rattle.rr_graph.specs.Fabric.{most_tracks};
 ghost use Rattle.runs.specs.Inputs.{ends_before};
-ghost use Rattle.runs.specs.CheckRun.{judged_in, judged_on};
 ghost use Rattle.runs.specs.Runs.{Meets, MeetsDesign, TakesNothing, reading, writing};
+ghost use Rattle.report_run.specs.ReportRun.{reported_in, reported_of, reported_on, reported_with};
 ghost use Rattle.route_explain.specs.ExplainRun.{Explains, PrintsBoth, RunsExplain};
 
 use crate::explanation::explain;
 use route_check::RouteFault;
 use route_tree::Routing;
 use rr_graph::Mode;
-use runs::{AppFault, Design, InputFile, NetlistText, judge, read_routing};
+use runs::{AppFault, Design, InputFile, NetlistText, judge, parse_routing, read_input};
 use std::alloc::AllocGlobal;
 use std::thread::Threads;
-use vpr_text::{ByteSink, ByteSource};
+use vpr_text::{ByteSink, ByteSource, Lines, lines};
 
-/// Explains a routing of a design, as far as memory and the sink let it.
-fn explain_to<W: ByteSink>(
+/// Explains a routing of a design, whose file has these lines.
+fn explain_lines<W: ByteSink>(
     rt: &(impl Threads + Sync + AllocGlobal),
+    path: &[u8],
     design: &Design<'_>,
+    lines: &Lines<'_>,
     routing: &Routing,
     words: &mut W,
 )
     requires { length routing.now ≡ length design.now.problem.nets }
     ensures { Explains (writing (W.taken words.old) (W.taken words.new) (W.failed words.new))
-        (record { design = design.now; routing = routing.now }) }
+        path.now (record { design = design.now; lines = lines.now; routing = routing.now }) }
 {
     let netlist = design.netlist();
     let problem = design.problem();
-    let _ = explain(rt, netlist, problem, routing, words);
+    let _ = explain(rt, path, netlist, problem, lines, routing, words);
+}
+
+/// Explains a routing of a design, which was read from these bytes, as far as memory and the sink
+/// let it.
+fn explain_to<W: ByteSink>(
+    rt: &(impl Threads + Sync + AllocGlobal),
+    path: &[u8],
+    design: &Design<'_>,
+    bytes: &[u8],
+    routing: &Routing,
+    words: &mut W,
+)
+    requires { length routing.now ≡ length design.now.problem.nets }
+    ensures { Explains (writing (W.taken words.old) (W.taken words.new) (W.failed words.new))
+        path.now (reported_with design.now bytes.now routing.now) }
+{
+    match lines(rt.alloc(), bytes) {
+        Ok(lines) => explain_lines(rt, path, design, &lines, routing, words),
+        Err(_) => {}
+    }
 }
 
 /// Judges a routing of a design, prints the verdict, and explains it.
 fn judge_and_explain<W: ByteSink, X: ByteSink>(
     rt: &(impl Threads + Sync + AllocGlobal),
+    path: &[u8],
     design: &Design<'_>,
+    bytes: &[u8],
     routing: &Routing,
     out: &mut W,
     words: &mut X,
@@ -43,8 +67,8 @@ fn judge_and_explain<W: ByteSink, X: ByteSink>(
     requires { length routing.now ≡ length design.now.problem.nets }
     ensures judges { result ≢ Err AppFault.Memory
         → PrintsBoth (writing (W.taken out.old) (W.taken out.new) (W.failed out.new))
-        (writing (X.taken words.old) (X.taken words.new) (X.failed words.new))
-        (record { design = design.now; routing = routing.now }) result }
+        (writing (X.taken words.old) (X.taken words.new) (X.failed words.new)) path.now
+        (reported_with design.now bytes.now routing.now) result }
     ensures memory { result ≡ Err AppFault.Memory
         → TakesNothing (writing (W.taken out.old) (W.taken out.new) (W.failed out.new)) }
     ensures untold { result ≡ Err AppFault.Memory
@@ -55,23 +79,23 @@ fn judge_and_explain<W: ByteSink, X: ByteSink>(
         Ok(verdict) => verdict,
         Err(fault) => return Err(fault),
     };
-    explain_to(rt, design, routing, words);
+    explain_to(rt, path, design, bytes, routing, words);
     Ok(verdict)
 }
 
-/// Reads a routing of a design, judges it, prints the verdict, and explains it.
-fn explain_design<R: ByteSource, W: ByteSink, X: ByteSink>(
+/// Reads bytes as a routing of a design, judges it, prints the verdict, and explains it.
+fn explain_bytes<W: ByteSink, X: ByteSink>(
     rt: &(impl Threads + Sync + AllocGlobal),
+    path: &[u8],
     design: &Design<'_>,
-    route: &mut R,
+    bytes: &[u8],
     out: &mut W,
     words: &mut X,
 ) -> Result<Option<RouteFault>, AppFault>
     ensures runs { result ≢ Err AppFault.Memory
-        → Meets (reading (R.remaining route.old) (R.failed route.new))
-        (λ r. RunsExplain (writing (W.taken out.old) (W.taken out.new) (W.failed out.new))
-        (writing (X.taken words.old) (X.taken words.new) (X.failed words.new))
-        (judged_on design.now r) result) }
+        → RunsExplain (writing (W.taken out.old) (W.taken out.new) (W.failed out.new))
+        (writing (X.taken words.old) (X.taken words.new) (X.failed words.new)) path.now
+        (reported_of design.now bytes.now) result }
     ensures memory { result ≡ Err AppFault.Memory
         → TakesNothing (writing (W.taken out.old) (W.taken out.new) (W.failed out.new)) }
     ensures untold { result ≡ Err AppFault.Memory
@@ -80,16 +104,43 @@ fn explain_design<R: ByteSource, W: ByteSink, X: ByteSink>(
 {
     let netlist = design.netlist();
     let problem = design.problem();
-    let routing = match read_routing(rt.alloc(), route, netlist, problem) {
+    let routing = match parse_routing(rt.alloc(), bytes, netlist, problem) {
         Ok(routing) => routing,
         Err(fault) => return Err(fault),
     };
-    judge_and_explain(rt, design, &routing, out, words)
+    judge_and_explain(rt, path, design, bytes, &routing, out, words)
 }
 
-/// Reads the files of a design and its routing and prints the verdict on the routing, all of it as
-/// `check_run` does; and then explains the verdict to a second sink. The answer is the verdict,
-/// whether or not the explanation could be printed.
+/// Reads a routing of a design, judges it, prints the verdict, and explains it.
+fn explain_design<R: ByteSource, W: ByteSink, X: ByteSink>(
+    rt: &(impl Threads + Sync + AllocGlobal),
+    path: &[u8],
+    design: &Design<'_>,
+    route: &mut R,
+    out: &mut W,
+    words: &mut X,
+) -> Result<Option<RouteFault>, AppFault>
+    ensures runs { result ≢ Err AppFault.Memory
+        → Meets (reading (R.remaining route.old) (R.failed route.new))
+        (λ r. RunsExplain (writing (W.taken out.old) (W.taken out.new) (W.failed out.new))
+        (writing (X.taken words.old) (X.taken words.new) (X.failed words.new)) path.now
+        (reported_on design.now r) result) }
+    ensures memory { result ≡ Err AppFault.Memory
+        → TakesNothing (writing (W.taken out.old) (W.taken out.new) (W.failed out.new)) }
+    ensures untold { result ≡ Err AppFault.Memory
+        → TakesNothing (writing (X.taken words.old) (X.taken words.new) (X.failed words.new)) }
+    ensures late { ends_before InputFile.Route result ≡ false }
+{
+    let bytes = match read_input(rt.alloc(), route, InputFile::Route) {
+        Ok(bytes) => bytes,
+        Err(fault) => return Err(fault),
+    };
+    explain_bytes(rt, path, design, &bytes, out, words)
+}
+
+/// Reads the files of a design and its routing, whose file has this name, and prints the verdict on
+/// the routing, all of it as `check_run` does; and then explains the verdict to a second sink. The
+/// answer is the verdict, whether or not the explanation could be printed.
 ///
 /// # Errors
 /// Memory aside, exactly the first fault of the files by the order of reading, and then nothing was
@@ -104,6 +155,7 @@ pub fn explain_run<
     X: ByteSink,
 >(
     rt: &(impl Threads + Sync + AllocGlobal),
+    path: &[u8],
     net: &mut N,
     arch: &mut A,
     place: &mut P,
@@ -122,8 +174,8 @@ pub fn explain_run<
         (reading (P.remaining place.old) (P.failed place.new))
         (λ files. Meets (reading (R.remaining route.old) (R.failed route.new))
         (λ r. RunsExplain (writing (W.taken out.old) (W.taken out.new) (W.failed out.new))
-        (writing (X.taken words.old) (X.taken words.new) (X.failed words.new))
-        (judged_in width mode files r) result)) }
+        (writing (X.taken words.old) (X.taken words.new) (X.failed words.new)) path.now
+        (reported_in width mode files r) result)) }
     // Nothing is written where memory runs out before the verdict.
     ensures memory { result ≡ Err AppFault.Memory
         → TakesNothing (writing (W.taken out.old) (W.taken out.new) (W.failed out.new)) }
@@ -142,5 +194,5 @@ pub fn explain_run<
         Ok(design) => design,
         Err(fault) => return Err(fault),
     };
-    explain_design(rt, &design, route, out, words)
+    explain_design(rt, path, &design, route, out, words)
 }

@@ -1,10 +1,12 @@
-//! Nodes and steps, printed through a buffer.
+//! Nodes and steps, and where something is wrong, printed through a buffer.
 
 ghost use Rattle.std.specs.Prelude.{◌≡◌, ◌++◌};
 ghost use Rattle.vpr_text.specs.Output.{Sends, stream};
+ghost use Rattle.route_explain.specs.Lines.{line_text, where_text};
 ghost use Rattle.route_explain.specs.Reasons.{end_text, node_text, pair_text, step_text};
 
 use crate::steps::pair_at;
+use route_file::text::put_number;
 use rr_graph::Device;
 use runs::put_node_of;
 use vpr_text::{ByteSink, OutputBuffer};
@@ -67,4 +69,25 @@ pub(crate) fn put_end<W: ByteSink>(
     if let Some(row) = row {
         put_node_of(out, sink, device, pair_at(pairs, row).1);
     }
+}
+
+/// Prints the number of a line behind a file's name, if there is such a line.
+fn put_line<W: ByteSink>(out: &mut OutputBuffer, sink: &mut W, line: u32)
+    ensures { Sends (stream (W.taken sink.old) (W.failed sink.old) out.old)
+        (stream (W.taken sink.new) (W.failed sink.new) out.new) (line_text line) }
+{
+    if line != 0 {
+        out.push(sink, b":");
+        put_number(out, sink, line);
+    }
+}
+
+/// Prints the file and the line in which something is wrong.
+pub(crate) fn put_where<W: ByteSink>(out: &mut OutputBuffer, sink: &mut W, path: &[u8], line: u32)
+    ensures { Sends (stream (W.taken sink.old) (W.failed sink.old) out.old)
+        (stream (W.taken sink.new) (W.failed sink.new) out.new) (where_text path.now line) }
+{
+    out.push(sink, path);
+    put_line(out, sink, line);
+    out.push(sink, b": ");
 }

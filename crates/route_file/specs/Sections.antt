@@ -8,12 +8,16 @@ use Rattle.net_file.specs.Netlist.{Netlist}
 use Rattle.rr_graph.specs.Fabric.{Fabric}
 use Rattle.rr_graph.specs.Problems.{is_sink}
 use Rattle.route_tree.specs.Paths.{Pair}
-use Rattle.route_file.specs.NetLine.{is_net_line, net_on}
+use Rattle.route_file.specs.NetLine.{is_net_line, is_net_words, net_on}
 use Rattle.route_file.specs.NodeLine.{node_on}
 
 -- the net is net n
 abbrev pub is_net : ℕ → Option ℕ → Bool
 is_net n net = option_map_or (λ m. m == n) net false
+
+-- the net whose section a line with these words begins, if it begins one
+abbrev pub net_begun : Netlist → (words : List (List ℕ)) → Option ℕ
+net_begun netlist words = if is_net_words words then net_on netlist words else None
 
 -- the line is that of net n
 abbrev pub is_line_of : Netlist → ℕ → Line → Bool

@@ -21,6 +21,7 @@ mod words;
 mod writing;
 
 pub use fault::RouteFileFault;
-pub use naming::node_named;
+pub use naming::{begins_section, net_begun, node_named};
 pub use reading::parse;
+pub use words::line_number;
 pub use writing::{WriteFault, write};

@@ -18,7 +18,7 @@ fn word_count(lines: &Lines, i: usize) -> usize
 }
 
 /// The number of line `i`; 0 past the last line.
-pub(crate) fn line_number(lines: &Lines, i: usize) -> u32
+pub fn line_number(lines: &Lines, i: usize) -> u32
     ensures { result ≡ number_at lines.now i }
 {
     if i < lines.len() { lines.at(i) } else { 0 }

@@ -3,4 +3,4 @@ use Rattle.report_run.proofs.named.put_named_at.Goals as goal
 
 pub returns : goal.returns
 unfolding named_at
-returns g c = rw (c.at.ensures, c.node_named-node.ensures) at c.put_named.ensures
+returns g c = rw (c.at.ensures, c.overused_on-node.ensures) at c.put_named.ensures

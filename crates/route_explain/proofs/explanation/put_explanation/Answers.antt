@@ -5,5 +5,6 @@ use Rattle.route_explain.proofs.explanation.put_explanation.Goals as goal
 pub returns : goal.returns
 unfolding explanation_text
 returns g c =
-    let overused = rw c.requires at c.put_overused.ensures in
-    sends_then c.put_nets.ensures overused
+    let overused = rw (c.deref.ensures.value, c.requires.overused) at c.put_overused.ensures in
+    let uses = rw (c.deref-2.ensures.value, c.device.ensures, c.requires.uses) at c.put_use_lines.ensures in
+    sends_then c.put_nets.ensures (sends_then overused uses)

@@ -3,4 +3,4 @@ use Rattle.route_explain.proofs.nets.put_net_at.Goals as goal
 
 pub returns : goal.returns
 unfolding net_text_at
-returns g c = rw c.fault_at-fault.ensures at c.put_net.ensures
+returns g c = rw (c.fault_at-fault.ensures, c.deref.ensures.value) at c.put_net.ensures

@@ -8,4 +8,5 @@ use Rattle.route_explain.proofs.nets.put_nets.Given as goal
 abbrev pub invariant-loop-net : goal.invariant-loop-net
 invariant-loop-net g l =
     let sink = g.W.ByteSink in
-    Sends (stream (sink.taken l.initial.sink) (sink.failed l.initial.sink) l.initial.out) (stream (sink.taken l.sink) (sink.failed l.sink) l.out) (flat_map (net_text_at l.netlist l.problem l.lists l.faults) (numbers_below l.net))
+    Sends (stream (sink.taken l.initial.sink) (sink.failed l.initial.sink) l.initial.out) (stream (sink.taken l.sink) (sink.failed l.sink) l.out)
+    (flat_map (net_text_at l.path l.netlist l.problem l.lines l.lists l.found.faults.items) (numbers_below l.net))

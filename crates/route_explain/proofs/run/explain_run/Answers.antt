@@ -1,10 +1,11 @@
 use Rattle.std.proofs.Common.{Err, ap, subst, sym, ◌∙◌}
 use Rattle.runs.specs.declared.fault.InputFile.TheVariants as file
-use Rattle.runs.specs.CheckRun.{judged_in}
 use Rattle.runs.specs.Runs.{reading, writing}
-use Rattle.runs.proofs.Designs.{design_fails, judged_goes, text_fails, text_goes}
+use Rattle.runs.proofs.Designs.{text_fails, text_goes}
 use Rattle.runs.proofs.Ending.{Keeps-same}
 use Rattle.runs.proofs.Stages.{meets_any, meets_files, meets_so, meets_some, ends_not, stops}
+use Rattle.report_run.specs.ReportRun.{reported_in}
+use Rattle.report_run.proofs.Reading.{design_fails, design_goes}
 use Rattle.route_explain.specs.ExplainRun.{PrintsBoth, RunsExplain, TakeNothing}
 use Rattle.route_explain.proofs.run.explain_run.Goals as goal
 
@@ -24,7 +25,7 @@ returns-in-Err-clause-runs g c =
     λ ne. meets_files (reading (arch.remaining c.args.arch.now) (arch.failed c.read.new.arch)) (reading (net.remaining c.args.net.now) (net.failed c.read.new.net))
     reading_place c.in-Err.ensures.given (meets_some reading_place)
     (λ files h _. meets_any (reading (route.remaining c.args.route.now) (route.failed c.args.route.now))
-    (λ r. stops (TakeNothing out words) (PrintsBoth out words) (judged_in c.args.width c.args.mode files r) e (Keeps-same taken, Keeps-same told)
+    (λ r. stops (TakeNothing out words) (PrintsBoth out words c.args.path.now) (reported_in c.args.width c.args.mode files r) e (Keeps-same taken, Keeps-same told)
     (design_fails c.args.width c.args.mode files r e (text_fails c.args.width c.args.mode files e (h (λ same. ne (ap Err same)))))))
 
 pub returns-in-Err-read-clause-runs : goal.returns-in-Err-read-clause-runs
@@ -44,7 +45,7 @@ returns-in-Err-read-clause-runs g c =
     λ ne. meets_files (reading (arch.remaining c.args.arch.now) (arch.failed c.read.new.arch)) (reading (net.remaining c.args.net.now) (net.failed c.read.new.net))
     (reading (place.remaining c.args.place.now) (place.failed c.read-2.new.place)) c.in-Ok.ensures.given c.in-Err-read.ensures.given
     (λ files h k. meets_any (reading (route.remaining c.args.route.now) (route.failed c.args.route.now))
-    (λ r. stops (TakeNothing out words) (PrintsBoth out words) (judged_in width mode files r) e (Keeps-same taken, Keeps-same told)
+    (λ r. stops (TakeNothing out words) (PrintsBoth out words c.args.path.now) (reported_in width mode files r) e (Keeps-same taken, Keeps-same told)
     (design_fails width mode files r e (text_goes width mode files c.in-Ok.text h ∙ k (λ same. ne (ap Err same))))))
 
 pub returns-clause-runs : goal.returns-clause-runs
@@ -63,8 +64,8 @@ returns-clause-runs g c =
     λ ne. meets_files (reading (arch.remaining c.args.arch.now) (arch.failed c.read.new.arch)) (reading (net.remaining c.args.net.now) (net.failed c.read.new.net))
     (reading (place.remaining c.args.place.now) (place.failed c.read-2.new.place)) c.in-Ok.ensures.given c.in-Ok-read.ensures.given
     (λ files h k. meets_so (reading (route.remaining c.args.route.now) (route.failed c.explain_design.new.route)) (c.explain_design.ensures.runs ne)
-    (λ r runs. subst (λ given. RunsExplain out words given c.explain_design.result)
-    (sym (judged_goes width mode files r d (text_goes width mode files c.in-Ok.text h ∙ k))) runs))
+    (λ r runs. subst (λ given. RunsExplain out words c.args.path.now given c.explain_design.result)
+    (sym (design_goes width mode files r d (text_goes width mode files c.in-Ok.text h ∙ k))) runs))
 
 pub returns-clause-net : goal.returns-clause-net
 returns-clause-net g c = ends_not file.Net c.explain_design.result c.explain_design.ensures.late

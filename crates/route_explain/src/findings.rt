@@ -1,0 +1,93 @@
+//! What is found out about a routing before anything is printed, since it takes memory.
+
+ghost use Rattle.std.specs.Prelude.{◌≡◌, ◌<◌, IfOk, None, get_or, is_some, length, true};
+ghost use Rattle.route_explain.specs.kept.Findings.{AreFindings, AreIndexes, IsIndexOf};
+
+use crate::index::NetIndex;
+use crate::nets::{fault_at, pairs_at};
+use crate::starts::section_starts;
+use net_file::Netlist;
+use route_check::{RouteFault, net_faults};
+use route_report::{OverusedNode, node_uses, overused_nodes};
+use route_tree::{Pairs, Routing};
+use rr_graph::Problem;
+use std::alloc::{AllocError, AllocGlobal, Global};
+use std::thread::Threads;
+use vpr_text::Lines;
+
+/// What is wrong with a routing, and what it is looked up by.
+#[derive(Drop)]
+pub(crate) struct Findings {
+    /// The first fault of each net, if it has one.
+    pub(crate) faults: Vec<Option<RouteFault>>,
+    /// For each net that has a fault an index of its list.
+    pub(crate) indexes: Vec<NetIndex>,
+    /// For each net of the netlist the place in the file at which its section begins.
+    pub(crate) starts: Vec<usize>,
+    /// How many nets cover each node.
+    pub(crate) uses: Vec<u16>,
+    pub(crate) overused: Vec<OverusedNode>,
+}
+
+/// An index of the list of a net, if it has a fault.
+fn index_of_net(
+    alloc: Global,
+    problem: &Problem,
+    lists: &[Option<Pairs>],
+    faults: &[Option<RouteFault>],
+    net: u32,
+) -> Result<NetIndex, AllocError>
+    requires { net < length problem.now.nets }
+    ensures { IfOk result (λ x. is_some (get_or faults.now net None) ≡ true
+        → IsIndexOf problem.now lists.now net x) }
+{
+    match fault_at(faults, net) {
+        None => Ok(NetIndex::none(alloc)),
+        Some(_) => NetIndex::new(alloc, problem.sinks(net), pairs_at(lists, net)),
+    }
+}
+
+/// An index of the list of each net that has a fault.
+fn net_indexes(
+    alloc: Global,
+    problem: &Problem,
+    lists: &[Option<Pairs>],
+    faults: &[Option<RouteFault>],
+) -> Result<Vec<NetIndex>, AllocError>
+    ensures { IfOk result (λ v. AreIndexes problem.now lists.now faults.now
+        (length problem.now.nets) v.items) }
+{
+    let mut indexes = Vec::new(alloc);
+    for net in 0..problem.nets() {
+        indexes.push(index_of_net(alloc, problem, lists, faults, net)?)?;
+    }
+    Ok(indexes)
+}
+
+impl Findings {
+    /// What is wrong with a routing whose file has these lines.
+    pub(crate) fn new(
+        rt: &(impl Threads + Sync + AllocGlobal),
+        netlist: &Netlist<'_>,
+        problem: &Problem,
+        lines: &Lines<'_>,
+        routing: &Routing,
+    ) -> Result<Findings, AllocError>
+        requires { length routing.now ≡ length problem.now.nets }
+        ensures { IfOk result (AreFindings netlist.now problem.now lines.now routing.now) }
+    {
+        let alloc = rt.alloc();
+        let faults = net_faults(rt, alloc, problem, &routing.lists)?;
+        let indexes = net_indexes(alloc, problem, &routing.lists, &faults)?;
+        let starts = section_starts(alloc, netlist, lines)?;
+        let uses = node_uses(alloc, problem, routing)?;
+        let overused = overused_nodes(alloc, problem, routing, &uses)?;
+        Ok(Findings {
+            faults,
+            indexes,
+            starts,
+            uses,
+            overused,
+        })
+    }
+}

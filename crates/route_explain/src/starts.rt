@@ -1,0 +1,48 @@
+//! Where in the file the sections of nets begin.
+
+ghost use Rattle.std.specs.Prelude.{◌≡◌, IfOk, get_or};
+ghost use Rattle.route_explain.specs.Lines.{starts_of};
+ghost use Rattle.route_explain.specs.kept.Starts.{noted};
+
+use net_file::Netlist;
+use route_file::net_begun;
+use std::alloc::{AllocError, Global};
+use vpr_text::Lines;
+
+/// Notes where the section of a net begins, if it is one of them.
+fn note(starts: &mut Vec<usize>, net: Option<u32>, place: usize)
+    ensures { starts.new.items ≡ noted starts.old.items net place }
+{
+    let Some(net) = net else {
+        return;
+    };
+    if (net as usize) < starts.len() {
+        starts[net as usize] = place;
+    }
+}
+
+/// For each net of the netlist the place behind the line that begins its section; 0 where none
+/// does.
+pub(crate) fn section_starts(
+    alloc: Global,
+    netlist: &Netlist<'_>,
+    lines: &Lines<'_>,
+) -> Result<Vec<usize>, AllocError>
+    ensures { IfOk result (λ v. v.items ≡ starts_of netlist.now lines.now) }
+{
+    let mut starts = vec![in alloc; 0; netlist.nets().len()]?;
+    for index in 0..lines.len() {
+        note(&mut starts, net_begun(lines, netlist, index), index + 1);
+    }
+    Ok(starts)
+}
+
+/// The place at which the section of the net with this number begins; 0 where none does.
+pub(crate) fn start_at(starts: &[usize], number: u32) -> usize
+    ensures { result ≡ get_or starts.now number 0 }
+{
+    match starts.get(number as usize) {
+        Some(start) => *start,
+        None => 0,
+    }
+}
