@@ -6,10 +6,10 @@ use crate::sources::BELOW;
 use crate::unanswered::Unanswered;
 use crate::words::{Call, NO_NUMBER, number};
 use crate::{
-    arch_calls, book_calls, design_calls, desk_calls, device_calls, event_calls, fault_calls,
-    file_calls, other_calls, problem_calls, progress_calls, reading_back, report_calls,
-    route_text_calls, routing_calls, run_calls, search_calls, settings_calls, text_calls,
-    tree_calls, view_calls, walk_calls, work_calls,
+    arch_calls, book_calls, design_calls, desk_calls, device_calls, event_calls, explain_calls,
+    fault_calls, file_calls, iteration_calls, other_calls, problem_calls, progress_calls,
+    reading_back, report_calls, route_text_calls, routing_calls, run_calls, search_calls,
+    settings_calls, text_calls, tree_calls, view_calls, walk_calls, work_calls,
 };
 use std::alloc::Global;
 use std::rt::Runtime;
@@ -102,6 +102,7 @@ fn reads_text(name: &str) -> bool {
             | "run_place"
             | "run_route"
             | "progress"
+            | "explain"
     )
 }
 
@@ -164,11 +165,19 @@ fn call_workers(
         Err(Unanswered::NoCall) => (),
         made => return made,
     }
+    match iteration_calls::call(rt, session, &settings, call, out) {
+        Err(Unanswered::NoCall) => (),
+        made => return made,
+    }
     match work_calls::call(rt, session, &settings, call, out) {
         Err(Unanswered::NoCall) => (),
         made => return made,
     }
     match run_calls::call(rt, &session.files, &settings, call, out) {
+        Err(Unanswered::NoCall) => (),
+        made => return made,
+    }
+    match explain_calls::call(rt, session, call, out) {
         Err(Unanswered::NoCall) => (),
         made => return made,
     }

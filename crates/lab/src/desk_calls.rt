@@ -5,12 +5,12 @@ ghost use Rattle.congestion_book.specs.Contents.{IsFresh};
 
 use crate::book_calls::{put_committed, put_drawn, put_passed};
 use crate::bounds::worker_count;
+use crate::iteration_calls::take_fresh;
 use crate::session::NO_BOOK;
 use crate::sources::BELOW;
 use crate::tree_calls::tree_of_words;
 use crate::unanswered::Unanswered;
 use crate::words::{Call, NO_NUMBER, number, text_of, words};
-use crate::work_calls::take_fresh;
 use congestion_book::Book;
 use net_workers::{Desk, Round, Share};
 use node_cost::View;

@@ -21,7 +21,7 @@ pub fn call(
             keep(files, call.name, RunText { bytes, failing });
             added(writeln!(out, "{count} bytes"))
         }
-        "route_sink" | "out_sink" => {
+        "route_sink" | "out_sink" | "words_sink" => {
             keep_room(files, call.name, room(call.given, out)?);
             Ok(())
         }
@@ -50,6 +50,7 @@ fn keep(files: &mut RunFiles, name: &str, text: RunText) {
 fn keep_room(files: &mut RunFiles, name: &str, room: Option<usize>) {
     match name {
         "route_sink" => files.route_room = room,
+        "words_sink" => files.words_room = room,
         _ => files.out_room = room,
     }
 }
@@ -61,7 +62,8 @@ fn dump(files: &RunFiles, out: &mut String) -> Result<(), Unanswered> {
     put_file("place", &files.place, out)?;
     put_file("route", &files.route, out)?;
     put_room("route sink", files.route_room, out)?;
-    put_room("out sink", files.out_room, out)
+    put_room("out sink", files.out_room, out)?;
+    put_room("words sink", files.words_room, out)
 }
 
 /// Adds how many bytes a file has, or `none`, and behind how many its source fails.

@@ -50,7 +50,7 @@ pub fn call(
 }
 
 /// What a run reads a file from.
-fn source_of(file: &RunText) -> Adapted<Failing<&[u8]>> {
+pub fn source_of(file: &RunText) -> Adapted<Failing<&[u8]>> {
     failing_source(file.bytes.as_slice(), file.failing)
 }
 
@@ -84,19 +84,27 @@ fn run_graph(
 
 /// The files of a design that a run reads.
 #[derive(Clone, Copy)]
-struct DesignFiles<'a> {
-    arch: &'a RunText,
-    net: &'a RunText,
-    place: &'a RunText,
+pub struct DesignFiles<'a> {
+    pub arch: &'a RunText,
+    pub net: &'a RunText,
+    pub place: &'a RunText,
 }
 
 /// The files of the design, where all are kept.
-fn kept_design(files: &RunFiles) -> Result<DesignFiles<'_>, Unanswered> {
+pub fn kept_design(files: &RunFiles) -> Result<DesignFiles<'_>, Unanswered> {
     match (&files.arch, &files.net, &files.place) {
         (Some(arch), Some(net), Some(place)) => Ok(DesignFiles { arch, net, place }),
         (None, _, _) => Err(Unanswered::Refused(NO_ARCH)),
         (_, None, _) => Err(Unanswered::Refused(NO_NET)),
         _ => Err(Unanswered::Refused(NO_PLACE)),
+    }
+}
+
+/// The file of a routing, where it is kept.
+pub fn kept_route(files: &RunFiles) -> Result<&RunText, Unanswered> {
+    match &files.route {
+        Some(route) => Ok(route),
+        None => Err(Unanswered::Refused("there is no run_route")),
     }
 }
 
@@ -240,10 +248,7 @@ fn run_check(
         return Err(Unanswered::Misread("check_run W, or with `global` behind it"));
     };
     let (width, mode) = (channel_width(width)?, mode(rest)?);
-    let design = kept_design(files)?;
-    let Some(route) = &files.route else {
-        return Err(Unanswered::Refused("there is no run_route"));
-    };
+    let (design, route) = (kept_design(files)?, kept_route(files)?);
     check_design(rt, files, design, route, width, mode, out)
 }
 
@@ -275,7 +280,7 @@ fn check_design(
 }
 
 /// Adds the end of a run that prints, and what it printed.
-fn put_print(
+pub fn put_print(
     alloc: Global,
     answer: Result<u8, AppFault>,
     printed: ShortSink,
@@ -311,7 +316,7 @@ fn put_ran(
 
 /// Adds the status of a run, and the line of its fault. Memory that a sink lacked is told as such, and so is a run without memory or a
 /// thread of which no sink took anything.
-fn put_end(
+pub fn put_end(
     alloc: Global,
     answer: Result<u8, AppFault>,
     sinks: &[&ShortSink],

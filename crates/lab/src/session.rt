@@ -4,6 +4,7 @@ use crate::unanswered::Unanswered;
 use arch_file::Arch;
 use congestion_book::Book;
 use group_wave::{PreparedProblem, Scratch};
+use net_workers::Workspace;
 use node_cost::{Counts, Histories, Range, Settings, View};
 use route_tree::{Marks, Routing, Tree};
 use rr_graph::{Device, Problem};
@@ -96,6 +97,7 @@ pub struct RunFiles {
     pub route: Option<RunText>,
     pub route_room: Option<usize>,
     pub out_room: Option<usize>,
+    pub words_room: Option<usize>,
 }
 
 /// The other values, which take the places of those of the session.
@@ -180,6 +182,7 @@ pub struct Session {
     pub histories: Option<Histories>,
     pub searching: Option<Searching>,
     pub books: Books,
+    pub workspace: Option<Workspace>,
     pub files: RunFiles,
     pub others: Others,
 }
@@ -206,6 +209,7 @@ impl Session {
                 view: None,
                 standing: 0,
             },
+            workspace: None,
             files: RunFiles {
                 arch: None,
                 net: None,
@@ -213,6 +217,7 @@ impl Session {
                 route: None,
                 route_room: None,
                 out_room: None,
+                words_room: None,
             },
             others: Others {
                 arch: None,

@@ -1,22 +1,18 @@
-//! Calls of `net_workers`, `iteration` and `width_search`: iterations, negotiations and searches of widths.
+//! Calls of `iteration` and `width_search`: negotiations and searches of widths.
 
-ghost use Rattle.std.specs.Prelude.{◌≤◌, IfOk, List, ℕ};
+ghost use Rattle.std.specs.Prelude.{◌≤◌, List, ℕ};
 ghost use Rattle.net_file.specs.Reads.{ReadsBytes};
 ghost use Rattle.rr_graph.specs.Fabric.{most_tracks};
-ghost use Rattle.node_cost.specs.Options.{most_iterations, most_workers};
-ghost use Rattle.congestion_book.specs.Contents.{IsFresh};
+ghost use Rattle.node_cost.specs.Options.{most_workers};
 
 use crate::answer::{added, put};
-use crate::bounds::{channel_width, iteration_number, worker_count};
+use crate::bounds::{channel_width, worker_count};
 use crate::gates::{LabGate, gate_words};
-use crate::session::{Design, DesignTexts, NO_BOOK, NO_PROBLEM, Session};
-use crate::tree_calls::put_tree;
+use crate::session::{Design, DesignTexts, NO_PROBLEM, Session};
 use crate::unanswered::Unanswered;
 use crate::words::Call;
-use congestion_book::Book;
 use iteration::{Outcome, negotiate};
 use net_file::Netlist;
-use net_workers::{Entry, Report, iterate};
 use node_cost::Settings;
 use route_tree::{Pairs, Routing};
 use rr_graph::{Mode, Problem};
@@ -36,9 +32,6 @@ pub fn call(
     out: &mut String,
 ) -> Result<(), Unanswered> {
     match call.name {
-        "iterate" | "iterate_nets" => {
-            make_iteration(rt, &mut session.books.book, settings, call, out)
-        }
         "negotiate" => {
             let (problem, routing) = (&session.problem, &mut session.routing);
             negotiate_routing(rt, problem, routing, settings, call.given, out)
@@ -48,148 +41,6 @@ pub fn call(
             search_widths(rt, design, routing, settings, call.given, out)
         }
         _ => Err(Unanswered::NoCall),
-    }
-}
-
-/// Takes the book, where nothing was drawn in its open iteration; else it stays.
-pub fn take_fresh(kept: &mut Option<Book>) -> Result<Book, Unanswered>
-    ensures { IfOk result IsFresh }
-{
-    match kept {
-        Some(book) if book.fresh() => (),
-        Some(_) => return Err(Unanswered::Refused("the open iteration is begun")),
-        None => return Err(NO_BOOK),
-    }
-    match kept.take() {
-        Some(book) => Ok(book),
-        None => Err(NO_BOOK),
-    }
-}
-
-/// Makes an iteration of the book by several workers, and tells their reports, worker by worker or net by net. A fault lets the book
-/// go.
-fn make_iteration(
-    rt: &(impl Runtime + Threads + Wait + Sync + AllocGlobal),
-    book: &mut Option<Book>,
-    settings: &Settings,
-    call: Call<'_>,
-    out: &mut String,
-) -> Result<(), Unanswered> {
-    let [iteration, workers, rest @ ..] = call.given else {
-        return Err(Unanswered::Misread("iterate K WORKERS, or with a gate behind it"));
-    };
-    let iteration = iteration_number(iteration)?;
-    let workers = worker_count(workers)?;
-    let words = gate_words(rest, workers)?;
-    let gate = LabGate::new(rt, words, net_count(book)?)?;
-    let is_by_net = call.name == "iterate_nets";
-    iterate_under(
-        rt, book, settings, iteration, workers, &gate, is_by_net, out,
-    )
-}
-
-/// How many nets the book's problem has.
-fn net_count(book: &Option<Book>) -> Result<u32, Unanswered> {
-    match book {
-        Some(book) => Ok(book.problem().nets()),
-        None => Err(NO_BOOK),
-    }
-}
-
-/// Makes an iteration of the book under a gate, and tells what was done. The book is back when all is told.
-fn iterate_under<R: Runtime + Threads + Wait + Sync + AllocGlobal>(
-    rt: &R,
-    kept: &mut Option<Book>,
-    settings: &Settings,
-    iteration: u32,
-    workers: u32,
-    gate: &LabGate<'_, R>,
-    is_by_net: bool,
-    out: &mut String,
-) -> Result<(), Unanswered>
-    requires iteration { (1 ≤ iteration) × (iteration ≤ most_iterations) }
-    requires workers { (1 ≤ workers) × (workers ≤ most_workers) }
-{
-    let book = take_fresh(kept)?;
-    let book = iterated(rt, book, settings, iteration, workers, gate, is_by_net, out)?;
-    *kept = Some(book);
-    Ok(())
-}
-
-/// The book behind an iteration, of which is told what was done.
-fn iterated<R: Runtime + Threads + Wait + Sync + AllocGlobal>(
-    rt: &R,
-    book: Book,
-    settings: &Settings,
-    iteration: u32,
-    workers: u32,
-    gate: &LabGate<'_, R>,
-    is_by_net: bool,
-    out: &mut String,
-) -> Result<Book, Unanswered>
-    requires fresh { IsFresh book }
-    requires iteration { (1 ≤ iteration) × (iteration ≤ most_iterations) }
-    requires workers { (1 ≤ workers) × (workers ≤ most_workers) }
-{
-    let (book, reports) = iterate(rt, rt.alloc(), book, settings, iteration, workers, gate)?;
-    put_iteration(&book, reports.as_slice(), gate, is_by_net, out)?;
-    Ok(book)
-}
-
-/// Adds what was done in an iteration, and the gate's own lines.
-fn put_iteration<R: Wait + Clock + AllocGlobal>(
-    book: &Book,
-    reports: &[Report],
-    gate: &LabGate<'_, R>,
-    is_by_net: bool,
-    out: &mut String,
-) -> Result<(), Unanswered> {
-    if is_by_net {
-        put_nets(reports, book.problem().nets(), out)?;
-    } else {
-        put_reports(reports, out)?;
-    }
-    gate.put(out)
-}
-
-/// Adds the report of each worker.
-fn put_reports(reports: &[Report], out: &mut String) -> Result<(), Unanswered> {
-    for (worker, report) in reports.iter().enumerate() {
-        writeln!(out, "worker {worker}:")?;
-        put_entries(report.entries(), out)?;
-    }
-    Ok(())
-}
-
-/// Adds a line for each turn of a worker.
-fn put_entries(entries: &[Entry], out: &mut String) -> Result<(), Unanswered> {
-    for entry in entries {
-        put_entry(entry, out)?;
-    }
-    Ok(())
-}
-
-/// Adds the turn at each net, whoever made it.
-fn put_nets(reports: &[Report], nets: u32, out: &mut String) -> Result<(), Unanswered> {
-    for net in 0..nets {
-        match reports.iter().find_map(|report| entry_of(report, net)) {
-            Some(entry) => put_entry(entry, out)?,
-            None => writeln!(out, "net {net}: none")?,
-        }
-    }
-    Ok(())
-}
-
-/// The turn of a worker at a net.
-fn entry_of(report: &Report, net: u32) -> Option<&Entry> {
-    report.entries().iter().find(|entry| entry.net == net)
-}
-
-fn put_entry(entry: &Entry, out: &mut String) -> Result<(), Unanswered> {
-    write!(out, "net {}: ", entry.net)?;
-    match &entry.tree {
-        Some(tree) => put_tree(tree, out),
-        None => put(out, "passed"),
     }
 }
 
