@@ -39,6 +39,14 @@ fn global_flag<'a>(alloc: Global) -> Arg<'a> {
         .help("Global routing: each place of a channel is one node with room for W nets")
 }
 
+/// The option of explanations on standard error.
+fn explain_flag<'a>(alloc: Global, help: &'a str) -> Arg<'a> {
+    Arg::new(alloc, "explain")
+        .long("explain")
+        .action(ArgAction::SetTrue)
+        .help(help)
+}
+
 fn width<'a>(alloc: Global) -> Arg<'a> {
     number(
         alloc,
@@ -97,16 +105,7 @@ fn with_settings<'a>(alloc: Global, command: Command<'a>) -> Result<Command<'a>,
         ))?
         .arg(setting(alloc, "mult", 16, 256, "32", help::MULT))?
         .arg(setting(alloc, "acc", 0, 65_535, "20", help::ACC))?
-        .arg(setting(alloc, "bb", 1, 255, "3", help::BB))?
-        .arg(side_file(alloc, "log", "FILE", help::LOG))
-}
-
-/// What is written beside ROUTE, where it is named.
-fn side_file<'a>(alloc: Global, name: &'a str, value: &'a str, help: &'a str) -> Arg<'a> {
-    Arg::new(alloc, name)
-        .long(name)
-        .value_name(value)
-        .help(help)
+        .arg(setting(alloc, "bb", 1, 255, "3", help::BB))
 }
 
 /// A command with the three files of a placed design.
@@ -129,7 +128,7 @@ fn route_command<'a>(alloc: Global) -> Result<Command<'a>, AllocError> {
         ))?
         .arg(width(alloc))?
         .arg(global_flag(alloc))?
-        .arg(side_file(alloc, "rest", "FILE", help::REST))?;
+        .arg(explain_flag(alloc, help::EXPLAIN))?;
     with_settings(alloc, command)
 }
 
@@ -152,8 +151,7 @@ fn width_command<'a>(alloc: Global) -> Result<Command<'a>, AllocError> {
             "The width that is tried first, in tracks, 1 to 256",
         ))?
         .arg(global_flag(alloc))?
-        .arg(side_file(alloc, "keep", "PREFIX", help::KEEP))?
-        .arg(setting(alloc, "verify", 0, MOST_TRACKS, "0", help::VERIFY))?;
+        .arg(explain_flag(alloc, help::EXPLAIN))?;
     with_settings(alloc, command)
 }
 
@@ -165,12 +163,7 @@ fn check_command<'a>(alloc: Global) -> Result<Command<'a>, AllocError> {
         .arg(input(alloc, "ROUTE", "The routing file that is judged"))?
         .arg(width(alloc))?
         .arg(global_flag(alloc))?
-        .arg(
-            Arg::new(alloc, "explain")
-                .long("explain")
-                .action(ArgAction::SetTrue)
-                .help("Also what is wrong, net by net and in words, on standard error"),
-        )
+        .arg(explain_flag(alloc, help::EXPLAIN_CHECK))
 }
 
 fn report_command<'a>(alloc: Global) -> Result<Command<'a>, AllocError> {
@@ -186,7 +179,8 @@ fn report_command<'a>(alloc: Global) -> Result<Command<'a>, AllocError> {
                 .long("map")
                 .action(ArgAction::SetTrue)
                 .help("Also the array, with the occupancy of each place of its channels"),
-        )
+        )?
+        .arg(explain_flag(alloc, help::EXPLAIN))
 }
 
 fn graph_command<'a>(alloc: Global) -> Result<Command<'a>, AllocError> {
@@ -211,7 +205,8 @@ fn graph_command<'a>(alloc: Global) -> Result<Command<'a>, AllocError> {
             "Logic blocks in a column, 1 to 100",
         ))?
         .arg(number(alloc, "W", MOST_TRACKS, "Tracks in each channel, 1 to 256"))?
-        .arg(global_flag(alloc))
+        .arg(global_flag(alloc))?
+        .arg(explain_flag(alloc, help::EXPLAIN))
 }
 
 /// The command line of the program.
@@ -238,12 +233,9 @@ pub struct RouteWords<'a> {
     pub route: &'a str,
     pub width: u32,
     pub global: bool,
+    pub explain: bool,
     pub workers: u32,
     pub settings: Settings,
-    /// The file of the log, where one is wanted; `-` is standard error.
-    pub log: Option<&'a str>,
-    /// The file of the trees that were left, where it is wanted.
-    pub rest: Option<&'a str>,
 }
 
 /// What the `width` command was given.
@@ -255,14 +247,9 @@ pub struct WidthWords<'a> {
     pub route: &'a str,
     pub start: u32,
     pub global: bool,
+    pub explain: bool,
     pub workers: u32,
     pub settings: Settings,
-    /// The file of the log, where one is wanted; `-` is standard error.
-    pub log: Option<&'a str>,
-    /// What the names of the files of trials begin with, where they are wanted.
-    pub keep: Option<&'a str>,
-    /// How many widths below the least are tried too.
-    pub verify: u32,
 }
 
 /// What the `check` command was given.
@@ -286,6 +273,7 @@ pub struct ReportWords<'a> {
     pub route: &'a str,
     pub width: u32,
     pub global: bool,
+    pub explain: bool,
     pub map: bool,
 }
 
@@ -297,6 +285,7 @@ pub struct GraphWords<'a> {
     pub ny: u32,
     pub width: u32,
     pub global: bool,
+    pub explain: bool,
 }
 
 /// A number of the command line; None where it isn't in 1 to `most`, which the parser refuses.
@@ -334,10 +323,9 @@ pub fn route_words<'a>(matches: &ArgMatches<'a>) -> Option<RouteWords<'a>>
         route: matches.get_str("ROUTE")?,
         width: number_within(matches, "width", MOST_TRACKS)?,
         global: matches.get_flag("global"),
+        explain: matches.get_flag("explain"),
         workers: number_within(matches, "workers", MOST_WORKERS)?,
         settings: settings(matches)?,
-        log: matches.get_str("log"),
-        rest: matches.get_str("rest"),
     })
 }
 
@@ -353,11 +341,9 @@ pub fn width_words<'a>(matches: &ArgMatches<'a>) -> Option<WidthWords<'a>>
         route: matches.get_str("ROUTE")?,
         start: number_within(matches, "start", MOST_TRACKS)?,
         global: matches.get_flag("global"),
+        explain: matches.get_flag("explain"),
         workers: number_within(matches, "workers", MOST_WORKERS)?,
         settings: settings(matches)?,
-        log: matches.get_str("log"),
-        keep: matches.get_str("keep"),
-        verify: matches.get_one::<u32>("verify")?,
     })
 }
 
@@ -387,6 +373,7 @@ pub fn report_words<'a>(matches: &ArgMatches<'a>) -> Option<ReportWords<'a>>
         route: matches.get_str("ROUTE")?,
         width: number_within(matches, "width", MOST_TRACKS)?,
         global: matches.get_flag("global"),
+        explain: matches.get_flag("explain"),
         map: matches.get_flag("map"),
     })
 }
@@ -403,5 +390,6 @@ pub fn graph_words<'a>(matches: &ArgMatches<'a>) -> Option<GraphWords<'a>>
         ny: number_within(matches, "NY", GREATEST_SIDE)?,
         width: number_within(matches, "W", MOST_TRACKS)?,
         global: matches.get_flag("global"),
+        explain: matches.get_flag("explain"),
     })
 }

@@ -1,9 +1,11 @@
 //! `pathfinder`: routes placed designs in the text formats of VPR 4.30.
 #![tactic(auto)]
 
+mod advice;
 mod command;
 mod files;
 mod help;
+mod refusal;
 mod terminal;
 mod warning;
 
@@ -14,16 +16,16 @@ ghost use Rattle.node_cost.specs.Options.{most_workers};
 use clap::error::ErrorKind;
 use clap::{ArgMatches, Error as ClapError};
 use command::{CheckWords, GraphWords, ReportWords, RouteWords, WidthWords};
-use files::{BehindProgress, NewFile, RestFile, SideFile, TrialFiles};
+use files::{BehindProgress, NewFile};
 use iteration::Outcome;
-use net_workers::BothGates;
+use refusal::{Paths, tell_refusal};
 use report_run::report_run;
 use route_check::RouteFault;
 use route_explain::explain_run;
 use rr_graph::Mode;
 use runs::{
-    AppFault, FileNames, InputFile, Log, Progress, RunWords, check_run, graph_run, outcome_status,
-    print_fault, report_status, route_run, status, verdict_status, width_run,
+    AppFault, InputFile, Progress, check_run, graph_run, outcome_status, print_fault,
+    report_status, route_run, status, verdict_status, width_run,
 };
 use std::io::{IsTerminal, Write};
 use std::process::ExitCode;
@@ -33,7 +35,7 @@ use std::thread::Threads;
 use std::{env, fs, io};
 use terminal::{columns, takes_lines_back};
 use vpr_text::Adapted;
-use warning::{doubt_of, side_doubt_of};
+use warning::doubt_of;
 use width_search::WidthReport;
 
 /// The status of words that the command line may not have.
@@ -47,14 +49,11 @@ fn main(rt: HostRuntime) -> ExitCode {
 
 /// Runs the command that the command line names, and answers its exit status. Where standard error
 /// is watched, on a terminal, it shows how far a negotiation is.
-fn run<R: Runtime + Threads + Wait + Sync + AllocGlobal>(
-    rt: &R,
+fn run(
+    rt: &(impl Runtime + Threads + Wait + Sync + AllocGlobal),
     errors: &mut impl Write,
     is_watched: bool,
-) -> u8
-where
-    R::File: Send,
-{
+) -> u8 {
     let words = match words(rt) {
         Ok(words) => words,
         Err(error) if error.kind() == io::ErrorKind::OutOfMemory => return refused(
@@ -84,44 +83,50 @@ where
 }
 
 /// Runs `route`, and answers its status.
-fn run_route<R: Runtime + Threads + Wait + Sync + AllocGlobal>(
-    rt: &R,
+fn run_route(
+    rt: &(impl Runtime + Threads + Wait + Sync + AllocGlobal),
     given: &ArgMatches<'_>,
     is_watched: bool,
-) -> u8
-where
-    R::File: Send,
-{
+) -> u8 {
     let Some(given) = command::route_words(given) else {
         return BAD_WORDS;
+    };
+    let paths = Paths {
+        arch: given.arch,
+        net: given.net,
+        place: given.place,
+        route: given.route,
     };
     let progress = progress_on(rt, is_watched);
     let answer = route(rt, given, &progress);
     progress.end();
     match answer {
         Ok(outcome) => outcome_status(&outcome),
-        Err(fault) => refused(rt, fault),
+        Err(fault) => refused_with(rt, fault, given.explain, paths),
     }
 }
 
 /// Runs `width`, and answers its status.
-fn run_width<R: Runtime + Threads + Wait + Sync + AllocGlobal>(
-    rt: &R,
+fn run_width(
+    rt: &(impl Runtime + Threads + Wait + Sync + AllocGlobal),
     given: &ArgMatches<'_>,
     is_watched: bool,
-) -> u8
-where
-    R::File: Send,
-{
+) -> u8 {
     let Some(given) = command::width_words(given) else {
         return BAD_WORDS;
+    };
+    let paths = Paths {
+        arch: given.arch,
+        net: given.net,
+        place: given.place,
+        route: given.route,
     };
     let progress = progress_on(rt, is_watched);
     let answer = width(rt, given, &progress);
     progress.end();
     match answer {
         Ok(report) => report_status(&report),
-        Err(fault) => refused(rt, fault),
+        Err(fault) => refused_with(rt, fault, given.explain, paths),
     }
 }
 
@@ -134,9 +139,15 @@ fn run_check(
     let Some(given) = command::check_words(given) else {
         return BAD_WORDS;
     };
+    let paths = Paths {
+        arch: given.arch,
+        net: given.net,
+        place: given.place,
+        route: given.route,
+    };
     match check(rt, given, errors) {
         Ok(verdict) => verdict_status(verdict),
-        Err(fault) => refused(rt, fault),
+        Err(fault) => refused_with(rt, fault, given.explain, paths),
     }
 }
 
@@ -145,9 +156,15 @@ fn run_report(rt: &(impl Runtime + AllocGlobal), given: &ArgMatches<'_>) -> u8 {
     let Some(given) = command::report_words(given) else {
         return BAD_WORDS;
     };
+    let paths = Paths {
+        arch: given.arch,
+        net: given.net,
+        place: given.place,
+        route: given.route,
+    };
     match report(rt, given) {
         Ok(()) => 0,
-        Err(fault) => refused(rt, fault),
+        Err(fault) => refused_with(rt, fault, given.explain, paths),
     }
 }
 
@@ -156,9 +173,15 @@ fn run_graph(rt: &(impl Runtime + AllocGlobal), given: &ArgMatches<'_>) -> u8 {
     let Some(given) = command::graph_words(given) else {
         return BAD_WORDS;
     };
+    let paths = Paths {
+        arch: given.arch,
+        net: "",
+        place: "",
+        route: "",
+    };
     match graph(rt, given) {
         Ok(()) => 0,
-        Err(fault) => refused(rt, fault),
+        Err(fault) => refused_with(rt, fault, given.explain, paths),
     }
 }
 
@@ -171,6 +194,21 @@ fn words(rt: &(impl Runtime + AllocGlobal)) -> io::Result<Vec<String>> {
 fn refused(rt: &(impl Runtime + AllocGlobal), fault: AppFault) -> u8 {
     let _ = print_fault(&fault, &mut Adapted::new(io::writer(rt)));
     status(&fault)
+}
+
+/// Prints a fault's line, and explains it on standard error where that is wanted; answers its
+/// status.
+fn refused_with(
+    rt: &(impl Runtime + AllocGlobal),
+    fault: AppFault,
+    explain: bool,
+    paths: Paths<'_>,
+) -> u8 {
+    let status = refused(rt, fault);
+    if explain {
+        tell_refusal(rt, &fault, paths);
+    }
+    status
 }
 
 /// Prints what clap says of the words, and answers the status: 0 for help and for the version where
@@ -202,67 +240,6 @@ fn warn<'a>(rt: &impl Runtime, route: &'a str, inputs: [&'a str; 3]) {
     }
 }
 
-/// The log of a run, which is written nowhere where none is wanted, or where it can't be or
-/// shouldn't be written.
-fn log_of<'a, R: Runtime + Wait + AllocGlobal>(
-    rt: &'a R,
-    log: Option<&'a str>,
-    run: RunWords<'a>,
-    progress: &'a Progress<'a, R>,
-) -> Log<'a, R, BehindProgress<'a, 'a, SideFile<'a, R>, R>> {
-    let name = log.unwrap_or("");
-    let file = match log {
-        None => None,
-        Some("-") => Some(SideFile::Errors(rt)),
-        Some(name) => log_file(rt, name, run.files),
-    };
-    Log::new(
-        rt,
-        name,
-        run,
-        file.map(|file| BehindProgress::new(file, progress)),
-    )
-}
-
-/// The files of a run over which no further one is written: the inputs, ROUTE and the log.
-fn others_of<'a>(files: FileNames<'a>, log: Option<&'a str>) -> [&'a str; 5] {
-    let FileNames {
-        net,
-        arch,
-        place,
-        route,
-    } = files;
-    [net, arch, place, route, log.unwrap_or(route)]
-}
-
-/// The file of a log, or a warning why there is none.
-fn log_file<'a, R: Runtime>(
-    rt: &'a R,
-    name: &'a str,
-    files: FileNames<'a>,
-) -> Option<SideFile<'a, R>> {
-    let others = [files.net, files.arch, files.place, files.route];
-    if let Some(doubt) = side_doubt_of(rt, name, others) {
-        let _ = eprintln!(rt; "warning: the log {name} {doubt}");
-        return None;
-    }
-    Some(SideFile::New(NewFile::new(rt, name)))
-}
-
-/// The name of the file of the trees that were left, or a warning why there is none.
-fn rest_name<'a>(
-    rt: &impl Runtime,
-    name: Option<&'a str>,
-    others: [&'a str; 5],
-) -> Option<&'a str> {
-    let name = name?;
-    if let Some(doubt) = side_doubt_of(rt, name, others) {
-        let _ = eprintln!(rt; "warning: {name} {doubt}");
-        return None;
-    }
-    Some(name)
-}
-
 /// The mode in which nets are routed.
 fn mode_of(global: bool) -> Mode {
     if global { Mode::Global } else { Mode::Detailed }
@@ -284,8 +261,6 @@ fn route<R: Runtime + Threads + Wait + Sync + AllocGlobal>(
     given: RouteWords<'_>,
     progress: &Progress<'_, R>,
 ) -> Result<Outcome, AppFault>
-where
-    R::File: Send,
     requires tracks { (1 ≤ given.width) × (given.width ≤ most_tracks) }
     requires workers { (1 ≤ given.workers) × (given.workers ≤ most_workers) }
 {
@@ -296,28 +271,6 @@ where
     let file = NewFile::new(rt, given.route);
     let mut route = Adapted::new(BehindProgress::new(file, progress));
     let mut out = Adapted::new(BehindProgress::new(io::writer(rt), progress));
-    let run = RunWords {
-        version: help::VERSION,
-        files: FileNames {
-            net: given.net,
-            arch: given.arch,
-            place: given.place,
-            route: given.route,
-        },
-        workers: given.workers,
-        settings: given.settings,
-    };
-    let others = others_of(run.files, given.log);
-    let rest = RestFile {
-        rt,
-        name: rest_name(rt, given.rest, others),
-        progress,
-    };
-    let log = log_of(rt, given.log, run, progress);
-    let gate = BothGates {
-        first: progress,
-        second: &log,
-    };
     let (width, mode, settings) = (given.width, mode_of(given.global), given.settings);
     route_run(
         rt,
@@ -330,8 +283,7 @@ where
         mode,
         &settings,
         given.workers,
-        &gate,
-        &rest,
+        progress,
     )
 }
 
@@ -341,8 +293,6 @@ fn width<R: Runtime + Threads + Wait + Sync + AllocGlobal>(
     given: WidthWords<'_>,
     progress: &Progress<'_, R>,
 ) -> Result<WidthReport, AppFault>
-where
-    R::File: Send,
     requires start { (1 ≤ given.start) × (given.start ≤ most_tracks) }
     requires workers { (1 ≤ given.workers) × (given.workers ≤ most_workers) }
 {
@@ -353,28 +303,6 @@ where
     let file = NewFile::new(rt, given.route);
     let mut route = Adapted::new(BehindProgress::new(file, progress));
     let mut out = Adapted::new(BehindProgress::new(io::writer(rt), progress));
-    let run = RunWords {
-        version: help::VERSION,
-        files: FileNames {
-            net: given.net,
-            arch: given.arch,
-            place: given.place,
-            route: given.route,
-        },
-        workers: given.workers,
-        settings: given.settings,
-    };
-    let kept = TrialFiles {
-        rt,
-        prefix: given.keep,
-        others: others_of(run.files, given.log),
-        progress,
-    };
-    let log = log_of(rt, given.log, run, progress);
-    let gate = BothGates {
-        first: progress,
-        second: &log,
-    };
     let (start, mode, settings) = (given.start, mode_of(given.global), given.settings);
     width_run(
         rt,
@@ -387,9 +315,7 @@ where
         mode,
         &settings,
         given.workers,
-        &gate,
-        &kept,
-        given.verify,
+        progress,
     )
 }
 

@@ -4,4 +4,3 @@ pub mod Stages
 pub mod Designs
 pub mod Writing
 pub mod Widths
-pub mod Leaving

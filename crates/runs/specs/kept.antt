@@ -1,4 +1,2 @@
 pub mod ReaderFaults
 pub mod Routing
-pub mod Left
-pub mod Lesser
