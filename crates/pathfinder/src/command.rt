@@ -39,6 +39,14 @@ fn global_flag<'a>(alloc: Global) -> Arg<'a> {
         .help("Global routing: each place of a channel is one node with room for W nets")
 }
 
+/// The option of explanations on standard error.
+fn explain_flag<'a>(alloc: Global, help: &'a str) -> Arg<'a> {
+    Arg::new(alloc, "explain")
+        .long("explain")
+        .action(ArgAction::SetTrue)
+        .help(help)
+}
+
 fn width<'a>(alloc: Global) -> Arg<'a> {
     number(
         alloc,
@@ -119,7 +127,8 @@ fn route_command<'a>(alloc: Global) -> Result<Command<'a>, AllocError> {
             "The routing file that is written; without a routing it is left alone",
         ))?
         .arg(width(alloc))?
-        .arg(global_flag(alloc))?;
+        .arg(global_flag(alloc))?
+        .arg(explain_flag(alloc, help::EXPLAIN))?;
     with_settings(alloc, command)
 }
 
@@ -141,7 +150,8 @@ fn width_command<'a>(alloc: Global) -> Result<Command<'a>, AllocError> {
             "12",
             "The width that is tried first, in tracks, 1 to 256",
         ))?
-        .arg(global_flag(alloc))?;
+        .arg(global_flag(alloc))?
+        .arg(explain_flag(alloc, help::EXPLAIN))?;
     with_settings(alloc, command)
 }
 
@@ -153,12 +163,7 @@ fn check_command<'a>(alloc: Global) -> Result<Command<'a>, AllocError> {
         .arg(input(alloc, "ROUTE", "The routing file that is judged"))?
         .arg(width(alloc))?
         .arg(global_flag(alloc))?
-        .arg(
-            Arg::new(alloc, "explain")
-                .long("explain")
-                .action(ArgAction::SetTrue)
-                .help("Also what is wrong, net by net and in words, on standard error"),
-        )
+        .arg(explain_flag(alloc, help::EXPLAIN_CHECK))
 }
 
 fn report_command<'a>(alloc: Global) -> Result<Command<'a>, AllocError> {
@@ -174,7 +179,8 @@ fn report_command<'a>(alloc: Global) -> Result<Command<'a>, AllocError> {
                 .long("map")
                 .action(ArgAction::SetTrue)
                 .help("Also the array, with the occupancy of each place of its channels"),
-        )
+        )?
+        .arg(explain_flag(alloc, help::EXPLAIN))
 }
 
 fn graph_command<'a>(alloc: Global) -> Result<Command<'a>, AllocError> {
@@ -199,7 +205,8 @@ fn graph_command<'a>(alloc: Global) -> Result<Command<'a>, AllocError> {
             "Logic blocks in a column, 1 to 100",
         ))?
         .arg(number(alloc, "W", MOST_TRACKS, "Tracks in each channel, 1 to 256"))?
-        .arg(global_flag(alloc))
+        .arg(global_flag(alloc))?
+        .arg(explain_flag(alloc, help::EXPLAIN))
 }
 
 /// The command line of the program.
@@ -226,6 +233,7 @@ pub struct RouteWords<'a> {
     pub route: &'a str,
     pub width: u32,
     pub global: bool,
+    pub explain: bool,
     pub workers: u32,
     pub settings: Settings,
 }
@@ -239,6 +247,7 @@ pub struct WidthWords<'a> {
     pub route: &'a str,
     pub start: u32,
     pub global: bool,
+    pub explain: bool,
     pub workers: u32,
     pub settings: Settings,
 }
@@ -264,6 +273,7 @@ pub struct ReportWords<'a> {
     pub route: &'a str,
     pub width: u32,
     pub global: bool,
+    pub explain: bool,
     pub map: bool,
 }
 
@@ -275,6 +285,7 @@ pub struct GraphWords<'a> {
     pub ny: u32,
     pub width: u32,
     pub global: bool,
+    pub explain: bool,
 }
 
 /// A number of the command line; None where it isn't in 1 to `most`, which the parser refuses.
@@ -312,6 +323,7 @@ pub fn route_words<'a>(matches: &ArgMatches<'a>) -> Option<RouteWords<'a>>
         route: matches.get_str("ROUTE")?,
         width: number_within(matches, "width", MOST_TRACKS)?,
         global: matches.get_flag("global"),
+        explain: matches.get_flag("explain"),
         workers: number_within(matches, "workers", MOST_WORKERS)?,
         settings: settings(matches)?,
     })
@@ -329,6 +341,7 @@ pub fn width_words<'a>(matches: &ArgMatches<'a>) -> Option<WidthWords<'a>>
         route: matches.get_str("ROUTE")?,
         start: number_within(matches, "start", MOST_TRACKS)?,
         global: matches.get_flag("global"),
+        explain: matches.get_flag("explain"),
         workers: number_within(matches, "workers", MOST_WORKERS)?,
         settings: settings(matches)?,
     })
@@ -360,6 +373,7 @@ pub fn report_words<'a>(matches: &ArgMatches<'a>) -> Option<ReportWords<'a>>
         route: matches.get_str("ROUTE")?,
         width: number_within(matches, "width", MOST_TRACKS)?,
         global: matches.get_flag("global"),
+        explain: matches.get_flag("explain"),
         map: matches.get_flag("map"),
     })
 }
@@ -376,5 +390,6 @@ pub fn graph_words<'a>(matches: &ArgMatches<'a>) -> Option<GraphWords<'a>>
         ny: number_within(matches, "NY", GREATEST_SIDE)?,
         width: number_within(matches, "W", MOST_TRACKS)?,
         global: matches.get_flag("global"),
+        explain: matches.get_flag("explain"),
     })
 }

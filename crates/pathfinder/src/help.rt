@@ -20,7 +20,8 @@ Exit status, of all commands:
   6  memory ran out, or a thread could not be started
 
 All answers and errors are printed on standard output. On standard error stand warnings of a
-ROUTE that can't be written or is an input too, and, on a terminal, how far the routing is.";
+ROUTE that can't be written or is an input too, with `--explain` what is wrong with a file or a
+routing, and, on a terminal, how far the routing is.";
 
 /// The end of the help of `route`.
 pub const ROUTE: &str = "\
@@ -129,6 +130,16 @@ Exit status:
   4  bad input, as `error: arch line 10: Unsupported`
   5  reading or writing failed
   6  memory ran out";
+
+/// The help of `--explain`.
+pub const EXPLAIN: &str = "\
+Where a file is refused, also tell on standard error the line, the
+word and what to do";
+
+/// The help of `check --explain`.
+pub const EXPLAIN_CHECK: &str = "\
+Also tell on standard error what is wrong, net by net and in words, or
+where a file is refused the line, the word and what to do";
 
 /// The help of `--workers`.
 pub const WORKERS: &str = "\

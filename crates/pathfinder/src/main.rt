@@ -1,9 +1,11 @@
 //! `pathfinder`: routes placed designs in the text formats of VPR 4.30.
 #![tactic(auto)]
 
+mod advice;
 mod command;
 mod files;
 mod help;
+mod refusal;
 mod terminal;
 mod warning;
 
@@ -16,6 +18,7 @@ use clap::{ArgMatches, Error as ClapError};
 use command::{CheckWords, GraphWords, ReportWords, RouteWords, WidthWords};
 use files::{BehindProgress, NewFile};
 use iteration::Outcome;
+use refusal::{Paths, tell_refusal};
 use report_run::report_run;
 use route_check::RouteFault;
 use route_explain::explain_run;
@@ -88,12 +91,18 @@ fn run_route(
     let Some(given) = command::route_words(given) else {
         return BAD_WORDS;
     };
+    let paths = Paths {
+        arch: given.arch,
+        net: given.net,
+        place: given.place,
+        route: given.route,
+    };
     let progress = progress_on(rt, is_watched);
     let answer = route(rt, given, &progress);
     progress.end();
     match answer {
         Ok(outcome) => outcome_status(&outcome),
-        Err(fault) => refused(rt, fault),
+        Err(fault) => refused_with(rt, fault, given.explain, paths),
     }
 }
 
@@ -106,12 +115,18 @@ fn run_width(
     let Some(given) = command::width_words(given) else {
         return BAD_WORDS;
     };
+    let paths = Paths {
+        arch: given.arch,
+        net: given.net,
+        place: given.place,
+        route: given.route,
+    };
     let progress = progress_on(rt, is_watched);
     let answer = width(rt, given, &progress);
     progress.end();
     match answer {
         Ok(report) => report_status(&report),
-        Err(fault) => refused(rt, fault),
+        Err(fault) => refused_with(rt, fault, given.explain, paths),
     }
 }
 
@@ -124,9 +139,15 @@ fn run_check(
     let Some(given) = command::check_words(given) else {
         return BAD_WORDS;
     };
+    let paths = Paths {
+        arch: given.arch,
+        net: given.net,
+        place: given.place,
+        route: given.route,
+    };
     match check(rt, given, errors) {
         Ok(verdict) => verdict_status(verdict),
-        Err(fault) => refused(rt, fault),
+        Err(fault) => refused_with(rt, fault, given.explain, paths),
     }
 }
 
@@ -135,9 +156,15 @@ fn run_report(rt: &(impl Runtime + AllocGlobal), given: &ArgMatches<'_>) -> u8 {
     let Some(given) = command::report_words(given) else {
         return BAD_WORDS;
     };
+    let paths = Paths {
+        arch: given.arch,
+        net: given.net,
+        place: given.place,
+        route: given.route,
+    };
     match report(rt, given) {
         Ok(()) => 0,
-        Err(fault) => refused(rt, fault),
+        Err(fault) => refused_with(rt, fault, given.explain, paths),
     }
 }
 
@@ -146,9 +173,15 @@ fn run_graph(rt: &(impl Runtime + AllocGlobal), given: &ArgMatches<'_>) -> u8 {
     let Some(given) = command::graph_words(given) else {
         return BAD_WORDS;
     };
+    let paths = Paths {
+        arch: given.arch,
+        net: "",
+        place: "",
+        route: "",
+    };
     match graph(rt, given) {
         Ok(()) => 0,
-        Err(fault) => refused(rt, fault),
+        Err(fault) => refused_with(rt, fault, given.explain, paths),
     }
 }
 
@@ -161,6 +194,21 @@ fn words(rt: &(impl Runtime + AllocGlobal)) -> io::Result<Vec<String>> {
 fn refused(rt: &(impl Runtime + AllocGlobal), fault: AppFault) -> u8 {
     let _ = print_fault(&fault, &mut Adapted::new(io::writer(rt)));
     status(&fault)
+}
+
+/// Prints a fault's line, and explains it on standard error where that is wanted; answers its
+/// status.
+fn refused_with(
+    rt: &(impl Runtime + AllocGlobal),
+    fault: AppFault,
+    explain: bool,
+    paths: Paths<'_>,
+) -> u8 {
+    let status = refused(rt, fault);
+    if explain {
+        tell_refusal(rt, &fault, paths);
+    }
+    status
 }
 
 /// Prints what clap says of the words, and answers the status: 0 for help and for the version where
