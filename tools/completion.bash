@@ -5,11 +5,11 @@ _pathfinder() {
   case ${COMP_WORDS[1]} in
     route)
       values='--width --workers --iterations --first-pres --init-pres --mult --acc --bb'
-      words="$values --global -h --help"
+      words="$values --global --explain -h --help"
       ;;
     width)
       values='--start --workers --iterations --first-pres --init-pres --mult --acc --bb'
-      words="$values --global -h --help"
+      words="$values --global --explain -h --help"
       ;;
     check)
       values='--width'
@@ -17,11 +17,11 @@ _pathfinder() {
       ;;
     report)
       values='--width'
-      words="$values --global --map -h --help"
+      words="$values --global --map --explain -h --help"
       ;;
     graph)
       values=''
-      words="$values --global -h --help"
+      words="$values --global --explain -h --help"
       ;;
     help)
       values=''

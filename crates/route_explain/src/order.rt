@@ -41,15 +41,8 @@ fn is_in_order(
     if row == 0 {
         return pair_at(pairs, row).0 == source;
     }
-    may_follow(
-        index,
-        device,
-        source,
-        sinks,
-        pairs,
-        row,
-        pair_at(pairs, row - 1).1,
-    )
+    let last = pair_at(pairs, row - 1).1;
+    may_follow(index, device, source, sinks, pairs, row, last)
 }
 
 /// The first step that may not stand where it does.
