@@ -1,7 +1,7 @@
 //! What the helps and the version say in more than a line.
 
 /// What `--version` prints after the name: the version, and what the program routes by.
-pub const VERSION: &str = "1.1.0 (formats of VPR 4.30, negotiated congestion)";
+pub const VERSION: &str = "1.2.0 (formats of VPR 4.30, negotiated congestion)";
 
 /// The end of the program's help.
 pub const PROGRAM: &str = "\
