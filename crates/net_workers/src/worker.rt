@@ -137,9 +137,7 @@ fn try_turn<L: Round, R: Wait>(
         end_turn(rt, desk, share, net, None)?;
         return Ok(TurnOrLook::Turn);
     };
-    let made = desk
-        .lock(rt)
-        .commit_routed_or_look(share, net, tree, view);
+    let made = desk.lock(rt).commit_routed_or_look(share, net, tree, view);
     match made {
         Ok(made) => Ok(made),
         Err(_) => Err(WorkFault::Astray),
