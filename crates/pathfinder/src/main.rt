@@ -97,12 +97,13 @@ fn run_route(
         place: given.place,
         route: given.route,
     };
+    let is_explained = given.explain;
     let progress = progress_on(rt, is_watched);
     let answer = route(rt, given, &progress);
     progress.end();
     match answer {
         Ok(outcome) => outcome_status(&outcome),
-        Err(fault) => refused_with(rt, fault, given.explain, paths),
+        Err(fault) => refused_with(rt, fault, is_explained, paths),
     }
 }
 
@@ -121,12 +122,13 @@ fn run_width(
         place: given.place,
         route: given.route,
     };
+    let is_explained = given.explain;
     let progress = progress_on(rt, is_watched);
     let answer = width(rt, given, &progress);
     progress.end();
     match answer {
         Ok(report) => report_status(&report),
-        Err(fault) => refused_with(rt, fault, given.explain, paths),
+        Err(fault) => refused_with(rt, fault, is_explained, paths),
     }
 }
 
