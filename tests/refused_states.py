@@ -19,7 +19,7 @@ BOOK = ("dump_book",)
 MOST_WIRES = 400
 LOST = ["refused: there is no book"]
 # These hand the book to workers, and a fault lets it go.
-LETS_GO = ("iterate", "iterate_nets", "desk")
+LETS_GO = ("iterate", "iterate_nets", "iterate_in", "iterate_nets_in", "desk")
 STOPPED = re.compile(r"memory after (\d+) events")
 
 
