@@ -46,6 +46,11 @@ starts_at f n (r ∷ q ∷ rs) (p ∷ ps) t e some listed =
     let first : p ≡ (node_in (r ∷ q ∷ rs) q.parent, q.node) = sym (ap (λ (ps : List Pair). get_or ps 0 (0, 0)) e) in
     ap (node_in (r ∷ q ∷ rs)) (sym zero) ∙ (sym (ap (λ (p : Pair). p.0) first) ∙ first_begins f n p ps listed)
 
+-- a tree covers the node of each of its rows
+pub row_covers : (rows : List Row) (row a : ℕ) (d : Row) → IsTree rows → row < length rows → (get_or rows row d).node ≡ a → covers (node_in rows 0) (pairs_of rows) a ≡ true
+row_covers rows row a d tree l e =
+    sym (covers_rows rows a tree) ∙ one_passes (λ (r : Row). r.node == a) rows (get_or rows row d) (Contains-get_or rows row d l) (eq-eqb (get_or rows row d).node a e)
+
 module _ (p : RoutingProblem) (i : ℕ) (rows : List Row) (tree : IsTree rows) (route : IsRoute p i (pairs_of rows)) where
   start : node_in rows 0 ≡ (net_in p.nets i).source
   start =

@@ -4,9 +4,9 @@ ghost use Rattle.std.specs.Prelude.{◌≡◌, length, Some};
 ghost use Rattle.std.specs.List.{list_any};
 ghost use Rattle.rr_graph.specs.Nodes.{node_count_of};
 ghost use Rattle.rr_graph.specs.Problems.{net_in};
-ghost use Rattle.route_tree.specs.Rows.{pairs_of};
+ghost use Rattle.route_tree.specs.Rows.{node_in, pairs_of};
 ghost use Rattle.route_tree.specs.TreeLists.{list_of_tree};
-ghost use Rattle.route_tree.specs.Usage.{use_by};
+ghost use Rattle.route_tree.specs.Usage.{covers, use_by};
 ghost use Rattle.congestion_book.specs.kept.Counts.{RoutesOrNone, IsCounted};
 ghost use Rattle.congestion_book.specs.kept.Views.{filled_by, HasCapacity};
 
@@ -15,29 +15,43 @@ use node_cost::{Counts, View};
 use route_tree::{Row, Tree};
 use rr_graph::Problem;
 
-/// What a net with the tree adds to the use of a node.
+/// Whether a node is in a tree, in which it stands in this row more often than not.
+#[tactic(auto, using(crate::proofs::Covering::row_covers))]
+fn covers_at(tree: &Tree, row: usize, id: u32) -> bool
+    ensures { result ≡ covers (node_in tree.now 0) (pairs_of tree.now) id }
+{
+    let rows = tree.as_slice();
+    if row < rows.len() && rows[row].node == id {
+        return true;
+    }
+    tree.covers(id)
+}
+
+/// What a net with the tree adds to the use of a node, which may stand in this row of it.
 #[tactic(auto, using(crate::proofs::Covering::use_covers))]
-fn use_of_tree(problem: &Problem, net: u32, tree: &Tree, id: u32) -> u32
+fn use_of_tree(problem: &Problem, net: u32, tree: &Tree, row: usize, id: u32) -> u32
     requires { RoutesOrNone problem.now net (Some (pairs_of tree.now)) }
     ensures { result ≡ use_by (net_in problem.now.nets net) (Some (pairs_of tree.now)) id }
 {
     let _tree = tree.as_slice();
-    one_if(tree.covers(id))
+    one_if(covers_at(tree, row, id))
 }
 
-/// What a net with this tree, or none, adds to the use of a node.
-fn own_use(problem: &Problem, net: u32, tree: &Option<Tree>, id: u32) -> u32
+/// What a net with this tree, or none, adds to the use of a node, which may stand in this row of
+/// it.
+fn own_use(problem: &Problem, net: u32, tree: &Option<Tree>, row: usize, id: u32) -> u32
     requires { RoutesOrNone problem.now net (list_of_tree tree.now) }
     ensures { result ≡ use_by (net_in problem.now.nets net) (list_of_tree tree.now) id }
 {
     match tree {
         None => 0,
-        Some(tree) => use_of_tree(problem, net, tree, id),
+        Some(tree) => use_of_tree(problem, net, tree, row, id),
     }
 }
 
-/// Whether a node with so much room is full by these counts without the net's own, and was not by the view. The tree is gone over only where
-/// the counts with the net's own fill the node.
+/// Whether a node with so much room is full by these counts without the net's own, and was not by
+/// the view. The tree, in which it may stand in this row, is gone over only where the counts with
+/// the net's own fill the node.
 #[tactic(auto, using(crate::proofs::Filled::is_there, crate::proofs::Filled::few_there, crate::proofs::Filled::was_filled, crate::proofs::Filled::filled_now))]
 fn fills_room(
     view: &View,
@@ -45,6 +59,7 @@ fn fills_room(
     net: u32,
     tree: &Option<Tree>,
     counts: &Counts,
+    row: usize,
     id: u32,
     room: u32,
 ) -> bool
@@ -63,10 +78,11 @@ fn fills_room(
     if room <= view.others(id) {
         return false;
     }
-    room <= count - own_use(problem, net, tree, id)
+    room <= count - own_use(problem, net, tree, row, id)
 }
 
-/// Whether a node is full by these counts without the net's own, and was not by the view.
+/// Whether a node is full by these counts without the net's own, and was not by the view. It may
+/// stand in this row of the tree.
 #[tactic(auto, using(crate::proofs::Filled::not_filled))]
 fn is_filled(
     view: &View,
@@ -74,6 +90,7 @@ fn is_filled(
     net: u32,
     tree: &Option<Tree>,
     counts: &Counts,
+    row: usize,
     id: u32,
 ) -> bool
     requires routes { RoutesOrNone problem.now net (list_of_tree tree.now) }
@@ -85,11 +102,13 @@ fn is_filled(
 {
     match problem.device().capacity(id) {
         None => false,
-        Some(room) => fills_room(view, problem, net, tree, counts, id, room),
+        Some(room) => fills_room(view, problem, net, tree, counts, row, id, room),
     }
 }
 
-/// Whether some node of the tree of these rows is full by these counts without the net's own, and was not by the view.
+/// Whether some node of the tree of these rows is full by these counts without the net's own, and
+/// was not by the view. The net had another tree before, or none, of which this one has most rows
+/// where they stood.
 pub(crate) fn any_filled(
     view: &View,
     problem: &Problem,
@@ -105,8 +124,8 @@ pub(crate) fn any_filled(
     ensures { result ≡ list_any (λ r. filled_by problem.now net (list_of_tree tree.now)
         counts.now view.now r.node) rows.now }
 {
-    for row in rows {
-        if is_filled(view, problem, net, tree, counts, row.node) {
+    for row in 0..rows.len() {
+        if is_filled(view, problem, net, tree, counts, row, rows[row].node) {
             return true;
         }
     }

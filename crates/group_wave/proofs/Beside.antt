@@ -1,8 +1,8 @@
 -- What neighbours of a group are offered.
-use Rattle.std.proofs.Common.{◌≡◌, ℕ, ◌+◌, ◌*◌, ◌<◌, List, [], ◌∷◌, length, map, get_or, Contains, Bool, not, ◌||◌, true, false, refl, inl, inr, sym, ap, ◌∙◌, subst, arith}
+use Rattle.std.proofs.Common.{◌≡◌, ℕ, ◌+◌, ◌*◌, ◌<◌, List, [], ◌∷◌, length, map, get_or, Contains, true, false, refl, inl, inr, sym, ap, ◌∙◌, subst, arith}
 use Rattle.std.specs.Int.{bit_at}
-use Rattle.std.specs.Prelude.{IsFalse, IsTrue}
-use Rattle.std.proofs.lemmas.Bool.{cases_lt, false≢true}
+use Rattle.std.proofs.lemmas.Bool.{cases_eq, cases_lt, false≢true}
+use Rattle.std.proofs.lemmas.Nat.Bits.{bit_at-zero}
 use Rattle.std.proofs.lemmas.List.Elements.{All-contains}
 use Rattle.track_groups.specs.declared.group.Group.{Group}
 use Rattle.track_groups.specs.Groups.{IsOn, group_at, on_track, wire_on}
@@ -11,11 +11,12 @@ use Rattle.track_groups.proofs.OnTracks.{on_within}
 use Rattle.wavefront.specs.Boxes.{box_of_net, touches}
 use Rattle.wavefront.specs.Space.{IsInside}
 use Rattle.wavefront.proofs.Lists.{contains_none, contains_first, contains_later, contains_cases}
+use Rattle.group_wave.specs.kept.Bits.{PutsBit, TakesBit}
 use Rattle.group_wave.specs.kept.Grounds.{Ground, IsGround, groups_of}
 use Rattle.group_wave.specs.kept.Queues.{Waiting}
 use Rattle.group_wave.specs.kept.WaveState.{FAR, Wave}
 use Rattle.group_wave.specs.kept.Wave.{AreTracks}
-use Rattle.group_wave.specs.kept.Steps.{IsLive, IsOffer, IsStep, Spreads, TookBefore, TookNearer, TookNearerBefore, TookPins, TookWires}
+use Rattle.group_wave.specs.kept.Steps.{IsLive, IsOffer, IsStep, Spreads, TookBefore, TookBut, TookNearer, TookNearerBefore, TookPins, TookWires}
 use Rattle.group_wave.proofs.Grouped.{group_inside, is_wire_here, wire_within}
 use Rattle.group_wave.proofs.Lower.{went_lower}
 
@@ -53,14 +54,45 @@ module _ (g : Ground) (e : Waiting) where
     | inr late ↦ let here : i ≡ k = omega (arith, lt, late) in subst (TookWires g t e) (sym at ∙ ap (λ x. get_or hs x 0) here) took
   ]
 
-  -- one more that has it already, where none may be lowered
-  pub settled_next : (w : Wave) (hs : List ℕ) (i h : ℕ) (may settled : Bool) → get_or hs i 0 ≡ h → (IsFalse may → TookBefore g w e hs i) → (IsTrue settled → TookWires g w e h) → IsFalse (may || not settled) → TookBefore g w e hs (i + 1)
-  settled_next w hs i h true settled at before took none = absurd (false≢true (sym none))
-  settled_next w hs i h false false at before took none = absurd (false≢true (sym none))
-  settled_next w hs i h false true at before took none = λ k lt within. elim (cases_lt k i) [
-    | inl early ↦ before refl k early within
-    | inr late ↦ let here : i ≡ k = omega (arith, lt, late) in subst (TookWires g w e) (sym at ∙ ap (λ x. get_or hs x 0) here) (took refl)
-  ]
+  -- one more that has it already
+  pub but_settled : (w : Wave) (hs : List ℕ) (i h bits : ℕ) → get_or hs i 0 ≡ h → TookBut g w e hs i bits → TookWires g w e h → TookBut g w e hs (i + 1) bits
+  but_settled w hs i h bits at before took = record {
+    among = λ k one. (let early = before.among k one in omega (arith, early));
+    took = λ k lt within none. elim (cases_lt k i) [
+      | inl early ↦ before.took k early within none
+      | inr late ↦ let here : i ≡ k = omega (arith, lt, late) in subst (TookWires g w e) (sym at ∙ ap (λ x. get_or hs x 0) here) took
+    ];
+  }
+
+  -- one more that is still to be offered the way
+  pub but_noted : (w : Wave) (hs : List ℕ) (i bits more : ℕ) → PutsBit bits more i → TookBut g w e hs i bits → TookBut g w e hs (i + 1) more
+  but_noted w hs i bits more put before = record {
+    among = λ k one. elim (cases_eq k i) [
+      | inl here ↦ omega (arith, here)
+      | inr other ↦ let early = before.among k (sym (put.others k other) ∙ one) in omega (arith, early)
+    ];
+    took = λ k lt within none. elim (cases_eq k i) [
+      | inl here ↦ absurd (let one = put.here in let at = ap (bit_at more) here in omega (arith, one, at, none))
+      | inr other ↦ before.took k (omega (arith, lt, other)) within (sym (put.others k other) ∙ none)
+    ];
+  }
+
+  -- one of these was offered it
+  pub but_less : (s t : Wave) (hs : List ℕ) (i k h bits less : ℕ) → Spreads g s t → TakesBit bits less k → get_or hs k 0 ≡ h → TookBut g s e hs i bits → TookWires g t e h → TookBut g t e hs i less
+  but_less s t hs i k h bits less step taken at before took = record {
+    among = λ j one. elim (cases_eq j k) [
+      | inl here ↦ absurd (let gone = taken.gone in let same = ap (bit_at less) here in omega (arith, gone, same, one))
+      | inr other ↦ before.among j (sym (taken.others j other) ∙ one)
+    ];
+    took = λ j lt within none. elim (cases_eq j k) [
+      | inl here ↦ subst (TookWires g t e) (sym at ∙ ap (λ x. get_or hs x 0) (sym here)) took
+      | inr other ↦ took_then s t (get_or hs j 0) step (before.took j lt within (sym (taken.others j other) ∙ none))
+    ];
+  }
+
+  -- all were, where none is left
+  pub but_none : (w : Wave) (hs : List ℕ) (i : ℕ) → TookBut g w e hs i 0 → TookBefore g w e hs i
+  but_none w hs i before k lt within = before.took k lt within (bit_at-zero k)
 
   pub nearer_next : (s t : Wave) (wires : ℕ) (hs : List ℕ) (i h : ℕ) → Spreads g s t → get_or hs i 0 ≡ h → TookNearerBefore g s e wires hs i → TookNearer g t e wires h → TookNearerBefore g t e wires hs (i + 1)
   nearer_next s t wires hs i h step at before took k lt within = elim (cases_lt k i) [

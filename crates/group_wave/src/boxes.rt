@@ -1,19 +1,34 @@
 //! The box in which a net is routed.
 
-ghost use Rattle.std.specs.Prelude.{◌≡◌, ◌<◌, length};
+ghost use Rattle.std.specs.Prelude.{◌≡◌, ◌<◌, length, IfOk};
 ghost use Rattle.wavefront.specs.Boxes.{box_around, box_of_net, box_of_node, box_of_span, box_with, touches};
 ghost use Rattle.rr_graph.specs.Problems.{net_in};
-ghost use Rattle.group_wave.specs.kept.Boxes.{box_shared, boxed};
+ghost use Rattle.group_wave.specs.kept.Boxes.{AreFirstBoxes, box_shared, boxed};
 
 use rr_graph::{Device, Problem, Span};
+use std::alloc::{AllocError, Global};
 
 /// The columns and rows from one place to another, both included.
-#[derive(Clone, Copy, Debug)]
+#[derive(Clone, Copy, Debug, Drop)]
 pub(crate) struct BoundingBox {
     pub(crate) left: u32,
     pub(crate) right: u32,
     pub(crate) bottom: u32,
     pub(crate) top: u32,
+}
+
+/// The boxes of a device's sources and sinks, which are its first nodes.
+pub(crate) fn terminal_boxes(alloc: Global, device: &Device) -> Result<Vec<BoundingBox>, AllocError>
+    ensures { IfOk result (λ boxes. AreFirstBoxes device.now boxes.items) }
+{
+    let mut boxes = Vec::new(alloc);
+    for node in 0..device.first_wire() {
+        if !device.is_source(node) && !device.is_sink(node) {
+            return Ok(boxes);
+        }
+        boxes.push(BoundingBox::of_node(device, node))?;
+    }
+    Ok(boxes)
 }
 
 impl BoundingBox {
@@ -52,6 +67,17 @@ impl BoundingBox {
         }
     }
 
+    /// The same, where the boxes of the device's first nodes are at hand.
+    pub(crate) fn of_node_in(boxes: &[BoundingBox], device: &Device, node: u32) -> BoundingBox
+        requires { AreFirstBoxes device.now boxes.now }
+        ensures { boxed result ≡ box_of_node device.now node }
+    {
+        match boxes.get(node as usize) {
+            Some(place) => *place,
+            None => BoundingBox::of_node(device, node),
+        }
+    }
+
     /// The least box around two.
     pub(crate) fn around(self, other: BoundingBox) -> BoundingBox
         ensures { boxed result ≡ box_around (boxed self) (boxed other) }
@@ -77,24 +103,27 @@ impl BoundingBox {
     }
 
     /// The least box around this one and nodes.
-    fn with(self, device: &Device, nodes: &[u32]) -> BoundingBox
+    fn with(self, boxes: &[BoundingBox], device: &Device, nodes: &[u32]) -> BoundingBox
+        requires { AreFirstBoxes device.now boxes.now }
         ensures { boxed result ≡ box_with device.now (boxed self) nodes.now }
     {
         let mut around = self;
         for node in nodes {
-            around = around.around(BoundingBox::of_node(device, *node));
+            around = around.around(BoundingBox::of_node_in(boxes, device, *node));
         }
         around
     }
 
     /// The bounding box of a net's terminals.
     #[tactic(auto, using(crate::proofs::Opened::net_box))]
-    pub(crate) fn of_net(problem: &Problem, net: u32) -> BoundingBox
-        requires { net < length problem.now.nets }
+    pub(crate) fn of_net(boxes: &[BoundingBox], problem: &Problem, net: u32) -> BoundingBox
+        requires net { net < length problem.now.nets }
+        requires boxes { AreFirstBoxes problem.now.device boxes.now }
         ensures { boxed result ≡ box_of_net problem.now.device (net_in problem.now.nets net) }
     {
         let device = problem.device();
-        BoundingBox::of_node(device, problem.source(net)).with(device, problem.sinks(net))
+        let source = BoundingBox::of_node_in(boxes, device, problem.source(net));
+        source.with(boxes, device, problem.sinks(net))
     }
 
     /// Whether the box, widened on each side, has one of the places of a span.

@@ -288,6 +288,7 @@ pub(crate) fn put_box(eights: &mut Vec<EightBoxes>, at: usize, place: BoundingBo
 
 /// How many wires lead on from one of a group to the nearest of boxes at least, by 64 times as
 /// much, and the last six bits of that box's place.
+#[inline(always)]
 pub(crate) fn fewest_in(eights: &[EightBoxes], group: &Group) -> u16
     ensures { (at : ℕ) (place : plain.BoundingBox) → at < 8 * length eights.now
         → StandsAt eights.now at place → result / 64 ≤ wires_to place (wire_of group.now) }

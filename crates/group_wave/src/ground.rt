@@ -16,7 +16,7 @@ ghost use Rattle.wavefront.specs.Growth.{space_of};
 ghost use Rattle.wavefront.specs.Space.{HasEdge, IsWanted, base_cost, entry_cost};
 ghost use Rattle.wavefront.specs.kept.Bounds.{IsInsideBox, least_wire_cost};
 ghost use Rattle.wavefront.specs.kept.Spaces.{LeadsOnlyTo, node_count};
-ghost use Rattle.group_wave.specs.kept.Boxes.{boxed};
+ghost use Rattle.group_wave.specs.kept.Boxes.{AreFirstBoxes, boxed};
 ghost use Rattle.group_wave.specs.kept.Grounds.{IsGround, groups_of};
 
 use crate::boxes::BoundingBox;
@@ -34,6 +34,7 @@ pub(crate) struct Ground<'a> {
     problem: &'a Problem,
     groups: &'a TrackGroups,
     drives: &'a PinDrives,
+    boxes: &'a [BoundingBox],
     net: u32,
     view: &'a View,
     present: u32,
@@ -81,6 +82,7 @@ impl<'a> Ground<'a> {
         problem: &'a Problem,
         groups: &'a TrackGroups,
         drives: &'a PinDrives,
+        boxes: &'a [BoundingBox],
         net: u32,
         view: &'a View,
         present: u32,
@@ -89,6 +91,7 @@ impl<'a> Ground<'a> {
         requires net { net < length problem.now.nets }
         requires groups { IsTabled problem.now.device groups.now }
         requires drives { AreDrives problem.now.device groups.now.wires drives.now }
+        requires boxes { AreFirstBoxes problem.now.device boxes.now }
         requires view { length view.now ≡ node_count_of problem.now.device }
         requires present { present ≤ GREATEST_PRESENT }
         ensures ground { result ≡ record {
@@ -106,11 +109,12 @@ impl<'a> Ground<'a> {
             problem,
             groups,
             drives,
+            boxes,
             net,
             view,
             present,
             bb,
-            terminals: BoundingBox::of_net(problem, net),
+            terminals: BoundingBox::of_net(boxes, problem, net),
         }
     }
 
@@ -270,7 +274,7 @@ impl<'a> Ground<'a> {
     pub(crate) fn box_of(&self, node: u32) -> BoundingBox
         ensures { boxed result ≡ box_of_node self.now.space.device node }
     {
-        BoundingBox::of_node(self.problem.device(), node)
+        BoundingBox::of_node_in(self.boxes, self.problem.device(), node)
     }
 
     /// The least box around the sinks from one place of their list to the one before another.

@@ -263,6 +263,7 @@ impl Nearest {
     }
 
     /// How many wires lead on from one of a group to the nearest box, at least.
+    #[inline(always)]
     pub(crate) fn fewest(&self, group: &Group) -> Sight
         ensures { IsLow self.now.boxes (wire_of group.now) result.wires }
     {

@@ -15,9 +15,9 @@ pub(crate) struct Entry<K> {
     pub(crate) key: K,
     pub(crate) label: K,
     pub(crate) group: u32,
-    pub(crate) tracks: u64,
     /// Whether the first part of their neighbours was done.
     pub(crate) is_begun: bool,
+    pub(crate) tracks: u64,
 }
 
 /// Entries that wait. Contracts see a list of them, in no order that counts.

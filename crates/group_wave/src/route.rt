@@ -60,6 +60,7 @@ pub fn route_net(
         problem,
         &tables.groups,
         &tables.drives,
+        &tables.boxes,
         net,
         view,
         present,

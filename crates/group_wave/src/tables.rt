@@ -3,17 +3,19 @@
 ghost use Rattle.std.specs.Prelude.{◌≡◌, IfOk};
 ghost use Rattle.group_wave.specs.kept.Tables.{AreTablesOf};
 
+use crate::boxes::{BoundingBox, terminal_boxes};
 use rr_graph::{Device, Problem};
 use std::alloc::{AllocError, Global};
 use std::marker::Model;
 use track_groups::{PinDrives, TrackGroups};
 
-/// What all searches over a device share: the groups of its wires, and what its output pins drive.
-/// Contracts see both.
+/// What all searches over a device share: the groups of its wires, what its output pins drive, and
+/// the boxes of its sources and sinks. Contracts see all three.
 #[derive(Debug, Drop)]
 pub(crate) struct SearchTables {
     pub(crate) groups: TrackGroups,
     pub(crate) drives: PinDrives,
+    pub(crate) boxes: Vec<BoundingBox>,
 }
 
 impl Model for SearchTables {
@@ -21,7 +23,7 @@ impl Model for SearchTables {
 
     ghost Value = { DeviceTables };
 
-    ghost view = { λ t. record { groups = t.groups; drives = t.drives } };
+    ghost view = { λ t. record { groups = t.groups; drives = t.drives; boxes = t.boxes.items } };
 }
 
 impl SearchTables {
@@ -35,7 +37,12 @@ impl SearchTables {
     {
         let groups = TrackGroups::new(alloc, device)?;
         let drives = PinDrives::new(alloc, device, &groups)?;
-        Ok(SearchTables { groups, drives })
+        let boxes = terminal_boxes(alloc, device)?;
+        Ok(SearchTables {
+            groups,
+            drives,
+            boxes,
+        })
     }
 }
 

@@ -136,6 +136,18 @@ impl<K: Key> Wave<K> {
         if let Some(wires) = self.nearest.known(group) {
             return wires;
         }
+        self.find_wires(ground, group)
+    }
+
+    /// The same, found anew and kept.
+    fn find_wires(&mut self, ground: &Ground<'_>, group: u32) -> u32
+        requires wave { IsWave ground.now self.old }
+        requires group { group < length (groups_of ground.now) }
+        ensures low { IsLow self.new.boxes (wire_of (group_at (groups_of ground.now) group))
+            result }
+        ensures noted { IsNoted self.old self.new FAR }
+        ensures wave { IsWave ground.now self.new }
+    {
         let sight = self.nearest.fewest(&ground.group(group));
         self.nearest.keep(group, sight);
         u32::from(sight.wires)

@@ -2,6 +2,7 @@ pub mod OnTracks
 mod AllHold
 pub mod WiresTold
 mod PushedRows
+mod SmallWires
 mod SingleWires
 mod Tests
 pub mod MoreDriven

@@ -1,4 +1,5 @@
 pub mod Parts
+pub mod Packed
 pub mod Fields
 pub mod Lone
 pub mod Merging

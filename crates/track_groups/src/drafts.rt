@@ -5,6 +5,7 @@ ghost use Rattle.track_groups.specs.kept.Fields.{IsSmall};
 
 use crate::classes::{Class, classes_of};
 use crate::group::{Group, GroupTrack};
+use crate::packed::PackedGroup;
 use crate::wires::WireGroups;
 use rr_graph::{Device, Kind, Node};
 use std::alloc::{AllocError, Global};
@@ -56,7 +57,7 @@ fn group_at(device: &Device, class: Class, kind: Kind, x: u32, y: u32) -> Option
 
 /// Adds the groups that begin at a place, in the order of their first tracks.
 fn push_groups(
-    groups: &mut Vec<Group>,
+    groups: &mut Vec<PackedGroup>,
     device: &Device,
     classes: &[Class],
     kind: Kind,
@@ -71,7 +72,7 @@ fn push_groups(
     for class in classes {
         if let Some(group) = group_at(device, *class, kind, x, y) {
             if groups.len() < MOST_GROUPS {
-                groups.push(group)?;
+                groups.push(PackedGroup::new(group))?;
             }
         }
     }
@@ -80,7 +81,7 @@ fn push_groups(
 
 /// Adds the groups of a kind, by their places.
 fn push_groups_of_kind(
-    groups: &mut Vec<Group>,
+    groups: &mut Vec<PackedGroup>,
     device: &Device,
     classes: &[Class],
     kind: Kind,
@@ -99,7 +100,11 @@ fn push_groups_of_kind(
 }
 
 /// All groups, in the order of their first wires.
-fn groups_from(alloc: Global, device: &Device, classes: &[Class]) -> Result<Vec<Group>, AllocError>
+fn groups_from(
+    alloc: Global,
+    device: &Device,
+    classes: &[Class],
+) -> Result<Vec<PackedGroup>, AllocError>
     ensures small { IfOk result (λ v. All IsSmall v.items) }
     ensures few { IfOk result (λ v. length v.items ≤ 2 ^ 23) }
 {
@@ -128,12 +133,12 @@ fn places_from(
     alloc: Global,
     first_wire: u32,
     wires: u32,
-    groups: &[Group],
+    groups: &[PackedGroup],
 ) -> Result<Vec<GroupTrack>, AllocError> {
     let mut places = vec![in alloc; UNKNOWN; wires as usize]?;
     let mut number = 0u32;
     for group in groups {
-        put_places(&mut places, first_wire, number, *group);
+        put_places(&mut places, first_wire, number, group.group());
         number = number.saturating_add(1);
     }
     Ok(places)

@@ -12,6 +12,7 @@ mod joining;
 mod lone;
 mod making;
 mod merging;
+mod packed;
 mod rows;
 mod sink_pins;
 mod wires;

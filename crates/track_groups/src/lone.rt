@@ -6,6 +6,7 @@ ghost use Rattle.track_groups.specs.Groups.{IsGrouped};
 ghost use Rattle.track_groups.specs.kept.Lone.{lone_wire, lone_at, first_track, AreLone};
 
 use crate::group::{Group, GroupTrack};
+use crate::packed::PackedGroup;
 use crate::wires::WireGroups;
 use rr_graph::{Device, Kind, Span};
 use std::alloc::{AllocError, Global};
@@ -19,21 +20,24 @@ const NOWHERE: Span = Span {
 };
 
 /// The group of one wire.
-fn lone_wire(device: &Device, wire: u32) -> Group
+#[tactic(auto, using(crate::proofs::SmallWires::lone_fits))]
+fn lone_wire(device: &Device, wire: u32) -> PackedGroup
+    requires { wire < 2 ^ 23 }
     ensures { result ≡ lone_wire device.now wire }
 {
+    let _limits = device.nx();
     let (kind, span, reach) = match device.wire(wire) {
         None => (Kind::Chanx, NOWHERE, 0),
         Some(told) => told,
     };
-    Group {
+    PackedGroup::new(Group {
         kind,
         span,
         reach,
         base: wire,
         stride: 1,
         tracks: 1,
-    }
+    })
 }
 
 /// The groups of so many wires.
@@ -42,7 +46,7 @@ fn lone_wires(
     device: &Device,
     first_wire: u32,
     wires: u32,
-) -> Result<Vec<Group>, AllocError>
+) -> Result<Vec<PackedGroup>, AllocError>
     requires { first_wire + wires < 2 ^ 23 }
     ensures { IfOk result
         (λ v. v.items ≡ map (lone_at device.now first_wire) (numbers_below wires)) }

@@ -1,6 +1,6 @@
 //! Lists that stand one behind the other.
 
-ghost use Rattle.std.specs.Prelude.{◌≡◌, ◌++◌, [], ◌∷◌, get_or, OnOk};
+ghost use Rattle.std.specs.Prelude.{◌≡◌, ◌++◌, [], ◌∷◌, get_or, IfOk, OnOk};
 
 use std::alloc::{AllocError, Global};
 use std::marker::Model;
@@ -8,8 +8,18 @@ use std::marker::Model;
 /// From one place of a list to the one before another.
 #[derive(Clone, Copy, Debug)]
 pub(crate) struct Part {
-    pub(crate) start: usize,
-    pub(crate) end: usize,
+    pub(crate) start: u32,
+    pub(crate) end: u32,
+}
+
+/// A place of a list, where it is one that is kept.
+fn place(count: usize) -> Result<u32, AllocError>
+    ensures { IfOk result (λ place. place ≡ count) }
+{
+    match u32::try_from(count) {
+        Ok(place) => Ok(place),
+        Err(_) => Err(AllocError),
+    }
 }
 
 /// A list of lists. Contracts see it so.
@@ -42,15 +52,17 @@ impl<T: Copy> Rows<T> {
     }
 
     /// Puts one more list behind the others.
+    ///
+    /// # Errors
+    ///
+    /// Where memory runs out, or the lists have more items than can be counted.
     pub(crate) fn push(&mut self, row: &[T]) -> Result<(), AllocError>
         ensures { OnOk result (self.new ≡ self.old ++ row.now ∷ []) }
     {
-        let start = self.items.len();
+        let start = place(self.items.len())?;
         self.items.extend_from_slice(row)?;
-        self.parts.push(Part {
-            start,
-            end: self.items.len(),
-        })?;
+        let end = place(self.items.len())?;
+        self.parts.push(Part { start, end })?;
         Ok(())
     }
 
@@ -60,7 +72,7 @@ impl<T: Copy> Rows<T> {
     {
         match self.parts.get(index as usize) {
             None => &[],
-            Some(part) => &self.items[part.start..part.end],
+            Some(part) => &self.items[part.start as usize..part.end as usize],
         }
     }
 }

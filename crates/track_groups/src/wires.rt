@@ -4,6 +4,7 @@ ghost use Rattle.std.specs.Prelude.{◌≡◌, ℕ, ◌+◌, ◌*◌, ◌^◌, �
 ghost use Rattle.track_groups.specs.Groups.{group_at, wire_on, place_of, IsOn, HasPlace};
 
 use crate::group::{Group, GroupTrack};
+use crate::packed::PackedGroup;
 use std::marker::Model;
 
 /// The groups of a device's wires; and of each wire its group and track. Contracts see the list of the groups, and the list of the
@@ -11,7 +12,7 @@ use std::marker::Model;
 #[derive(Debug, Drop)]
 pub(crate) struct WireGroups {
     pub(crate) first_wire: u32,
-    pub(crate) groups: Vec<Group>,
+    pub(crate) groups: Vec<PackedGroup>,
     /// For each wire, from the first one on, its group and track.
     pub(crate) places: Vec<GroupTrack>,
 }
@@ -45,7 +46,7 @@ impl WireGroups {
         ensures few { result.tracks ≤ 64 }
         ensures small { result.base + 64 * result.stride < 2 ^ 30 }
     {
-        self.groups[group as usize]
+        self.groups[group as usize].group()
     }
 
     /// Whether a group has a track; false where there is no such group.

@@ -1,5 +1,6 @@
 -- Boxes as they are kept, and what those around the sinks of a net tell.
-use Rattle.std.specs.Prelude.{ℕ, ◌≤◌, List, Contains, max, min}
+use Rattle.std.specs.Prelude.{◌≡◌, ℕ, ◌<◌, ◌≤◌, List, Contains, get_or, length, max, min}
+use Rattle.rr_graph.specs.Fabric.{Fabric}
 use Rattle.wavefront.specs.Boxes as plain
 use Rattle.wavefront.specs.kept.Bounds.{Wire}
 use Rattle.wavefront.specs.kept.Bounds.{wires_to}
@@ -7,6 +8,10 @@ use Rattle.group_wave.specs.declared.boxes.BoundingBox.{BoundingBox}
 
 abbrev pub boxed : BoundingBox → plain.BoundingBox
 boxed b = record { left = b.left; right = b.right; bottom = b.bottom; top = b.top }
+
+-- these are the boxes of a device's first nodes
+abbrev pub AreFirstBoxes : Fabric → List BoundingBox → Type 0
+AreFirstBoxes f boxes = (v : ℕ) (d : BoundingBox) → v < length boxes → boxed (get_or boxes v d) ≡ plain.box_of_node f v
 
 -- what two boxes share
 abbrev pub box_shared : (a b : plain.BoundingBox) → plain.BoundingBox

@@ -5,15 +5,16 @@ use Rattle.rr_graph.specs.Problems.{net_in}
 use Rattle.wavefront.specs.Boxes.{box_of_net}
 use Rattle.wavefront.specs.Growth.{space_of}
 use Rattle.group_wave.specs.declared.ground.Ground.TheInside.{Inside}
-use Rattle.group_wave.specs.kept.Boxes.{boxed}
+use Rattle.group_wave.specs.kept.Boxes.{AreFirstBoxes, boxed}
 use Rattle.group_wave.specs.kept.Grounds.{Ground}
 
 abbrev pub ground_inside : Inside → Ground
 ground_inside g = record { space = space_of g.problem.now g.net g.view.now g.present g.bb; tables = g.groups.now; drives = g.drives.now }
 
--- the net is there, the view is one of the device, and the box is that of the net
+-- the net is there, the view and the boxes are of the device, and the box is that of the net
 pub record IsGroundInside (g : Inside) : Type 0 where
   pub net : g.net < length g.problem.now.nets
   pub view : length g.view.now ≡ node_count_of g.problem.now.device
   pub present : g.present ≤ 1048576
+  pub boxes : AreFirstBoxes g.problem.now.device g.boxes.now
   pub terminals : boxed g.terminals ≡ box_of_net g.problem.now.device (net_in g.problem.now.nets g.net)

@@ -273,6 +273,11 @@ pub record GoesOn (g : Ground) (old new : Wave) (e : Waiting) : Type 0 where
 abbrev pub TookBefore : Ground → Wave → Waiting → List ℕ → ℕ → Type 0
 TookBefore g w e hs i = (k : ℕ) → k < i → k < length hs → TookWires g w e (get_or hs k 0)
 
+-- so they were of the neighbours before place i, but for those whose bits are 1
+pub record TookBut (g : Ground) (w : Wave) (e : Waiting) (hs : List ℕ) (i bits : ℕ) : Type 0 where
+  pub among : (k : ℕ) → bit_at bits k ≡ 1 → k < i
+  pub took : (k : ℕ) → k < i → k < length hs → bit_at bits k ≡ 0 → TookWires g w e (get_or hs k 0)
+
 -- or as many wires lead on from the neighbour, at least
 abbrev pub TookNearerBefore : Ground → Wave → Waiting → (wires : ℕ) → List ℕ → ℕ → Type 0
 TookNearerBefore g w e wires hs i = (k : ℕ) → k < i → k < length hs → TookNearer g w e wires (get_or hs k 0)

@@ -1,7 +1,7 @@
 //! How a wave goes on from tracks of a group: first to those neighbours from which fewer wires lead
 //! on, later to all.
 
-ghost use Rattle.std.specs.Prelude.{◌≡◌, ◌+◌, ◌*◌, ◌^◌, ◌<◌, ◌↔◌, IsTrue, IsFalse, true, false};
+ghost use Rattle.std.specs.Prelude.{◌≡◌, ◌+◌, ◌*◌, ◌^◌, ◌<◌, ◌≤◌, ◌↔◌, IsTrue, true, false};
 ghost use Rattle.group_wave.specs.kept.Bits.{IsOnlyBit, PutsBit};
 
 use super::relaxing::Offer;
@@ -39,7 +39,7 @@ impl<K: Key> Wave<K> {
     ghost use Rattle.group_wave.specs.kept.Grounds.{IsGround, groups_of};
     ghost use Rattle.group_wave.specs.kept.Queues.{entry_of};
     ghost use Rattle.group_wave.specs.kept.Wave.{AreTracks, IsCompleteBut, IsOf, IsWave, cost_at, wire_of};
-    ghost use Rattle.group_wave.specs.kept.Steps.{GoesOn, AreTracksLeft, IsLive, Spreads, TookBefore, TookNearer, TookNearerBefore, TookPins, TookWires};
+    ghost use Rattle.group_wave.specs.kept.Steps.{GoesOn, AreTracksLeft, IsLive, Spreads, TookBefore, TookBut, TookNearer, TookNearerBefore, TookPins, TookWires};
 
     /// Whether a node's label has this cost.
     #[inline(always)]
@@ -157,26 +157,96 @@ impl<K: Key> Wave<K> {
         Ok(())
     }
 
-    /// Whether the way from the one track of an entry may lower the label of a neighbour's wire. All
-    /// neighbours are looked at with no branch between, so that their rows are fetched side by side.
+    /// Which neighbours, by their places, have a wire whose label the way from the one track of an
+    /// entry may lower. All are looked at with no branch between, so that their rows are fetched
+    /// side by side.
     #[inline(always)]
-    fn may_lower(&self, ground: &Ground<'_>, entry: Entry<K>, group: &Group, track: u32) -> bool
+    fn unsettled(
+        &self,
+        ground: &Ground<'_>,
+        entry: Entry<K>,
+        group: &Group,
+        track: u32,
+        neighbours: &[u32],
+    ) -> u64
         requires ground { IsGround ground.now }
         requires wave { IsWave ground.now self.now }
         requires group { group.now ≡ group_at (groups_of ground.now) entry.group }
         requires entry { IsLive ground.now self.now (entry_of K.value entry) }
         requires fits { K.value entry.label < K.greatest }
         requires track { IsOnlyBit entry.tracks track }
-        ensures { IsFalse result → TookBefore ground.now self.now (entry_of K.value entry)
-            (neighbours_of ground.now.tables entry.group)
-            (length (neighbours_of ground.now.tables entry.group)) }
+        requires beside { neighbours.now ≡ neighbours_of ground.now.tables entry.group }
+        requires few { length neighbours.now ≤ 64 }
+        ensures { TookBut ground.now self.now (entry_of K.value entry) neighbours.now
+            (length neighbours.now) result }
     {
-        let mut may_lower = false;
+        let mut places = 0;
+        for at in 0..neighbours.len() {
+            let is_settled = self.is_settled(ground, entry, group, track, neighbours[at]);
+            places = with_bit_if(places, at as u32, !is_settled);
+        }
+        places
+    }
+
+    /// Offers the wires of those neighbours the way from the one track of an entry whose places are
+    /// given.
+    #[inline(always)]
+    fn relax_unsettled(
+        &mut self,
+        ground: &Ground<'_>,
+        entry: Entry<K>,
+        group: &Group,
+        track: u32,
+        neighbours: &[u32],
+        places: u64,
+    ) -> Result<(), AllocError>
+        requires ground { IsGround ground.now }
+        requires wave { IsWave ground.now self.old }
+        requires group { group.now ≡ group_at (groups_of ground.now) entry.group }
+        requires small { group.now.base + 64 * group.now.stride < 2 ^ 30 }
+        requires entry { IsLive ground.now self.old (entry_of K.value entry) }
+        requires fits { K.value entry.label < K.greatest }
+        requires track { IsOnlyBit entry.tracks track }
+        requires beside { neighbours.now ≡ neighbours_of ground.now.tables entry.group }
+        requires others { TookBut ground.now self.old (entry_of K.value entry) neighbours.now
+            (length neighbours.now) places }
+        ensures spreads { OnOk result (Spreads ground.now self.old self.new) }
+        ensures took { OnOk result (TookBefore ground.now self.new (entry_of K.value entry)
+            neighbours.now (length neighbours.now)) }
+    {
+        let mut left = places;
+        while left != 0 {
+            let at = take_bit(&mut left);
+            self.relax_one(ground, entry, group, track, neighbours[at as usize])?;
+        }
+        Ok(())
+    }
+
+    /// Offers the wires of many neighbours the way from the one track of an entry.
+    fn relax_many(
+        &mut self,
+        ground: &Ground<'_>,
+        entry: Entry<K>,
+        group: &Group,
+        track: u32,
+    ) -> Result<(), AllocError>
+        requires ground { IsGround ground.now }
+        requires wave { IsWave ground.now self.old }
+        requires group { group.now ≡ group_at (groups_of ground.now) entry.group }
+        requires small { group.now.base + 64 * group.now.stride < 2 ^ 30 }
+        requires entry { IsLive ground.now self.old (entry_of K.value entry) }
+        requires fits { K.value entry.label < K.greatest }
+        requires track { IsOnlyBit entry.tracks track }
+        ensures spreads { OnOk result (Spreads ground.now self.old self.new) }
+        ensures took { OnOk result (TookBefore ground.now self.new (entry_of K.value entry)
+            (neighbours_of ground.now.tables entry.group)
+            (length (neighbours_of ground.now.tables entry.group))) }
+    {
         let neighbours = ground.neighbours(entry.group);
         for neighbour in neighbours {
-            may_lower |= !self.is_settled(ground, entry, group, track, *neighbour);
+            self.relax_one(ground, entry, group, track, *neighbour)?;
         }
-        may_lower
+        Ok(())
     }
 
     /// Offers the wires of all neighbours the way from the one track of an entry.
@@ -199,14 +269,12 @@ impl<K: Key> Wave<K> {
             (neighbours_of ground.now.tables entry.group)
             (length (neighbours_of ground.now.tables entry.group))) }
     {
-        if !self.may_lower(ground, entry, group, track) {
-            return Ok(());
-        }
         let neighbours = ground.neighbours(entry.group);
-        for neighbour in neighbours {
-            self.relax_one(ground, entry, group, track, *neighbour)?;
+        if neighbours.len() > 64 {
+            return self.relax_many(ground, entry, group, track);
         }
-        Ok(())
+        let places = self.unsettled(ground, entry, group, track, neighbours);
+        self.relax_unsettled(ground, entry, group, track, neighbours, places)
     }
 
     /// Offers the wires of all neighbours the way from the tracks of an entry.

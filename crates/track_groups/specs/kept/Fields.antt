@@ -10,6 +10,14 @@ pub record IsSmall (g : Group) : Type 0 where
   pub base : g.base < 2 ^ 23
   pub stride : g.stride ≤ 2 ^ 23
 
+-- what is kept in bytes fits
+pub record FitsBytes (g : Group) : Type 0 where
+  pub x1 : g.span.x1 ≤ 255
+  pub y1 : g.span.y1 ≤ 255
+  pub x2 : g.span.x2 ≤ 255
+  pub y2 : g.span.y2 ≤ 255
+  pub reach : g.reach ≤ 255
+
 abbrev pub grouping_in : inside.Inside → Grouping
 grouping_in t = record { first_wire = t.first_wire; groups = t.groups.items; places = t.places.items }
 

@@ -6,4 +6,4 @@ use Rattle.congestion_book.specs.kept.Views.{filled_by}
 use Rattle.congestion_book.proofs.filling.any_filled.Given as goal
 
 abbrev pub invariant-loop-row : goal.invariant-loop-row
-invariant-loop-row l = list_any (λ r. filled_by l.problem l.net (list_of_tree l.tree) l.counts l.view r.node) (take l.row-index l.rows) ≡ false
+invariant-loop-row l = list_any (λ r. filled_by l.problem l.net (list_of_tree l.tree) l.counts l.view r.node) (take l.row l.rows) ≡ false

@@ -1,5 +1,4 @@
-use Rattle.std.proofs.Common.{◌+◌, ◌-◌, ◌*◌, ◌/◌, min, max, arith}
-use Rattle.wavefront.specs.kept.Bounds.{wires_over}
+use Rattle.std.proofs.Common.{◌+◌, ◌-◌, min, max, arith}
 use Rattle.wavefront.proofs.WiresOver.{over_more}
 use Rattle.group_wave.proofs.eight_boxes.long_wires.Goals as goal
 

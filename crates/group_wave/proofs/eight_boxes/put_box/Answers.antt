@@ -1,4 +1,4 @@
-use Rattle.std.proofs.Common.{◌*◌, ◌/◌, ◌%◌, arith}
+use Rattle.std.proofs.Common.{◌%◌, arith}
 use Rattle.group_wave.proofs.SideBySide.{elsewhere}
 use Rattle.group_wave.proofs.eight_boxes.put_box.Goals as goal
 

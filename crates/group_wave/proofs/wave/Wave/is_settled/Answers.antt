@@ -1,16 +1,15 @@
-use Rattle.std.proofs.Common.{◌≡◌, ◌+◌, ◌*◌, ◌<◌, arith, length, slice_index_or, ap, sym, subst, ◌∙◌}
-use Rattle.std.proofs.lemmas.Result.{on_ok_weaker}
+use Rattle.std.proofs.Common.{◌≡◌, ◌+◌, ◌*◌, ◌<◌, arith, length, slice_index_or, ap, sym, ◌∙◌}
 use Rattle.track_groups.specs.declared.group.Group.{Group}
 use Rattle.track_groups.specs.Groups.{on_track}
 use Rattle.track_groups.specs.Joints.{wire_beside}
 use Rattle.group_wave.specs.kept.Grounds.{groups_of}
 use Rattle.group_wave.specs.kept.Queues.{entry_of}
 use Rattle.group_wave.specs.kept.WaveState.{FAR, Wave}
-use Rattle.group_wave.specs.kept.Wave.{WentOn, cost_at, unreached}
-use Rattle.group_wave.proofs.Beside.{beside_on, beside_step, beside_within, none_inside}
+use Rattle.group_wave.specs.kept.Wave.{cost_at, unreached}
+use Rattle.group_wave.proofs.Beside.{beside_on, beside_step, beside_within}
 use Rattle.group_wave.proofs.Costs.{cost_below}
-use Rattle.group_wave.proofs.Grouped.{group_inside, wire_within}
-use Rattle.group_wave.proofs.Relaxed.{relaxed_low, track_spreads}
+use Rattle.group_wave.proofs.Grouped.{wire_within}
+use Rattle.group_wave.proofs.Relaxed.{relaxed_low}
 use Rattle.group_wave.proofs.wave.Wave.is_settled.Goals as goal
 
 pub group-beside-requires : goal.group-beside-requires
