@@ -45,8 +45,8 @@ fn wires_over(share: u16, steps: u16, places: u16) -> u16
     requires { IsShare steps share }
     ensures { result ≤ wires_over steps places }
 {
-    let rounded = u32::from(places.min(383)) + u32::from(steps);
-    (rounded * u32::from(share) / 65_536) as u16
+    let rounded = places.min(383) + steps;
+    (u32::from(rounded) * u32::from(share) / 65_536) as u16
 }
 
 /// How many wires of one place lead on from one that lies so far off along its channel, and so far
