@@ -1,4 +1,5 @@
 """A congestion book, plain and slow, from the definitions: what it holds, as lists, and counts made by going over all of them."""
+from figures import places_of
 from judge import tree_fault
 from trees import pairs_of, text_of
 
@@ -116,6 +117,14 @@ class Book:
 
     def overused(self):
         return str(len(self.overuse()))
+
+    def excess(self):
+        return str(sum(by for _, by in self.overuse()))
+
+    def wirelength(self):
+        """The places of the wires of all trees, each once a tree."""
+        nodes = (self.device.nodes[node] for rows in self.trees if rows for node in {node for node, _ in rows})
+        return str(sum(len(places_of(self.device, node)) for node in nodes if node in self.device.spans))
 
     def unrouted(self):
         return str(self.trees.count(None))

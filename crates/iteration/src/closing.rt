@@ -54,6 +54,6 @@ pub(crate) fn make_iteration<R: Threads + Wait + Sync, G: Gate + Sync>(
     )?;
     close(alloc, &mut book)?;
     let _sound = book.problem();
-    gate.closed(iteration, book.unrouted(), book.overused());
+    gate.closed(iteration, &book);
     Ok(book)
 }

@@ -8,3 +8,4 @@ mod routing;
 
 pub use negotiation::negotiate;
 pub use outcome::Outcome;
+pub use routing::routing_of;

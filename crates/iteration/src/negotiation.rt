@@ -117,6 +117,16 @@ impl Negotiation {
     }
 }
 
+impl Negotiation {
+    /// Tells the gate what it came to.
+    fn tell<G: Gate>(&self, outcome: &Outcome, gate: &G) {
+        match outcome {
+            Outcome::Success(routing, _) => gate.found(self.workspace.problem(), routing),
+            Outcome::NotRouted { .. } => gate.left(&self.book),
+        }
+    }
+}
+
 /// The routing of a book in which each net has a tree and no node is overused, judged anew on a copy of its problem.
 fn success<R: Threads + Wait + Sync>(
     rt: &R,
@@ -172,15 +182,17 @@ fn outcome_of<R: Threads + Wait + Sync, G: Gate + Sync>(
     ensures run { IfOk result (EndsNegotiation problem settings.now workers) }
     ensures limit { 1 ≤ settings.now.iterations }
 {
+    gate.begins(&problem);
     let negotiation = run(rt, alloc, problem, settings, workers, gate)?;
     let outcome = negotiation.outcome(rt, alloc)?;
+    negotiation.tell(&outcome, gate);
     Ok(outcome)
 }
 
 /// Negotiates a routing of the problem. Iteration by iteration each net is routed anew by so many workers, on one congestion book, and the
 /// iteration is closed: nodes that stay overused cost more from then on. It ends where each net has a tree and no node is overused; else
-/// after the iteration in which a net found no path, and after the last one that the settings allow. The gate is reported before each
-/// iteration and after its close.
+/// after the iteration in which a net found no path, and after the last one that the settings allow. The gate is reported before the first
+/// iteration, before each, after its close, and at the end.
 ///
 /// `NoThread`, `Memory` and `Astray` as `iterate` answers them; `Memory` also where a copy, a close or the last check found none. The call
 /// waits for the workers.

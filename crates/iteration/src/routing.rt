@@ -19,9 +19,9 @@ fn tree_of(alloc: Global, book: &Book, net: u32) -> Result<Option<Tree>, AllocEr
     }
 }
 
-/// The pairs of the recorded trees, or none where a net has no tree.
+/// The recorded trees of a book as a routing: of each net the pairs, or none where it has no tree.
 #[tactic(auto, using(crate::proofs::Routings::trees_more, crate::proofs::Routings::trees_all))]
-pub(crate) fn routing_of(alloc: Global, book: &Book) -> Result<Routing, AllocError>
+pub fn routing_of(alloc: Global, book: &Book) -> Result<Routing, AllocError>
     ensures { IfOk result (λ r. r ≡ book.now.lists) }
 {
     let nets = book.problem().nets();

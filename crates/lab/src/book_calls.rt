@@ -54,7 +54,9 @@ fn read(session: &Session, call: Call<'_>, out: &mut String) -> Result<(), Unans
     let Books { book, view, .. } = &session.books;
     match call.name {
         "book_tree" | "occupancy" | "history" | "turns" => read_at(book, call, out),
-        "rows_of_overuse" | "overused" | "unrouted" | "fresh" => read_all(book, call, out),
+        "rows_of_overuse" | "overused" | "excess" | "unrouted" | "wirelength" | "fresh" => read_all(
+            book, call, out,
+        ),
         "has_filled" => put_filled(book, &session.tree, view, call.given, out),
         "dump_book" => put_book(book, call.given, out),
         _ => Err(Unanswered::NoCall),

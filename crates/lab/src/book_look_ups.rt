@@ -11,7 +11,9 @@ pub fn look_up(book: &Book, name: &str, out: &mut String) -> Result<(), Unanswer
     match name {
         "rows_of_overuse" => put_rows(book.rows(), out),
         "overused" => put(out, book.overused()),
+        "excess" => put(out, book.excess()),
         "unrouted" => put(out, book.unrouted()),
+        "wirelength" => put(out, book.wirelength()),
         _ => put(out, book.fresh()),
     }
 }

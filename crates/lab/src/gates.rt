@@ -6,6 +6,7 @@ use crate::meeting::Meeting;
 use crate::timing::Timing;
 use crate::unanswered::Unanswered;
 use crate::words::{NO_NUMBER, number};
+use congestion_book::Book;
 use net_workers::{Gate, TrialEnd};
 use std::alloc::AllocError;
 use std::sync::Wait;
@@ -128,9 +129,9 @@ impl<R: Wait + Clock> Gate for LabGate<'_, R> {
         }
     }
 
-    fn closed(&self, iteration: u32, unrouted: u32, overused: u32) {
+    fn closed(&self, iteration: u32, book: &Book) {
         match self {
-            LabGate::Counting(gate) => gate.closed(iteration, unrouted, overused),
+            LabGate::Counting(gate) => gate.closed(iteration, book.unrouted(), book.overused()),
             LabGate::Timing(gate) => gate.closed(iteration),
             _ => (),
         }

@@ -235,7 +235,11 @@ fn step<T: Eprint + Clock>(
 }
 
 /// Tells the progress what a line says of a negotiation.
-fn step_of_negotiation(progress: &impl Gate, name: &str, given: &[&str]) -> Result<(), Unanswered> {
+fn step_of_negotiation<T: Eprint + Clock>(
+    progress: &Progress<'_, T>,
+    name: &str,
+    given: &[&str],
+) -> Result<(), Unanswered> {
     match name {
         "opened" => {
             let [iteration, nets] = numbers::<2>(given)?;
@@ -250,8 +254,8 @@ fn step_of_negotiation(progress: &impl Gate, name: &str, given: &[&str]) -> Resu
             progress.searched(worker, net);
         }
         "closed" => {
-            let [iteration, unrouted, overused] = numbers::<3>(given)?;
-            progress.closed(iteration, unrouted, overused);
+            let [_iteration, _unrouted, overused] = numbers::<3>(given)?;
+            progress.note_overused(overused);
         }
         _ => return Err(Unanswered::Misread(PROGRESS)),
     }

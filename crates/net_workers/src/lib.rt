@@ -15,7 +15,7 @@ mod workspace;
 
 pub use desk::Desk;
 pub use fault::WorkFault;
-pub use gate::{Gate, OpenGate, TrialEnd};
+pub use gate::{BothGates, Gate, OpenGate, TrialEnd};
 pub use iteration::{iterate, iterate_in};
 pub use report::{Entry, Report};
 pub use share::{Round, Share};

@@ -56,14 +56,16 @@ impl SearchOptions {
     }
 }
 
-/// A search for the tree of a net: the tree, and a copy of it; or none where the net is stuck.
-fn search(
+/// A search for the tree of a net: the tree, and a copy of it; or none where the net is stuck, of
+/// which the gate is told.
+fn search<G: Gate>(
     alloc: Global,
     prepared: &PreparedProblem,
     net: u32,
     view: &View,
     options: SearchOptions,
     scratch: &mut Scratch,
+    gate: &G,
 ) -> Result<(Option<Tree>, Option<Tree>), WorkFault>
     requires net { net < length prepared.now.nets }
     requires fits { scratch.old ≡ node_count_of prepared.now.device }
@@ -85,7 +87,10 @@ fn search(
             let copy = tree.copy(alloc)?;
             Ok((Some(tree), Some(copy)))
         }
-        Ok(Found::NoPath(_)) => Ok((None, None)),
+        Ok(Found::NoPath(sink)) => {
+            gate.stuck(net, sink);
+            Ok((None, None))
+        }
         Err(SearchFault::Memory) => Err(WorkFault::Memory),
         Err(SearchFault::ViewSize) => Err(WorkFault::Astray),
     }
@@ -138,7 +143,7 @@ fn try_turn<L: Round, R: Wait>(
 
 /// Makes the worker's turn at a net with a tree, or with none. Where the others have filled a node of the tree it makes none, and searches
 /// again: then what it finds, and a copy of it.
-fn turn_or_search<L: Round, R: Wait>(
+fn turn_or_search<L: Round, R: Wait, G: Gate>(
     rt: &R,
     alloc: Global,
     desk: &Mutex<Desk<L>>,
@@ -149,6 +154,7 @@ fn turn_or_search<L: Round, R: Wait>(
     tree: Option<Tree>,
     view: &mut View,
     scratch: &mut Scratch,
+    gate: &G,
 ) -> Result<Option<(Option<Tree>, Option<Tree>)>, WorkFault>
     requires problem { prepared.now ≡ L.opening.problem }
     requires options { (options.present ≡ L.present) × (options.bb ≡ L.bb) }
@@ -161,7 +167,7 @@ fn turn_or_search<L: Round, R: Wait>(
     match try_turn(rt, desk, share, net, tree, view)? {
         TurnOrLook::Turn => Ok(None),
         TurnOrLook::Look => {
-            let next = search(alloc, prepared, net, view, options, scratch)?;
+            let next = search(alloc, prepared, net, view, options, scratch, gate)?;
             Ok(Some(next))
         }
     }
@@ -169,7 +175,7 @@ fn turn_or_search<L: Round, R: Wait>(
 
 /// Makes the worker's turn at a net with the tree that was found with this view, or with none. Where the others have filled a node of the
 /// tree, it looks and searches again, as often as the options allow. A copy of the tree with which it makes its turn.
-fn settle<L: Round, R: Wait>(
+fn settle<L: Round, R: Wait, G: Gate>(
     rt: &R,
     alloc: Global,
     desk: &Mutex<Desk<L>>,
@@ -180,6 +186,7 @@ fn settle<L: Round, R: Wait>(
     found: (Option<Tree>, Option<Tree>),
     view: &mut View,
     scratch: &mut Scratch,
+    gate: &G,
 ) -> Result<Option<Tree>, WorkFault>
     requires problem { prepared.now ≡ L.opening.problem }
     requires options { (options.present ≡ L.present) × (options.bb ≡ L.bb) }
@@ -194,7 +201,7 @@ fn settle<L: Round, R: Wait>(
     let (mut tree, mut copy) = found;
     for _ in 0..options.looks {
         let next = turn_or_search(
-            rt, alloc, desk, prepared, options, share, net, tree, view, scratch,
+            rt, alloc, desk, prepared, options, share, net, tree, view, scratch, gate,
         )?;
         match next {
             None => return Ok(copy),
@@ -317,11 +324,11 @@ impl<L: Round> Worker<L> {
             Err(DrawFault::ViewSize) => return Err(WorkFault::Astray),
         };
         gate.between(worker, net);
-        let found = search(alloc, prepared, net, view, options, scratch)?;
+        let found = search(alloc, prepared, net, view, options, scratch, gate)?;
         entries.reserve(1)?;
         gate.searched(worker, net);
         let copy = settle(
-            rt, alloc, desk, prepared, options, share, net, found, view, scratch,
+            rt, alloc, desk, prepared, options, share, net, found, view, scratch, gate,
         )?;
         entries.push_reserved(Entry { net, tree: copy });
         Ok(true)

@@ -97,7 +97,16 @@ fn with_settings<'a>(alloc: Global, command: Command<'a>) -> Result<Command<'a>,
         ))?
         .arg(setting(alloc, "mult", 16, 256, "32", help::MULT))?
         .arg(setting(alloc, "acc", 0, 65_535, "20", help::ACC))?
-        .arg(setting(alloc, "bb", 1, 255, "3", help::BB))
+        .arg(setting(alloc, "bb", 1, 255, "3", help::BB))?
+        .arg(side_file(alloc, "log", "FILE", help::LOG))
+}
+
+/// What is written beside ROUTE, where it is named.
+fn side_file<'a>(alloc: Global, name: &'a str, value: &'a str, help: &'a str) -> Arg<'a> {
+    Arg::new(alloc, name)
+        .long(name)
+        .value_name(value)
+        .help(help)
 }
 
 /// A command with the three files of a placed design.
@@ -119,7 +128,8 @@ fn route_command<'a>(alloc: Global) -> Result<Command<'a>, AllocError> {
             "The routing file that is written; without a routing it is left alone",
         ))?
         .arg(width(alloc))?
-        .arg(global_flag(alloc))?;
+        .arg(global_flag(alloc))?
+        .arg(side_file(alloc, "rest", "FILE", help::REST))?;
     with_settings(alloc, command)
 }
 
@@ -141,7 +151,9 @@ fn width_command<'a>(alloc: Global) -> Result<Command<'a>, AllocError> {
             "12",
             "The width that is tried first, in tracks, 1 to 256",
         ))?
-        .arg(global_flag(alloc))?;
+        .arg(global_flag(alloc))?
+        .arg(side_file(alloc, "keep", "PREFIX", help::KEEP))?
+        .arg(setting(alloc, "verify", 0, MOST_TRACKS, "0", help::VERIFY))?;
     with_settings(alloc, command)
 }
 
@@ -228,6 +240,10 @@ pub struct RouteWords<'a> {
     pub global: bool,
     pub workers: u32,
     pub settings: Settings,
+    /// The file of the log, where one is wanted; `-` is standard error.
+    pub log: Option<&'a str>,
+    /// The file of the trees that were left, where it is wanted.
+    pub rest: Option<&'a str>,
 }
 
 /// What the `width` command was given.
@@ -241,6 +257,12 @@ pub struct WidthWords<'a> {
     pub global: bool,
     pub workers: u32,
     pub settings: Settings,
+    /// The file of the log, where one is wanted; `-` is standard error.
+    pub log: Option<&'a str>,
+    /// What the names of the files of trials begin with, where they are wanted.
+    pub keep: Option<&'a str>,
+    /// How many widths below the least are tried too.
+    pub verify: u32,
 }
 
 /// What the `check` command was given.
@@ -314,6 +336,8 @@ pub fn route_words<'a>(matches: &ArgMatches<'a>) -> Option<RouteWords<'a>>
         global: matches.get_flag("global"),
         workers: number_within(matches, "workers", MOST_WORKERS)?,
         settings: settings(matches)?,
+        log: matches.get_str("log"),
+        rest: matches.get_str("rest"),
     })
 }
 
@@ -331,6 +355,9 @@ pub fn width_words<'a>(matches: &ArgMatches<'a>) -> Option<WidthWords<'a>>
         global: matches.get_flag("global"),
         workers: number_within(matches, "workers", MOST_WORKERS)?,
         settings: settings(matches)?,
+        log: matches.get_str("log"),
+        keep: matches.get_str("keep"),
+        verify: matches.get_one::<u32>("verify")?,
     })
 }
 

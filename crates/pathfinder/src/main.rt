@@ -14,16 +14,18 @@ ghost use Rattle.node_cost.specs.Options.{most_workers};
 use clap::error::ErrorKind;
 use clap::{ArgMatches, Error as ClapError};
 use command::{CheckWords, GraphWords, ReportWords, RouteWords, WidthWords};
-use files::{BehindProgress, NewFile};
+use files::{BehindProgress, NewFile, RestFile, SideFile, TrialFiles};
 use iteration::Outcome;
+use net_workers::BothGates;
 use report_run::report_run;
 use route_check::RouteFault;
 use route_explain::explain_run;
 use rr_graph::Mode;
 use runs::{
-    AppFault, InputFile, Progress, check_run, graph_run, outcome_status, print_fault,
+    AppFault, InputFile, Log, Progress, check_run, graph_run, outcome_status, print_fault,
     report_status, route_run, status, verdict_status, width_run,
 };
+use std::alloc::Global;
 use std::io::{IsTerminal, Write};
 use std::process::ExitCode;
 use std::rt::Runtime;
@@ -32,7 +34,7 @@ use std::thread::Threads;
 use std::{env, fs, io};
 use terminal::{columns, takes_lines_back};
 use vpr_text::Adapted;
-use warning::doubt_of;
+use warning::{doubt_of, side_doubt_of};
 use width_search::WidthReport;
 
 /// The status of words that the command line may not have.
@@ -46,11 +48,14 @@ fn main(rt: HostRuntime) -> ExitCode {
 
 /// Runs the command that the command line names, and answers its exit status. Where standard error
 /// is watched, on a terminal, it shows how far a negotiation is.
-fn run(
-    rt: &(impl Runtime + Threads + Wait + Sync + AllocGlobal),
+fn run<R: Runtime + Threads + Wait + Sync + AllocGlobal>(
+    rt: &R,
     errors: &mut impl Write,
     is_watched: bool,
-) -> u8 {
+) -> u8
+where
+    R::File: Send + Sync,
+{
     let words = match words(rt) {
         Ok(words) => words,
         Err(error) if error.kind() == io::ErrorKind::OutOfMemory => return refused(
@@ -80,11 +85,14 @@ fn run(
 }
 
 /// Runs `route`, and answers its status.
-fn run_route(
-    rt: &(impl Runtime + Threads + Wait + Sync + AllocGlobal),
+fn run_route<R: Runtime + Threads + Wait + Sync + AllocGlobal>(
+    rt: &R,
     given: &ArgMatches<'_>,
     is_watched: bool,
-) -> u8 {
+) -> u8
+where
+    R::File: Send + Sync,
+{
     let Some(given) = command::route_words(given) else {
         return BAD_WORDS;
     };
@@ -98,11 +106,14 @@ fn run_route(
 }
 
 /// Runs `width`, and answers its status.
-fn run_width(
-    rt: &(impl Runtime + Threads + Wait + Sync + AllocGlobal),
+fn run_width<R: Runtime + Threads + Wait + Sync + AllocGlobal>(
+    rt: &R,
     given: &ArgMatches<'_>,
     is_watched: bool,
-) -> u8 {
+) -> u8
+where
+    R::File: Send + Sync,
+{
     let Some(given) = command::width_words(given) else {
         return BAD_WORDS;
     };
@@ -192,6 +203,69 @@ fn warn<'a>(rt: &impl Runtime, route: &'a str, inputs: [&'a str; 3]) {
     }
 }
 
+/// The first lines of a log, where one is wanted: the program, and the files of the run.
+fn log_head(alloc: Global, log: Option<&str>, files: [&str; 4]) -> Result<String, AppFault> {
+    let [net, arch, place, route] = files;
+    let version = help::VERSION;
+    if log.is_none() {
+        return Ok(String::new(alloc));
+    }
+    let head = format!(in alloc;
+        "# pathfinder {version}\n# net {net}\n# arch {arch}\n# place {place}\n# route {route}\n"
+    )?;
+    Ok(head)
+}
+
+/// Where a log is written: nowhere where none is wanted, or where it can't be or shouldn't be
+/// written, of which a warning tells.
+fn log_writer<'a, R: Runtime>(
+    rt: &'a R,
+    log: Option<&'a str>,
+    files: [&'a str; 4],
+    progress: &'a Progress<'a, R>,
+) -> Option<BehindProgress<'a, 'a, SideFile<'a, R>, R>> {
+    let name = log?;
+    let file = if name == "-" {
+        SideFile::Errors(rt)
+    } else {
+        log_file(rt, name, files)?
+    };
+    Some(BehindProgress::new(file, progress))
+}
+
+/// The file of a log, or a warning why there is none.
+fn log_file<'a, R: Runtime>(
+    rt: &'a R,
+    name: &'a str,
+    files: [&'a str; 4],
+) -> Option<SideFile<'a, R>> {
+    if let Some(doubt) = side_doubt_of(rt, name, others_of(files, None)) {
+        let _ = eprintln!(rt; "warning: the log {name} {doubt}");
+        return None;
+    }
+    Some(SideFile::New(NewFile::new(rt, name)))
+}
+
+/// The files of a run over which no further one is written: the inputs, ROUTE and the log.
+fn others_of<'a>(files: [&'a str; 4], log: Option<&'a str>) -> [&'a str; 5] {
+    let [net, arch, place, route] = files;
+    [net, arch, place, route, log.unwrap_or(route)]
+}
+
+/// The name of the file of the trees that were left, or a warning why there is none.
+fn rest_name<'a>(
+    rt: &impl Runtime,
+    name: Option<&'a str>,
+    others: [&'a str; 5],
+) -> Option<&'a str> {
+    let name = name?;
+    if let Some(doubt) = side_doubt_of(rt, name, others) {
+        let _ = eprintln!(rt; "warning: {name} {doubt}");
+        return None;
+    }
+    Some(name)
+}
+
 /// The mode in which nets are routed.
 fn mode_of(global: bool) -> Mode {
     if global { Mode::Global } else { Mode::Detailed }
@@ -208,11 +282,13 @@ fn open<R: Runtime>(rt: &R, name: &str, file: InputFile) -> Result<Adapted<R::Fi
 /// The `route` command. The inputs are opened, in the order in which they are read, before one is
 /// read, and stay open to the end: so the routing file never gets the descriptor of a standard
 /// stream that was closed.
-fn route<R: Runtime + Threads + Wait + Sync + AllocGlobal>(
-    rt: &R,
-    given: RouteWords<'_>,
-    progress: &Progress<'_, R>,
+fn route<'a, R: Runtime + Threads + Wait + Sync + AllocGlobal>(
+    rt: &'a R,
+    given: RouteWords<'a>,
+    progress: &'a Progress<'a, R>,
 ) -> Result<Outcome, AppFault>
+where
+    R::File: Send + Sync,
     requires tracks { (1 ≤ given.width) × (given.width ≤ most_tracks) }
     requires workers { (1 ≤ given.workers) × (given.workers ≤ most_workers) }
 {
@@ -223,6 +299,26 @@ fn route<R: Runtime + Threads + Wait + Sync + AllocGlobal>(
     let file = NewFile::new(rt, given.route);
     let mut route = Adapted::new(BehindProgress::new(file, progress));
     let mut out = Adapted::new(BehindProgress::new(io::writer(rt), progress));
+    let files = [given.net, given.arch, given.place, given.route];
+    let head = log_head(rt.alloc(), given.log, files)?;
+    let rest = RestFile {
+        rt,
+        name: rest_name(rt, given.rest, others_of(files, given.log)),
+        progress,
+    };
+    let log = Log::new(
+        rt,
+        rt.alloc(),
+        given.log.unwrap_or(""),
+        head.as_str(),
+        given.workers,
+        given.settings,
+        log_writer(rt, given.log, files, progress),
+    );
+    let gate = BothGates {
+        first: progress,
+        second: &log,
+    };
     let (width, mode, settings) = (given.width, mode_of(given.global), given.settings);
     route_run(
         rt,
@@ -235,16 +331,19 @@ fn route<R: Runtime + Threads + Wait + Sync + AllocGlobal>(
         mode,
         &settings,
         given.workers,
-        progress,
+        &gate,
+        &rest,
     )
 }
 
 /// The `width` command, which opens its files as `route` does.
-fn width<R: Runtime + Threads + Wait + Sync + AllocGlobal>(
-    rt: &R,
-    given: WidthWords<'_>,
-    progress: &Progress<'_, R>,
+fn width<'a, R: Runtime + Threads + Wait + Sync + AllocGlobal>(
+    rt: &'a R,
+    given: WidthWords<'a>,
+    progress: &'a Progress<'a, R>,
 ) -> Result<WidthReport, AppFault>
+where
+    R::File: Send + Sync,
     requires start { (1 ≤ given.start) × (given.start ≤ most_tracks) }
     requires workers { (1 ≤ given.workers) × (given.workers ≤ most_workers) }
 {
@@ -255,6 +354,27 @@ fn width<R: Runtime + Threads + Wait + Sync + AllocGlobal>(
     let file = NewFile::new(rt, given.route);
     let mut route = Adapted::new(BehindProgress::new(file, progress));
     let mut out = Adapted::new(BehindProgress::new(io::writer(rt), progress));
+    let files = [given.net, given.arch, given.place, given.route];
+    let head = log_head(rt.alloc(), given.log, files)?;
+    let kept = TrialFiles {
+        rt,
+        prefix: given.keep,
+        others: others_of(files, given.log),
+        progress,
+    };
+    let log = Log::new(
+        rt,
+        rt.alloc(),
+        given.log.unwrap_or(""),
+        head.as_str(),
+        given.workers,
+        given.settings,
+        log_writer(rt, given.log, files, progress),
+    );
+    let gate = BothGates {
+        first: progress,
+        second: &log,
+    };
     let (start, mode, settings) = (given.start, mode_of(given.global), given.settings);
     width_run(
         rt,
@@ -267,7 +387,9 @@ fn width<R: Runtime + Threads + Wait + Sync + AllocGlobal>(
         mode,
         &settings,
         given.workers,
-        progress,
+        &gate,
+        &kept,
+        given.verify,
     )
 }
 

@@ -1,5 +1,5 @@
-//! What is reported of ROUTE before anything is routed: that it can't be written, or shouldn't be.
-//! To find that out nothing is created and nothing is written.
+//! What is reported of ROUTE and of files beside it before anything is routed: that it can't be written, or
+//! shouldn't be. To find that out nothing is created and nothing is written.
 
 use std::fmt;
 use std::fs::{Files, Metadata, OpenOptions};
@@ -89,12 +89,17 @@ fn is_same_file<R: Files>(rt: &R, name: &str, found: &Metadata) -> bool {
     }
 }
 
-/// What is wrong with the place of a file that isn't there.
-fn doubt_of_place<'a, R: Files>(rt: &R, name: &'a str) -> Option<Doubt<'a>> {
-    let folder = match Path::new(name).parent() {
+/// The folder in which a file stands.
+fn folder_of(name: &str) -> &str {
+    match Path::new(name).parent() {
         Some(folder) if !folder.as_str().is_empty() => folder.as_str(),
         _ => ".",
-    };
+    }
+}
+
+/// What is wrong with the place of a file that isn't there.
+fn doubt_of_place<'a, R: Files>(rt: &R, name: &'a str) -> Option<Doubt<'a>> {
+    let folder = folder_of(name);
     match rt.metadata(folder) {
         Ok(found) if found.is_dir() => is_closed(rt, &found).then_some(Doubt::ClosedFolder(folder)),
         _ => Some(Doubt::NoFolder(folder)),
@@ -113,4 +118,57 @@ fn is_closed<R: Files>(rt: &R, folder: &Metadata) -> bool {
         OTHERS_WRITE
     };
     own.uid() != 0 && folder.mode() & bits == 0
+}
+
+/// Why a file beside ROUTE is not written.
+#[derive(Clone, Copy, Debug, PartialEq, Eq)]
+pub enum SideDoubt<'a> {
+    /// It can't be, for this reason.
+    File(Doubt<'a>),
+    /// It would be the file of this name too, which is an input or ROUTE.
+    Taken(&'a str),
+}
+
+impl fmt::Display for SideDoubt<'_> {
+    fn fmt<W: fmt::Write>(&self, f: &mut fmt::Formatter<W>) -> fmt::Result {
+        match *self {
+            SideDoubt::File(doubt) => write!(f, "{doubt}"),
+            SideDoubt::Taken(name) => write!(f, "is not written: it is the file {name} too"),
+        }
+    }
+}
+
+/// Why a file of this name beside ROUTE is not written in a run with these other files, so far as it
+/// can be known.
+pub fn side_doubt_of<'a, R: Files>(
+    rt: &R,
+    name: &'a str,
+    others: [&'a str; 5],
+) -> Option<SideDoubt<'a>> {
+    let taken = match rt.metadata(name) {
+        Ok(found) if found.is_file() => others
+            .into_iter()
+            .find(|other| is_same_file(rt, other, &found)),
+        Ok(_) => None,
+        Err(_) => others
+            .into_iter()
+            .find(|other| is_same_new_file(rt, name, other)),
+    };
+    match taken {
+        Some(other) => Some(SideDoubt::Taken(other)),
+        None => doubt_of(rt, name, [others[0], others[1], others[2]]).map(|doubt| SideDoubt::File(
+            doubt,
+        )),
+    }
+}
+
+/// Whether two names, of which the first leads to no file, would be those of one.
+fn is_same_new_file<R: Files>(rt: &R, name: &str, other: &str) -> bool {
+    if rt.metadata(other).is_ok() || Path::new(name).file_name() != Path::new(other).file_name() {
+        return false;
+    }
+    match rt.metadata(folder_of(name)) {
+        Ok(folder) => is_same_file(rt, folder_of(other), &folder),
+        Err(_) => false,
+    }
 }

@@ -4,3 +4,4 @@ pub mod Stages
 pub mod Designs
 pub mod Writing
 pub mod Widths
+pub mod Leaving

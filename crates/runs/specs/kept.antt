@@ -1,2 +1,4 @@
 pub mod ReaderFaults
 pub mod Routing
+pub mod Left
+pub mod Lesser

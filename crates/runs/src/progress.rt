@@ -1,5 +1,6 @@
 //! A line that tells people how far a negotiation is, and a line for each width that was tried.
 
+use congestion_book::Book;
 use net_workers::{Gate, TrialEnd};
 use std::fmt;
 use std::fmt::Write;
@@ -186,6 +187,11 @@ impl<'a, R: Eprint + Clock> Progress<'a, R> {
         let _ = eprint!(self.rt; "{CLEAR}{CUT}{line}{WRAP}");
     }
 
+    /// Keeps how many nodes are overused after a close.
+    pub fn note_overused(&self, overused: u32) {
+        self.overused.store(overused, Ordering::SeqCst);
+    }
+
     /// Takes the line away, where it was written.
     pub fn end(&self) {
         if self.is_shown.swap(false, Ordering::SeqCst) {
@@ -214,8 +220,8 @@ impl<R: Eprint + Clock> Gate for Progress<'_, R> {
         }
     }
 
-    fn closed(&self, _iteration: u32, _unrouted: u32, overused: u32) {
-        self.overused.store(overused, Ordering::SeqCst);
+    fn closed(&self, _iteration: u32, book: &Book) {
+        self.note_overused(book.overused());
     }
 
     fn tries(&self, width: u32) {

@@ -6,5 +6,5 @@ mod search;
 mod trial;
 
 pub use report::{LeastWidth, WidthReport};
-pub use search::least_width;
+pub use search::{least_width, negotiate_at};
 pub use trial::Trial;

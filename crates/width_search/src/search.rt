@@ -41,8 +41,12 @@ fn end_of(outcome: &Outcome) -> TrialEnd
     }
 }
 
-/// Negotiates a routing of a placed netlist on a device of this width.
-fn try_width<R: Threads + Wait + Sync, G: Gate + Sync>(
+/// Negotiates a routing of a placed netlist on a device of this width. The gate is told of the width
+/// before.
+///
+/// # Errors
+/// As of `least_width`.
+pub fn negotiate_at<R: Threads + Wait + Sync, G: Gate + Sync>(
     rt: &R,
     alloc: Global,
     arch: &Arch,
@@ -64,6 +68,32 @@ fn try_width<R: Threads + Wait + Sync, G: Gate + Sync>(
     gate.tries(width);
     let problem = Problem::from_design(alloc, arch, netlist, placement, width, mode)?;
     let outcome = negotiate(rt, alloc, problem, settings, workers, gate)?;
+    Ok(outcome)
+}
+
+/// The trial of a width, of which the gate is told before and after.
+fn try_width<R: Threads + Wait + Sync, G: Gate + Sync>(
+    rt: &R,
+    alloc: Global,
+    arch: &Arch,
+    netlist: &Netlist<'_>,
+    placement: &Placement,
+    settings: &Settings,
+    width: u32,
+    mode: Mode,
+    workers: u32,
+    gate: &G,
+) -> Result<Outcome, WorkFault>
+    requires tracks { (1 ≤ width) × (width ≤ most_tracks) }
+    requires workers { (1 ≤ workers) × (workers ≤ most_workers) }
+    requires read { (bytes : List ℕ) × ReadsBytes arch.now.pins bytes netlist.now }
+    requires placed { IsPlaced arch.now.io_rat netlist.now.blocks placement.now }
+    ensures { IfOk result (Negotiates (problem_at mode arch.now netlist.now placement.now)
+        settings.now workers width) }
+{
+    let outcome = negotiate_at(
+        rt, alloc, arch, netlist, placement, settings, width, mode, workers, gate,
+    )?;
     gate.tried(width, end_of(&outcome));
     Ok(outcome)
 }
