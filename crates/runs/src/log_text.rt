@@ -342,10 +342,15 @@ fn put_row<W: ByteSink>(
 {
     let width = book.problem().device().width();
     let present = settings.present(iteration);
-    let (overused, excess) = (book.overused(), book.excess());
-    let (unrouted, wirelength) = (book.unrouted(), book.wirelength());
     put_iteration(out, sink, width, iteration, present);
-    put_figures(out, sink, overused, excess, unrouted, wirelength);
+    put_figures(
+        out,
+        sink,
+        book.overused(),
+        book.excess(),
+        book.unrouted(),
+        book.wirelength(),
+    );
     put_time(out, sink, milliseconds);
 }
 

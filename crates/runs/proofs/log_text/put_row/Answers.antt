@@ -5,4 +5,6 @@ use Rattle.runs.proofs.log_text.put_row.Goals as goal
 pub returns : goal.returns
 unfolding row_text
 returns g c =
-    sends_then c.put_iteration.ensures (sends_then c.put_figures.ensures c.put_time.ensures)
+    let iteration = rw (c.width-width.ensures.entry, c.device.ensures, c.problem.ensures.exact, c.present-present.ensures.exact) at c.put_iteration.ensures in
+    let figures = rw (c.overused.ensures, c.excess.ensures, c.unrouted.ensures, c.wirelength.ensures) at c.put_figures.ensures in
+    sends_then iteration (sends_then figures c.put_time.ensures)
