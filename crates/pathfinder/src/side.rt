@@ -14,7 +14,11 @@ pub type Side<'a, R> = Adapted<Writer<'a, R>>;
 /// The files of a run over which no further one is written: the inputs, ROUTE and the log.
 pub fn others_of<'a>(files: [&'a str; 4], log: Option<&'a str>) -> [&'a str; 5] {
     let [net, arch, place, route] = files;
-    [net, arch, place, route, log.unwrap_or(route)]
+    let log = match log {
+        Some(name) if name != "-" => name,
+        _ => route,
+    };
+    [net, arch, place, route, log]
 }
 
 /// Where a log of this name is written: nowhere where none is wanted, or where it can't be or
