@@ -17,8 +17,8 @@ use net_workers::WorkFault;
 use node_cost::Settings;
 use rr_graph::Mode;
 use runs::{
-    AppFault, check_run, graph_run, outcome_status, print_fault, report_status, route_run, status,
-    verdict_status, width_run,
+    AppFault, NoFiles, check_run, graph_run, outcome_status, print_fault, report_status, route_run,
+    status, verdict_status, width_run,
 };
 use std::alloc::Global;
 use std::rt::Runtime;
@@ -159,6 +159,7 @@ fn route_design<R: Runtime + Threads + Wait + Sync + AllocGlobal>(
         settings,
         workers,
         gate,
+        &NoFiles,
     );
     let answer = answer.map(|outcome| outcome_status(&outcome));
     put_run(
@@ -222,6 +223,8 @@ fn search_design<R: Runtime + Threads + Wait + Sync + AllocGlobal>(
         settings,
         workers,
         gate,
+        &NoFiles,
+        0,
     );
     let answer = answer.map(|report| report_status(&report));
     put_run(

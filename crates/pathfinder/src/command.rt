@@ -105,7 +105,16 @@ fn with_settings<'a>(alloc: Global, command: Command<'a>) -> Result<Command<'a>,
         ))?
         .arg(setting(alloc, "mult", 16, 256, "32", help::MULT))?
         .arg(setting(alloc, "acc", 0, 65_535, "20", help::ACC))?
-        .arg(setting(alloc, "bb", 1, 255, "3", help::BB))
+        .arg(setting(alloc, "bb", 1, 255, "3", help::BB))?
+        .arg(side_file(alloc, "log", "FILE", help::LOG))
+}
+
+/// What is written beside ROUTE, where it is named.
+fn side_file<'a>(alloc: Global, name: &'a str, value: &'a str, help: &'a str) -> Arg<'a> {
+    Arg::new(alloc, name)
+        .long(name)
+        .value_name(value)
+        .help(help)
 }
 
 /// A command with the three files of a placed design.
@@ -128,7 +137,8 @@ fn route_command<'a>(alloc: Global) -> Result<Command<'a>, AllocError> {
         ))?
         .arg(width(alloc))?
         .arg(global_flag(alloc))?
-        .arg(explain_flag(alloc, help::EXPLAIN))?;
+        .arg(explain_flag(alloc, help::EXPLAIN))?
+        .arg(side_file(alloc, "rest", "FILE", help::REST))?;
     with_settings(alloc, command)
 }
 
@@ -151,7 +161,9 @@ fn width_command<'a>(alloc: Global) -> Result<Command<'a>, AllocError> {
             "The width that is tried first, in tracks, 1 to 256",
         ))?
         .arg(global_flag(alloc))?
-        .arg(explain_flag(alloc, help::EXPLAIN))?;
+        .arg(explain_flag(alloc, help::EXPLAIN))?
+        .arg(side_file(alloc, "keep", "PREFIX", help::KEEP))?
+        .arg(setting(alloc, "verify", 0, MOST_TRACKS, "0", help::VERIFY))?;
     with_settings(alloc, command)
 }
 
@@ -236,6 +248,10 @@ pub struct RouteWords<'a> {
     pub explain: bool,
     pub workers: u32,
     pub settings: Settings,
+    /// The file of the log, where one is wanted; `-` is standard error.
+    pub log: Option<&'a str>,
+    /// The file of the trees that were left, where it is wanted.
+    pub rest: Option<&'a str>,
 }
 
 /// What the `width` command was given.
@@ -250,6 +266,12 @@ pub struct WidthWords<'a> {
     pub explain: bool,
     pub workers: u32,
     pub settings: Settings,
+    /// The file of the log, where one is wanted; `-` is standard error.
+    pub log: Option<&'a str>,
+    /// What the names of the files of trials begin with, where they are wanted.
+    pub keep: Option<&'a str>,
+    /// How many widths below the least are tried too.
+    pub verify: u32,
 }
 
 /// What the `check` command was given.
@@ -326,6 +348,8 @@ pub fn route_words<'a>(matches: &ArgMatches<'a>) -> Option<RouteWords<'a>>
         explain: matches.get_flag("explain"),
         workers: number_within(matches, "workers", MOST_WORKERS)?,
         settings: settings(matches)?,
+        log: matches.get_str("log"),
+        rest: matches.get_str("rest"),
     })
 }
 
@@ -344,6 +368,9 @@ pub fn width_words<'a>(matches: &ArgMatches<'a>) -> Option<WidthWords<'a>>
         explain: matches.get_flag("explain"),
         workers: number_within(matches, "workers", MOST_WORKERS)?,
         settings: settings(matches)?,
+        log: matches.get_str("log"),
+        keep: matches.get_str("keep"),
+        verify: matches.get_one::<u32>("verify")?,
     })
 }
 

@@ -1,7 +1,7 @@
 //! What the helps and the version say in more than a line.
 
 /// What `--version` prints after the name: the version, and what the program routes by.
-pub const VERSION: &str = "1.2.0 (formats of VPR 4.30, negotiated congestion)";
+pub const VERSION: &str = "1.3.0 (formats of VPR 4.30, negotiated congestion)";
 
 /// The end of the program's help.
 pub const PROGRAM: &str = "\
@@ -19,9 +19,9 @@ Exit status, of all commands:
   5  reading or writing failed
   6  memory ran out, or a thread could not be started
 
-All answers and errors are printed on standard output. On standard error stand warnings of a
-ROUTE that can't be written or is an input too, with `--explain` what is wrong with a file or a
-routing, and, on a terminal, how far the routing is.";
+All answers and errors are printed on standard output. On standard error stand warnings of files
+that can't be written or are inputs too; what is asked for there, as with `--explain` what is wrong
+with a file or a routing; and, on a terminal, how far the routing is.";
 
 /// The end of the help of `route`.
 pub const ROUTE: &str = "\
@@ -29,6 +29,8 @@ It prints one of
   routed, iterations 3
   not routed: unrouted 0, overused 1, iterations 30
 where `unrouted` counts the nets that found no path, and `overused` the nodes that too many use.
+With `--rest` standard error also names a sink of each net that found no path. docs/FORMATS.md has
+the columns of a log.
 
 Example, in examples/uart:
   $ pathfinder route uart.net k4n1.arch uart.place new.route --width 6
@@ -46,7 +48,8 @@ Exit status:
 pub const WIDTH: &str = "\
 From the first width on it doubles until one is routed, up to 256, and then halves the gap between
 the greatest that was not and the least that was. It prints a line for each width that it tried,
-and a last one. A lesser width than the one found may be routable all the same.
+and a last one. A lesser width than the one found may be routable all the same: `--verify 2` tries
+two of them, and standard error tells of each what it came to.
 
 Example, in examples/uart:
   $ pathfinder width uart.net k4n1.arch uart.place new.route
@@ -160,6 +163,26 @@ What it is multiplied by in each later iteration, in sixteenths:
 pub const ACC: &str = "\
 What a node costs more after each iteration that overuses it, for each
 net too many: 20 is what one wire costs at first; 0 to 65535";
+
+/// The help of `--log`.
+pub const LOG: &str = "\
+Also a line for each iteration, as it ends, to this file; - is standard
+error";
+
+/// The help of `--rest`.
+pub const REST: &str = "\
+Where no routing is found, the trees that the last iteration left, as a
+routing file";
+
+/// The help of `--keep`.
+pub const KEEP: &str = "\
+Also the routing of each routed trial, at once, to PREFIX, the width and
+.route";
+
+/// The help of `--verify`.
+pub const VERIFY: &str = "\
+Widths below the least that are tried too; what they come to is told on
+standard error, 0 to 256";
 
 /// The help of `--bb`.
 pub const BB: &str = "\

@@ -6,6 +6,7 @@ mod command;
 mod files;
 mod help;
 mod refusal;
+mod side;
 mod terminal;
 mod warning;
 
@@ -16,17 +17,19 @@ ghost use Rattle.node_cost.specs.Options.{most_workers};
 use clap::error::ErrorKind;
 use clap::{ArgMatches, Error as ClapError};
 use command::{CheckWords, GraphWords, ReportWords, RouteWords, WidthWords};
-use files::{BehindProgress, NewFile};
+use files::{BehindProgress, SharedOutputs, Writer};
 use iteration::Outcome;
+use net_workers::BothGates;
 use refusal::{Paths, tell_refusal};
 use report_run::report_run;
 use route_check::RouteFault;
 use route_explain::explain_run;
 use rr_graph::Mode;
 use runs::{
-    AppFault, InputFile, Progress, check_run, graph_run, outcome_status, print_fault,
+    AppFault, InputFile, Log, Progress, check_run, graph_run, outcome_status, print_fault,
     report_status, route_run, status, verdict_status, width_run,
 };
+use side::{RestFile, TrialFiles, log_sink, others_of, rest_name};
 use std::io::{IsTerminal, Write};
 use std::process::ExitCode;
 use std::rt::Runtime;
@@ -34,7 +37,7 @@ use std::sync::Wait;
 use std::thread::Threads;
 use std::{env, fs, io};
 use terminal::{columns, takes_lines_back};
-use vpr_text::Adapted;
+use vpr_text::{Adapted, ByteSource};
 use warning::doubt_of;
 use width_search::WidthReport;
 
@@ -49,8 +52,8 @@ fn main(rt: HostRuntime) -> ExitCode {
 
 /// Runs the command that the command line names, and answers its exit status. Where standard error
 /// is watched, on a terminal, it shows how far a negotiation is.
-fn run(
-    rt: &(impl Runtime + Threads + Wait + Sync + AllocGlobal),
+fn run<R: Runtime + SharedOutputs + Threads + Wait + Sync + AllocGlobal>(
+    rt: &R,
     errors: &mut impl Write,
     is_watched: bool,
 ) -> u8 {
@@ -83,8 +86,8 @@ fn run(
 }
 
 /// Runs `route`, and answers its status.
-fn run_route(
-    rt: &(impl Runtime + Threads + Wait + Sync + AllocGlobal),
+fn run_route<R: Runtime + SharedOutputs + Threads + Wait + Sync + AllocGlobal>(
+    rt: &R,
     given: &ArgMatches<'_>,
     is_watched: bool,
 ) -> u8 {
@@ -108,8 +111,8 @@ fn run_route(
 }
 
 /// Runs `width`, and answers its status.
-fn run_width(
-    rt: &(impl Runtime + Threads + Wait + Sync + AllocGlobal),
+fn run_width<R: Runtime + SharedOutputs + Threads + Wait + Sync + AllocGlobal>(
+    rt: &R,
     given: &ArgMatches<'_>,
     is_watched: bool,
 ) -> u8 {
@@ -258,10 +261,10 @@ fn open<R: Runtime>(rt: &R, name: &str, file: InputFile) -> Result<Adapted<R::Fi
 /// The `route` command. The inputs are opened, in the order in which they are read, before one is
 /// read, and stay open to the end: so the routing file never gets the descriptor of a standard
 /// stream that was closed.
-fn route<R: Runtime + Threads + Wait + Sync + AllocGlobal>(
-    rt: &R,
-    given: RouteWords<'_>,
-    progress: &Progress<'_, R>,
+fn route<'a, R: Runtime + SharedOutputs + Threads + Wait + Sync + AllocGlobal>(
+    rt: &'a R,
+    given: RouteWords<'a>,
+    progress: &'a Progress<'a, R>,
 ) -> Result<Outcome, AppFault>
     requires tracks { (1 ≤ given.width) × (given.width ≤ most_tracks) }
     requires workers { (1 ≤ given.workers) × (given.workers ≤ most_workers) }
@@ -269,31 +272,71 @@ fn route<R: Runtime + Threads + Wait + Sync + AllocGlobal>(
     let mut arch = open(rt, given.arch, InputFile::Arch)?;
     let mut net = open(rt, given.net, InputFile::Net)?;
     let mut place = open(rt, given.place, InputFile::Place)?;
+    route_read(rt, given, progress, &mut net, &mut arch, &mut place)
+}
+
+/// The `route` command on inputs that are open.
+fn route_read<
+    'a,
+    R: Runtime + SharedOutputs + Threads + Wait + Sync + AllocGlobal,
+    N: ByteSource,
+    A: ByteSource,
+    P: ByteSource,
+>(
+    rt: &'a R,
+    given: RouteWords<'a>,
+    progress: &'a Progress<'a, R>,
+    net: &mut N,
+    arch: &mut A,
+    place: &mut P,
+) -> Result<Outcome, AppFault>
+    requires tracks { (1 ≤ given.width) × (given.width ≤ most_tracks) }
+    requires workers { (1 ≤ given.workers) × (given.workers ≤ most_workers) }
+{
     warn(rt, given.route, [given.arch, given.net, given.place]);
-    let file = NewFile::new(rt, given.route);
-    let mut route = Adapted::new(BehindProgress::new(file, progress));
+    let mut route = Adapted::new(Writer::to_new(rt, progress, given.route));
     let mut out = Adapted::new(BehindProgress::new(io::writer(rt), progress));
+    let files = [given.net, given.arch, given.place, given.route];
+    let log = Log::new(
+        rt,
+        given.log.unwrap_or(""),
+        help::VERSION,
+        files,
+        given.workers,
+        given.settings,
+        log_sink(rt, given.log, files, progress),
+    );
+    let rest = RestFile {
+        rt,
+        name: rest_name(rt, given.rest, others_of(files, given.log)),
+        progress,
+    };
+    let gate = BothGates {
+        first: progress,
+        second: &log,
+    };
     let (width, mode, settings) = (given.width, mode_of(given.global), given.settings);
     route_run(
         rt,
-        &mut net,
-        &mut arch,
-        &mut place,
+        net,
+        arch,
+        place,
         &mut route,
         &mut out,
         width,
         mode,
         &settings,
         given.workers,
-        progress,
+        &gate,
+        &rest,
     )
 }
 
 /// The `width` command, which opens its files as `route` does.
-fn width<R: Runtime + Threads + Wait + Sync + AllocGlobal>(
-    rt: &R,
-    given: WidthWords<'_>,
-    progress: &Progress<'_, R>,
+fn width<'a, R: Runtime + SharedOutputs + Threads + Wait + Sync + AllocGlobal>(
+    rt: &'a R,
+    given: WidthWords<'a>,
+    progress: &'a Progress<'a, R>,
 ) -> Result<WidthReport, AppFault>
     requires start { (1 ≤ given.start) × (given.start ≤ most_tracks) }
     requires workers { (1 ≤ given.workers) × (given.workers ≤ most_workers) }
@@ -301,23 +344,65 @@ fn width<R: Runtime + Threads + Wait + Sync + AllocGlobal>(
     let mut arch = open(rt, given.arch, InputFile::Arch)?;
     let mut net = open(rt, given.net, InputFile::Net)?;
     let mut place = open(rt, given.place, InputFile::Place)?;
+    width_read(rt, given, progress, &mut net, &mut arch, &mut place)
+}
+
+/// The `width` command on inputs that are open.
+fn width_read<
+    'a,
+    R: Runtime + SharedOutputs + Threads + Wait + Sync + AllocGlobal,
+    N: ByteSource,
+    A: ByteSource,
+    P: ByteSource,
+>(
+    rt: &'a R,
+    given: WidthWords<'a>,
+    progress: &'a Progress<'a, R>,
+    net: &mut N,
+    arch: &mut A,
+    place: &mut P,
+) -> Result<WidthReport, AppFault>
+    requires start { (1 ≤ given.start) × (given.start ≤ most_tracks) }
+    requires workers { (1 ≤ given.workers) × (given.workers ≤ most_workers) }
+{
     warn(rt, given.route, [given.arch, given.net, given.place]);
-    let file = NewFile::new(rt, given.route);
-    let mut route = Adapted::new(BehindProgress::new(file, progress));
+    let mut route = Adapted::new(Writer::to_new(rt, progress, given.route));
     let mut out = Adapted::new(BehindProgress::new(io::writer(rt), progress));
+    let files = [given.net, given.arch, given.place, given.route];
+    let log = Log::new(
+        rt,
+        given.log.unwrap_or(""),
+        help::VERSION,
+        files,
+        given.workers,
+        given.settings,
+        log_sink(rt, given.log, files, progress),
+    );
+    let kept = TrialFiles {
+        rt,
+        prefix: given.keep,
+        others: others_of(files, given.log),
+        progress,
+    };
+    let gate = BothGates {
+        first: progress,
+        second: &log,
+    };
     let (start, mode, settings) = (given.start, mode_of(given.global), given.settings);
     width_run(
         rt,
-        &mut net,
-        &mut arch,
-        &mut place,
+        net,
+        arch,
+        place,
         &mut route,
         &mut out,
         start,
         mode,
         &settings,
         given.workers,
-        progress,
+        &gate,
+        &kept,
+        given.verify,
     )
 }
 

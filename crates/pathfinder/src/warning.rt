@@ -1,8 +1,9 @@
-//! What is reported of ROUTE before anything is routed: that it can't be written, or shouldn't be.
-//! To find that out nothing is created and nothing is written.
+//! What is reported of ROUTE and of files beside it before anything is routed: that they can't be
+//! written, or shouldn't be. To find that out nothing is created and nothing is written.
 
 use std::fmt;
 use std::fs::{Files, Metadata, OpenOptions};
+use std::io::Eprint;
 use std::os::unix::fs::MetadataExt;
 use std::path::Path;
 
@@ -50,30 +51,33 @@ impl fmt::Display for Doubt<'_> {
 /// What is wrong with ROUTE in a run with these inputs, so far as it can be known; a device, a pipe
 /// and the like aren't asked.
 pub fn doubt_of<'a, R: Files>(rt: &R, route: &'a str, inputs: [&'a str; 3]) -> Option<Doubt<'a>> {
-    match rt.metadata(route) {
-        Ok(found) if found.is_dir() => Some(Doubt::Folder),
-        Ok(found) if found.is_file() => doubt_of_file(rt, route, inputs, &found),
-        Ok(_) => None,
-        Err(_) if route.ends_with('/') => Some(Doubt::Folder),
-        Err(_) if rt.symlink_metadata(route).is_ok() => None,
-        Err(_) => doubt_of_place(rt, route),
+    match hindrance_of(rt, route) {
+        Some(doubt) => Some(doubt),
+        None => input_at(rt, route, inputs),
     }
 }
 
-/// What is wrong with a ROUTE that is there.
-fn doubt_of_file<'a, R: Files>(
-    rt: &R,
-    route: &str,
-    inputs: [&'a str; 3],
-    found: &Metadata,
-) -> Option<Doubt<'a>> {
-    if !may_be_written(rt, route) {
-        return Some(Doubt::Closed);
+/// Why a file of this name can't be written, so far as it can be known.
+fn hindrance_of<'a, R: Files>(rt: &R, name: &'a str) -> Option<Doubt<'a>> {
+    match rt.metadata(name) {
+        Ok(found) if found.is_dir() => Some(Doubt::Folder),
+        Ok(found) if found.is_file() => (!may_be_written(rt, name)).then_some(Doubt::Closed),
+        Ok(_) => None,
+        Err(_) if name.ends_with('/') => Some(Doubt::Folder),
+        Err(_) if rt.symlink_metadata(name).is_ok() => None,
+        Err(_) => doubt_of_place(rt, name),
     }
-    inputs
-        .into_iter()
-        .find(|input| is_same_file(rt, input, found))
-        .map(|input| Doubt::Input(input))
+}
+
+/// The input to which this name leads too, if there is one.
+fn input_at<'a, R: Files>(rt: &R, name: &str, inputs: [&'a str; 3]) -> Option<Doubt<'a>> {
+    match rt.metadata(name) {
+        Ok(found) if found.is_file() => inputs
+            .into_iter()
+            .find(|input| is_same_file(rt, input, &found))
+            .map(|input| Doubt::Input(input)),
+        _ => None,
+    }
 }
 
 /// Whether a file that is there can be opened for writing, which leaves it as it is.
@@ -89,12 +93,17 @@ fn is_same_file<R: Files>(rt: &R, name: &str, found: &Metadata) -> bool {
     }
 }
 
-/// What is wrong with the place of a file that isn't there.
-fn doubt_of_place<'a, R: Files>(rt: &R, name: &'a str) -> Option<Doubt<'a>> {
-    let folder = match Path::new(name).parent() {
+/// The folder in which a file stands.
+fn folder_of(name: &str) -> &str {
+    match Path::new(name).parent() {
         Some(folder) if !folder.as_str().is_empty() => folder.as_str(),
         _ => ".",
-    };
+    }
+}
+
+/// What is wrong with the place of a file that isn't there.
+fn doubt_of_place<'a, R: Files>(rt: &R, name: &'a str) -> Option<Doubt<'a>> {
+    let folder = folder_of(name);
     match rt.metadata(folder) {
         Ok(found) if found.is_dir() => is_closed(rt, &found).then_some(Doubt::ClosedFolder(folder)),
         _ => Some(Doubt::NoFolder(folder)),
@@ -113,4 +122,43 @@ fn is_closed<R: Files>(rt: &R, folder: &Metadata) -> bool {
         OTHERS_WRITE
     };
     own.uid() != 0 && folder.mode() & bits == 0
+}
+
+/// Whether two names, of which the first leads to no file, would be those of one.
+fn is_same_new_file<R: Files>(rt: &R, name: &str, other: &str) -> bool {
+    if rt.metadata(other).is_ok() || Path::new(name).file_name() != Path::new(other).file_name() {
+        return false;
+    }
+    match rt.metadata(folder_of(name)) {
+        Ok(folder) => is_same_file(rt, folder_of(other), &folder),
+        Err(_) => false,
+    }
+}
+
+/// Whether a name is that of another file too, be it there or not.
+fn is_name_of<R: Files>(rt: &R, name: &str, other: &str) -> bool {
+    match rt.metadata(name) {
+        Ok(found) if found.is_file() => is_same_file(rt, other, &found),
+        Ok(_) => false,
+        Err(_) => is_same_new_file(rt, name, other),
+    }
+}
+
+/// The first of the other files of a run of which this is a name too.
+fn taken_by<'b, R: Files>(rt: &R, name: &str, others: [&'b str; 5]) -> Option<&'b str> {
+    others.into_iter().find(|other| is_name_of(rt, name, other))
+}
+
+/// Whether a file may be written beside ROUTE, in a run with these other files, so far as that can
+/// be known. Where it may not, a warning tells why; it begins with what the file is, as `the log `.
+pub fn is_free<R: Files + Eprint>(rt: &R, what: &str, name: &str, others: [&str; 5]) -> bool {
+    if let Some(other) = taken_by(rt, name, others) {
+        let _ = eprintln!(rt; "warning: {what}{name} is not written: it is the file {other} too");
+        return false;
+    }
+    if let Some(doubt) = hindrance_of(rt, name) {
+        let _ = eprintln!(rt; "warning: {what}{name} {doubt}");
+        return false;
+    }
+    true
 }

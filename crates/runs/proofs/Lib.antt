@@ -4,3 +4,5 @@ pub mod Stages
 pub mod Designs
 pub mod Writing
 pub mod Widths
+pub mod Leaving
+pub mod Logging

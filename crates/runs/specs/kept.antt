@@ -1,2 +1,5 @@
 pub mod ReaderFaults
 pub mod Routing
+pub mod Left
+pub mod Lesser
+pub mod LogTexts

@@ -13,11 +13,13 @@ ghost use Rattle.runs.specs.kept.Routing.{RoutesProblem, outcome_text};
 
 use crate::design::Design;
 use crate::fault::{AppFault, InputFile};
+use crate::left::LeftTrees;
 use crate::netlist_text::NetlistText;
 use crate::outcome::put_outcome;
 use crate::routing::write_routing;
+use crate::side_files::SideFiles;
 use iteration::{Outcome, negotiate};
-use net_workers::Gate;
+use net_workers::{BothGates, Gate};
 use node_cost::Settings;
 use route_tree::Routing;
 use rr_graph::Mode;
@@ -90,13 +92,14 @@ fn write_outcome<R: ByteSink, W: ByteSink>(
     }
 }
 
-/// Negotiates a routing of a design.
-fn negotiate_design<T: Threads + Wait + Sync + AllocGlobal, G: Gate + Sync>(
+/// Negotiates a routing of a design; what is left without success goes to the file of `rest`.
+fn negotiate_leaving<T: Threads + Wait + Sync + AllocGlobal, G: Gate + Sync, S: SideFiles + Sync>(
     rt: &T,
     design: &Design<'_>,
     settings: &Settings,
     workers: u32,
     gate: &G,
+    rest: &S,
 ) -> Result<Outcome, AppFault>
     requires workers { (1 ≤ workers) × (workers ≤ most_workers) }
     ensures outcome { IfOk result (negotiation.IsOutcome design.now.problem settings.now) }
@@ -104,13 +107,24 @@ fn negotiate_design<T: Threads + Wait + Sync + AllocGlobal, G: Gate + Sync>(
         (negotiation.EndsNegotiation design.now.problem settings.now workers) }
     ensures free { IfErr result (λ e. is_free e ≡ true) }
 {
+    let left = LeftTrees::new(rt, rt.alloc(), design, rest);
+    let gates = BothGates {
+        first: gate,
+        second: &left,
+    };
     let problem = design.problem().copy(rt.alloc())?;
-    let outcome = negotiate(rt, rt.alloc(), problem, settings, workers, gate)?;
+    let outcome = negotiate(rt, rt.alloc(), problem, settings, workers, &gates)?;
     Ok(outcome)
 }
 
 /// Negotiates a routing of a design, and writes the outcome.
-fn route_design<T: Threads + Wait + Sync + AllocGlobal, R: ByteSink, W: ByteSink, G: Gate + Sync>(
+fn route_design<
+    T: Threads + Wait + Sync + AllocGlobal,
+    R: ByteSink,
+    W: ByteSink,
+    G: Gate + Sync,
+    S: SideFiles + Sync,
+>(
     rt: &T,
     design: &Design<'_>,
     route: &mut R,
@@ -118,6 +132,7 @@ fn route_design<T: Threads + Wait + Sync + AllocGlobal, R: ByteSink, W: ByteSink
     settings: &Settings,
     workers: u32,
     gate: &G,
+    rest: &S,
 ) -> Result<Outcome, AppFault>
     requires workers { (1 ≤ workers) × (workers ≤ most_workers) }
     ensures runs { ends_free result ≡ false → RoutesDesign settings.now workers
@@ -129,7 +144,7 @@ fn route_design<T: Threads + Wait + Sync + AllocGlobal, R: ByteSink, W: ByteSink
         → TakesNothing (writing (W.taken out.old) (W.taken out.new) (W.failed out.new)) }
     ensures late { ends_before InputFile.Route result ≡ false }
 {
-    let outcome = match negotiate_design(rt, design, settings, workers, gate) {
+    let outcome = match negotiate_leaving(rt, design, settings, workers, gate, rest) {
         Ok(outcome) => outcome,
         Err(fault) => return Err(fault),
     };
@@ -138,7 +153,8 @@ fn route_design<T: Threads + Wait + Sync + AllocGlobal, R: ByteSink, W: ByteSink
 
 /// Reads an architecture, a netlist and its placement, in this order and each only where those before it are without fault;
 /// negotiates a routing on the device of the placement's size; writes the routing to `route`, where there is one, and then
-/// prints the line of the outcome. The call waits for the workers.
+/// prints the line of the outcome. Where no routing was found, the trees that the last iteration left are written to the file of
+/// `rest`, and the nets without one are told there. The call waits for the workers.
 ///
 /// # Errors
 /// NoThread, Memory and Astray as `negotiate` answers them, and Memory wherever it ran out: then neither sink took anything.
@@ -153,6 +169,7 @@ pub fn route_run<
     R: ByteSink,
     W: ByteSink,
     G: Gate + Sync,
+    S: SideFiles + Sync,
 >(
     rt: &T,
     net: &mut N,
@@ -165,6 +182,7 @@ pub fn route_run<
     settings: &Settings,
     workers: u32,
     gate: &G,
+    rest: &S,
 ) -> Result<Outcome, AppFault>
     requires tracks { (1 ≤ width) × (width ≤ most_tracks) }
     requires workers { (1 ≤ workers) × (workers ≤ most_workers) }
@@ -195,5 +213,5 @@ pub fn route_run<
         Ok(design) => design,
         Err(fault) => return Err(fault),
     };
-    route_design(rt, &design, route, out, settings, workers, gate)
+    route_design(rt, &design, route, out, settings, workers, gate, rest)
 }

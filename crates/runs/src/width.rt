@@ -14,11 +14,14 @@ ghost use Rattle.runs.specs.WidthRun.{RunsWidth, SearchesWidths, WritesFound, Wr
 ghost use Rattle.runs.specs.kept.Routing.{RoutesLeast};
 
 use crate::fault::{AppFault, InputFile};
+use crate::kept::KeptTrials;
+use crate::lesser::verify;
 use crate::netlist_text::NetlistText;
 use crate::placed::PlacedNetlist;
 use crate::routing::write_routing;
+use crate::side_files::SideFiles;
 use crate::trials::put_report;
-use net_workers::Gate;
+use net_workers::{BothGates, Gate};
 use node_cost::Settings;
 use route_tree::Routing;
 use rr_graph::{Mode, Problem};
@@ -109,7 +112,7 @@ fn write_report<R: ByteSink, W: ByteSink>(
 }
 
 /// Searches for the least width of a placed netlist.
-fn search_widths<T: Threads + Wait + Sync + AllocGlobal, G: Gate + Sync>(
+fn search_widths<T: Threads + Wait + Sync + AllocGlobal, G: Gate + Sync, S: SideFiles + Sync>(
     rt: &T,
     placed: &PlacedNetlist<'_>,
     start: u32,
@@ -117,6 +120,7 @@ fn search_widths<T: Threads + Wait + Sync + AllocGlobal, G: Gate + Sync>(
     settings: &Settings,
     workers: u32,
     gate: &G,
+    kept: &S,
 ) -> Result<WidthReport, AppFault>
     requires start { (1 ≤ start) × (start ≤ most_tracks) }
     requires workers { (1 ≤ workers) × (workers ≤ most_workers) }
@@ -124,6 +128,11 @@ fn search_widths<T: Threads + Wait + Sync + AllocGlobal, G: Gate + Sync>(
         (Negotiates (placed_problem mode placed.now) settings.now workers) start) }
     ensures free { IfErr result (λ e. is_free e ≡ true) }
 {
+    let trials = KeptTrials::new(rt.alloc(), placed, mode, kept);
+    let gates = BothGates {
+        first: gate,
+        second: &trials,
+    };
     let report = least_width(
         rt,
         rt.alloc(),
@@ -134,13 +143,19 @@ fn search_widths<T: Threads + Wait + Sync + AllocGlobal, G: Gate + Sync>(
         start,
         mode,
         workers,
-        gate,
+        &gates,
     )?;
     Ok(report)
 }
 
 /// Searches for the least width of a placed netlist, prints the lines of the search, and writes the routing of that width.
-fn width_placed<T: Threads + Wait + Sync + AllocGlobal, R: ByteSink, W: ByteSink, G: Gate + Sync>(
+fn width_placed<
+    T: Threads + Wait + Sync + AllocGlobal,
+    R: ByteSink,
+    W: ByteSink,
+    G: Gate + Sync,
+    S: SideFiles + Sync,
+>(
     rt: &T,
     placed: &PlacedNetlist<'_>,
     route: &mut R,
@@ -150,6 +165,8 @@ fn width_placed<T: Threads + Wait + Sync + AllocGlobal, R: ByteSink, W: ByteSink
     settings: &Settings,
     workers: u32,
     gate: &G,
+    kept: &S,
+    below: u32,
 ) -> Result<WidthReport, AppFault>
     requires start { (1 ≤ start) × (start ≤ most_tracks) }
     requires workers { (1 ≤ workers) × (workers ≤ most_workers) }
@@ -162,20 +179,26 @@ fn width_placed<T: Threads + Wait + Sync + AllocGlobal, R: ByteSink, W: ByteSink
         → TakesNothing (writing (W.taken out.old) (W.taken out.new) (W.failed out.new)) }
     ensures late { ends_before InputFile.Route result ≡ false }
 {
-    let report = match search_widths(rt, placed, start, mode, settings, workers, gate) {
+    let report = match search_widths(rt, placed, start, mode, settings, workers, gate, kept) {
         Ok(report) => report,
         Err(fault) => return Err(fault),
     };
     match write_report(rt.alloc(), placed, &report, mode, route, out) {
-        Ok(()) => Ok(report),
+        Ok(()) => {
+            verify(
+                rt, placed, &report, below, mode, settings, workers, gate, kept,
+            );
+            Ok(report)
+        }
         Err(fault) => Err(fault),
     }
 }
 
 /// Reads an architecture, a netlist and its placement, in this order and each only where those before it are without fault;
 /// searches for the least channel width from `start` on, on devices of the placement's size; prints a line for each trial, and one for
-/// the least width that was routed; and then writes the routing of that width to `route`, where there is one. The call waits for the
-/// workers.
+/// the least width that was routed; and then writes the routing of that width to `route`, where there is one. The routing of each trial is written
+/// to its file of `kept` as soon as it is found. In the end so many widths below the least are tried too, and what they come to
+/// is told there. The call waits for the workers.
 ///
 /// # Errors
 /// NoThread, Memory and Astray as `least_width` answers them, and Memory wherever it ran out: then neither sink took anything.
@@ -190,6 +213,7 @@ pub fn width_run<
     R: ByteSink,
     W: ByteSink,
     G: Gate + Sync,
+    S: SideFiles + Sync,
 >(
     rt: &T,
     net: &mut N,
@@ -202,6 +226,8 @@ pub fn width_run<
     settings: &Settings,
     workers: u32,
     gate: &G,
+    kept: &S,
+    below: u32,
 ) -> Result<WidthReport, AppFault>
     requires start { (1 ≤ start) × (start ≤ most_tracks) }
     requires workers { (1 ≤ workers) × (workers ≤ most_workers) }
@@ -233,6 +259,6 @@ pub fn width_run<
         Err(fault) => return Err(fault),
     };
     width_placed(
-        rt, &placed, route, out, start, mode, settings, workers, gate,
+        rt, &placed, route, out, start, mode, settings, workers, gate, kept, below,
     )
 }

@@ -1,0 +1,184 @@
+//! Widths below the least that a search found, each tried once more or for the first time.
+
+ghost use Rattle.std.specs.Prelude.{◌≤◌};
+ghost use Rattle.vpr_text.specs.Output.{Sends, stream};
+ghost use Rattle.rr_graph.specs.Fabric.{most_tracks};
+ghost use Rattle.node_cost.specs.Options.{most_workers};
+ghost use Rattle.runs.specs.kept.Lesser.{lesser_end, lesser_line, lesser_routed};
+
+use crate::fault::{AppFault, print_fault};
+use crate::kept::KeptTrials;
+use crate::outcome::put_outcome;
+use crate::placed::PlacedNetlist;
+use crate::side_files::SideFiles;
+use iteration::Outcome;
+use net_workers::{BothGates, Gate};
+use node_cost::Settings;
+use route_file::text::put_number;
+use rr_graph::Mode;
+use std::alloc::AllocGlobal;
+use std::sync::Wait;
+use std::thread::Threads;
+use vpr_text::{ByteSink, OutputBuffer};
+use width_search::{WidthReport, negotiate_at};
+
+/// Prints what the negotiation of a width came to.
+fn put_line<W: ByteSink>(out: &mut OutputBuffer, words: &mut W, width: u32, outcome: &Outcome)
+    ensures { Sends (stream (W.taken words.old) (W.failed words.old) out.old)
+        (stream (W.taken words.new) (W.failed words.new) out.new) (lesser_line width outcome.now) }
+{
+    out.push(words, b"width ");
+    put_number(out, words, width);
+    out.push(words, b": ");
+    put_outcome(out, words, outcome);
+}
+
+/// Prints that a width was routed.
+fn put_routed<W: ByteSink>(out: &mut OutputBuffer, words: &mut W, width: u32)
+    ensures { Sends (stream (W.taken words.old) (W.failed words.old) out.old)
+        (stream (W.taken words.new) (W.failed words.new) out.new) (lesser_routed width) }
+{
+    out.push(words, b"lesser routed width: ");
+    put_number(out, words, width);
+    out.push(words, b"\n");
+}
+
+/// Prints which lesser width was routed, the least of several, or that none was.
+fn put_end<W: ByteSink>(out: &mut OutputBuffer, words: &mut W, routed: Option<u32>)
+    ensures { Sends (stream (W.taken words.old) (W.failed words.old) out.old)
+        (stream (W.taken words.new) (W.failed words.new) out.new) (lesser_end routed) }
+{
+    match routed {
+        Some(width) => put_routed(out, words, width),
+        None => out.push(words, b"no lesser width was routed\n"),
+    }
+}
+
+/// Negotiates at a width, tells what that came to, and answers whether it is routed.
+fn try_lesser<T: Threads + Wait + Sync + AllocGlobal, W: ByteSink, G: Gate + Sync>(
+    rt: &T,
+    placed: &PlacedNetlist<'_>,
+    width: u32,
+    mode: Mode,
+    settings: &Settings,
+    workers: u32,
+    gate: &G,
+    words: &mut W,
+) -> Result<bool, AppFault>
+    requires tracks { (1 ≤ width) × (width ≤ most_tracks) }
+    requires workers { (1 ≤ workers) × (workers ≤ most_workers) }
+{
+    let outcome = negotiate_at(
+        rt,
+        rt.alloc(),
+        placed.arch(),
+        placed.netlist(),
+        placed.placement(),
+        settings,
+        width,
+        mode,
+        workers,
+        gate,
+    )?;
+    let mut out = OutputBuffer::new();
+    put_line(&mut out, words, width, &outcome);
+    let _ = out.finish(words);
+    Ok(matches!(outcome, Outcome::Success(_, _)))
+}
+
+/// Negotiates at so many widths below one, the greatest first, and tells what each came to. The
+/// least that was routed.
+fn try_all<T: Threads + Wait + Sync + AllocGlobal, W: ByteSink, G: Gate + Sync>(
+    rt: &T,
+    placed: &PlacedNetlist<'_>,
+    width: u32,
+    count: u32,
+    mode: Mode,
+    settings: &Settings,
+    workers: u32,
+    gate: &G,
+    words: &mut W,
+) -> Result<Option<u32>, AppFault>
+    requires tracks { (1 ≤ width) × (width ≤ most_tracks) }
+    requires workers { (1 ≤ workers) × (workers ≤ most_workers) }
+{
+    let mut routed = None;
+    for step in 1..width {
+        if step > count {
+            break;
+        }
+        let lesser = width - step;
+        if try_lesser(rt, placed, lesser, mode, settings, workers, gate, words)? {
+            routed = Some(lesser);
+        }
+    }
+    Ok(routed)
+}
+
+/// Tries so many widths below the least that was found, and tells of each what it came to, and in
+/// the end whether one was routed.
+fn try_below<T: Threads + Wait + Sync + AllocGlobal, W: ByteSink, G: Gate + Sync>(
+    rt: &T,
+    placed: &PlacedNetlist<'_>,
+    width: u32,
+    count: u32,
+    mode: Mode,
+    settings: &Settings,
+    workers: u32,
+    gate: &G,
+    words: &mut W,
+) -> Result<(), AppFault>
+    requires tracks { (1 ≤ width) × (width ≤ most_tracks) }
+    requires workers { (1 ≤ workers) × (workers ≤ most_workers) }
+{
+    let routed = try_all(
+        rt, placed, width, count, mode, settings, workers, gate, words,
+    )?;
+    let mut out = OutputBuffer::new();
+    put_end(&mut out, words, routed);
+    let _ = out.finish(words);
+    Ok(())
+}
+
+/// Tries so many widths below the least that was found, and tells what each came to. Where one of
+/// them can't be tried that is told.
+pub(crate) fn verify<T: Threads + Wait + Sync + AllocGlobal, G: Gate + Sync, S: SideFiles + Sync>(
+    rt: &T,
+    placed: &PlacedNetlist<'_>,
+    report: &WidthReport,
+    below: u32,
+    mode: Mode,
+    settings: &Settings,
+    workers: u32,
+    gate: &G,
+    kept: &S,
+)
+    requires workers { (1 ≤ workers) × (workers ≤ most_workers) }
+{
+    if below == 0 {
+        return;
+    }
+    let Some(least) = report.least() else {
+        return;
+    };
+    let trials = KeptTrials::new(rt.alloc(), placed, mode, kept);
+    let gates = BothGates {
+        first: gate,
+        second: &trials,
+    };
+    let mut words = kept.words();
+    let tried = try_below(
+        rt,
+        placed,
+        least.width,
+        below,
+        mode,
+        settings,
+        workers,
+        &gates,
+        &mut words,
+    );
+    if let Err(fault) = tried {
+        let _ = print_fault(&fault, &mut words);
+    }
+}

@@ -1,0 +1,127 @@
+//! A log of a negotiation, or of those of a search of widths: a head, and a line for each
+//! iteration.
+
+use crate::log_text::{write_head, write_row};
+use congestion_book::Book;
+use net_workers::Gate;
+use node_cost::Settings;
+use rr_graph::Problem;
+use std::io::Eprint;
+use std::sync::atomic::{AtomicBool, Ordering};
+use std::sync::{Mutex, Wait};
+use std::time::{Clock, Duration};
+use vpr_text::ByteSink;
+
+/// The greatest number of an iteration.
+const MOST_ITERATIONS: u32 = 500;
+
+/// A gate that writes a log: before the first negotiation a head, and after each iteration a line,
+/// each whole and at once. Where it can't be written a warning stands on standard error, and the
+/// log ends there; the run goes on.
+#[derive(Drop)]
+pub struct Log<'a, R, W> {
+    rt: &'a R,
+    name: &'a str,
+    program: &'a str,
+    /// The files of the run: NET, ARCH, PLACE and ROUTE.
+    files: [&'a str; 4],
+    workers: u32,
+    settings: Settings,
+    begin: Duration,
+    is_begun: AtomicBool,
+    /// Where it is written; nowhere if it isn't wanted, or any more.
+    out: Mutex<Option<W>>,
+}
+
+impl<'a, R: Eprint + Clock + Wait, W: ByteSink + Drop> Log<'a, R, W> {
+    /// One of a run that begins now, by so many workers. Its name is that of the file, for
+    /// warnings; the head names the program's version, and NET, ARCH, PLACE and ROUTE of the run.
+    pub fn new(
+        rt: &'a R,
+        name: &'a str,
+        program: &'a str,
+        files: [&'a str; 4],
+        workers: u32,
+        settings: Settings,
+        out: Option<W>,
+    ) -> Log<'a, R, W> {
+        Log {
+            rt,
+            name,
+            program,
+            files,
+            workers,
+            settings,
+            begin: rt.monotonic().unwrap_or(Duration::ZERO),
+            is_begun: AtomicBool::new(false),
+            out: Mutex::new(out),
+        }
+    }
+
+    /// The milliseconds since it was made.
+    fn elapsed(&self) -> u64 {
+        let now = self.rt.monotonic().unwrap_or(self.begin);
+        let elapsed = now.saturating_sub(self.begin);
+        u64::try_from(elapsed.as_millis()).unwrap_or(u64::MAX)
+    }
+
+    /// Whether the head was written.
+    fn is_head_written(&self, sink: &mut W, problem: &Problem) -> bool {
+        let [net, arch, place, route] = self.files;
+        write_head(
+            sink,
+            self.program.as_bytes(),
+            net.as_bytes(),
+            arch.as_bytes(),
+            place.as_bytes(),
+            route.as_bytes(),
+            problem,
+            self.workers,
+            &self.settings,
+        )
+        .is_ok()
+    }
+
+    /// Whether the line of an iteration was written.
+    fn is_row_written(&self, sink: &mut W, iteration: u32, book: &Book) -> bool {
+        let number = iteration.max(1).min(MOST_ITERATIONS);
+        write_row(sink, &self.settings, number, book, self.elapsed()).is_ok()
+    }
+
+    /// Tells that the log ends.
+    fn complain(&self) {
+        let name = self.name;
+        let _ = eprintln!(self.rt; "warning: the log {name} cannot be written");
+    }
+}
+
+impl<R: Eprint + Clock + Wait, W: ByteSink + Drop> Gate for Log<'_, R, W> {
+    fn begins(&self, problem: &Problem) {
+        if self.is_begun.swap(true, Ordering::SeqCst) {
+            return;
+        }
+        let mut out = self.out.lock(self.rt);
+        let Some(sink) = out.as_mut() else {
+            return;
+        };
+        if !self.is_head_written(sink, problem) {
+            *out = None;
+            self.complain();
+        }
+    }
+
+    fn between(&self, _worker: u32, _net: u32) {}
+
+    fn searched(&self, _worker: u32, _net: u32) {}
+
+    fn closed(&self, iteration: u32, book: &Book) {
+        let mut out = self.out.lock(self.rt);
+        let Some(sink) = out.as_mut() else {
+            return;
+        };
+        if !self.is_row_written(sink, iteration, book) {
+            *out = None;
+            self.complain();
+        }
+    }
+}
