@@ -1,5 +1,5 @@
 -- No head and no line of a log is empty.
-use Rattle.std.proofs.Common.{◌≡◌, ℕ, ◌<◌, List, length, arith, length-append}
+use Rattle.std.proofs.Common.{ℕ, ◌<◌, List, length, arith, length-append}
 use Rattle.rr_graph.specs.Problems.{RoutingProblem}
 use Rattle.node_cost.specs.Options.{RouterOptions}
 use Rattle.congestion_book.specs.Contents.{Content}

@@ -1,9 +1,7 @@
 -- The line and the name of a placement's fault, as a run prints them (ours).
 use Rattle.std.specs.Prelude.{ℕ, List, codes}
-use Rattle.vpr_text.specs.declared.fault.TextFault.TheVariants as text
 use Rattle.place_file.specs.declared.fault.PlaceFault.{PlaceFault}
 use Rattle.place_file.specs.declared.fault.PlaceFault.TheVariants as place
-use Rattle.runs.specs.declared.fault.AppFault.TheVariants.{Memory}
 use Rattle.runs.specs.TextFaults.{text_line, text_name}
 
 -- 0 is the end of the file
