@@ -4,11 +4,11 @@ _pathfinder() {
   local word=${COMP_WORDS[COMP_CWORD]} before=${COMP_WORDS[COMP_CWORD - 1]} words= values=
   case ${COMP_WORDS[1]} in
     route)
-      values='--width --workers --iterations --first-pres --init-pres --mult --acc --bb'
+      values='--width --rest --workers --iterations --first-pres --init-pres --mult --acc --bb --log'
       words="$values --global --explain -h --help"
       ;;
     width)
-      values='--start --workers --iterations --first-pres --init-pres --mult --acc --bb'
+      values='--start --keep --verify --workers --iterations --first-pres --init-pres --mult --acc --bb --log'
       words="$values --global --explain -h --help"
       ;;
     check)

@@ -37,7 +37,7 @@ use std::sync::Wait;
 use std::thread::Threads;
 use std::{env, fs, io};
 use terminal::{columns, takes_lines_back};
-use vpr_text::{Adapted, ByteSource};
+use vpr_text::Adapted;
 use warning::doubt_of;
 use width_search::WidthReport;
 
@@ -272,27 +272,6 @@ fn route<'a, R: Runtime + SharedOutputs + Threads + Wait + Sync + AllocGlobal>(
     let mut arch = open(rt, given.arch, InputFile::Arch)?;
     let mut net = open(rt, given.net, InputFile::Net)?;
     let mut place = open(rt, given.place, InputFile::Place)?;
-    route_read(rt, given, progress, &mut net, &mut arch, &mut place)
-}
-
-/// The `route` command on inputs that are open.
-fn route_read<
-    'a,
-    R: Runtime + SharedOutputs + Threads + Wait + Sync + AllocGlobal,
-    N: ByteSource,
-    A: ByteSource,
-    P: ByteSource,
->(
-    rt: &'a R,
-    given: RouteWords<'a>,
-    progress: &'a Progress<'a, R>,
-    net: &mut N,
-    arch: &mut A,
-    place: &mut P,
-) -> Result<Outcome, AppFault>
-    requires tracks { (1 ≤ given.width) × (given.width ≤ most_tracks) }
-    requires workers { (1 ≤ given.workers) × (given.workers ≤ most_workers) }
-{
     warn(rt, given.route, [given.arch, given.net, given.place]);
     let mut route = Adapted::new(Writer::to_new(rt, progress, given.route));
     let mut out = Adapted::new(BehindProgress::new(io::writer(rt), progress));
@@ -318,9 +297,9 @@ fn route_read<
     let (width, mode, settings) = (given.width, mode_of(given.global), given.settings);
     route_run(
         rt,
-        net,
-        arch,
-        place,
+        &mut net,
+        &mut arch,
+        &mut place,
         &mut route,
         &mut out,
         width,
@@ -344,27 +323,6 @@ fn width<'a, R: Runtime + SharedOutputs + Threads + Wait + Sync + AllocGlobal>(
     let mut arch = open(rt, given.arch, InputFile::Arch)?;
     let mut net = open(rt, given.net, InputFile::Net)?;
     let mut place = open(rt, given.place, InputFile::Place)?;
-    width_read(rt, given, progress, &mut net, &mut arch, &mut place)
-}
-
-/// The `width` command on inputs that are open.
-fn width_read<
-    'a,
-    R: Runtime + SharedOutputs + Threads + Wait + Sync + AllocGlobal,
-    N: ByteSource,
-    A: ByteSource,
-    P: ByteSource,
->(
-    rt: &'a R,
-    given: WidthWords<'a>,
-    progress: &'a Progress<'a, R>,
-    net: &mut N,
-    arch: &mut A,
-    place: &mut P,
-) -> Result<WidthReport, AppFault>
-    requires start { (1 ≤ given.start) × (given.start ≤ most_tracks) }
-    requires workers { (1 ≤ given.workers) × (given.workers ≤ most_workers) }
-{
     warn(rt, given.route, [given.arch, given.net, given.place]);
     let mut route = Adapted::new(Writer::to_new(rt, progress, given.route));
     let mut out = Adapted::new(BehindProgress::new(io::writer(rt), progress));
@@ -391,9 +349,9 @@ fn width_read<
     let (start, mode, settings) = (given.start, mode_of(given.global), given.settings);
     width_run(
         rt,
-        net,
-        arch,
-        place,
+        &mut net,
+        &mut arch,
+        &mut place,
         &mut route,
         &mut out,
         start,
