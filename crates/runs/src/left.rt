@@ -26,6 +26,7 @@ use std::sync::{Mutex, Wait};
 use vpr_text::{ByteSink, OutputBuffer};
 
 /// Writes the text of trees of a placed netlist, of which some nets may have none.
+#[inline(never)]
 pub(crate) fn write_trees<W: ByteSink>(
     netlist: &Netlist<'_>,
     placement: &Placement,
@@ -132,6 +133,7 @@ fn put_all_stuck<W: ByteSink>(
 }
 
 /// Tells which nets of a design have no tree.
+#[inline(never)]
 fn tell_stuck<W: ByteSink>(words: &mut W, design: &Design<'_>, stuck: &[(u32, u32)]) {
     let mut out = OutputBuffer::new();
     put_all_stuck(&mut out, words, design.netlist(), design.problem(), stuck);

@@ -54,6 +54,22 @@ fn put_end<W: ByteSink>(out: &mut OutputBuffer, words: &mut W, routed: Option<u3
     }
 }
 
+/// Tells what the negotiation of a width came to.
+#[inline(never)]
+fn tell_outcome<W: ByteSink>(words: &mut W, width: u32, outcome: &Outcome) {
+    let mut out = OutputBuffer::new();
+    put_line(&mut out, words, width, outcome);
+    let _ = out.finish(words);
+}
+
+/// Tells which lesser width was routed, or that none was.
+#[inline(never)]
+fn tell_end<W: ByteSink>(words: &mut W, routed: Option<u32>) {
+    let mut out = OutputBuffer::new();
+    put_end(&mut out, words, routed);
+    let _ = out.finish(words);
+}
+
 /// Negotiates at a width, tells what that came to, and answers whether it is routed.
 fn try_lesser<T: Threads + Wait + Sync + AllocGlobal, W: ByteSink, G: Gate + Sync>(
     rt: &T,
@@ -80,9 +96,7 @@ fn try_lesser<T: Threads + Wait + Sync + AllocGlobal, W: ByteSink, G: Gate + Syn
         workers,
         gate,
     )?;
-    let mut out = OutputBuffer::new();
-    put_line(&mut out, words, width, &outcome);
-    let _ = out.finish(words);
+    tell_outcome(words, width, &outcome);
     Ok(matches!(outcome, Outcome::Success(_, _)))
 }
 
@@ -134,9 +148,7 @@ fn try_below<T: Threads + Wait + Sync + AllocGlobal, W: ByteSink, G: Gate + Sync
     let routed = try_all(
         rt, placed, width, count, mode, settings, workers, gate, words,
     )?;
-    let mut out = OutputBuffer::new();
-    put_end(&mut out, words, routed);
-    let _ = out.finish(words);
+    tell_end(words, routed);
     Ok(())
 }
 

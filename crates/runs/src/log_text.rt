@@ -163,6 +163,7 @@ fn put_head<W: ByteSink>(
 }
 
 /// Writes the head of a log of a run with these files, at once.
+#[inline(never)]
 pub(crate) fn write_head<W: ByteSink>(
     sink: &mut W,
     program: &[u8],
@@ -355,6 +356,7 @@ fn put_row<W: ByteSink>(
 }
 
 /// Writes the line of an iteration, of the book that it left, at once.
+#[inline(never)]
 pub(crate) fn write_row<W: ByteSink>(
     sink: &mut W,
     settings: &Settings,
