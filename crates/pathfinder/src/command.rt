@@ -222,6 +222,7 @@ fn graph_command<'a>(alloc: Global) -> Result<Command<'a>, AllocError> {
 }
 
 /// The command line of the program.
+#[inline(never)]
 pub fn command<'a>(alloc: Global) -> Result<Command<'a>, AllocError> {
     Command::new(alloc, "pathfinder")
         .about("Routes placed designs in the text formats of VPR 4.30, and judges routings")

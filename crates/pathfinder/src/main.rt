@@ -86,6 +86,7 @@ fn run<R: Runtime + SharedOutputs + Threads + Wait + Sync + AllocGlobal>(
 }
 
 /// Runs `route`, and answers its status.
+#[inline(never)]
 fn run_route<R: Runtime + SharedOutputs + Threads + Wait + Sync + AllocGlobal>(
     rt: &R,
     given: &ArgMatches<'_>,
@@ -111,6 +112,7 @@ fn run_route<R: Runtime + SharedOutputs + Threads + Wait + Sync + AllocGlobal>(
 }
 
 /// Runs `width`, and answers its status.
+#[inline(never)]
 fn run_width<R: Runtime + SharedOutputs + Threads + Wait + Sync + AllocGlobal>(
     rt: &R,
     given: &ArgMatches<'_>,
@@ -191,6 +193,7 @@ fn run_graph(rt: &(impl Runtime + AllocGlobal), given: &ArgMatches<'_>) -> u8 {
 }
 
 /// The words of the command line.
+#[inline(never)]
 fn words(rt: &(impl Runtime + AllocGlobal)) -> io::Result<Vec<String>> {
     Ok(env::args(rt)?.collect(rt.alloc())?)
 }
@@ -218,6 +221,7 @@ fn refused_with(
 
 /// Prints what clap says of the words, and answers the status: 0 for help and for the version where
 /// they were asked for.
+#[inline(never)]
 fn explained(rt: &(impl Runtime + AllocGlobal), error: &ClapError) -> u8 {
     if error.kind() == ErrorKind::OutOfMemory {
         return refused(rt, AppFault::Memory);
