@@ -1,9 +1,10 @@
 //! The box in which a net is routed.
 
-ghost use Rattle.std.specs.Prelude.{◌≡◌, ◌<◌, length, IfOk};
+ghost use Rattle.std.specs.Prelude.{◌≡◌, ◌<◌, ℕ, length, IfOk};
 ghost use Rattle.wavefront.specs.Boxes.{box_around, box_of_net, box_of_node, box_of_span, box_with, touches};
 ghost use Rattle.rr_graph.specs.Problems.{net_in};
-ghost use Rattle.group_wave.specs.kept.Boxes.{AreFirstBoxes, box_shared, boxed};
+ghost use Rattle.wavefront.specs.Boxes as plain;
+ghost use Rattle.group_wave.specs.kept.Boxes.{AreFirstBoxes, IsWidened, box_shared, boxed};
 
 use rr_graph::{Device, Problem, Span};
 use std::alloc::{AllocError, Global};
@@ -126,14 +127,27 @@ impl BoundingBox {
         source.with(boxes, device, problem.sinks(net))
     }
 
-    /// Whether the box, widened on each side, has one of the places of a span.
-    #[inline(always)]
-    pub(crate) fn touches(self, bb: u32, span: Span) -> bool
-        ensures { result ≡ touches bb (boxed self) span }
+    /// The box with so many columns and rows more on each side.
+    pub(crate) fn widened(self, bb: u32) -> BoundingBox
+        ensures { IsWidened bb (boxed self) (boxed result) }
     {
-        span.x1.saturating_sub(bb) <= self.right
-            && self.left.saturating_sub(bb) <= span.x2
-            && span.y1.saturating_sub(bb) <= self.top
-            && self.bottom.saturating_sub(bb) <= span.y2
+        BoundingBox {
+            left: self.left.saturating_sub(bb),
+            right: self.right.saturating_add(bb),
+            bottom: self.bottom.saturating_sub(bb),
+            top: self.top.saturating_add(bb),
+        }
+    }
+
+    /// Whether the box, which was widened, has one of the places of a span.
+    #[inline(always)]
+    pub(crate) fn has_place_of(self, span: Span) -> bool
+        ensures { (bb : ℕ) (narrow : plain.BoundingBox) → IsWidened bb narrow (boxed self)
+            → result ≡ touches bb narrow span }
+    {
+        span.x1 <= self.right
+            && self.left <= span.x2
+            && span.y1 <= self.top
+            && self.bottom <= span.y2
     }
 }

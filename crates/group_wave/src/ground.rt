@@ -21,7 +21,7 @@ ghost use Rattle.group_wave.specs.kept.Grounds.{IsGround, groups_of};
 
 use crate::boxes::BoundingBox;
 use node_cost::{GREATEST_PRESENT, View, cost};
-use rr_graph::{Kind, Mode, Problem, Span};
+use rr_graph::{Device, Kind, Mode, Problem, Span};
 use smallvec::SmallVec;
 use std::alloc::AllocError;
 use std::marker::Model;
@@ -39,7 +39,10 @@ pub(crate) struct Ground<'a> {
     view: &'a View,
     present: u32,
     bb: u32,
-    terminals: BoundingBox,
+    /// Where the net may be routed.
+    inside: BoundingBox,
+    /// How many nets may use a wire.
+    room: u32,
 }
 
 impl<'a> Model for Ground<'a> {
@@ -74,6 +77,18 @@ fn is_one_of(numbers: &[u32], number: u32) -> bool
     ensures { IsTrue result ↔ Contains numbers.now number }
 {
     numbers.binary_search(&number).is_ok()
+}
+
+/// How many nets may use a wire of a device.
+fn wire_room(device: &Device) -> u32
+    ensures room { result ≡ wire_capacity device.now.mode device.now.width }
+    ensures some { 1 ≤ result }
+{
+    let width = device.width();
+    match device.mode() {
+        Mode::Detailed => 1,
+        Mode::Global => width,
+    }
 }
 
 impl<'a> Ground<'a> {
@@ -114,7 +129,8 @@ impl<'a> Ground<'a> {
             view,
             present,
             bb,
-            terminals: BoundingBox::of_net(boxes, problem, net),
+            inside: BoundingBox::of_net(boxes, problem, net).widened(bb),
+            room: wire_room(problem.device()),
         }
     }
 
@@ -160,7 +176,7 @@ impl<'a> Ground<'a> {
         ensures { result ≡ touches self.now.space.bb
             (box_of_net self.now.space.device self.now.space.net) span }
     {
-        self.terminals.touches(self.bb, span)
+        self.inside.has_place_of(span)
     }
 
     /// Whether the node is inside the net's box.
@@ -170,7 +186,7 @@ impl<'a> Ground<'a> {
             node }
     {
         match self.problem.device().span(node) {
-            Some(span) => self.terminals.touches(self.bb, span),
+            Some(span) => self.inside.has_place_of(span),
             None => false,
         }
     }
@@ -207,17 +223,13 @@ impl<'a> Ground<'a> {
     }
 
     /// How many nets may use a wire.
+    #[inline(always)]
     fn wire_room(&self) -> u32
         ensures room { result ≡
             wire_capacity self.now.space.device.mode self.now.space.device.width }
         ensures some { 1 ≤ result }
     {
-        let device = self.problem.device();
-        let width = device.width();
-        match device.mode() {
-            Mode::Detailed => 1,
-            Mode::Global => width,
-        }
+        self.room
     }
 
     /// What it costs to enter a wire.

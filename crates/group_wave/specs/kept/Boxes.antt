@@ -1,5 +1,5 @@
 -- Boxes as they are kept, and what those around the sinks of a net tell.
-use Rattle.std.specs.Prelude.{◌≡◌, ℕ, ◌<◌, ◌≤◌, List, Contains, get_or, length, max, min}
+use Rattle.std.specs.Prelude.{◌≡◌, ℕ, ◌+◌, ◌-◌, ◌<◌, ◌≤◌, List, Contains, get_or, length, max, min}
 use Rattle.rr_graph.specs.Fabric.{Fabric}
 use Rattle.wavefront.specs.Boxes as plain
 use Rattle.wavefront.specs.kept.Bounds.{Wire}
@@ -12,6 +12,13 @@ boxed b = record { left = b.left; right = b.right; bottom = b.bottom; top = b.to
 -- these are the boxes of a device's first nodes
 abbrev pub AreFirstBoxes : Fabric → List BoundingBox → Type 0
 AreFirstBoxes f boxes = (v : ℕ) (d : BoundingBox) → v < length boxes → boxed (get_or boxes v d) ≡ plain.box_of_node f v
+
+-- a box with so many columns and rows more on each side, where they can be counted
+pub record IsWidened (bb : ℕ) (b wide : plain.BoundingBox) : Type 0 where
+  pub left : wide.left ≡ b.left - bb
+  pub right : wide.right ≡ min (b.right + bb) 4294967295
+  pub bottom : wide.bottom ≡ b.bottom - bb
+  pub top : wide.top ≡ min (b.top + bb) 4294967295
 
 -- what two boxes share
 abbrev pub box_shared : (a b : plain.BoundingBox) → plain.BoundingBox

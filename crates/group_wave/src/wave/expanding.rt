@@ -328,6 +328,7 @@ impl<K: Key> Wave<K> {
     }
 
     /// Offers input pins the way, where a sink may stand beside.
+    #[inline(always)]
     fn reach_if_beside(
         &mut self,
         ground: &Ground<'_>,

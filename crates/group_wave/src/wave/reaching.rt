@@ -186,6 +186,7 @@ impl<K: Key> Wave<K> {
     }
 
     /// Offers all input pins that tap tracks of an entry the way from them.
+    #[inline(never)]
     pub(super) fn reach_all(
         &mut self,
         ground: &Ground<'_>,
