@@ -1,6 +1,6 @@
-"""What `report` prints of a routing, counted plainly from the definitions."""
+"""What `report` prints of a routing, and `check --explain` says of it, counted plainly from the definitions."""
 from device import CHANX, CHANY
-from judge import covered
+from judge import covered, tree_fault
 
 
 def places_of(device, node):
@@ -104,6 +104,17 @@ class Routing:
             if node is not None:
                 yield f"line {line} node {node}"
 
+    def uses(self, text, name):
+        """The lines of the file of this name that name an overused node, with the net whose section they stand in."""
+        over = {self.device.text(self.device.nodes[number]): number for number, _, _ in self.overuses()}
+        net = None
+        for line, words in enumerate(text.split("\n"), 1):
+            node = " ".join(words.split())
+            if words.startswith("Net "):
+                net = words.split("(", 1)[1].split(")")[0]
+            elif node in over:
+                yield f"{name}:{line}: net {net} uses node {over[node]} {node}"
+
     def map(self):
         """The array from its top row, two cells of four columns or more for each place."""
         nx, ny = self.device.nx, self.device.ny
@@ -121,6 +132,20 @@ class Routing:
                 else:
                     cells.append("+")
             yield "".join(f"{cell:>4}" if len(str(cell)) < 4 else f" {cell}" for cell in cells)
+
+
+def faults(device, design, lists):
+    """Of each net that isn't routed its name and its first fault."""
+    for net, (source, sinks), pairs in zip(design.routed(), design.problem(device), lists):
+        fault = "Unrouted" if pairs is None else tree_fault(device, source, sinks, pairs)
+        if fault:
+            yield net.name, fault
+
+
+def overuse_in_words(device, design, lists, text, name):
+    """What `check --explain` says of the overused nodes of a routing, whose file has this name and text."""
+    routing = Routing(device, design, lists)
+    return [*routing.overused(), *routing.uses(text, name)]
 
 
 def report(device, design, lists, text, is_map):
