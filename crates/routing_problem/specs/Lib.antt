@@ -1,0 +1,4 @@
+pub mod Problems
+pub mod Same
+pub mod SameLaws
+pub mod kept
