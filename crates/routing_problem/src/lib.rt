@@ -10,6 +10,7 @@ mod parts_fault;
 mod problem;
 mod same;
 
+pub use channel_tables::{Kind, Label, Mode, Node, NodeRange, Span};
 pub use device::Device;
 pub use fault::DeviceFault;
 pub use finder::EdgeFinder;
