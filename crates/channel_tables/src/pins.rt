@@ -1,12 +1,11 @@
 //! The pins of logic blocks and pads, their classes, and the tracks that they tap.
 
-ghost use Rattle.std.specs.Prelude.{◌≡◌, ℕ, ◌+◌, ◌-◌, ◌*◌, ◌/◌, ◌%◌, ◌==◌, ◌≤◌, ◌<◌, slice_get, length, vec_len, IfOk};
+ghost use Rattle.std.specs.Prelude.{◌≡◌, ◌+◌, ◌-◌, ◌%◌, ◌==◌, ◌≤◌, ◌<◌, slice_get, vec_len, IfOk};
 ghost use Rattle.std.specs.List.{list_any};
 ghost use Rattle.arch_file.specs.Architecture.{most_pins};
 ghost use Rattle.channel_tables.specs.Wires.{runs_through};
 ghost use Rattle.channel_tables.specs.LastPlaces.{last_by};
-ghost use Rattle.channel_tables.specs.Pins.{has_direction, classes_of, pins_of, tap_count, tracks_by, fc_at, channels_of_pin, channel_of_pad, channels_beside, is_marked_global, has_class, taps, belongs};
-ghost use Rattle.channel_tables.specs.Pins.{IsTapCounts};
+ghost use Rattle.channel_tables.specs.Pins.{has_direction, classes_of, pins_of, tap_count, tracks_by, fc_at, channels_of_pin, channel_of_pad, channels_beside, is_marked_global, has_class, taps, belongs, IsTapCounts};
 ghost use Rattle.channel_tables.specs.Fabric.{most_tracks};
 
 use crate::layout::Layout;

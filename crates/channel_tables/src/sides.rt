@@ -6,8 +6,7 @@ ghost use Rattle.channel_tables.specs.Fabric.{numbers_below};
 ghost use Rattle.channel_tables.specs.Wires.{tracks_in};
 ghost use Rattle.channel_tables.specs.Pins.{tap_count};
 ghost use Rattle.channel_tables.specs.Picks.{picks};
-ghost use Rattle.channel_tables.specs.Sides.{has_side};
-ghost use Rattle.channel_tables.specs.Sides.{on_side, tapping_on};
+ghost use Rattle.channel_tables.specs.Sides.{has_side, on_side, tapping_on};
 ghost use Rattle.channel_tables.specs.kept.TappingTables.{fc_on, taps_from, IsTapping, IsSides, HoldsTrack, places_of_track};
 
 use crate::layout::Layout;

@@ -5,9 +5,8 @@ ghost use Rattle.std.specs.List.{flat_map, prefix_len};
 ghost use Rattle.arch_file.specs.Architecture.{longest_side};
 ghost use Rattle.channel_tables.specs.Fabric.{numbers_below};
 ghost use Rattle.channel_tables.specs.Wires.{tracks_in};
-ghost use Rattle.channel_tables.specs.Channels.{first_of};
+ghost use Rattle.channel_tables.specs.Channels.{first_of, tracks_from, tracks_since, tracks_through};
 ghost use Rattle.channel_tables.specs.kept.Tables.{wires_at, IsChannel};
-ghost use Rattle.channel_tables.specs.Channels.{tracks_from, tracks_since, tracks_through};
 
 use crate::channel::{Channel, Wire};
 use crate::layout::Layout;

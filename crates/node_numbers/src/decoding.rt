@@ -8,8 +8,6 @@ ghost use Rattle.node_numbers.specs.kept.Columns.{column_length, columns_length,
 ghost use Rattle.channel_tables.specs.Fabric.{is_between};
 ghost use Rattle.node_numbers.specs.Nodes.{node_at, node_count_of};
 ghost use Rattle.node_numbers.specs.Starts.{kind_length, kind_start, column_start};
-ghost use Rattle.channel_tables.specs.Channels.{wires_before, beginnings_of};
-ghost use Rattle.channel_tables.specs.kept.Tables.{IsChannel};
 ghost use Rattle.node_numbers.specs.kept.Numbers.{IsBlock};
 ghost use Rattle.node_numbers.specs.kept.Strides.{stride_at, column_stride};
 

@@ -1,6 +1,6 @@
 //! How many nodes stand before those of a kind, counted by arithmetic.
 
-ghost use Rattle.std.specs.Prelude.{◌≡◌, ◌+◌, ◌≤◌, true};
+ghost use Rattle.std.specs.Prelude.{◌≡◌, ◌≤◌, true};
 ghost use Rattle.arch_file.specs.Architecture.{most_pins};
 ghost use Rattle.node_numbers.specs.Starts.{kind_length, kind_start};
 ghost use Rattle.node_numbers.specs.Numbering.{is_terminal};

@@ -1,8 +1,8 @@
 //! By what numbers are divided to find wires: divisors that are made once.
 
-ghost use Rattle.std.specs.Prelude.{◌≡◌, ◌+◌, ◌≤◌, length, map, max, IfOk};
+ghost use Rattle.std.specs.Prelude.{◌≡◌, ◌+◌, ◌≤◌, map, max, IfOk};
 ghost use Rattle.channel_tables.specs.Fabric.{numbers_below};
-ghost use Rattle.node_numbers.specs.kept.Strides.{stride_at, column_stride, AreStrides};
+ghost use Rattle.node_numbers.specs.kept.Strides.{stride_at, AreStrides};
 
 use crate::divisor::Divisor;
 use channel_tables::ChannelTables;

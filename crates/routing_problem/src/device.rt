@@ -1,6 +1,6 @@
 //! The device and its look-ups.
 
-ghost use Rattle.std.specs.Prelude.{◌≡◌, ℕ, ◌+◌, ◌^◌, ◌<◌, ◌≤◌, ◌↔◌, ◌⊎◌, [], ◌∷◌, length, nat_le, Contains, true, IfOk, IfSome, IsSome, Some, OnOk, OnErr, IsOk, Option, Result};
+ghost use Rattle.std.specs.Prelude.{◌≡◌, ℕ, ◌^◌, ◌<◌, ◌≤◌, ◌↔◌, ◌⊎◌, [], ◌∷◌, length, nat_le, Contains, true, IfOk, IfSome, IsSome, Some, OnOk, OnErr, IsOk};
 ghost use Rattle.std.specs.List.Sorted.{IsStrictlyIncreasing};
 ghost use Rattle.std.specs.Option.{option_map};
 ghost use Rattle.arch_file.specs.Architecture.{longest_side};

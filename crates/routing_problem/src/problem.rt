@@ -4,7 +4,7 @@ ghost use Rattle.std.specs.Prelude.{◌≡◌, ◌+◌, ◌<◌, length, IfOk};
 ghost use Rattle.std.specs.List.{list_all};
 ghost use Rattle.channel_tables.specs.Fabric.{numbers_below};
 ghost use Rattle.routing_problem.specs.Problems.{IsProblem, net_in, net_fault, first_some, parts_fault, problem_of, ascends, are_sinks, is_out_of_order, rises_at};
-ghost use Rattle.node_numbers.specs.Nodes.{is_source, is_sink};
+ghost use Rattle.node_numbers.specs.Nodes.{is_sink};
 
 use crate::device::Device;
 use crate::nets::{Terminals, copy_nets, number_at};

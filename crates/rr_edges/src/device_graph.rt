@@ -1,6 +1,6 @@
 //! The graph of a device: its nodes by number, and the edges among them.
 
-ghost use Rattle.std.specs.Prelude.{◌≡◌, ℕ, ◌+◌, ◌^◌, ◌<◌, ◌≤◌, ◌↔◌, [], ◌∷◌, length, Contains, true, IfOk, IfSome, IsSome, Some, OnOk, OnErr, IsOk};
+ghost use Rattle.std.specs.Prelude.{◌≡◌, ℕ, ◌^◌, ◌<◌, ◌≤◌, ◌↔◌, [], ◌∷◌, length, Contains, true, IfOk, IfSome, IsSome, Some, OnOk, OnErr, IsOk};
 ghost use Rattle.std.specs.List.Sorted.{IsStrictlyIncreasing};
 ghost use Rattle.arch_file.specs.Architecture.{longest_side};
 ghost use Rattle.channel_tables.specs.Fabric.{IsFabric, fabric_with, most_tracks};

@@ -2,7 +2,7 @@
 
 ghost use Rattle.std.specs.Prelude.{◌≡◌, ℕ, ◌+◌, ◌≤◌, Some};
 ghost use Rattle.node_numbers.specs.Nodes.{kind_of_node};
-ghost use Rattle.node_numbers.specs.Starts.{kind_length, kind_start, place_start};
+ghost use Rattle.node_numbers.specs.Starts.{place_start};
 ghost use Rattle.rr_edges.specs.InputPins.{IsInRange, IsPinOf};
 ghost use Rattle.rr_edges.specs.kept.PinsAtPlaces.{most_pins_at};
 

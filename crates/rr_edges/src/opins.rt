@@ -1,12 +1,12 @@
 //! The successors of output pins, from their places by arithmetic.
 
-ghost use Rattle.std.specs.Prelude.{◌≡◌, ◌+◌, ◌<◌, ◌≤◌, ◌==◌, ◌&&◌, if◌then◌else◌, [], true, length, All};
+ghost use Rattle.std.specs.Prelude.{◌≡◌, ◌+◌, ◌<◌, ◌≤◌, if◌then◌else◌, [], true, length, All};
 ghost use Rattle.std.specs.List.{filter, flat_map};
 ghost use Rattle.smallvec.specs.SmallVec.{HasRoomFor};
 ghost use Rattle.channel_tables.specs.Wires.{tracks_in};
 ghost use Rattle.rr_edges.specs.kept.PinSuccessors.{taps_track, tapped_chanx, tapped_rows, tapped_column, opin_successors};
 ghost use Rattle.rr_edges.specs.kept.Pushes.{Pushes};
-ghost use Rattle.channel_tables.specs.Channels.{tracks_from, tracks_through};
+ghost use Rattle.channel_tables.specs.Channels.{tracks_from};
 ghost use Rattle.rr_edges.specs.kept.Terminals.{IsTapper, above_wire, right_wire, all_tracks, rows_piece, wires_on, AreSides, IsTerminal, sides_of_pin, sides_of_pad, opin_sides, opin_fc};
 ghost use Rattle.channel_tables.specs.Fabric.{most_tracks};
 

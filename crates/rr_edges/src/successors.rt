@@ -1,17 +1,15 @@
 //! The successors of a node, from its place by arithmetic.
 
-ghost use Rattle.std.specs.Prelude.{◌≡◌, OnOk, OnErr, IsOk, ℕ, ◌+◌, ◌*◌, ◌<◌, ◌≤◌, ◌⊎◌, ◌++◌, true, length, map};
-ghost use Rattle.std.specs.List.{range_with_len, flat_map};
+ghost use Rattle.std.specs.Prelude.{◌≡◌, OnOk, OnErr, IsOk, ℕ, ◌+◌, ◌<◌, ◌≤◌, ◌⊎◌, ◌++◌, true, length, map};
 ghost use Rattle.arch_file.specs.Architecture.{most_pins};
 ghost use Rattle.smallvec.specs.SmallVec.{HasRoomFor};
 ghost use Rattle.channel_tables.specs.Fabric.{IsFabric};
 ghost use Rattle.rr_edges.specs.kept.Pushes.{Pushes};
 ghost use Rattle.rr_edges.specs.kept.NodeSuccessors.{node_successors, IsAtPlace};
-ghost use Rattle.channel_tables.specs.Wires.{tracks_in, begins, steps_of, last_of, places_of};
+ghost use Rattle.channel_tables.specs.Wires.{tracks_in, begins, last_of};
 ghost use Rattle.channel_tables.specs.Channels.{first_of};
 ghost use Rattle.rr_edges.specs.kept.Channels.{meeting_of, beside_of};
 ghost use Rattle.node_numbers.specs.Starts.{place_start};
-ghost use Rattle.channel_tables.specs.Sides.{tapping_on};
 ghost use Rattle.node_numbers.specs.kept.WireIds.{wire_id};
 ghost use Rattle.rr_edges.specs.kept.WireSuccessors.{pins_beside};
 ghost use Rattle.rr_edges.specs.kept.Fanouts.{numbers_of, runs_of, run_above, run_right, pins_of_row, pins_of_column, pins_at, row_list, column_list, row_wire_list, column_wire_list, IsSmallRun, IsSmallMeeting, IsSmallTaps, IsSmallRow, IsSmallColumn};

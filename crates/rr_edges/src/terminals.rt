@@ -1,12 +1,10 @@
 //! The successors of sources and input pins, from their places by arithmetic.
 
-ghost use Rattle.std.specs.Prelude.{◌≡◌, ℕ, ◌+◌, ◌<◌, ◌≤◌, ◌==◌, false, true, length, slice_get};
+ghost use Rattle.std.specs.Prelude.{◌≡◌, ℕ, ◌+◌, ◌<◌, ◌≤◌, ◌==◌, length, slice_get};
 ghost use Rattle.arch_file.specs.Architecture.{most_pins};
 ghost use Rattle.smallvec.specs.SmallVec.{HasRoomFor};
-ghost use Rattle.channel_tables.specs.Fabric.{is_block};
 ghost use Rattle.channel_tables.specs.Pins.{has_class};
 ghost use Rattle.channel_tables.specs.Picks.{picks};
-ghost use Rattle.node_numbers.specs.Starts.{place_start};
 ghost use Rattle.rr_edges.specs.kept.PinSuccessors.{source_successors, sink_of_pin, ipin_successors};
 ghost use Rattle.rr_edges.specs.kept.Pushes.{Pushes};
 ghost use Rattle.rr_edges.specs.kept.Terminals.{IsTerminal, sink_label, sink_beside};
