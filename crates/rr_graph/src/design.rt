@@ -1,12 +1,12 @@
 //! Placed designs: what the nets of a netlist join on a device.
 
-ghost use Rattle.std.specs.Prelude.{◌≡◌, ℕ, ◌+◌, ◌<◌, ◌≤◌, ◌||◌, not, true, map, List, IfOk};
+ghost use Rattle.std.specs.Prelude.{◌≡◌, ℕ, ◌||◌, not, true, map, List, IfOk};
 ghost use Rattle.std.specs.List.{list_all, filter_map};
 ghost use Rattle.net_file.specs.Reads.{ReadsBytes};
 ghost use Rattle.net_file.specs.Routed.{is_routed_net, routed_numbers};
 ghost use Rattle.place_file.specs.Placement.{IsPlaced};
 ghost use Rattle.channel_tables.specs.Fabric.{is_block};
-ghost use Rattle.rr_graph.specs.Designs.{label_on, node_on, terminal_node, has_node, has_nodes, has_size_of, are_on_sites, suits_design, nodes_of_sinks, net_on_device, net_of_design, problem_from};
+ghost use Rattle.rr_graph.specs.Designs.{label_on, node_on, terminal_node, has_node, has_nodes, has_size_of, are_on_sites, suits_design, nodes_of_sinks, net_on_device, net_of_design};
 
 use channel_tables::{Kind, Node};
 use net_file::{Net, Netlist, Terminal};
