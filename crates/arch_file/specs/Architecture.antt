@@ -23,7 +23,7 @@ pub record Architecture : Type 0 where
   pub segments : List Segment
   pub switches : List Switch
 
--- the most pads at a place of the perimeter (this project's profile, like the next three)
+-- the most pads at a place of the perimeter (this project's profile, like the next four)
 abbrev pub most_pads : ℕ
 most_pads = 16
 
@@ -38,6 +38,10 @@ most_segments = 16
 -- the most blocks that a wire passes where it doesn't pass all
 abbrev pub longest_wire : ℕ
 longest_wire = 16
+
+-- the most columns, and the most rows, of logic blocks in an array
+abbrev pub longest_side : ℕ
+longest_side = 100
 
 -- a wire passes 1 to 16 logic blocks, or all of them
 abbrev pub IsSegmentLength : SegmentLength → Type 0

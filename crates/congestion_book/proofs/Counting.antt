@@ -9,12 +9,13 @@ use Rattle.std.proofs.lemmas.List.{get_or-set_same, same_lists, get_or_default}
 use Rattle.std.proofs.lemmas.Option.{slice_get_cases, same_Some, none-some}
 use Rattle.std.proofs.lemmas.List.Sums.{sum_by-append, sum_by-cons, count_by-le-length}
 use Rattle.std.proofs.lemmas.List.FromFn.{length-range_with_len}
-use Rattle.rr_graph.specs.Fabric.{Fabric, IsFabric, numbers_below}
-use Rattle.rr_graph.specs.declared.parts.Node.{Node}
-use Rattle.rr_graph.specs.Nodes.{node_at, nodes_of, node_count_of, capacity_of}
-use Rattle.rr_graph.proofs.Capacities.{some_capacity}
-use Rattle.rr_graph.proofs.Ranges.{below_next, length_below, get_below}
-use Rattle.rr_graph.proofs.Order.{node_count_below}
+use Rattle.routing_problem.specs.Fabric.{Fabric, IsFabric, numbers_below}
+use Rattle.routing_problem.specs.parts.Node.{Node}
+use Rattle.routing_problem.specs.Nodes.{node_at, nodes_of, node_count_of, capacity_of}
+use Rattle.routing_problem.proofs.Capacities.{some_capacity}
+use Rattle.routing_problem.proofs.Ranges.{below_next, length_below, get_below}
+pub use Rattle.routing_problem.proofs.Ranges.{sum_next}
+use Rattle.routing_problem.proofs.Order.{node_count_below}
 use Rattle.route_tree.specs.declared.tree.Row.{Row}
 use Rattle.route_tree.specs.Rows.{no_row}
 use Rattle.route_tree.specs.kept.Marked as tree

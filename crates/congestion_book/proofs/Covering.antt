@@ -2,9 +2,9 @@
 use Rattle.std.proofs.Common.{◌≡◌, ℕ, ◌+◌, ◌<◌, ◌≤◌, ◌==◌, true, List, [], ◌∷◌, length, map, get_or, All, Some, refl, sym, ap, ap₂, ◌∙◌, arith}
 use Rattle.std.proofs.lemmas.List.Elements.{Contains-get_or}
 use Rattle.std.proofs.lemmas.Bool.{eqb-true, eq-eqb, and_parts}
-use Rattle.rr_graph.specs.Nodes.{node_count_of}
-use Rattle.rr_graph.specs.Problems.{Net, RoutingProblem, net_in}
-use Rattle.rr_graph.specs.Fabric.{Fabric}
+use Rattle.routing_problem.specs.Nodes.{node_count_of}
+use Rattle.routing_problem.specs.Problems.{Net, RoutingProblem, net_in}
+use Rattle.routing_problem.specs.Fabric.{Fabric}
 use Rattle.route_tree.specs.declared.tree.Row.{Row}
 use Rattle.route_tree.specs.Paths.{Pair, ends_of}
 use Rattle.route_tree.specs.Rows.{node_in, pair_of, pairs_of, IsTree}

@@ -9,11 +9,11 @@ use Rattle.std.proofs.lemmas.Bool.Decides.{nat_tests}
 use Rattle.std.specs.Prelude.{if◌then◌else◌, count_by}
 use Rattle.route_tree.specs.Usage.{use_of, overuse_of, room_of, Lists}
 use Rattle.route_tree.proofs.Uses.{overuse_counted, few_uses}
-use Rattle.rr_graph.specs.Nodes.{node_at, node_count_of}
-use Rattle.rr_graph.specs.Problems.{RoutingProblem, IsProblem}
+use Rattle.routing_problem.specs.Nodes.{node_at, node_count_of}
+use Rattle.routing_problem.specs.Problems.{RoutingProblem, IsProblem}
 use Rattle.congestion_book.specs.Recorded.{overused_in, excess_in}
-use Rattle.rr_graph.specs.Fabric.{Fabric, numbers_below}
-use Rattle.rr_graph.proofs.Ranges.{below_next}
+use Rattle.routing_problem.specs.Fabric.{Fabric, numbers_below}
+use Rattle.routing_problem.proofs.Ranges.{below_next}
 use Rattle.congestion_book.specs.Histories.{Amount, AscendFrom, IsRow, amount_in, row_of}
 use Rattle.congestion_book.specs.kept.Usage.{excess_of, row_by, entry_of, excess_by, is_over, overused_by}
 use Rattle.congestion_book.proofs.Counting.{same_counts}

@@ -7,7 +7,7 @@ use Rattle.std.proofs.lemmas.List.Sums.{sum_by-cons}
 use Rattle.node_cost.specs.Views.{NodeView, others_in, history_in, NetView}
 use Rattle.node_cost.proofs.Views.{length_seen, others_at, history_at}
 use Rattle.std.specs.List.{zip}
-use Rattle.rr_graph.specs.Problems.{RoutingProblem}
+use Rattle.routing_problem.specs.Problems.{RoutingProblem}
 use Rattle.route_tree.specs.Paths.{Pair}
 use Rattle.route_tree.specs.Faults.{IsRoute}
 use Rattle.route_tree.specs.Rows.{pairs_of, IsTree, no_row}
@@ -18,8 +18,8 @@ use Rattle.congestion_book.specs.kept.Usage.{times_in}
 use Rattle.congestion_book.specs.kept.Views.{LeavesOut, LeavesNet, SeesOthers}
 use Rattle.congestion_book.proofs.Covering.{use_is}
 use Rattle.std.proofs.lemmas.List.{same_lists, get_or_default}
-use Rattle.rr_graph.specs.Fabric.{numbers_below}
-use Rattle.rr_graph.proofs.Ranges.{length_below, get_below}
+use Rattle.routing_problem.specs.Fabric.{numbers_below}
+use Rattle.routing_problem.proofs.Ranges.{length_below, get_below}
 use Rattle.route_tree.specs.Usage.{use_by_others, list_in}
 use Rattle.route_tree.proofs.Uses.{others_and_own}
 use Rattle.congestion_book.specs.Histories.{history_of}

@@ -3,11 +3,11 @@ use Rattle.std.proofs.Common.{◌≡◌, ℕ, ◌+◌, ◌<◌, ◌≤◌, ◌==
 use Rattle.std.proofs.lemmas.List.{length-replicate}
 use Rattle.std.proofs.lemmas.List.Sums.{sum_by-cons}
 use Rattle.std.proofs.lemmas.Option.{none-some}
-use Rattle.rr_graph.specs.Problems.{RoutingProblem}
+use Rattle.routing_problem.specs.Problems.{RoutingProblem}
 use Rattle.route_tree.proofs.Uses.{unused}
 use Rattle.std.proofs.lemmas.List.Elements.{All-nil, All-push}
 use Rattle.std.proofs.lemmas.Bool.Decides.{nat_tests}
-use Rattle.rr_graph.specs.Nodes.{node_count_of}
+use Rattle.routing_problem.specs.Nodes.{node_count_of}
 use Rattle.route_tree.specs.TreeLists.{lists_of_trees}
 use Rattle.congestion_book.specs.declared.turn.Turn.{Turn}
 use Rattle.congestion_book.specs.Turns.{TurnTable, AreInOrder, NameEachOnce, IsFirstWaiting, turns_at, one_if}

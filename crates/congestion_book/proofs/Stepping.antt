@@ -1,6 +1,6 @@
 -- What the calls of a book do, as steps of its content.
 use Rattle.std.proofs.Common.{◌≡◌, ℕ, ◌<◌, ◌≤◌, length, Option, Some, None, Bool, true, false, nat_le, if◌then◌else◌, Ok, refl, ap, subst, arith}
-use Rattle.rr_graph.specs.Nodes.{node_count_of}
+use Rattle.routing_problem.specs.Nodes.{node_count_of}
 use Rattle.route_tree.specs.TreeLists.{lists_of_trees}
 use Rattle.congestion_book.specs.Turns.{TurnTable, IsFirstWaiting}
 use Rattle.congestion_book.specs.kept.TurnTables.{GivesNet}

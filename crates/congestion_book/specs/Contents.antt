@@ -1,8 +1,8 @@
 -- What a congestion book holds, and when it is sound (McMurchie and Ebeling 1995, "occupancy", "history of congestion").
 use Rattle.std.specs.Prelude.{◌≡◌, ℕ, ◌-◌, ◌<◌, ◌≤◌, List, [], ◌∷◌, ◌++◌, length, map, get_or, replicate, Option, None, All}
-use Rattle.rr_graph.specs.Fabric.{numbers_below}
-use Rattle.rr_graph.specs.Nodes.{node_count_of}
-use Rattle.rr_graph.specs.Problems.{RoutingProblem}
+use Rattle.routing_problem.specs.Fabric.{numbers_below}
+use Rattle.routing_problem.specs.Nodes.{node_count_of}
+use Rattle.routing_problem.specs.Problems.{RoutingProblem}
 use Rattle.route_tree.specs.Usage.{use_of, use_by_others, Lists}
 use Rattle.node_cost.specs.Options.{most_iterations}
 use Rattle.node_cost.specs.Views.{NetView}

@@ -1,9 +1,9 @@
 -- The history of a node: its overuse in the closed iterations, added up (McMurchie and Ebeling 1995, "the history of congestion").
 use Rattle.std.specs.Prelude.{ℕ, ◌+◌, ◌*◌, ◌<◌, ◌≤◌, ◌==◌, nat_lt, if◌then◌else◌, List, [], ◌∷◌, map, sum_by, All}
 use Rattle.std.specs.List.{filter}
-use Rattle.rr_graph.specs.Fabric.{numbers_below}
-use Rattle.rr_graph.specs.Nodes.{node_count_of}
-use Rattle.rr_graph.specs.Problems.{RoutingProblem}
+use Rattle.routing_problem.specs.Fabric.{numbers_below}
+use Rattle.routing_problem.specs.Nodes.{node_count_of}
+use Rattle.routing_problem.specs.Problems.{RoutingProblem}
 use Rattle.route_tree.specs.Usage.{overuse_of, Lists}
 
 -- a node, and by how many nets it was overused

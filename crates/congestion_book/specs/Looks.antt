@@ -1,8 +1,8 @@
 -- What a net sees when it looks again while it is held, and whether the others have filled a node of its tree since it looked.
 use Rattle.std.specs.Prelude.{◌≡◌, ◌≢◌, ℕ, nat_le, Bool, ◌&&◌, not, List, length, Result, Ok, Err}
 use Rattle.std.specs.List.{list_any}
-use Rattle.rr_graph.specs.Nodes.{node_at}
-use Rattle.rr_graph.specs.Problems.{RoutingProblem}
+use Rattle.routing_problem.specs.Nodes.{node_at}
+use Rattle.routing_problem.specs.Problems.{RoutingProblem}
 use Rattle.route_tree.specs.declared.tree.Row.{Row}
 use Rattle.route_tree.specs.Usage.{use_by_others, room_of, Lists}
 use Rattle.node_cost.specs.Views.{NetView, others_in}

@@ -2,9 +2,9 @@
 -- and how long all nets are.
 use Rattle.std.specs.Prelude.{◌≡◌, ℕ, nat_lt, List, map, sum, Some, is_none, count_by}
 use Rattle.std.specs.List.{sum_by}
-use Rattle.rr_graph.specs.Fabric.{numbers_below}
-use Rattle.rr_graph.specs.Nodes.{node_count_of}
-use Rattle.rr_graph.specs.Problems.{RoutingProblem}
+use Rattle.routing_problem.specs.Fabric.{numbers_below}
+use Rattle.routing_problem.specs.Nodes.{node_count_of}
+use Rattle.routing_problem.specs.Problems.{RoutingProblem}
 use Rattle.route_tree.specs.Paths.{Pair}
 use Rattle.route_tree.specs.Faults.{IsRoute}
 use Rattle.route_tree.specs.Usage.{use_of, overuse_of, Lists, list_in}

@@ -18,7 +18,7 @@ use crate::turn::Turn;
 use crate::turns::{MOST_ITERATIONS, Turns};
 use node_cost::{Histories, View};
 use route_tree::{Marks, Tree, check_tree};
-use rr_graph::Problem;
+use routing_problem::Problem;
 use std::alloc::{AllocError, Global};
 use std::marker::Model;
 use std::sync::Arc;

@@ -2,8 +2,8 @@
 
 ghost use Rattle.std.specs.Prelude.{◌≡◌, length, Some};
 ghost use Rattle.std.specs.List.{list_any};
-ghost use Rattle.rr_graph.specs.Nodes.{node_count_of};
-ghost use Rattle.rr_graph.specs.Problems.{net_in};
+ghost use Rattle.routing_problem.specs.Nodes.{node_count_of};
+ghost use Rattle.routing_problem.specs.Problems.{net_in};
 ghost use Rattle.route_tree.specs.Rows.{node_in, pairs_of};
 ghost use Rattle.route_tree.specs.TreeLists.{list_of_tree};
 ghost use Rattle.route_tree.specs.Usage.{covers, use_by};
@@ -13,7 +13,7 @@ ghost use Rattle.congestion_book.specs.kept.Views.{filled_by, HasCapacity};
 use crate::usage::one_if;
 use node_cost::{Counts, View};
 use route_tree::{Row, Tree};
-use rr_graph::Problem;
+use routing_problem::Problem;
 
 /// Whether a node is in a tree, in which it stands in this row more often than not.
 #[tactic(auto, using(crate::proofs::Covering::row_covers))]

@@ -16,7 +16,7 @@ use crate::history::OveruseRow;
 use crate::turn::Turn;
 use node_cost::View;
 use route_tree::Tree;
-use rr_graph::Problem;
+use routing_problem::Problem;
 
 impl Book {
     /// The problem whose nets are routed.

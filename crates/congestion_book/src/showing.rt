@@ -2,8 +2,8 @@
 
 ghost use Rattle.std.specs.Prelude.{◌≡◌, ◌<◌, ◌≤◌, ◌∷◌, [], ℕ, All, Some, length, get_or};
 ghost use Rattle.std.specs.Arc.{arc_value};
-ghost use Rattle.rr_graph.specs.Nodes.{node_count_of};
-ghost use Rattle.rr_graph.specs.Problems.{net_in};
+ghost use Rattle.routing_problem.specs.Nodes.{node_count_of};
+ghost use Rattle.routing_problem.specs.Problems.{net_in};
 ghost use Rattle.node_cost.specs.Views.{others_in};
 ghost use Rattle.route_tree.specs.kept.Marked.{nodes_of};
 ghost use Rattle.route_tree.specs.Faults.{IsRoute};
@@ -16,7 +16,7 @@ ghost use Rattle.congestion_book.specs.kept.Views.{IsShown, LeavesOut, LeavesNet
 
 use node_cost::{Counts, Histories, View};
 use route_tree::{Row, Tree};
-use rr_graph::Problem;
+use routing_problem::Problem;
 use std::alloc::Global;
 use std::sync::Arc;
 

@@ -1,8 +1,8 @@
 //! How many nets use each node, and how many nodes are overused.
 
 ghost use Rattle.std.specs.Prelude.{◌≡◌, ◌≤◌, ◌<◌, ◌+◌, ◌-◌, ◌==◌, ◌++◌, ℕ, All, OnOk, length, get_or, set, replicate, IfOk};
-ghost use Rattle.rr_graph.specs.Fabric.{IsFabric};
-ghost use Rattle.rr_graph.specs.Nodes.{node_at, node_count_of};
+ghost use Rattle.routing_problem.specs.Fabric.{IsFabric};
+ghost use Rattle.routing_problem.specs.Nodes.{node_at, node_count_of};
 ghost use Rattle.route_tree.specs.kept.Marked.{nodes_of};
 ghost use Rattle.route_tree.specs.Usage.{room_of};
 ghost use Rattle.congestion_book.specs.Turns.{one_if};
@@ -10,7 +10,7 @@ ghost use Rattle.congestion_book.specs.kept.Usage.{overused_by, excess_of, row_b
 
 use node_cost::Counts;
 use route_tree::Row;
-use rr_graph::Device;
+use routing_problem::Device;
 use std::alloc::{AllocError, Global};
 
 /// How many nets use each node of a device, and how many nodes more nets use than they have room for.
@@ -140,7 +140,7 @@ impl Usage {
     }
 
     /// By how many nets more than they have room for all nodes are used together.
-    #[tactic(auto, using(rr_graph::proofs::Ranges::sum_next), unfolding(crate::specs::kept::Usage::excess_by))]
+    #[tactic(auto, using(crate::proofs::Counting::sum_next), unfolding(crate::specs::kept::Usage::excess_by))]
     pub(crate) fn total_excess(&self, device: &Device) -> u64
         requires limits { IsFabric device.now }
         requires each { length self.now.counts ≡ node_count_of device.now }

@@ -14,7 +14,7 @@ ghost use Rattle.congestion_book.specs.kept.Lengths.{length_by};
 use crate::routes::Routes;
 use route_report::places_at;
 use route_tree::{Row, Tree};
-use rr_graph::{Device, Problem};
+use routing_problem::{Device, Problem};
 
 /// The places that the wires of these rows pass.
 #[tactic(auto, using(crate::proofs::Lengths::places_next, crate::proofs::Lengths::places_past))]
@@ -69,7 +69,7 @@ impl Routes {
     }
 
     /// The wirelength of all nets together.
-    #[tactic(auto, using(rr_graph::proofs::Ranges::sum_next))]
+    #[tactic(auto, using(crate::proofs::Counting::sum_next))]
     pub(crate) fn wirelength(&self, problem: &Problem) -> u64
         requires recorded { AreExact problem.now self.now }
         ensures { result ≡ wirelength_in problem.now (lists_kept self.now) }

@@ -1,7 +1,7 @@
 -- A box around nodes, one by one.
 use Rattle.std.proofs.Common.{◌≡◌, ℕ, ◌+◌, ◌<◌, ◌≤◌, List, slice_index, inl, inr, subst, arith}
 use Rattle.std.proofs.lemmas.Bool.{cases_lt}
-use Rattle.rr_graph.specs.Fabric.{Fabric}
+use Rattle.routing_problem.specs.Fabric.{Fabric}
 use Rattle.wavefront.specs.Boxes.{BoundingBox}
 use Rattle.wavefront.specs.Boxes.{box_around, box_of_node}
 use Rattle.wavefront.specs.kept.Bounds.{IsInsideBox}

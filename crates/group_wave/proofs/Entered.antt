@@ -2,7 +2,7 @@
 use Rattle.std.proofs.Common.{◌≡◌, ℕ, ◌+◌, ◌<◌, ◌≤◌, [], ◌∷◌, length, sum_by, inl, inr, sym, ap, ◌∙◌, subst, arith}
 use Rattle.std.specs.Prelude.{min}
 use Rattle.std.proofs.lemmas.Bool.{cases_eq, cases_lt, false≢true}
-use Rattle.rr_graph.specs.InputPins.{IsPinOf}
+use Rattle.routing_problem.specs.InputPins.{IsPinOf}
 use Rattle.wavefront.specs.Space.{HasEdge, IsInside, entry_cost}
 use Rattle.wavefront.specs.kept.Spaces.{LeadsOnlyTo}
 use Rattle.wavefront.proofs.Spaces.{pin_leads}

@@ -1,8 +1,8 @@
 -- The first way, which leads over the only output pin of the source, where the wave starts.
 use Rattle.std.proofs.Common.{◌≡◌, ℕ, ◌<◌, List, [], ◌∷◌, ◌++◌, length, slice_index, Contains, Some, inl, inr, refl, sym, ap, ◌∙◌, subst, arith}
 use Rattle.std.specs.Prelude.{◌↔◌}
-use Rattle.rr_graph.specs.declared.parts.Kind.TheVariants.{Opin}
-use Rattle.rr_graph.specs.Nodes.{kind_of_node}
+use Rattle.routing_problem.specs.parts.Kind.TheVariants.{Opin}
+use Rattle.routing_problem.specs.Nodes.{kind_of_node}
 use Rattle.route_tree.specs.declared.tree.Row.{Row}
 use Rattle.route_tree.specs.Paths.{ends_of}
 use Rattle.route_tree.specs.Rows.{node_in, pairs_along, pairs_of}

@@ -4,10 +4,10 @@ use Rattle.std.specs.Option.{option_map}
 use Rattle.std.proofs.lemmas.Bool.{cases_Bool, false≢true}
 use Rattle.std.proofs.lemmas.List.{get_or_default}
 use Rattle.std.proofs.lemmas.Option.{same_Some, none-some}
-use Rattle.rr_graph.specs.declared.parts.Kind.TheVariants.{Ipin}
-use Rattle.rr_graph.specs.declared.parts.Node.{Node}
-use Rattle.rr_graph.specs.Fabric.{Fabric}
-use Rattle.rr_graph.specs.Nodes.{is_wire, is_wire_at, kind_of_node, node_at, span_of, wire_in}
+use Rattle.routing_problem.specs.parts.Kind.TheVariants.{Ipin}
+use Rattle.routing_problem.specs.parts.Node.{Node}
+use Rattle.routing_problem.specs.Fabric.{Fabric}
+use Rattle.routing_problem.specs.Nodes.{is_wire, is_wire_at, kind_of_node, node_at, span_of, wire_in}
 use Rattle.track_groups.specs.declared.group.Group.{Group}
 use Rattle.track_groups.specs.declared.group.GroupTrack.{GroupTrack}
 use Rattle.track_groups.specs.Groups.{IsOn, group_at, wire_on}

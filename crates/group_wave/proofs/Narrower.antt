@@ -1,9 +1,9 @@
 -- A box inside another tells of no fewer wires.
 use Rattle.std.proofs.Common.{ℕ, ◌+◌, ◌-◌, ◌/◌, ◌≤◌, min, max, arith}
 use Rattle.std.proofs.Math.Nat.{div-mul-le_self, le-div_iff_mul-le}
-use Rattle.rr_graph.specs.declared.parts.Kind.{Kind}
-use Rattle.rr_graph.specs.declared.parts.Kind.TheVariants.{Source, Sink, Opin, Ipin, Chanx, Chany}
-use Rattle.rr_graph.specs.declared.parts.Span.{Span}
+use Rattle.routing_problem.specs.parts.Kind.{Kind}
+use Rattle.routing_problem.specs.parts.Kind.TheVariants.{Source, Sink, Opin, Ipin, Chanx, Chany}
+use Rattle.routing_problem.specs.parts.Span.{Span}
 use Rattle.wavefront.specs.Boxes.{BoundingBox}
 use Rattle.wavefront.specs.kept.Bounds.{Wire}
 use Rattle.wavefront.specs.kept.Bounds.{IsInsideBox, gap, wires_by_kind, wires_for, wires_over, wires_to}

@@ -8,13 +8,13 @@ use Rattle.std.proofs.lemmas.Bool.{cases_lt, eq-eqb, eqb-true, false≢true}
 use Rattle.std.proofs.lemmas.List.{get_or_default, get_or_past}
 use Rattle.std.proofs.lemmas.Nat.Bits.{bit_at-trailing_zeros}
 use Rattle.std.proofs.lemmas.Option.{none-some, same_Some}
-use Rattle.rr_graph.specs.declared.parts.Kind.{Kind}
-use Rattle.rr_graph.specs.declared.parts.Kind.TheVariants.{Source, Sink, Opin, Ipin, Chanx, Chany}
-use Rattle.rr_graph.specs.declared.parts.Node.{Node}
-use Rattle.rr_graph.specs.Fabric.{Fabric}
-use Rattle.rr_graph.specs.Nodes.{is_wire, is_wire_at, kind_of_node, node_at}
-use Rattle.rr_graph.specs.Edges.{edge_between, edge_between_nodes, edge_by, is_edge}
-use Rattle.rr_graph.specs.Problems.{any_node, is_sink, is_sink_kind, is_source, is_source_kind}
+use Rattle.routing_problem.specs.parts.Kind.{Kind}
+use Rattle.routing_problem.specs.parts.Kind.TheVariants.{Source, Sink, Opin, Ipin, Chanx, Chany}
+use Rattle.routing_problem.specs.parts.Node.{Node}
+use Rattle.routing_problem.specs.Fabric.{Fabric}
+use Rattle.routing_problem.specs.Nodes.{is_wire, is_wire_at, kind_of_node, node_at}
+use Rattle.routing_problem.specs.Edges.{edge_between, edge_between_nodes, edge_by, is_edge}
+use Rattle.routing_problem.specs.Problems.{any_node, is_sink, is_sink_kind, is_source, is_source_kind}
 use Rattle.track_groups.specs.declared.group.Drive.{Drive}
 use Rattle.track_groups.specs.declared.group.Group.{Group}
 use Rattle.track_groups.specs.declared.group.GroupTrack.{GroupTrack}

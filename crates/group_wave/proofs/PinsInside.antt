@@ -3,13 +3,13 @@ use Rattle.std.proofs.Common.{◌≡◌, ℕ, true, refl, sym, ap, ◌∙◌}
 use Rattle.std.specs.Option.{option_map}
 use Rattle.std.proofs.lemmas.Bool.{false≢true}
 use Rattle.std.proofs.lemmas.Option.{same_Some}
-use Rattle.rr_graph.specs.InputPins.{IsPinOf}
-use Rattle.rr_graph.specs.declared.parts.Kind.{Kind}
-use Rattle.rr_graph.specs.declared.parts.Kind.TheVariants.{Sink, Ipin}
-use Rattle.rr_graph.specs.declared.parts.Node.{Node}
-use Rattle.rr_graph.specs.Fabric.{Fabric}
-use Rattle.rr_graph.specs.Nodes.{span_of}
-use Rattle.rr_graph.specs.Problems.{is_sink_kind}
+use Rattle.routing_problem.specs.InputPins.{IsPinOf}
+use Rattle.routing_problem.specs.parts.Kind.{Kind}
+use Rattle.routing_problem.specs.parts.Kind.TheVariants.{Sink, Ipin}
+use Rattle.routing_problem.specs.parts.Node.{Node}
+use Rattle.routing_problem.specs.Fabric.{Fabric}
+use Rattle.routing_problem.specs.Nodes.{span_of}
+use Rattle.routing_problem.specs.Problems.{is_sink_kind}
 use Rattle.wavefront.specs.Space.{IsInside, IsWanted}
 use Rattle.wavefront.specs.kept.Spaces.{LeadsOnlyTo}
 use Rattle.wavefront.proofs.Insides.{sink_place_inside}

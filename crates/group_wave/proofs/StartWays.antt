@@ -3,11 +3,11 @@ use Rattle.std.proofs.Common.{◌≡◌, ℕ, zero, suc, ◌+◌, ◌<◌, ◌�
 use Rattle.std.specs.Prelude.{Contains, drop}
 use Rattle.std.proofs.lemmas.Bool.{false≢true}
 use Rattle.std.proofs.lemmas.List.{drop_all, drop_more}
-use Rattle.rr_graph.specs.declared.parts.Kind.TheVariants.{Ipin}
-use Rattle.rr_graph.specs.Nodes.{kind_of_node}
-use Rattle.rr_graph.proofs.EdgeEnds.{enters_no_source}
-use Rattle.rr_graph.proofs.InputPins.{pin_leads_on}
-use Rattle.rr_graph.specs.Problems.{is_sink}
+use Rattle.routing_problem.specs.parts.Kind.TheVariants.{Ipin}
+use Rattle.routing_problem.specs.Nodes.{kind_of_node}
+use Rattle.routing_problem.proofs.EdgeEnds.{enters_no_source}
+use Rattle.routing_problem.proofs.InputPins.{pin_leads_on}
+use Rattle.routing_problem.specs.Problems.{is_sink}
 use Rattle.wavefront.specs.Space.{HasEdge}
 use Rattle.wavefront.specs.Ways.{IsWay}
 use Rattle.wavefront.specs.kept.Spaces.{LeadsOnlyTo, node_count}

@@ -2,11 +2,11 @@
 
 ghost use Rattle.std.specs.Prelude.{◌≡◌, ◌<◌, ℕ, length, IfOk};
 ghost use Rattle.wavefront.specs.Boxes.{box_around, box_of_net, box_of_node, box_of_span, box_with, touches};
-ghost use Rattle.rr_graph.specs.Problems.{net_in};
+ghost use Rattle.routing_problem.specs.Problems.{net_in};
 ghost use Rattle.wavefront.specs.Boxes as plain;
 ghost use Rattle.group_wave.specs.kept.Boxes.{AreFirstBoxes, IsWidened, box_shared, boxed};
 
-use rr_graph::{Device, Problem, Span};
+use routing_problem::{Device, Problem, Span};
 use std::alloc::{AllocError, Global};
 
 /// The columns and rows from one place to another, both included.

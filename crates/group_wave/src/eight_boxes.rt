@@ -8,7 +8,7 @@ ghost use Rattle.group_wave.specs.kept.EightBoxes.{IsOutlook, IsShare, KeepsBox,
 ghost use Rattle.group_wave.specs.kept.Wave.{wire_of};
 
 use crate::boxes::BoundingBox;
-use rr_graph::Kind;
+use routing_problem::Kind;
 use std::alloc::AllocError;
 use track_groups::Group;
 

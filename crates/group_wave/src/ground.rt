@@ -1,13 +1,13 @@
 //! What the search of one net goes over.
 
 ghost use Rattle.std.specs.Prelude.{◌≡◌, ◌<◌, ◌≤◌, ◌+◌, ◌*◌, ◌^◌, ◌↔◌, ℕ, Contains, IfSome, OnOk, IsTrue, length, get_or, slice_index, true, [], Some};
-ghost use Rattle.rr_graph.specs.declared.parts.Kind.TheVariants.{Ipin};
-ghost use Rattle.rr_graph.specs.Problems.{is_sink};
+ghost use Rattle.routing_problem.specs.parts.Kind.TheVariants.{Ipin};
+ghost use Rattle.routing_problem.specs.Problems.{is_sink};
 ghost use Rattle.std.specs.List.Sorted.{IsStrictlyIncreasing};
 ghost use Rattle.std.specs.Option.{option_map_or};
 ghost use Rattle.node_cost.specs.Costs.{cost_of};
 ghost use Rattle.node_cost.specs.Views.{history_in, others_in};
-ghost use Rattle.rr_graph.specs.Nodes.{is_wire_at, kind_of_node, node_count_of, wire_capacity};
+ghost use Rattle.routing_problem.specs.Nodes.{is_wire_at, kind_of_node, node_count_of, wire_capacity};
 ghost use Rattle.track_groups.specs.Drives.{AreDrives};
 ghost use Rattle.track_groups.specs.Groups.{group_at, place_of, HasPlace};
 ghost use Rattle.track_groups.specs.Joints.{IsTabled, neighbours_of, taps_of};
@@ -21,7 +21,7 @@ ghost use Rattle.group_wave.specs.kept.Grounds.{IsGround, groups_of};
 
 use crate::boxes::BoundingBox;
 use node_cost::{GREATEST_PRESENT, View, cost};
-use rr_graph::{Device, Kind, Mode, Problem, Span};
+use routing_problem::{Device, Kind, Mode, Problem, Span};
 use smallvec::SmallVec;
 use std::alloc::AllocError;
 use std::marker::Model;

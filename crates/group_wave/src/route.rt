@@ -3,7 +3,7 @@
 ghost use Rattle.std.specs.Prelude.{◌≡◌, ℕ, ◌<◌, ◌≤◌, ◌==◌, ◌↔◌, Err, IfOk, OnOk, IfSome, IfNone, IsTrue, IsFalse, Contains, [], ◌∷◌, length, slice_index, true};
 ghost use Rattle.std.specs.List.{list_any, position};
 ghost use Rattle.route_tree.specs.Rows.{node_in, pairs_of};
-ghost use Rattle.rr_graph.specs.Nodes.{node_count_of};
+ghost use Rattle.routing_problem.specs.Nodes.{node_count_of};
 ghost use Rattle.wavefront.specs.Growth.{IsAnswer, IsShut, RoutesIfFound, space_of};
 ghost use Rattle.wavefront.specs.declared.found.SearchFault.TheVariants.{ViewSize};
 ghost use Rattle.wavefront.specs.Space.{IsWanted};

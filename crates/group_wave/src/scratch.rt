@@ -1,12 +1,12 @@
 //! What a search works in.
 
 ghost use Rattle.std.specs.Prelude.{◌≡◌, ◌==◌, IfOk, OnOk, length};
-ghost use Rattle.rr_graph.specs.Nodes.{node_count_of};
+ghost use Rattle.routing_problem.specs.Nodes.{node_count_of};
 
 use crate::keys::Key;
 use crate::tables::PreparedProblem;
 use crate::wave::Wave;
-use rr_graph::Problem;
+use routing_problem::Problem;
 use smallvec::SmallVec;
 use std::alloc::{AllocError, Global};
 use std::marker::Model;

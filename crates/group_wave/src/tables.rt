@@ -4,7 +4,7 @@ ghost use Rattle.std.specs.Prelude.{◌≡◌, IfOk};
 ghost use Rattle.group_wave.specs.kept.Tables.{AreTablesOf};
 
 use crate::boxes::{BoundingBox, terminal_boxes};
-use rr_graph::{Device, Problem};
+use routing_problem::{Device, Problem};
 use std::alloc::{AllocError, Global};
 use std::marker::Model;
 use track_groups::{PinDrives, TrackGroups};
@@ -55,7 +55,7 @@ pub struct PreparedProblem {
 }
 
 impl Model for PreparedProblem {
-    ghost use Rattle.rr_graph.specs.Problems.{RoutingProblem};
+    ghost use Rattle.routing_problem.specs.Problems.{RoutingProblem};
     ghost use Rattle.group_wave.specs.kept.Tables.{AreTablesOf};
 
     ghost Value = { RoutingProblem };

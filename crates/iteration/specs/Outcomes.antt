@@ -1,6 +1,6 @@
 -- What a negotiation comes to.
 use Rattle.std.specs.Prelude.{◌≡◌, ℕ, ◌+◌, ◌-◌, ◌<◌, ◌≤◌, ◌++◌, ◌∷◌, [], false, length, None}
-use Rattle.rr_graph.specs.Problems.{RoutingProblem}
+use Rattle.routing_problem.specs.Problems.{RoutingProblem}
 use Rattle.node_cost.specs.Options.{RouterOptions, present_of}
 use Rattle.route_check.specs.Routed.{IsRouted}
 use Rattle.route_tree.specs.Usage.{list_in}

@@ -1,6 +1,6 @@
 -- How a negotiation goes on, iteration by iteration (McMurchie and Ebeling 1995, "negotiated congestion").
 use Rattle.std.specs.Prelude.{◌≡◌, ℕ, ◌+◌, ◌==◌, nat_lt, Bool, true, ◌&&◌, ◌||◌, List, length}
-use Rattle.rr_graph.specs.Problems.{RoutingProblem}
+use Rattle.routing_problem.specs.Problems.{RoutingProblem}
 use Rattle.node_cost.specs.Options.{RouterOptions, present_of}
 use Rattle.congestion_book.specs.Recorded.{unrouted_in, overused_in}
 use Rattle.congestion_book.specs.Contents.{Content, IsSound, opening}

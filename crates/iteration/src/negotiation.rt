@@ -15,7 +15,7 @@ use net_workers::{Gate, WorkFault, Workspace};
 use node_cost::Settings;
 use route_check::check_routing;
 use route_tree::Routing;
-use rr_graph::Problem;
+use routing_problem::Problem;
 use std::alloc::{AllocError, Global};
 use std::marker::Model;
 use std::sync::Wait;

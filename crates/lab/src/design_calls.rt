@@ -8,7 +8,7 @@ use crate::words::{Call, NO_WORDS, numbers, one};
 use arch_file::Arch;
 use net_file::{Block, Net, Netlist, Terminal};
 use place_file::Site;
-use rr_graph::Device;
+use rr_graph::{Device, SuitsDesigns};
 use std::alloc::Global;
 use std::rt::Runtime;
 

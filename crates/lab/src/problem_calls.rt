@@ -12,7 +12,7 @@ use crate::sources::BELOW;
 use crate::unanswered::Unanswered;
 use crate::words::{Call, NO_NUMBER, NO_WORDS, mode, number, number_list, numbers, text_of, words};
 use net_file::Netlist;
-use rr_graph::{Device, Mode, Problem, Terminals};
+use rr_graph::{Device, MadeOfDesigns, Mode, Problem, Terminals};
 use std::alloc::Global;
 
 /// How a line of a problem's parts is written.

@@ -16,7 +16,7 @@ use net_file::Netlist;
 use place_file::Placement;
 use route_file::{parse, write};
 use route_tree::{Routing, fits};
-use rr_graph::{Device, Problem};
+use rr_graph::{Device, MadeOfDesigns, Problem, SuitsDesigns};
 use std::alloc::{AllocError, Global};
 use std::rt::Runtime;
 

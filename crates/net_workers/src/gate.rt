@@ -2,7 +2,7 @@
 
 use congestion_book::Book;
 use route_tree::Routing;
-use rr_graph::Problem;
+use routing_problem::Problem;
 
 /// What the trial of a width came to.
 #[derive(Clone, Copy, Debug, PartialEq, Eq)]

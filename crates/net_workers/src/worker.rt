@@ -1,7 +1,7 @@
 //! A worker: it draws nets, searches for their trees and makes a turn at each.
 
 ghost use Rattle.std.specs.Prelude.{◌≡◌, ◌<◌, ◌≤◌, length, vec_len, OnOk, OnErr, IfOk};
-ghost use Rattle.rr_graph.specs.Nodes.{node_count_of};
+ghost use Rattle.routing_problem.specs.Nodes.{node_count_of};
 ghost use Rattle.node_cost.specs.Options.{greatest_present, present_of, most_iterations};
 ghost use Rattle.wavefront.specs.Growth.{space_of};
 ghost use Rattle.net_workers.specs.Parts.{one_more};
@@ -268,7 +268,7 @@ struct Worker<L: Round> {
 
 impl<L: Round> Model for Worker<L> {
     ghost use Rattle.std.specs.Prelude.{◌≡◌, List, length};
-    ghost use Rattle.rr_graph.specs.Nodes.{node_count_of};
+    ghost use Rattle.routing_problem.specs.Nodes.{node_count_of};
     ghost use Rattle.net_workers.specs.Searches.{AreFound};
     ghost use Rattle.net_workers.specs.declared.report.Entry.{Entry};
 

@@ -1,11 +1,11 @@
 //! What the workers of a problem's iterations search with.
 
 ghost use Rattle.std.specs.Prelude.{◌≡◌, IfOk, IsTrue};
-ghost use Rattle.rr_graph.specs.Nodes.{node_count_of};
+ghost use Rattle.routing_problem.specs.Nodes.{node_count_of};
 
 use group_wave::{PreparedProblem, Scratch};
 use node_cost::View;
-use rr_graph::Problem;
+use routing_problem::Problem;
 use std::alloc::{AllocError, Global};
 use std::marker::Model;
 
@@ -61,7 +61,7 @@ pub struct Workspace {
 }
 
 impl Model for Workspace {
-    ghost use Rattle.rr_graph.specs.Problems.{RoutingProblem};
+    ghost use Rattle.routing_problem.specs.Problems.{RoutingProblem};
 
     ghost Value = { RoutingProblem };
 

@@ -1,5 +1,6 @@
 -- A placement, and what it is to be placed (VPR and T-VPack manual 4.30, "The Placement File Format").
 use Rattle.std.specs.Prelude.{◌≡◌, ℕ, ◌+◌, ◌≤◌, Bool, true, ◌&&◌, ◌||◌, ◌==◌, nat_le, nat_lt, List, length, Some, slice_get, slice_index_or}
+pub use Rattle.arch_file.specs.Architecture.{longest_side}
 use Rattle.net_file.specs.declared.parts.BlockKind.{BlockKind}
 use Rattle.net_file.specs.declared.parts.BlockKind.TheVariants.{InputPad, OutputPad, LogicBlock}
 use Rattle.net_file.specs.Connections.{no_block}
@@ -12,10 +13,6 @@ pub record Placement : Type 0 where
   pub nx : ℕ
   pub ny : ℕ
   pub sites : List Site
-
--- the most columns, and the most rows, of logic blocks (this project's profile)
-abbrev pub longest_side : ℕ
-longest_side = 100
 
 -- the limits that every placement keeps (this project's profile)
 pub record IsWithinLimits (p : Placement) : Type 0 where

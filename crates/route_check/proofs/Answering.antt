@@ -5,8 +5,8 @@ use Rattle.std.specs.List.{AllZip, range_with_len}
 use Rattle.std.specs.declared.alloc.AllocError.{AllocError}
 use Rattle.std.proofs.lemmas.List.{get_or-map, length-map, take_all}
 use Rattle.std.proofs.lemmas.List.FromFn.{get_or-range_with_len, length-range_with_len}
-use Rattle.rr_graph.specs.Problems.{RoutingProblem}
-use Rattle.rr_graph.specs.Nodes.{node_at}
+use Rattle.routing_problem.specs.Problems.{RoutingProblem}
+use Rattle.routing_problem.specs.Nodes.{node_at}
 use Rattle.route_tree.specs.Usage.{overuse_of, use_of, room_of, Lists}
 use Rattle.route_check.specs.declared.fault.RouteFault.{RouteFault}
 use Rattle.route_check.specs.declared.fault.RouteFault.TheVariants.{Length, Unrouted, Tree, Overused}

@@ -6,10 +6,10 @@ use Rattle.std.proofs.lemmas.List.{get_or-set_same, get_or-set_other, length-set
 use Rattle.std.proofs.lemmas.Option.{slice_get_cases}
 use Rattle.std.proofs.lemmas.List.Elements.{All-cons, Contains-get_or}
 use Rattle.std.proofs.lemmas.List.Sums.{sum_by-append, sum_by-cons}
-use Rattle.rr_graph.specs.Fabric.{Fabric, IsFabric}
-use Rattle.rr_graph.specs.Nodes.{nodes_of, node_count_of}
-use Rattle.rr_graph.proofs.Capacities.{some_capacity}
-use Rattle.rr_graph.specs.Problems.{Net, RoutingProblem, net_in, IsProblem}
+use Rattle.routing_problem.specs.Fabric.{Fabric, IsFabric}
+use Rattle.routing_problem.specs.Nodes.{nodes_of, node_count_of}
+use Rattle.routing_problem.proofs.Capacities.{some_capacity}
+use Rattle.routing_problem.specs.Problems.{Net, RoutingProblem, net_in, IsProblem}
 use Rattle.route_tree.specs.Paths.{Pair, ends_of}
 use Rattle.route_tree.specs.Usage.{covers, use_by, use_of, room_of, Lists, list_in}
 use Rattle.route_tree.specs.Faults.{IsRoute}

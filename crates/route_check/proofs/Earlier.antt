@@ -5,7 +5,7 @@ use Rattle.std.proofs.lemmas.Bool.{and_left, both_ways, cases_lt, false_from_ne_
 use Rattle.std.proofs.Math.Seq.{drop-length}
 use Rattle.std.proofs.lemmas.List.{drop_more, length-take-le, get_or-take, map-append, reverse-append, take_more}
 use Rattle.std.proofs.lemmas.List.Sorted.{list_any-IsPermutation, IsPermutation-reverse}
-use Rattle.rr_graph.specs.Fabric.{Fabric}
+use Rattle.routing_problem.specs.Fabric.{Fabric}
 use Rattle.route_tree.specs.Paths.{Pair, ends_of}
 use Rattle.route_tree.specs.Legality.{is_among, may_begin, is_listed_after}
 use Rattle.route_tree.specs.Faults.{reaches_twice}

@@ -5,8 +5,8 @@ use Rattle.std.specs.List.{find}
 use Rattle.std.specs.List.Sorted.{IsStrictlyIncreasing}
 use Rattle.std.proofs.lemmas.Bool.{both_ways, MatchBool-at_true, MatchBool-at_false, not-false, not-true}
 use Rattle.std.proofs.lemmas.List.Elements.{All-get_or, All-weaker}
-use Rattle.rr_graph.specs.Fabric.{Fabric}
-use Rattle.rr_graph.specs.Problems.{Net, RoutingProblem, IsNet, IsProblem, no_net, net_in}
+use Rattle.routing_problem.specs.Fabric.{Fabric}
+use Rattle.routing_problem.specs.Problems.{Net, RoutingProblem, IsNet, IsProblem, no_net, net_in}
 use Rattle.route_tree.specs.declared.fault.TreeFault.{TreeFault}
 use Rattle.route_tree.specs.declared.fault.TreeFault.TheVariants.{NoNet, WrongSource, NoSwitch, NodeTwice, SecondOutput, ForeignSink, Dangling, MissingSink, Order}
 use Rattle.route_tree.specs.Paths.{Pair}

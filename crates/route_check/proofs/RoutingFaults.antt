@@ -1,7 +1,7 @@
 -- A routing has a fault or routes its problem, not both, and its first fault is one.
 use Rattle.std.proofs.Common.{◌≡◌, ℕ, ◌↔◌, List, Option, Some, None, inl, inr, refl, sym, ap, ap₂, ◌∙◌, subst, arith}
 use Rattle.std.proofs.lemmas.Bool.{both_ways, cases_order}
-use Rattle.rr_graph.specs.Problems.{RoutingProblem, net_in}
+use Rattle.routing_problem.specs.Problems.{RoutingProblem, net_in}
 use Rattle.route_tree.specs.declared.fault.TreeFault.{TreeFault}
 use Rattle.route_tree.specs.declared.fault.TreeFault.TheVariants.{NoNet, WrongSource, NoSwitch, NodeTwice, SecondOutput, ForeignSink, Dangling, MissingSink, Order}
 use Rattle.route_tree.specs.Paths.{Pair}

@@ -8,8 +8,8 @@ use Rattle.std.proofs.lemmas.List.{length-map, get_or-map, same_lists}
 use Rattle.std.proofs.lemmas.List.Elements.{All-get_or, All-from_get_or, at_from_Contains}
 use Rattle.std.proofs.lemmas.List.Sorted.{All-permutation, Contains-permutation, IsPermutation-map, list_any-IsPermutation}
 use Rattle.std.proofs.lemmas.List.FromFn.{get_or-range_with_len, length-range_with_len}
-use Rattle.rr_graph.specs.Fabric.{numbers_below}
-use Rattle.rr_graph.proofs.Ranges.{get_below, length_below, list_any-map, some_below}
+use Rattle.routing_problem.specs.Fabric.{numbers_below}
+use Rattle.routing_problem.proofs.Ranges.{get_below, length_below, list_any-map, some_below}
 use Rattle.route_tree.specs.Paths.{Pair, ends_of}
 use Rattle.route_tree.specs.Legality.{is_among, has_twice}
 use Rattle.route_tree.proofs.Members.{among_contains, among_ends, once_each, some_place}

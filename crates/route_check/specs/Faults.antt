@@ -1,6 +1,6 @@
 -- What is wrong with a routing: each fault as a condition of its own, and which of them is the first.
 use Rattle.std.specs.Prelude.{◌≡◌, ◌≢◌, ℕ, ◌<◌, ◌≤◌, ◌⊎◌, List, length, Some, None}
-use Rattle.rr_graph.specs.Problems.{RoutingProblem}
+use Rattle.routing_problem.specs.Problems.{RoutingProblem}
 use Rattle.route_tree.specs.declared.fault.TreeFault.{TreeFault}
 use Rattle.route_tree.specs.Paths.{Pair}
 use Rattle.route_tree.specs.Faults.{IsFirstFault}

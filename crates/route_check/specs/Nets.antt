@@ -1,6 +1,6 @@
 -- What is wrong with each net of a routing.
 use Rattle.std.specs.Prelude.{◌≡◌, ℕ, ◌<◌, List, length, get_or, Option, Some, None}
-use Rattle.rr_graph.specs.Problems.{RoutingProblem}
+use Rattle.routing_problem.specs.Problems.{RoutingProblem}
 use Rattle.route_check.specs.declared.fault.RouteFault.{RouteFault}
 use Rattle.route_check.specs.Routed.{IsNetRouted}
 use Rattle.route_tree.specs.Usage.{Lists}

@@ -1,6 +1,6 @@
 -- When a routing routes a problem (Betz, Rose and Marquardt 1999; McMurchie and Ebeling 1995, "a feasible solution").
 use Rattle.std.specs.Prelude.{◌≡◌, ℕ, ◌<◌, List, length, Some}
-use Rattle.rr_graph.specs.Problems.{RoutingProblem}
+use Rattle.routing_problem.specs.Problems.{RoutingProblem}
 use Rattle.route_tree.specs.Paths.{Pair}
 use Rattle.route_tree.specs.Faults.{IsRoute}
 use Rattle.route_tree.specs.Usage.{overuse_of, Lists, list_in}

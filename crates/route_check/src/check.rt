@@ -12,7 +12,7 @@ use crate::judge::net_fault;
 use crate::usage::overuse;
 use rayon::prelude::*;
 use route_tree::{Pairs, Routing};
-use rr_graph::Problem;
+use routing_problem::Problem;
 use std::alloc::{AllocError, Global};
 use std::thread::Threads;
 

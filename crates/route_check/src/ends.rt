@@ -2,7 +2,7 @@
 
 ghost use Rattle.std.specs.Prelude.{◌≡◌, ◌<◌, ◌==◌, IfOk, length, map};
 ghost use Rattle.std.specs.List.Sorted.{IsNonDecreasingBy};
-ghost use Rattle.rr_graph.specs.Fabric.{numbers_below};
+ghost use Rattle.routing_problem.specs.Fabric.{numbers_below};
 ghost use Rattle.route_tree.specs.Faults.{reaches_twice};
 ghost use Rattle.route_check.specs.kept.Ends.{AreEnds, IsRowOf, IsPlaceOf, begin_in, end_at, is_repeated};
 

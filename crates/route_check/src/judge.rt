@@ -7,7 +7,7 @@ ghost use Rattle.route_check.specs.Nets.{JudgesNet};
 use crate::fault::RouteFault;
 use crate::ladder::list_fault;
 use route_tree::{Pairs, TreeFault};
-use rr_graph::Problem;
+use routing_problem::Problem;
 use std::alloc::{AllocError, Global};
 
 /// The first fault of a list of pairs for a net that there is.

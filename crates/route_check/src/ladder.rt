@@ -3,8 +3,8 @@
 ghost use Rattle.std.specs.Prelude.{◌≡◌, ◌==◌, ◌&&◌, not, false, None, length, get_or, ◌<◌, IfOk, count_by};
 ghost use Rattle.std.specs.List.{list_any};
 ghost use Rattle.std.specs.List.Sorted.{IsStrictlyIncreasing};
-ghost use Rattle.rr_graph.specs.Edges.{edge_between};
-ghost use Rattle.rr_graph.specs.Problems.{is_sink};
+ghost use Rattle.routing_problem.specs.Edges.{edge_between};
+ghost use Rattle.routing_problem.specs.Problems.{is_sink};
 ghost use Rattle.route_tree.specs.Paths.{ends_of};
 ghost use Rattle.route_tree.specs.Legality.{is_among, is_listed};
 ghost use Rattle.route_tree.specs.Faults.{begins_elsewhere, lacks_switch, reaches_twice, leaves_twice, has_foreign_sink, misses_sink};
@@ -15,7 +15,7 @@ use crate::ends::{End, reaches_twice, row_at, sorted_ends};
 use crate::order::is_listed;
 use crate::walks::dangles;
 use route_tree::TreeFault;
-use rr_graph::Device;
+use routing_problem::Device;
 use std::alloc::{AllocError, Global};
 
 /// Whether there is no pair, or the first one begins elsewhere than at the source.

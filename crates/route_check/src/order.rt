@@ -8,7 +8,7 @@ ghost use Rattle.route_check.specs.kept.Judged.{net_of};
 ghost use Rattle.route_check.specs.kept.Listed.{earlier_ends, ends_in_sink};
 
 use crate::ends::{End, row_of};
-use rr_graph::Device;
+use routing_problem::Device;
 
 /// Whether a pair begins at the source or where an earlier one ends.
 fn begins_after(source: u32, pairs: &[(u32, u32)], ends: &[End], row: usize) -> bool

@@ -1,9 +1,9 @@
 //! How many nets use each node, and which node is used beyond its capacity.
 
 ghost use Rattle.std.specs.Prelude.{◌≡◌, ◌∷◌, [], ◌+◌, ◌<◌, ◌≤◌, ℕ, Some, IfOk, length, get_or, replicate};
-ghost use Rattle.rr_graph.specs.Fabric.{IsFabric};
-ghost use Rattle.rr_graph.specs.Problems.{IsProblem};
-ghost use Rattle.rr_graph.specs.Nodes.{node_count_of};
+ghost use Rattle.routing_problem.specs.Fabric.{IsFabric};
+ghost use Rattle.routing_problem.specs.Problems.{IsProblem};
+ghost use Rattle.routing_problem.specs.Nodes.{node_count_of};
 ghost use Rattle.route_tree.specs.Paths.{ends_of};
 ghost use Rattle.route_tree.specs.Faults.{IsRoute};
 ghost use Rattle.route_check.specs.Routed.{IsNetRouted};
@@ -13,7 +13,7 @@ ghost use Rattle.route_check.specs.kept.Answers.{TellsExcess, JudgesRouting};
 
 use crate::fault::RouteFault;
 use route_tree::Pairs;
-use rr_graph::{Device, Problem};
+use routing_problem::{Device, Problem};
 use std::alloc::{AllocError, Global};
 
 /// Counts a node once more.

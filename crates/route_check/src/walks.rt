@@ -11,7 +11,7 @@ ghost use Rattle.route_check.specs.kept.Walks.{AreWalked, IsWalkedFrom, AreAllWa
 
 use crate::ends::{End, parent_of, row_of};
 use crate::order::ends_in_sink;
-use rr_graph::Device;
+use routing_problem::Device;
 use std::alloc::{AllocError, Global};
 
 /// Walks from a pair up to the source, or to what an earlier walk met, and writes the walk's number to each pair that it meets.

@@ -14,8 +14,8 @@ use Rattle.net_file.specs.Routed.{is_routed_at}
 use Rattle.rr_graph.specs.Fabric.{Fabric}
 use Rattle.rr_graph.specs.Nodes.{nodes_of, node_count_of}
 use Rattle.rr_graph.specs.Problems.{is_sink}
-use Rattle.rr_graph.specs.declared.parts.Kind.TheVariants.{Source}
-use Rattle.rr_graph.specs.declared.parts.Node.{Node}
+use Rattle.rr_graph.specs.parts.Kind.TheVariants.{Source}
+use Rattle.rr_graph.specs.parts.Node.{Node}
 use Rattle.route_tree.specs.Legality.{is_among}
 use Rattle.route_file.specs.declared.entry.Entry.{Entry}
 use Rattle.route_file.specs.declared.entry.Entry.TheVariants.{NetLine, BlockLine, NodeLine}

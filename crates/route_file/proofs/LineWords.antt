@@ -2,11 +2,11 @@
 use Rattle.std.proofs.Common.{◌≡◌, ℕ, ◌^◌, ◌<◌, ◌≤◌, Bool, true, false, List, [], ◌∷◌, ◌++◌, Option, Some, None, if◌then◌else◌, decimal, codes, refl, sym, ap, ◌∙◌, append_assoc, arith}
 use Rattle.std.proofs.lemmas.Bool.Decides.{nat_tests}
 use Rattle.vpr_text.specs.Words.{is_filled, words_on, goes_on, ends_in_backslash}
-use Rattle.rr_graph.specs.declared.parts.Kind.{Kind}
-use Rattle.rr_graph.specs.declared.parts.Kind.TheVariants as kind
-use Rattle.rr_graph.specs.declared.parts.Label.{Label}
-use Rattle.rr_graph.specs.declared.parts.Label.TheVariants as label
-use Rattle.rr_graph.specs.declared.parts.Span.{Span}
+use Rattle.rr_graph.specs.parts.Kind.{Kind}
+use Rattle.rr_graph.specs.parts.Kind.TheVariants as kind
+use Rattle.rr_graph.specs.parts.Label.{Label}
+use Rattle.rr_graph.specs.parts.Label.TheVariants as label
+use Rattle.rr_graph.specs.parts.Span.{Span}
 use Rattle.route_file.specs.TextLine.{TextLine, Size, Blank, Heading, RoutedNet, GlobalNet, Block, NodeLine, kind_text, label_text, place_text, is_one_place, span_text, class_text, bytes_on}
 use Rattle.route_file.proofs.Digits.{all_digits}
 use Rattle.route_file.proofs.PlainWords.{are_plain, is_fine, are_fine, IsPlain, all_append, fine_plain, blank_then, word_then, word_last, word_comment, plain_number, number_ends, closed}

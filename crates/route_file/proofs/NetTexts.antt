@@ -14,7 +14,7 @@ use Rattle.net_file.specs.declared.parts.Terminal.{Terminal}
 use Rattle.place_file.specs.Placement.{Placement}
 use Rattle.rr_graph.specs.Fabric.{Fabric}
 use Rattle.rr_graph.specs.Problems.{RoutingProblem}
-use Rattle.rr_graph.proofs.ChannelTables.{count_next}
+use Rattle.rr_graph.proofs.WireTables.{count_next}
 use Rattle.route_tree.specs.Paths.{Pair}
 use Rattle.route_file.specs.TextLine.{TextLine, line_text, bytes_on}
 use Rattle.route_file.specs.Text.{block_line, routed_net_lines, global_net_lines, lines_of_net, net_lines, routed_before, text_lines, text_of}

@@ -5,8 +5,8 @@ use Rattle.vpr_text.specs.Words.{Line}
 use Rattle.arch_file.specs.Keyword.{is_text}
 use Rattle.net_file.specs.Names.{number_among}
 use Rattle.net_file.specs.Netlist.{Netlist, Net}
-use Rattle.rr_graph.specs.declared.parts.Kind.TheVariants.{Ipin, Chanx}
-use Rattle.rr_graph.specs.declared.parts.Label.TheVariants.{Pin, Track}
+use Rattle.rr_graph.specs.parts.Kind.TheVariants.{Ipin, Chanx}
+use Rattle.rr_graph.specs.parts.Label.TheVariants.{Pin, Track}
 use Rattle.route_file.specs.declared.entry.Entry.TheVariants.{NetLine}
 use Rattle.route_file.specs.declared.fault.RouteFileFault.TheVariants.{BadLine, UnknownNet, NetTwice}
 use Rattle.route_file.specs.Judge.{net_entry}

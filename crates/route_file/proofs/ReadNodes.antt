@@ -8,11 +8,11 @@ use Rattle.std.proofs.lemmas.List.Elements.{All-from_recursion}
 use Rattle.std.proofs.lemmas.List.Splits.{slice_split_at, slice_split_none}
 use Rattle.vpr_text.specs.Words.{is_filled}
 use Rattle.arch_file.specs.Keyword.{is_text}
-use Rattle.rr_graph.specs.declared.parts.Kind.{Kind}
-use Rattle.rr_graph.specs.declared.parts.Kind.TheVariants as kind
-use Rattle.rr_graph.specs.declared.parts.Label.{Label}
-use Rattle.rr_graph.specs.declared.parts.Label.TheVariants as label
-use Rattle.rr_graph.specs.declared.parts.Span.{Span}
+use Rattle.rr_graph.specs.parts.Kind.{Kind}
+use Rattle.rr_graph.specs.parts.Kind.TheVariants as kind
+use Rattle.rr_graph.specs.parts.Label.{Label}
+use Rattle.rr_graph.specs.parts.Label.TheVariants as label
+use Rattle.rr_graph.specs.parts.Span.{Span}
 use Rattle.rr_graph.specs.Nodes.{label_by}
 use Rattle.route_file.specs.TextLine.{NodeLine, place_text, is_one_place}
 use Rattle.route_file.specs.NodeWords.{is_mark, pieces_of, node_words}

@@ -5,7 +5,7 @@ use Rattle.std.specs.List.{range_with_len}
 use Rattle.std.proofs.lemmas.Bool.{cases_lt}
 use Rattle.std.proofs.Math.ListN.{get_or-append}
 use Rattle.std.proofs.Math.Seq.{get_or-append_seam}
-use Rattle.rr_graph.proofs.ChannelTables.{count_next}
+use Rattle.rr_graph.proofs.WireTables.{count_next}
 use Rattle.rr_graph.proofs.Ranges.{filter_next}
 
 abbrev pub passing : (ℕ → Bool) → ℕ → List ℕ

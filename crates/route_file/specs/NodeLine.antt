@@ -5,12 +5,12 @@ use Rattle.std.specs.List.{position}
 use Rattle.std.specs.Option.{option_map_or}
 use Rattle.arch_file.specs.Keyword.{is_text}
 use Rattle.arch_file.specs.Word.{is_at}
-use Rattle.rr_graph.specs.declared.parts.Kind.{Kind}
-use Rattle.rr_graph.specs.declared.parts.Kind.TheVariants.{Source, Sink, Opin, Ipin, Chanx, Chany}
-use Rattle.rr_graph.specs.declared.parts.Label.{Label}
-use Rattle.rr_graph.specs.declared.parts.Label.TheVariants.{Class, Pin, Pad, Track}
-use Rattle.rr_graph.specs.declared.parts.Node.{Node}
-use Rattle.rr_graph.specs.declared.parts.Span.{Span}
+use Rattle.rr_graph.specs.parts.Kind.{Kind}
+use Rattle.rr_graph.specs.parts.Kind.TheVariants.{Source, Sink, Opin, Ipin, Chanx, Chany}
+use Rattle.rr_graph.specs.parts.Label.{Label}
+use Rattle.rr_graph.specs.parts.Label.TheVariants.{Class, Pin, Pad, Track}
+use Rattle.rr_graph.specs.parts.Node.{Node}
+use Rattle.rr_graph.specs.parts.Span.{Span}
 use Rattle.rr_graph.specs.Fabric.{Fabric}
 use Rattle.rr_graph.specs.Nodes.{nodes_of, rank_of_kind, label_by, label_of, span_of}
 use Rattle.route_file.specs.declared.node_line.NodeText.{NodeText}

@@ -1,10 +1,10 @@
 -- The lines of a routing's text, and their bytes (VPR and T-VPack manual 4.30, "Routing File Format"; the layout is ours).
 use Rattle.std.specs.Prelude.{ℕ, Bool, List, ◌++◌, Option, Some, None, ◌==◌, ◌&&◌, if◌then◌else◌, codes, decimal}
-use Rattle.rr_graph.specs.declared.parts.Kind.{Kind}
-use Rattle.rr_graph.specs.declared.parts.Kind.TheVariants.{Source, Sink, Opin, Ipin, Chanx, Chany}
-use Rattle.rr_graph.specs.declared.parts.Label.{Label}
-use Rattle.rr_graph.specs.declared.parts.Label.TheVariants.{Class, Pin, Pad, Track}
-use Rattle.rr_graph.specs.declared.parts.Span.{Span}
+use Rattle.rr_graph.specs.parts.Kind.{Kind}
+use Rattle.rr_graph.specs.parts.Kind.TheVariants.{Source, Sink, Opin, Ipin, Chanx, Chany}
+use Rattle.rr_graph.specs.parts.Label.{Label}
+use Rattle.rr_graph.specs.parts.Label.TheVariants.{Class, Pin, Pad, Track}
+use Rattle.rr_graph.specs.parts.Span.{Span}
 
 pub data TextLine : Type 0 where
   -- the size of the array

@@ -6,17 +6,17 @@ use Rattle.std.proofs.lemmas.Bool.{cases_eq, eq-eqb, ne_eqb}
 use Rattle.std.proofs.lemmas.Bool.Decides.{nat_tests}
 use Rattle.std.proofs.lemmas.List.Sums.{sum_by-append, sum_by-cons}
 use native.Mathlib.Nat.{zero-mul, suc-mul, mul_comm}
-use Rattle.rr_graph.specs.declared.parts.Kind.{Kind}
-use Rattle.rr_graph.specs.declared.parts.Kind.TheVariants.{Source, Sink, Opin, Ipin, Chanx, Chany}
-use Rattle.rr_graph.specs.declared.parts.Mode.TheVariants.{Detailed, Global}
-use Rattle.rr_graph.specs.declared.parts.Node.{Node}
-use Rattle.rr_graph.specs.declared.parts.Span.{Span}
-use Rattle.rr_graph.specs.Fabric.{Fabric, numbers_below}
-use Rattle.rr_graph.specs.Wires.{steps_of, reach_of}
-use Rattle.rr_graph.specs.Nodes.{node_at, node_count_of, is_wire, span_by, wire_in}
-use Rattle.rr_graph.specs.Problems.{RoutingProblem}
-use Rattle.rr_graph.proofs.Ranges.{sum_next, get_below}
-use Rattle.rr_graph.proofs.WireSuccessors.{row_wire_at, column_wire_at}
+use Rattle.routing_problem.specs.parts.Kind.{Kind}
+use Rattle.routing_problem.specs.parts.Kind.TheVariants.{Source, Sink, Opin, Ipin, Chanx, Chany}
+use Rattle.routing_problem.specs.parts.Mode.TheVariants.{Detailed, Global}
+use Rattle.routing_problem.specs.parts.Node.{Node}
+use Rattle.routing_problem.specs.parts.Span.{Span}
+use Rattle.routing_problem.specs.Fabric.{Fabric, numbers_below}
+use Rattle.routing_problem.specs.Wires.{steps_of, reach_of}
+use Rattle.routing_problem.specs.Nodes.{node_at, node_count_of, is_wire, span_by, wire_in}
+use Rattle.routing_problem.specs.Problems.{RoutingProblem}
+use Rattle.routing_problem.proofs.Ranges.{sum_next, get_below}
+use Rattle.routing_problem.proofs.WiresAtPlaces.{row_wire_at, column_wire_at}
 use Rattle.route_tree.specs.Usage.{use_of, Lists}
 use Rattle.route_report.specs.declared.occupancy.Stretch.{Stretch}
 use Rattle.route_report.specs.Covered.{uses_of, is_used}

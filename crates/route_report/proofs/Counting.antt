@@ -5,12 +5,12 @@ use Rattle.std.specs.List.{filter}
 use Rattle.std.proofs.lemmas.Bool.{cases_eq, cases_lt, eq-eqb, ne_eqb}
 use Rattle.std.proofs.lemmas.List.{get_or-set_same, get_or-set_other, length-set, length-take-le, take_more, take_all, get_or_default, take-append-drop, same_lists, length-replicate}
 use Rattle.std.proofs.lemmas.List.Sums.{sum_by-append, sum_by-cons}
-use Rattle.rr_graph.specs.Fabric.{numbers_below}
-use Rattle.rr_graph.specs.Nodes.{node_count_of}
-use Rattle.rr_graph.specs.Problems.{Net, RoutingProblem, net_in, IsProblem}
+use Rattle.routing_problem.specs.Fabric.{numbers_below}
+use Rattle.routing_problem.specs.Nodes.{node_count_of}
+use Rattle.routing_problem.specs.Problems.{Net, RoutingProblem, net_in, IsProblem}
 use Rattle.std.proofs.lemmas.List.FromFn.{length-range_with_len, get_or-range_with_len}
-use Rattle.rr_graph.proofs.Ascending.{all_kept}
-use Rattle.rr_graph.proofs.Ranges.{filter_next, length_below, get_below}
+use Rattle.routing_problem.proofs.Ascending.{all_kept}
+use Rattle.routing_problem.proofs.Ranges.{filter_next, length_below, get_below}
 use Rattle.route_tree.specs.Usage.{covers_by, use_by, use_of, Lists, list_in}
 use Rattle.route_tree.proofs.Uses.{few_uses}
 use Rattle.route_report.specs.Covered.{nodes_covered, uses_of}

@@ -8,12 +8,12 @@ use Rattle.std.specs.Ordering.{nat_cmp}
 use Rattle.std.proofs.lemmas.Bool.{cases_eq, eq-eqb, ne_eqb, lt-ltb, ltb-true}
 use Rattle.std.proofs.lemmas.List.Elements.{filter-append}
 use Rattle.std.proofs.lemmas.List.Folds.{list_any-append}
-use Rattle.rr_graph.specs.Fabric.{numbers_below}
-use Rattle.rr_graph.proofs.Ranges.{filter_next}
-use Rattle.rr_graph.proofs.Ascending.{all_kept, in_order}
+use Rattle.routing_problem.specs.Fabric.{numbers_below}
+use Rattle.routing_problem.proofs.Ranges.{filter_next}
+use Rattle.routing_problem.proofs.Ascending.{all_kept, in_order}
 use Rattle.route_tree.specs.Paths.{Pair, ends_of}
 use Rattle.route_tree.specs.Legality.{is_among}
-use Rattle.rr_graph.specs.Problems.{Net}
+use Rattle.routing_problem.specs.Problems.{Net}
 use Rattle.route_tree.specs.Usage.{covers, covers_by, Lists, list_in}
 
 -- ---- two tests that agree below a number

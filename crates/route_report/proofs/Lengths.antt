@@ -1,18 +1,18 @@
 -- How many places wires pass.
-use Rattle.rr_graph.proofs.Ranges.{mapped_next}
+use Rattle.routing_problem.proofs.Ranges.{mapped_next}
 use Rattle.std.proofs.Common.{◌≡◌, ℕ, map, ◌++◌, zero, suc, max, drop, drop-cons, get_or, add-one, ◌+◌, ◌-◌, ◌^◌, ◌<◌, ◌≤◌, Bool, true, false, List, [], ◌∷◌, length, Option, Some, None, if◌then◌else◌, refl, sym, ap, ◌∙◌, arith}
 use Rattle.std.specs.Prelude.{not}
 use Rattle.std.specs.List.{range_with_len}
 use Rattle.std.proofs.lemmas.List.Sums.{prefix_len-le-length, length-filter, count_by-le-length}
 use Rattle.std.proofs.lemmas.List.FromFn.{length-range_with_len}
-use Rattle.rr_graph.specs.declared.parts.Kind.{Kind}
-use Rattle.rr_graph.specs.declared.parts.Kind.TheVariants.{Source, Sink, Opin, Ipin, Chanx, Chany}
-use Rattle.rr_graph.specs.declared.parts.Node.{Node}
-use Rattle.rr_graph.specs.Fabric.{Fabric, IsFabric, numbers_below}
-use Rattle.rr_graph.specs.Wires.{begins, steps_of, reach_of}
-use Rattle.rr_graph.specs.Nodes.{node_at, node_count_of, is_wire, span_by, span_of, wire_in}
-use Rattle.rr_graph.specs.Problems.{RoutingProblem, net_in}
-use Rattle.rr_graph.proofs.Order.{node_count_below}
+use Rattle.routing_problem.specs.parts.Kind.{Kind}
+use Rattle.routing_problem.specs.parts.Kind.TheVariants.{Source, Sink, Opin, Ipin, Chanx, Chany}
+use Rattle.routing_problem.specs.parts.Node.{Node}
+use Rattle.routing_problem.specs.Fabric.{Fabric, IsFabric, numbers_below}
+use Rattle.routing_problem.specs.Wires.{begins, steps_of, reach_of}
+use Rattle.routing_problem.specs.Nodes.{node_at, node_count_of, is_wire, span_by, span_of, wire_in}
+use Rattle.routing_problem.specs.Problems.{RoutingProblem, net_in}
+use Rattle.routing_problem.proofs.Order.{node_count_below}
 use Rattle.route_tree.specs.Usage.{covers_by, Lists, list_in}
 use Rattle.route_report.specs.Covered.{nodes_covered}
 use Rattle.route_report.specs.Wirelength.{places_along, places_of_wire, places_at, greatest_in}

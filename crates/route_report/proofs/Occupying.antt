@@ -7,17 +7,17 @@ use Rattle.std.proofs.lemmas.List.{get_or-set_same, get_or-set_other, length-set
 use Rattle.std.specs.Option.{option_map_or}
 use Rattle.std.proofs.lemmas.List.Sums.{sum_by-le}
 use Rattle.std.proofs.lemmas.List.FromFn.{length-range_with_len}
-use Rattle.rr_graph.specs.declared.parts.Kind.{Kind}
-use Rattle.rr_graph.specs.declared.parts.Kind.TheVariants.{Source, Sink, Opin, Ipin, Chanx, Chany}
-use Rattle.rr_graph.specs.declared.parts.Mode.{Mode}
-use Rattle.rr_graph.specs.declared.parts.Mode.TheVariants.{Detailed, Global}
-use Rattle.rr_graph.specs.declared.parts.Node.{Node}
-use Rattle.rr_graph.specs.Wires.{Place, runs_by, runs_through, reach_of}
-use Rattle.rr_graph.specs.Nodes.{node_at, node_count_of, is_wire, span_by, wire_in}
-use Rattle.rr_graph.proofs.Order.{node_count_below}
-use Rattle.rr_graph.proofs.Ranges.{mapped_more, sum_next, length_below, get_below}
+use Rattle.routing_problem.specs.parts.Kind.{Kind}
+use Rattle.routing_problem.specs.parts.Kind.TheVariants.{Source, Sink, Opin, Ipin, Chanx, Chany}
+use Rattle.routing_problem.specs.parts.Mode.{Mode}
+use Rattle.routing_problem.specs.parts.Mode.TheVariants.{Detailed, Global}
+use Rattle.routing_problem.specs.parts.Node.{Node}
+use Rattle.routing_problem.specs.Wires.{Place, runs_by, runs_through, reach_of}
+use Rattle.routing_problem.specs.Nodes.{node_at, node_count_of, is_wire, span_by, wire_in}
+use Rattle.routing_problem.proofs.Order.{node_count_below}
+use Rattle.routing_problem.proofs.Ranges.{mapped_more, sum_next, length_below, get_below}
 use Rattle.route_report.specs.Channels.{Channel, occupied_by, runs_at, occupies, occupancy_at, place_in, occupancies_in, channel_with, channels_along}
-use Rattle.rr_graph.specs.Fabric.{Fabric, IsFabric, numbers_below}
+use Rattle.routing_problem.specs.Fabric.{Fabric, IsFabric, numbers_below}
 use Rattle.route_report.specs.declared.occupancy.Stretch.{Stretch}
 use Rattle.route_report.specs.kept.Channels.{stretch_in, goes_through, along, across, Adds, AddsAll, IsOccupied, AreSmall, numbered}
 

@@ -15,12 +15,12 @@ use Rattle.std.proofs.lemmas.Option.{same_Some, none-some}
 use Rattle.std.proofs.lemmas.List.{append-nil, same_lists, get_or-map, length-map, length-set, get_or-set_same, get_or-set_other, get_or_default, get_or-take, length-take-le}
 use Rattle.std.proofs.lemmas.List.Elements.{All-head, All-tail}
 use Rattle.std.proofs.lemmas.List.Folds.{list_any_more, list_any_none}
-use Rattle.rr_graph.specs.declared.parts.Node.{Node}
-use Rattle.rr_graph.specs.Fabric.{Fabric, numbers_below}
-use Rattle.rr_graph.specs.Nodes.{node_at, node_count_of, capacity_of}
-use Rattle.rr_graph.specs.Problems.{RoutingProblem, net_in}
-use Rattle.rr_graph.proofs.Ranges.{filter_next, get_below}
-use Rattle.rr_graph.proofs.Ascending.{below_ascend, all_kept, kept_below, passes_there}
+use Rattle.routing_problem.specs.parts.Node.{Node}
+use Rattle.routing_problem.specs.Fabric.{Fabric, numbers_below}
+use Rattle.routing_problem.specs.Nodes.{node_at, node_count_of, capacity_of}
+use Rattle.routing_problem.specs.Problems.{RoutingProblem, net_in}
+use Rattle.routing_problem.proofs.Ranges.{filter_next, get_below}
+use Rattle.routing_problem.proofs.Ascending.{below_ascend, all_kept, kept_below, passes_there}
 use Rattle.route_tree.specs.Legality.{is_among}
 use Rattle.route_tree.proofs.Members.{contains_among, among_contains}
 use Rattle.route_tree.specs.Usage.{use_of, overuse_of, covers_by, room_of, Lists, list_in}

@@ -3,9 +3,9 @@ use Rattle.std.proofs.Common.{◌≡◌, ℕ, ◌+◌, ◌^◌, ◌<◌, ◌≤�
 use Rattle.std.specs.Prelude.{count_by}
 use Rattle.std.specs.List.{sum_by}
 use Rattle.std.proofs.lemmas.List.Sums.{sum_by-le}
-use Rattle.rr_graph.specs.Fabric.{Fabric, IsFabric, numbers_below}
-use Rattle.rr_graph.specs.Problems.{RoutingProblem}
-use Rattle.rr_graph.proofs.Ranges.{mapped_next, sum_next, length_below, get_below}
+use Rattle.routing_problem.specs.Fabric.{Fabric, IsFabric, numbers_below}
+use Rattle.routing_problem.specs.Problems.{RoutingProblem}
+use Rattle.routing_problem.proofs.Ranges.{mapped_next, sum_next, length_below, get_below}
 use Rattle.route_tree.specs.Usage.{Lists}
 use Rattle.route_report.specs.Covered.{nodes_covered}
 use Rattle.route_report.specs.Wirelength.{places_at, wirelength_of, wirelengths_of}

@@ -5,15 +5,15 @@ use Rattle.std.specs.List.{sum_by, filter}
 use Rattle.std.proofs.lemmas.List.{take_all}
 use Rattle.std.proofs.lemmas.List.Sums.{sum_by-cons}
 use native.Mathlib.Nat.{zero-mul, one-mul, mul-zero, add-mul}
-use Rattle.rr_graph.specs.declared.parts.Kind.{Kind}
-use Rattle.rr_graph.specs.declared.parts.Kind.TheVariants.{Source, Sink, Opin, Ipin, Chanx, Chany}
-use Rattle.rr_graph.specs.declared.parts.Mode.TheVariants.{Detailed}
-use Rattle.rr_graph.specs.declared.parts.Node.{Node}
-use Rattle.rr_graph.specs.Fabric.{Fabric, numbers_below}
-use Rattle.rr_graph.specs.Wires.{reach_of}
-use Rattle.rr_graph.specs.Nodes.{node_at, node_count_of, is_wire, span_by, capacity_by, wire_capacity, wire_in}
-use Rattle.rr_graph.specs.Problems.{RoutingProblem, net_in}
-use Rattle.rr_graph.proofs.Ranges.{sum_next, get_below}
+use Rattle.routing_problem.specs.parts.Kind.{Kind}
+use Rattle.routing_problem.specs.parts.Kind.TheVariants.{Source, Sink, Opin, Ipin, Chanx, Chany}
+use Rattle.routing_problem.specs.parts.Mode.TheVariants.{Detailed}
+use Rattle.routing_problem.specs.parts.Node.{Node}
+use Rattle.routing_problem.specs.Fabric.{Fabric, numbers_below}
+use Rattle.routing_problem.specs.Wires.{reach_of}
+use Rattle.routing_problem.specs.Nodes.{node_at, node_count_of, is_wire, span_by, capacity_by, wire_capacity, wire_in}
+use Rattle.routing_problem.specs.Problems.{RoutingProblem, net_in}
+use Rattle.routing_problem.proofs.Ranges.{sum_next, get_below}
 use Rattle.route_tree.specs.Usage.{covers_by, use_by, use_of, room_of, overuse_of, Lists, list_in}
 use Rattle.route_report.specs.Covered.{nodes_covered, uses_of, is_used}
 use Rattle.route_report.specs.Figures.{places_used}

@@ -9,14 +9,14 @@ use Rattle.std.proofs.lemmas.List.Sums.{fails_before_first, get_or-le-sum_by}
 use Rattle.std.proofs.lemmas.List.FromFn.{get_or-range_with_len}
 use native.Mathlib.Nat.{mul-lt-mul_of_pos_right}
 use Rattle.arch_file.specs.declared.parts.Segment.{Segment}
-use Rattle.rr_graph.specs.declared.parts.Kind.{Kind}
-use Rattle.rr_graph.specs.declared.parts.Kind.TheVariants.{Source, Sink, Opin, Ipin, Chanx, Chany}
-use Rattle.rr_graph.specs.declared.parts.Node.{Node}
-use Rattle.rr_graph.specs.Fabric.{Fabric, IsFabric, numbers_below}
-use Rattle.rr_graph.specs.Wires.{reach_of, total_frequency, weight_in, weight_of_first, reaches, type_of}
-use Rattle.rr_graph.specs.Nodes.{node_at, node_count_of, is_wire, is_wire_at, span_of, wire_in}
-use Rattle.rr_graph.proofs.TrackCounts.{tracks_within}
-use Rattle.rr_graph.proofs.WireSuccessors.{row_wire_at, column_wire_at}
+use Rattle.routing_problem.specs.parts.Kind.{Kind}
+use Rattle.routing_problem.specs.parts.Kind.TheVariants.{Source, Sink, Opin, Ipin, Chanx, Chany}
+use Rattle.routing_problem.specs.parts.Node.{Node}
+use Rattle.routing_problem.specs.Fabric.{Fabric, IsFabric, numbers_below}
+use Rattle.routing_problem.specs.Wires.{reach_of, total_frequency, weight_in, weight_of_first, reaches, type_of}
+use Rattle.routing_problem.specs.Nodes.{node_at, node_count_of, is_wire, is_wire_at, span_of, wire_in}
+use Rattle.routing_problem.proofs.TrackCounts.{tracks_within}
+use Rattle.routing_problem.proofs.WiresAtPlaces.{row_wire_at, column_wire_at}
 use Rattle.route_report.specs.Covered.{is_used}
 use Rattle.route_report.specs.Figures.{wires_used, places_used}
 use Rattle.route_report.specs.Wirelength.{places_of_wire, places_at}

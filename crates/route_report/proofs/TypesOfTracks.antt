@@ -3,9 +3,9 @@ use Rattle.std.proofs.Common.{◌≡◌, ℕ, ◌+◌, ◌<◌, ◌≤◌, false
 use Rattle.std.specs.List.{sum_by}
 use Rattle.std.proofs.lemmas.List.{take_all}
 use Rattle.arch_file.specs.declared.parts.Segment.{Segment}
-use Rattle.rr_graph.specs.Fabric.{numbers_below}
-use Rattle.rr_graph.specs.Wires.{weight_in, weight_of_first, reaches, type_of}
-use Rattle.rr_graph.proofs.Ranges.{first_below, length_below, get_below, mapped_next}
+use Rattle.routing_problem.specs.Fabric.{numbers_below}
+use Rattle.routing_problem.specs.Wires.{weight_in, weight_of_first, reaches, type_of}
+use Rattle.routing_problem.proofs.Ranges.{first_below, length_below, get_below, mapped_next}
 
 pub weight_all : (segments : List Segment) (count i weight : ℕ) → weight ≡ sum_by (weight_in segments) (take i (take count segments)) →
     length (take count segments) ≤ i → weight ≡ weight_of_first segments count

@@ -2,13 +2,13 @@
 use Rattle.std.specs.Prelude.{ℕ, ◌+◌, Bool, false, min, sum, if◌then◌else◌, List, ◌++◌, map, get_or}
 use Rattle.std.specs.List.{sum_by}
 use Rattle.std.specs.Option.{option_map_or}
-use Rattle.rr_graph.specs.declared.parts.Kind.{Kind}
-use Rattle.rr_graph.specs.declared.parts.Kind.TheVariants.{Chanx, Chany}
-use Rattle.rr_graph.specs.declared.parts.Mode.{Mode}
-use Rattle.rr_graph.specs.declared.parts.Mode.TheVariants.{Detailed, Global}
-use Rattle.rr_graph.specs.Fabric.{Fabric, numbers_below}
-use Rattle.rr_graph.specs.Wires.{Place, runs_through}
-use Rattle.rr_graph.specs.Nodes.{node_at, node_count_of}
+use Rattle.routing_problem.specs.parts.Kind.{Kind}
+use Rattle.routing_problem.specs.parts.Kind.TheVariants.{Chanx, Chany}
+use Rattle.routing_problem.specs.parts.Mode.{Mode}
+use Rattle.routing_problem.specs.parts.Mode.TheVariants.{Detailed, Global}
+use Rattle.routing_problem.specs.Fabric.{Fabric, numbers_below}
+use Rattle.routing_problem.specs.Wires.{Place, runs_through}
+use Rattle.routing_problem.specs.Nodes.{node_at, node_count_of}
 use Rattle.route_report.specs.Wirelength.{greatest_in}
 
 -- how many tracks a wire that so many nets cover occupies: its own, for one or more; in a global

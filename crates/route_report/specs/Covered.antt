@@ -1,9 +1,9 @@
 -- Which nodes the nets of a routing cover, and how many nets cover each.
 use Rattle.std.specs.Prelude.{ℕ, Bool, nat_lt, List, map, get_or}
 use Rattle.std.specs.List.{filter}
-use Rattle.rr_graph.specs.Fabric.{numbers_below}
-use Rattle.rr_graph.specs.Nodes.{node_count_of}
-use Rattle.rr_graph.specs.Problems.{RoutingProblem, net_in}
+use Rattle.routing_problem.specs.Fabric.{numbers_below}
+use Rattle.routing_problem.specs.Nodes.{node_count_of}
+use Rattle.routing_problem.specs.Problems.{RoutingProblem, net_in}
 use Rattle.route_tree.specs.Usage.{covers_by, use_of, Lists, list_in}
 
 -- the nodes that net i covers, ascending

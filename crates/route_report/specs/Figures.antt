@@ -2,9 +2,9 @@
 use Rattle.std.specs.Prelude.{ℕ, ◌*◌, ◌&&◌, if◌then◌else◌, List, length, count_by, sum}
 use Rattle.std.specs.List.{sum_by}
 use Rattle.std.specs.Option.{is_some}
-use Rattle.rr_graph.specs.Fabric.{Fabric, numbers_below}
-use Rattle.rr_graph.specs.Nodes.{node_count_of, is_wire_at}
-use Rattle.rr_graph.specs.Problems.{RoutingProblem}
+use Rattle.routing_problem.specs.Fabric.{Fabric, numbers_below}
+use Rattle.routing_problem.specs.Nodes.{node_count_of, is_wire_at}
+use Rattle.routing_problem.specs.Problems.{RoutingProblem}
 use Rattle.route_tree.specs.Usage.{use_of, Lists, list_in}
 use Rattle.route_report.specs.declared.figures.Figures.{Figures}
 use Rattle.route_report.specs.Covered.{uses_of, is_used}

@@ -1,9 +1,9 @@
 -- The overused nodes of a routing.
 use Rattle.std.specs.Prelude.{ℕ, Bool, nat_lt, List, length, map, get_or}
 use Rattle.std.specs.List.{filter}
-use Rattle.rr_graph.specs.Fabric.{Fabric, numbers_below}
-use Rattle.rr_graph.specs.Nodes.{node_at, node_count_of}
-use Rattle.rr_graph.specs.Problems.{RoutingProblem, net_in}
+use Rattle.routing_problem.specs.Fabric.{Fabric, numbers_below}
+use Rattle.routing_problem.specs.Nodes.{node_at, node_count_of}
+use Rattle.routing_problem.specs.Problems.{RoutingProblem, net_in}
 use Rattle.route_tree.specs.Usage.{covers_by, use_of, room_of, overuse_of, Lists, list_in}
 
 -- a node: how many nets cover it, how many it has room for, and which nets cover it, ascending

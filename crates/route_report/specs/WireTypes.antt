@@ -2,9 +2,9 @@
 use Rattle.std.specs.Prelude.{ℕ, ◌==◌, Bool, false, ◌&&◌, if◌then◌else◌, List, length, map, count_by}
 use Rattle.std.specs.List.{sum_by}
 use Rattle.std.specs.Option.{option_map_or}
-use Rattle.rr_graph.specs.Fabric.{Fabric, numbers_below}
-use Rattle.rr_graph.specs.Wires.{tracks_in, type_of}
-use Rattle.rr_graph.specs.Nodes.{node_at, node_count_of, is_wire}
+use Rattle.routing_problem.specs.Fabric.{Fabric, numbers_below}
+use Rattle.routing_problem.specs.Wires.{tracks_in, type_of}
+use Rattle.routing_problem.specs.Nodes.{node_at, node_count_of, is_wire}
 use Rattle.route_report.specs.declared.wire_types.WireTypeUse.{WireTypeUse}
 use Rattle.route_report.specs.Covered.{is_used}
 use Rattle.route_report.specs.Wirelength.{places_at}

@@ -6,7 +6,7 @@ ghost use Rattle.route_report.specs.kept.Channels.{AreSmall, numbered};
 
 use crate::occupancy::{Places, occupancies};
 use crate::wirelength::{greatest, total};
-use rr_graph::{Device, Kind};
+use routing_problem::{Device, Kind};
 use std::alloc::{AllocError, Global};
 use std::marker::Model;
 

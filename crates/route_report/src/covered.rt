@@ -2,15 +2,15 @@
 
 ghost use Rattle.std.specs.Prelude.{◌≡◌, ◌++◌, ◌∷◌, ◌<◌, [], nat_lt, length, IfOk, OnOk};
 ghost use Rattle.std.specs.List.{filter};
-ghost use Rattle.rr_graph.specs.Fabric.{numbers_below};
-ghost use Rattle.rr_graph.specs.Nodes.{node_count_of};
-ghost use Rattle.rr_graph.specs.Problems.{net_in};
+ghost use Rattle.routing_problem.specs.Fabric.{numbers_below};
+ghost use Rattle.routing_problem.specs.Nodes.{node_count_of};
+ghost use Rattle.routing_problem.specs.Problems.{net_in};
 ghost use Rattle.route_tree.specs.Paths.{ends_of};
 ghost use Rattle.route_tree.specs.Usage.{covers, covers_by, list_in};
 ghost use Rattle.route_report.specs.Covered.{nodes_covered};
 
 use route_tree::Pairs;
-use rr_graph::Problem;
+use routing_problem::Problem;
 use std::alloc::{AllocError, Global};
 
 /// Where the pairs end, in their order; numbers from the count on are no nodes.

@@ -2,7 +2,7 @@
 
 ghost use Rattle.std.specs.Prelude.{◌≡◌, ◌+◌, ◌<◌, ◌≤◌, ◌&&◌, ℕ, IfOk, All, length, if◌then◌else◌};
 ghost use Rattle.std.specs.Option.{is_some};
-ghost use Rattle.rr_graph.specs.Nodes.{node_count_of, is_wire, is_wire_at};
+ghost use Rattle.routing_problem.specs.Nodes.{node_count_of, is_wire, is_wire_at};
 ghost use Rattle.route_tree.specs.Usage.{list_in};
 ghost use Rattle.route_report.specs.Covered.{uses_of, is_used};
 ghost use Rattle.route_report.specs.Wirelength.{places_at, wirelengths_of};
@@ -11,7 +11,7 @@ ghost use Rattle.route_report.specs.Figures.{nets_listed, wires_used, places_use
 use crate::uses::is_used;
 use crate::wirelength::{greatest, longest, places_at, total, wirelengths};
 use route_tree::{Pairs, Routing};
-use rr_graph::{Device, Kind, Problem};
+use routing_problem::{Device, Kind, Problem};
 use std::alloc::{AllocError, Global};
 
 /// The figures of a whole routing.

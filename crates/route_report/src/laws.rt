@@ -3,8 +3,8 @@
 
 ghost use Rattle.std.specs.Prelude.{◌≡◌, ℕ, sum};
 ghost use Rattle.std.specs.List.{sum_by};
-ghost use Rattle.rr_graph.specs.declared.parts.Mode.TheVariants.{Detailed, Global};
-ghost use Rattle.rr_graph.specs.Fabric.{IsFabric};
+ghost use Rattle.routing_problem.specs.parts.Mode.TheVariants.{Detailed, Global};
+ghost use Rattle.routing_problem.specs.Fabric.{IsFabric};
 ghost use Rattle.route_tree.specs.Usage.{overuse_of};
 ghost use Rattle.route_report.specs.Channels.{channels_of};
 ghost use Rattle.route_report.specs.Covered.{uses_of};
@@ -13,7 +13,7 @@ ghost use Rattle.route_report.specs.WireTypes.{wire_types_of};
 ghost use Rattle.route_report.specs.Wirelength.{wirelengths_of};
 
 use route_tree::Routing;
-use rr_graph::{Device, Problem};
+use routing_problem::{Device, Problem};
 
 /// The wirelength of all nets together is what the places of all wires come to, those of each wire
 /// as often as nets cover it.

@@ -1,13 +1,13 @@
 //! How many tracks are occupied at each place of the channels of a kind.
 
 ghost use Rattle.std.specs.Prelude.{◌≡◌, ◌==◌, ◌+◌, ◌^◌, ◌≤◌, ◌<◌, ℕ, [], Some, IfOk, length, map, get_or, replicate, if◌then◌else◌};
-ghost use Rattle.rr_graph.specs.Fabric.{numbers_below};
-ghost use Rattle.rr_graph.specs.Nodes.{node_at, node_count_of, wire_in};
+ghost use Rattle.routing_problem.specs.Fabric.{numbers_below};
+ghost use Rattle.routing_problem.specs.Nodes.{node_at, node_count_of, wire_in};
 ghost use Rattle.route_report.specs.Channels.{occupied_by, occupies, place_in, occupancies_in};
 ghost use Rattle.route_report.specs.kept.Channels.{stretch_in, along, across, Adds, AddsAll, IsOccupied};
 
 use crate::uses::use_at;
-use rr_graph::{Device, Kind, Mode};
+use routing_problem::{Device, Kind, Mode};
 use std::alloc::{AllocError, Global};
 use std::marker::Model;
 

@@ -3,9 +3,9 @@
 ghost use Rattle.std.specs.Prelude.{◌≡◌, ◌==◌, ◌++◌, ◌∷◌, [], ◌<◌, ℕ, IfOk, OnOk, All, length, map, get_or, true};
 ghost use Rattle.std.specs.List.{filter};
 ghost use Rattle.std.specs.List.Sorted.{IsStrictlyIncreasing};
-ghost use Rattle.rr_graph.specs.Fabric.{numbers_below};
-ghost use Rattle.rr_graph.specs.Nodes.{node_at, node_count_of};
-ghost use Rattle.rr_graph.specs.Problems.{IsProblem};
+ghost use Rattle.routing_problem.specs.Fabric.{numbers_below};
+ghost use Rattle.routing_problem.specs.Nodes.{node_at, node_count_of};
+ghost use Rattle.routing_problem.specs.Problems.{IsProblem};
 ghost use Rattle.route_tree.specs.Legality.{is_among};
 ghost use Rattle.route_tree.specs.Usage.{room_of};
 ghost use Rattle.route_report.specs.Covered.{nodes_covered, uses_of};
@@ -15,7 +15,7 @@ ghost use Rattle.route_report.specs.kept.Overused.{bare, with_net, entry_to};
 use crate::covered::nodes_covered;
 use crate::uses::use_at;
 use route_tree::{Pairs, Routing};
-use rr_graph::{Device, Problem};
+use routing_problem::{Device, Problem};
 use std::alloc::{AllocError, Global};
 use std::marker::Model;
 

@@ -2,12 +2,12 @@
 
 ghost use Rattle.std.specs.Prelude.{◌≡◌, ◌+◌, ◌*◌, ◌^◌, ◌≤◌, length, map, IfOk, if◌then◌else◌};
 ghost use Rattle.arch_file.specs.Architecture.{most_segments};
-ghost use Rattle.rr_graph.specs.Fabric.{most_tracks, numbers_below};
-ghost use Rattle.rr_graph.specs.Wires.{tracks_in, total_frequency, weight_of_first, type_of};
+ghost use Rattle.routing_problem.specs.Fabric.{most_tracks, numbers_below};
+ghost use Rattle.routing_problem.specs.Wires.{tracks_in, total_frequency, weight_of_first, type_of};
 ghost use Rattle.route_report.specs.WireTypes.{track_type};
 
 use arch_file::Segment;
-use rr_graph::{Device, Mode};
+use routing_problem::{Device, Mode};
 use std::alloc::{AllocError, Global};
 
 /// The frequencies of all types together.

@@ -1,14 +1,14 @@
 //! How many nets cover each node.
 
 ghost use Rattle.std.specs.Prelude.{◌≡◌, ◌∷◌, [], ◌+◌, ◌<◌, ◌≤◌, ℕ, IfOk, OnOk, All, count_by, ◌==◌, length, get_or, replicate};
-ghost use Rattle.rr_graph.specs.Nodes.{node_count_of};
-ghost use Rattle.rr_graph.specs.Problems.{IsProblem};
+ghost use Rattle.routing_problem.specs.Nodes.{node_count_of};
+ghost use Rattle.routing_problem.specs.Problems.{IsProblem};
 ghost use Rattle.route_report.specs.Covered.{nodes_covered, uses_of, is_used};
 ghost use Rattle.route_report.specs.kept.Counting.{Counts, AreUses};
 
 use crate::covered::nodes_covered;
 use route_tree::{Pairs, Routing};
-use rr_graph::Problem;
+use routing_problem::Problem;
 use std::alloc::{AllocError, Global};
 
 /// How many nets cover a node; none past the last one.

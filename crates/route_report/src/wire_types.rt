@@ -1,7 +1,7 @@
 //! What there is of each type of wire, and what is used of it.
 
 ghost use Rattle.std.specs.Prelude.{◌≡◌, ◌==◌, ◌≤◌, ◌&&◌, ℕ, IfOk, if◌then◌else◌, length, map};
-ghost use Rattle.rr_graph.specs.Fabric.{numbers_below};
+ghost use Rattle.routing_problem.specs.Fabric.{numbers_below};
 ghost use Rattle.route_report.specs.Covered.{is_used};
 ghost use Rattle.route_report.specs.Wirelength.{places_at};
 ghost use Rattle.route_report.specs.WireTypes.{track_type, has_type, wire_type_of, wire_types_of};
@@ -11,7 +11,7 @@ use crate::figures::{is_wire_kind, one_if};
 use crate::track_types::{track_types, tracks, type_at};
 use crate::uses::is_used;
 use crate::wirelength::places_at;
-use rr_graph::Device;
+use routing_problem::Device;
 use std::alloc::{AllocError, Global};
 
 /// What there is of a type of wire, and what nets cover of it.

@@ -2,14 +2,14 @@
 
 ghost use Rattle.std.specs.Prelude.{◌≡◌, ◌*◌, ◌^◌, ◌<◌, ◌≤◌, ℕ, ◌==◌, IfOk, All, length, sum, map, get_or};
 ghost use Rattle.std.specs.List.{sum_by, find};
-ghost use Rattle.rr_graph.specs.Fabric.{numbers_below};
-ghost use Rattle.rr_graph.specs.Nodes.{node_count_of};
+ghost use Rattle.routing_problem.specs.Fabric.{numbers_below};
+ghost use Rattle.routing_problem.specs.Nodes.{node_count_of};
 ghost use Rattle.route_report.specs.Covered.{nodes_covered};
 ghost use Rattle.route_report.specs.Wirelength.{places_along, places_at, wirelength_of, wirelengths_of, greatest_in, first_greatest};
 
 use crate::covered::nodes_covered;
 use route_tree::{Pairs, Routing};
-use rr_graph::{Device, Problem, Span};
+use routing_problem::{Device, Problem, Span};
 use std::alloc::{AllocError, Global};
 
 /// The places from the first one to the last.

@@ -5,12 +5,12 @@ use Rattle.std.proofs.lemmas.Option.{slice_get_past}
 use Rattle.std.proofs.lemmas.Bool.Decides.{nat_tests}
 use Rattle.std.proofs.lemmas.List.Elements.{All-get_or, All-from_get_or}
 use Rattle.std.proofs.lemmas.List.Folds.{list_any_none}
-use Rattle.rr_graph.specs.Fabric.{Fabric}
-use Rattle.rr_graph.specs.Nodes.{node_count_of, nodes_of, node_at}
-use Rattle.rr_graph.specs.Edges.{edge_between}
-use Rattle.rr_graph.specs.Problems.{RoutingProblem, IsNet, IsProblem, net_in, no_net, is_sink, is_source, any_node, is_sink_kind}
-use Rattle.rr_graph.proofs.EdgeEnds.{source_or_sink}
-use Rattle.rr_graph.proofs.Graph.{edge_from_node, edge_to_node}
+use Rattle.routing_problem.specs.Fabric.{Fabric}
+use Rattle.routing_problem.specs.Nodes.{node_count_of, nodes_of, node_at}
+use Rattle.routing_problem.specs.Edges.{edge_between}
+use Rattle.routing_problem.specs.Problems.{RoutingProblem, IsNet, IsProblem, net_in, no_net, is_sink, is_source, any_node, is_sink_kind}
+use Rattle.routing_problem.proofs.EdgeEnds.{source_or_sink}
+use Rattle.routing_problem.proofs.Graph.{edge_from_node, edge_to_node}
 use Rattle.route_tree.specs.declared.tree.Row.{Row}
 use Rattle.route_tree.specs.Paths.{Pair}
 use Rattle.route_tree.specs.Legality.{is_among}

@@ -4,9 +4,9 @@ use Rattle.std.specs.Prelude.{Contains, count_by}
 use Rattle.std.proofs.lemmas.Bool.{and_parts, both_ways, le-ltb, ltb-false, not-false, not_from_true}
 use Rattle.std.proofs.lemmas.List.Elements.{All-contains, Contains-get_or}
 use Rattle.std.proofs.lemmas.List.Sums.{sum_by-cons}
-use Rattle.rr_graph.specs.Fabric.{Fabric}
-use Rattle.rr_graph.specs.Edges.{edge_between}
-use Rattle.rr_graph.specs.Problems.{Net, is_sink}
+use Rattle.routing_problem.specs.Fabric.{Fabric}
+use Rattle.routing_problem.specs.Edges.{edge_between}
+use Rattle.routing_problem.specs.Problems.{Net, is_sink}
 use Rattle.route_tree.specs.Paths.{Pair, ends_of}
 use Rattle.route_tree.specs.Legality.{is_among, is_listed, is_listed_after}
 use Rattle.route_tree.specs.Faults.{begins_elsewhere, lacks_switch, leaves_twice, has_foreign_sink, misses_sink}

@@ -1,6 +1,6 @@
 -- Small trees and routings whose answers compute: a source 0, and sinks 8 and 9.
 use Rattle.std.proofs.Common.{◌≡◌, true, false, List, [], ◌∷◌, Some, None, refl}
-use Rattle.rr_graph.specs.Problems.{Net}
+use Rattle.routing_problem.specs.Problems.{Net}
 use Rattle.route_tree.specs.Paths.{Pair}
 use Rattle.route_tree.specs.Faults.{begins_elsewhere, reaches_twice, leaves_twice, misses_sink}
 use Rattle.route_tree.specs.kept.Ladder.{has_dead_end}

@@ -5,8 +5,8 @@ use Rattle.std.proofs.lemmas.Bool.{or_left, or_right, or_parts, not-false, eq-eq
 use Rattle.std.proofs.lemmas.Bool.Decides.{nat_tests}
 use Rattle.std.proofs.lemmas.List.{length-map, get_or-map, get_or-take, length-take-le}
 use Rattle.std.proofs.lemmas.List.Folds.{list_any_at}
-use Rattle.rr_graph.specs.Fabric.{Fabric}
-use Rattle.rr_graph.specs.Problems.{RoutingProblem, net_in}
+use Rattle.routing_problem.specs.Fabric.{Fabric}
+use Rattle.routing_problem.specs.Problems.{RoutingProblem, net_in}
 use Rattle.route_tree.specs.declared.fault.TreeFault.{TreeFault}
 use Rattle.route_tree.specs.declared.fault.TreeFault.TheVariants.{NoNet}
 use Rattle.std.proofs.lemmas.Option.{none-some}

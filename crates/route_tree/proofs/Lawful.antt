@@ -3,7 +3,7 @@ use Rattle.std.proofs.Common.{◌≡◌, ℕ, ◌<◌, ◌↔◌, Bool, true, fa
 use Rattle.std.specs.List.{find}
 use Rattle.std.proofs.lemmas.Bool.{both_ways, cases_order, false_from_ne_true, le-leb, leb-false, leb-true, lt-leb, not-false, not-true, not_from_false, not_from_true, true_from_ne_false}
 use Rattle.std.proofs.lemmas.List.Elements.{All-get_or}
-use Rattle.rr_graph.specs.Problems.{Net, RoutingProblem, IsNet, IsProblem, no_net, net_in}
+use Rattle.routing_problem.specs.Problems.{Net, RoutingProblem, IsNet, IsProblem, no_net, net_in}
 use Rattle.route_tree.specs.declared.fault.TreeFault.{TreeFault}
 use Rattle.route_tree.specs.declared.fault.TreeFault.TheVariants.{NoNet, WrongSource, NoSwitch, NodeTwice, SecondOutput, ForeignSink, Dangling, MissingSink, Order}
 use Rattle.route_tree.specs.Paths.{Pair}

@@ -6,15 +6,15 @@ use Rattle.std.proofs.lemmas.Bool.{and_from, both_ways, cases_order, eqb-true, e
 use Rattle.std.proofs.lemmas.List.{length-map}
 use Rattle.std.proofs.lemmas.List.Elements.{All-get_or, at_from_Contains}
 use Rattle.std.proofs.lemmas.List.Sums.{list_all-from_AllPass, sum_by-cons}
-use Rattle.rr_graph.specs.Fabric.{Fabric}
-use Rattle.rr_graph.specs.Problems.{Net}
+use Rattle.routing_problem.specs.Fabric.{Fabric}
+use Rattle.routing_problem.specs.Problems.{Net}
 use Rattle.route_tree.specs.Paths.{Pair, Path, ends_of}
 use Rattle.route_tree.specs.Paths.Path.{here, along}
 use Rattle.route_tree.specs.Legality.{is_among, has_twice, LeadsToSink, IsJoined, IsLegal}
 use Rattle.route_tree.specs.Usage.{covers}
 use Rattle.route_tree.specs.Fits.{is_below}
-use Rattle.rr_graph.specs.Nodes.{node_count_of}
-use Rattle.rr_graph.proofs.Graph.{edge_from_node, edge_to_node}
+use Rattle.routing_problem.specs.Nodes.{node_count_of}
+use Rattle.routing_problem.proofs.Graph.{edge_from_node, edge_to_node}
 use Rattle.route_tree.proofs.Members.{among_contains, among_ends, contains_among, end_among, end_at, end_of, once_each, pair_among, some_place}
 use Rattle.route_tree.proofs.Ways.{last_step}
 

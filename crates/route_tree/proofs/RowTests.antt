@@ -13,8 +13,8 @@ use Rattle.route_tree.specs.Paths.{Pair, ends_of}
 use Rattle.route_tree.specs.Legality.{is_among, has_twice}
 use Rattle.route_tree.specs.Rows.{no_row, node_in, pair_of, pairs_of, IsTree}
 use Rattle.route_tree.specs.Faults.{begins_elsewhere, has_foreign_sink, misses_sink}
-use Rattle.rr_graph.specs.Fabric.{Fabric}
-use Rattle.rr_graph.specs.Problems.{is_sink}
+use Rattle.routing_problem.specs.Fabric.{Fabric}
+use Rattle.routing_problem.specs.Problems.{is_sink}
 use Rattle.route_tree.specs.kept.Marked.{IsMarked, nodes_of}
 
 module _ {X : Type 0} (p : X → Bool) (xs : List X) (d : X) where

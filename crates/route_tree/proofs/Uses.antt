@@ -1,8 +1,8 @@
 -- What becomes of the use of a node when one net's list changes.
 use Rattle.std.proofs.Common.{◌≡◌, ℕ, ◌+◌, ◌-◌, ◌<◌, ◌≤◌, zero, suc, Bool, true, false, if◌then◌else◌, List, [], ◌∷◌, length, get_or, set, replicate, Option, Some, None, refl, sym, ap, arith}
 use Rattle.std.proofs.lemmas.List.{set-set}
-use Rattle.rr_graph.specs.Nodes.{node_at}
-use Rattle.rr_graph.specs.Problems.{Net, RoutingProblem, net_in}
+use Rattle.routing_problem.specs.Nodes.{node_at}
+use Rattle.routing_problem.specs.Problems.{Net, RoutingProblem, net_in}
 use Rattle.route_tree.specs.Paths.{Pair}
 use Rattle.route_tree.specs.Usage.{covers_by, use_by, use_of, use_by_others, room_of, overuse_of}
 

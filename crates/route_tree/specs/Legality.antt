@@ -2,9 +2,9 @@
 -- routings are written (VPR and T-VPack manual 4.30, "Routing File Format").
 use Rattle.std.specs.Prelude.{◌≡◌, ℕ, ◌==◌, Bool, true, false, ◌&&◌, ◌||◌, List, [], ◌∷◌, ◌↔◌, Contains, All, count_by}
 use Rattle.std.specs.List.{list_any}
-use Rattle.rr_graph.specs.Fabric.{Fabric}
-use Rattle.rr_graph.specs.Edges.{edge_between}
-use Rattle.rr_graph.specs.Problems.{Net, is_sink}
+use Rattle.routing_problem.specs.Fabric.{Fabric}
+use Rattle.routing_problem.specs.Edges.{edge_between}
+use Rattle.routing_problem.specs.Problems.{Net, is_sink}
 use Rattle.route_tree.specs.Paths.{Pair, ends_of, Path}
 
 abbrev pub is_among : List ℕ → ℕ → Bool

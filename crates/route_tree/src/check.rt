@@ -1,8 +1,8 @@
 //! Whether a tree routes a net.
 
 ghost use Rattle.std.specs.Prelude.{◌≡◌, ◌↔◌, ◌<◌, All, length, false, Err, IsOk};
-ghost use Rattle.rr_graph.specs.Nodes.{node_count_of};
-ghost use Rattle.rr_graph.specs.Problems.{net_in};
+ghost use Rattle.routing_problem.specs.Nodes.{node_count_of};
+ghost use Rattle.routing_problem.specs.Problems.{net_in};
 ghost use Rattle.route_tree.specs.Rows.{pairs_of, IsTree};
 ghost use Rattle.route_tree.specs.Legality.{is_among};
 ghost use Rattle.route_tree.specs.Faults.{begins_elsewhere, misses_sink, IsFirstFault, IsRoute};
@@ -16,7 +16,7 @@ use crate::passes::{
 };
 use crate::stamps::{Stamps, mark_only};
 use crate::tree::{Row, Tree};
-use rr_graph::{Device, Problem};
+use routing_problem::{Device, Problem};
 
 /// The first fault, of those for which the sinks are marked. Whether a sink is missed was reported before.
 fn sink_fault(

@@ -1,10 +1,10 @@
 //! Marks on the nodes of a device, made once and used for many checks.
 
 ghost use Rattle.std.specs.Prelude.{◌≡◌, ◌==◌, IfOk};
-ghost use Rattle.rr_graph.specs.Nodes.{node_count_of};
+ghost use Rattle.routing_problem.specs.Nodes.{node_count_of};
 
 use crate::stamps::Stamps;
-use rr_graph::Problem;
+use routing_problem::Problem;
 use std::alloc::{AllocError, Global};
 use std::marker::Model;
 

@@ -2,8 +2,8 @@
 
 ghost use Rattle.std.specs.Prelude.{◌≡◌, ◌+◌, ◌<◌, ◌==◌, ◌&&◌, not, false, ◌∷◌, All, count_by, drop, length, get_or};
 ghost use Rattle.std.specs.List.{list_any};
-ghost use Rattle.rr_graph.specs.Edges.{edge_between};
-ghost use Rattle.rr_graph.specs.Problems.{is_sink};
+ghost use Rattle.routing_problem.specs.Edges.{edge_between};
+ghost use Rattle.routing_problem.specs.Problems.{is_sink};
 ghost use Rattle.route_tree.specs.Paths.{ends_of};
 ghost use Rattle.route_tree.specs.Legality.{has_twice, is_among};
 ghost use Rattle.route_tree.specs.Rows.{no_row, node_in, pairs_of, IsTree};
@@ -13,7 +13,7 @@ ghost use Rattle.route_tree.specs.kept.Marked.{IsMarked, nodes_of};
 
 use crate::stamps::Stamps;
 use crate::tree::{Row, count_pairs, pair_at};
-use rr_graph::{Device, EdgeFinder};
+use routing_problem::{Device, EdgeFinder};
 
 /// Whether there is no pair, or the first one begins elsewhere than at the source.
 #[tactic(auto, using(crate::proofs::RowTests::begins))]

@@ -7,7 +7,7 @@ ghost use Rattle.route_tree.specs.Rows.{pairs_of};
 ghost use Rattle.route_tree.specs.TreeLists.{list_of_tree, lists_of_trees};
 
 use crate::tree::Tree;
-use rr_graph::{Device, Problem};
+use routing_problem::{Device, Problem};
 use std::alloc::{AllocError, Global};
 use std::marker::Model;
 

@@ -13,14 +13,14 @@ use Rattle.net_file.specs.Netlist as netlist
 use Rattle.net_file.specs.Routed.{routed_numbers}
 use Rattle.place_file.specs.declared.site.Site.{Site}
 use Rattle.place_file.specs.Placement.{Placement}
-use Rattle.rr_graph.specs.declared.parts.Kind.TheVariants.{Source, Sink}
-use Rattle.rr_graph.specs.declared.parts.Mode.TheVariants.{Detailed}
+use Rattle.channel_tables.specs.declared.parts.Kind.TheVariants.{Source, Sink}
+use Rattle.channel_tables.specs.declared.parts.Mode.TheVariants.{Detailed}
 use Rattle.rr_graph.specs.Designs.{terminal_node, suits_design, nodes_of_sinks, net_of_design, problem_from}
-use Rattle.rr_graph.specs.Fabric.{Fabric}
-use Rattle.rr_graph.specs.Nodes.{nodes_of, numbers_at, is_same}
-use Rattle.rr_graph.specs.Pins.{classes_of, pins_of}
-use Rattle.rr_graph.specs.Problems.{Net}
-use Rattle.rr_graph.specs.Wires.{weight_of_first, type_of, rank_of, length_of, begins, steps_of}
+use Rattle.channel_tables.specs.Fabric.{Fabric}
+use Rattle.node_numbers.specs.Nodes.{nodes_of, numbers_at, is_same}
+use Rattle.channel_tables.specs.Pins.{classes_of, pins_of}
+use Rattle.routing_problem.specs.Problems.{Net}
+use Rattle.channel_tables.specs.Wires.{weight_of_first, type_of, rank_of, length_of, begins, steps_of}
 
 abbrev pin : ℕ → Direction → Pin
 pin class direction = record { class = class; direction = direction; global = false; sides = record { top = true; bottom = false; left = false; right = false } }

@@ -18,16 +18,16 @@ use Rattle.net_file.specs.Facts.{IsNetlist}
 use Rattle.net_file.specs.Netlist as netlist
 use Rattle.net_file.specs.Routed.{no_net, is_routed_net, is_routed_at, routed_numbers}
 use Rattle.place_file.specs.Placement.{Placement}
-use Rattle.rr_graph.specs.declared.parts.Kind.{Kind}
-use Rattle.rr_graph.specs.declared.parts.Kind.TheVariants.{Source, Sink}
-use Rattle.rr_graph.specs.declared.parts.Node.{Node}
-use Rattle.rr_graph.specs.Fabric.{Fabric, numbers_below, is_block}
-use Rattle.rr_graph.specs.Nodes.{node_of, nodes_of, node_count_of, node_at, number_of}
-use Rattle.rr_graph.specs.Problems.{Net, IsNet, IsProblem, any_node, is_source_kind, is_sink_kind, is_source, is_sink}
+use Rattle.channel_tables.specs.declared.parts.Kind.{Kind}
+use Rattle.channel_tables.specs.declared.parts.Kind.TheVariants.{Source, Sink}
+use Rattle.channel_tables.specs.declared.parts.Node.{Node}
+use Rattle.channel_tables.specs.Fabric.{Fabric, numbers_below, is_block}
+use Rattle.node_numbers.specs.Nodes.{node_of, nodes_of, node_count_of, node_at, number_of, any_node, is_source_kind, is_sink_kind, is_source, is_sink}
+use Rattle.routing_problem.specs.Problems.{Net, IsNet, IsProblem}
 use Rattle.rr_graph.specs.Designs.{label_on, node_on, terminal_node, has_node, has_nodes, has_size_of, are_on_sites, suits_design, stands_at, nodes_of_sinks, net_on_device, net_of_design, problem_from}
-use Rattle.rr_graph.proofs.Ascending.{below_ascend, all_kept, kept_below, in_order}
-use Rattle.rr_graph.proofs.Order.{node_of_number}
-use Rattle.rr_graph.proofs.Ranges.{kept_more, skipped_more}
+use Rattle.node_numbers.proofs.Ascending.{below_ascend, all_kept, kept_below, in_order}
+use Rattle.node_numbers.proofs.Order.{node_of_number}
+use Rattle.channel_tables.proofs.Ranges.{kept_more, skipped_more}
 
 -- ---- the node of a terminal
 

@@ -20,14 +20,14 @@ use Rattle.net_file.specs.Routed.{is_routed_net}
 use Rattle.net_file.proofs.Terminals.{IsPin, IsAtPin, JoinsPins, nets_join_pins}
 use Rattle.place_file.specs.declared.site.Site.{Site}
 use Rattle.place_file.specs.Placement.{Placement, IsPlaced, is_site, is_within, is_on_perimeter, kind_at, array_of}
-use Rattle.rr_graph.specs.declared.parts.Kind.{Kind}
-use Rattle.rr_graph.specs.declared.parts.Kind.TheVariants.{Source, Sink}
+use Rattle.channel_tables.specs.declared.parts.Kind.{Kind}
+use Rattle.channel_tables.specs.declared.parts.Kind.TheVariants.{Source, Sink}
 use Rattle.rr_graph.specs.Designs.{label_on, terminal_node, has_node, has_nodes, has_size_of, are_on_sites, suits_design}
-use Rattle.rr_graph.specs.Fabric.{Fabric, IsFabric, numbers_below, is_block, is_pad}
-use Rattle.rr_graph.specs.Nodes.{numbers_at, terminals_at}
-use Rattle.rr_graph.specs.Pins.{classes_of}
-use Rattle.rr_graph.proofs.Classes.{class_listed}
-use Rattle.rr_graph.proofs.NodeNumbers.{number_at_place, block_within, pad_within, number_itself}
+use Rattle.channel_tables.specs.Fabric.{Fabric, IsFabric, numbers_below, is_block, is_pad}
+use Rattle.node_numbers.specs.Nodes.{numbers_at, terminals_at}
+use Rattle.channel_tables.specs.Pins.{classes_of}
+use Rattle.node_numbers.proofs.Classes.{class_listed}
+use Rattle.node_numbers.proofs.NumbersAtPlaces.{number_at_place, block_within, pad_within, number_itself}
 
 -- ---- sites on a device
 

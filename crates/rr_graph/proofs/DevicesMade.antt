@@ -4,8 +4,8 @@ use Rattle.arch_file.specs.Architecture.{Architecture}
 use Rattle.net_file.specs.Netlist.{Netlist}
 use Rattle.net_file.specs.Reads.{ReadsBytes}
 use Rattle.place_file.specs.Placement.{Placement, IsPlaced}
-use Rattle.rr_graph.specs.declared.parts.Mode.{Mode}
-use Rattle.rr_graph.specs.Fabric.{Fabric}
+use Rattle.channel_tables.specs.declared.parts.Mode.{Mode}
+use Rattle.channel_tables.specs.Fabric.{Fabric}
 
 -- what is known of designs that were read holds on the device of their array
 pub suits_read : (d : Fabric) (a : Architecture) (nx ny width : ℕ) (mode : Mode) (netlist : Netlist) (p : Placement) (suits : Bool)

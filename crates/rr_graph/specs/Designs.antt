@@ -9,12 +9,12 @@ use Rattle.net_file.specs.Netlist as netlist
 use Rattle.net_file.specs.Routed.{no_net, is_routed_net, routed_numbers}
 use Rattle.place_file.specs.declared.site.Site.{Site}
 use Rattle.place_file.specs.Placement.{Placement}
-use Rattle.rr_graph.specs.declared.parts.Kind.{Kind}
-use Rattle.rr_graph.specs.declared.parts.Kind.TheVariants.{Source, Sink}
-use Rattle.rr_graph.specs.declared.parts.Mode.{Mode}
-use Rattle.rr_graph.specs.Fabric.{Fabric, fabric_with, numbers_below, is_block}
-use Rattle.rr_graph.specs.Nodes.{node_of, node_count_of, number_of}
-use Rattle.rr_graph.specs.Problems.{Net, RoutingProblem}
+use Rattle.channel_tables.specs.declared.parts.Kind.{Kind}
+use Rattle.channel_tables.specs.declared.parts.Kind.TheVariants.{Source, Sink}
+use Rattle.channel_tables.specs.declared.parts.Mode.{Mode}
+use Rattle.channel_tables.specs.Fabric.{Fabric, fabric_with, numbers_below, is_block}
+use Rattle.node_numbers.specs.Nodes.{node_of, node_count_of, number_of}
+use Rattle.routing_problem.specs.Problems.{Net, RoutingProblem}
 
 -- what a terminal's node is numbered by: at a logic block the class of its pin, at pads, where it has none, the position of its site
 abbrev pub label_on : Bool → Option ℕ → Site → Option ℕ

@@ -7,9 +7,9 @@ use Rattle.std.proofs.lemmas.List.{append-nil, flat_map_more}
 use Rattle.std.proofs.lemmas.Bool.{false≢true}
 use Rattle.vpr_text.specs.Output.{Stream, Sends}
 use Rattle.vpr_text.proofs.Printing.{breaks_more}
-use Rattle.rr_graph.specs.declared.parts.Node.{Node}
-use Rattle.rr_graph.specs.declared.parts.Label.{Label}
-use Rattle.rr_graph.specs.declared.parts.Span.{Span}
+use Rattle.rr_graph.specs.parts.Node.{Node}
+use Rattle.rr_graph.specs.parts.Label.{Label}
+use Rattle.rr_graph.specs.parts.Span.{Span}
 use Rattle.rr_graph.specs.Fabric.{Fabric, numbers_below}
 use Rattle.rr_graph.specs.Nodes.{node_at, label_of, span_of, capacity_of}
 use Rattle.rr_graph.proofs.Ranges.{below_next}

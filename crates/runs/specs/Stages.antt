@@ -2,7 +2,7 @@
 -- and then what is on a device (ours).
 use Rattle.std.specs.Prelude.{ℕ, List, Result, Ok}
 use Rattle.arch_file.specs.Architecture.{Architecture}
-use Rattle.rr_graph.specs.declared.parts.Mode.{Mode}
+use Rattle.rr_graph.specs.parts.Mode.{Mode}
 use Rattle.runs.specs.declared.fault.InputFile.TheVariants as file
 use Rattle.runs.specs.declared.fault.AppFault.{AppFault}
 use Rattle.runs.specs.Runs.{Input, bytes_in, ◌>>=◌}

@@ -1,10 +1,10 @@
 -- The texts that the program prints of nodes (VPR and T-VPack manual 4.30, the routing file; the listing is ours).
 use Rattle.std.specs.Prelude.{ℕ, List, ◌++◌, codes, decimal}
-use Rattle.rr_graph.specs.declared.parts.Kind.{Kind}
-use Rattle.rr_graph.specs.declared.parts.Kind.TheVariants.{Source, Sink, Opin, Ipin, Chanx, Chany}
-use Rattle.rr_graph.specs.declared.parts.Label.{Label}
-use Rattle.rr_graph.specs.declared.parts.Node.{Node}
-use Rattle.rr_graph.specs.declared.parts.Span.{Span}
+use Rattle.rr_graph.specs.parts.Kind.{Kind}
+use Rattle.rr_graph.specs.parts.Kind.TheVariants.{Source, Sink, Opin, Ipin, Chanx, Chany}
+use Rattle.rr_graph.specs.parts.Label.{Label}
+use Rattle.rr_graph.specs.parts.Node.{Node}
+use Rattle.rr_graph.specs.parts.Span.{Span}
 use Rattle.rr_graph.specs.Fabric.{Fabric}
 use Rattle.rr_graph.specs.Nodes.{label_of, span_of, capacity_of}
 use Rattle.route_file.specs.TextLine.{label_text, span_text}

@@ -2,7 +2,7 @@
 use Rattle.std.specs.Prelude.{◌≡◌, ◌≢◌, ◌↔◌, ℕ, List, [], ◌++◌, slice_index_or, Option, None, Some, codes, decimal}
 use Rattle.net_file.specs.Netlist.{Netlist}
 use Rattle.net_file.specs.Routed.{no_net}
-use Rattle.rr_graph.specs.declared.parts.Node.{Node}
+use Rattle.rr_graph.specs.parts.Node.{Node}
 use Rattle.rr_graph.specs.Fabric.{Fabric}
 use Rattle.rr_graph.specs.Nodes.{node_at, label_of, span_of}
 use Rattle.rr_graph.specs.Problems.{RoutingProblem, net_in}

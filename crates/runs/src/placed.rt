@@ -18,7 +18,7 @@ use crate::netlist_text::NetlistText;
 use arch_file::Arch;
 use net_file::Netlist;
 use place_file::Placement;
-use rr_graph::{Mode, Problem};
+use rr_graph::{MadeOfDesigns, Mode, Problem, SuitsDesigns};
 use std::alloc::{AllocError, Global};
 use std::marker::Model;
 use vpr_text::ByteSource;

@@ -3,12 +3,12 @@ use Rattle.std.proofs.Common.{◌≡◌, ℕ, true, false, Option, Some, None, �
 use Rattle.std.specs.Prelude.{map, Contains}
 use Rattle.std.specs.Option.{option_map, option_map_or}
 use Rattle.std.proofs.lemmas.Bool.{false≢true}
-use Rattle.rr_graph.specs.declared.parts.Kind.{Kind}
-use Rattle.rr_graph.specs.declared.parts.Kind.TheVariants.{Source, Sink, Opin, Ipin, Chanx, Chany}
-use Rattle.rr_graph.specs.declared.parts.Node.{Node}
-use Rattle.rr_graph.specs.Fabric.{Fabric}
-use Rattle.rr_graph.specs.Nodes.{node_at, kind_of_node, is_wire, is_wire_at}
-use Rattle.rr_graph.specs.Edges.{edge_by, is_edge, edge_between_nodes, edge_between}
+use Rattle.routing_problem.specs.parts.Kind.{Kind}
+use Rattle.routing_problem.specs.parts.Kind.TheVariants.{Source, Sink, Opin, Ipin, Chanx, Chany}
+use Rattle.routing_problem.specs.parts.Node.{Node}
+use Rattle.routing_problem.specs.Fabric.{Fabric}
+use Rattle.routing_problem.specs.Nodes.{node_at, kind_of_node, is_wire, is_wire_at}
+use Rattle.routing_problem.specs.Edges.{edge_by, is_edge, edge_between_nodes, edge_between}
 use Rattle.track_groups.specs.declared.group.GroupTrack.{GroupTrack}
 use Rattle.track_groups.specs.Groups.{IsOn, wire_on}
 use Rattle.track_groups.specs.Joints.{Tables, neighbours_of, taps_of, wire_beside, tap_on, IsTabled}

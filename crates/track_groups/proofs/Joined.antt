@@ -7,9 +7,9 @@ use Rattle.std.proofs.lemmas.Bool.Decides.{nat_tests}
 use Rattle.std.proofs.lemmas.List.{length-map, get_or-map, get_or_append_left, get_or_push, get_or_past}
 use Rattle.std.proofs.lemmas.List.Elements.{All-nil}
 use Rattle.std.proofs.lemmas.List.Folds.{list_any_at}
-use Rattle.rr_graph.specs.Fabric.{Fabric}
-use Rattle.rr_graph.specs.Nodes.{is_wire_at}
-use Rattle.rr_graph.specs.Edges.{edge_between, successors_of}
+use Rattle.routing_problem.specs.Fabric.{Fabric}
+use Rattle.routing_problem.specs.Nodes.{is_wire_at}
+use Rattle.routing_problem.specs.Edges.{edge_between, successors_of}
 use Rattle.track_groups.specs.declared.group.Tap.{Tap}
 use Rattle.track_groups.specs.Groups.{Grouping, group_at, on_track, IsOn, wire_on, IsGrouped}
 use Rattle.track_groups.specs.Joints.{wire_beside, tap_on, IsTap, TellsWires, TellsEdges, Tables, IsTabled}

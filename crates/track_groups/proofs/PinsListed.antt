@@ -3,12 +3,12 @@ use Rattle.std.proofs.Common.{◌≡◌, ℕ, ◌+◌, ◌≤◌, List, [], ◌�
 use Rattle.std.specs.Prelude.{Contains, get_or}
 use Rattle.std.proofs.lemmas.Bool.{cases_lt}
 use Rattle.std.proofs.lemmas.List.Elements.{Contains-append_left, Contains-push, Contains-push_cases}
-use Rattle.rr_graph.specs.declared.parts.Kind.TheVariants.{Ipin}
-use Rattle.rr_graph.specs.declared.parts.NodeRange.{NodeRange}
-use Rattle.rr_graph.specs.Fabric.{Fabric}
-use Rattle.rr_graph.specs.Nodes.{kind_of_node}
-use Rattle.rr_graph.specs.Edges.{successors_of}
-use Rattle.rr_graph.specs.InputPins.{IsInRange, IsPinOf}
+use Rattle.routing_problem.specs.parts.Kind.TheVariants.{Ipin}
+use Rattle.routing_problem.specs.parts.NodeRange.{NodeRange}
+use Rattle.routing_problem.specs.Fabric.{Fabric}
+use Rattle.routing_problem.specs.Nodes.{kind_of_node}
+use Rattle.routing_problem.specs.Edges.{successors_of}
+use Rattle.routing_problem.specs.InputPins.{IsInRange, IsPinOf}
 use Rattle.track_groups.specs.SinkPins.{ArePinsOf}
 use Rattle.track_groups.specs.kept.Listing.{AddsPin, ArePinsBefore}
 

@@ -4,13 +4,13 @@ use Rattle.std.specs.Prelude.{All, nat_le, is_some, unwrap_or, if◌then◌else�
 use Rattle.std.specs.Option.{option_map, option_map_or}
 use Rattle.std.proofs.lemmas.Bool.{false≢true}
 use Rattle.std.proofs.lemmas.Bool.Decides.{nat_tests}
-use Rattle.rr_graph.specs.declared.parts.Kind.{Kind}
-use Rattle.rr_graph.specs.declared.parts.Node.{Node}
-use Rattle.rr_graph.specs.declared.parts.Span.{Span}
-use Rattle.rr_graph.specs.Fabric.{Fabric, numbers_below}
-use Rattle.rr_graph.specs.Wires.{reach_of}
-use Rattle.rr_graph.specs.Nodes.{node_count_of, node_at, is_wire, is_wire_at, span_of, wire_in}
-use Rattle.rr_graph.proofs.Ranges.{length_below, get_below}
+use Rattle.routing_problem.specs.parts.Kind.{Kind}
+use Rattle.routing_problem.specs.parts.Node.{Node}
+use Rattle.routing_problem.specs.parts.Span.{Span}
+use Rattle.routing_problem.specs.Fabric.{Fabric, numbers_below}
+use Rattle.routing_problem.specs.Wires.{reach_of}
+use Rattle.routing_problem.specs.Nodes.{node_count_of, node_at, is_wire, is_wire_at, span_of, wire_in}
+use Rattle.routing_problem.proofs.Ranges.{length_below, get_below}
 use Rattle.track_groups.specs.declared.group.Group.{Group}
 use Rattle.track_groups.specs.declared.group.GroupTrack.{GroupTrack}
 use Rattle.track_groups.specs.Groups.{no_group, group_at, on_track, IsOn, node_on, wire_on, place_of, wire_told, IsTrack, HasPlace, IsGrouped}

@@ -11,9 +11,9 @@ use Rattle.std.proofs.lemmas.Option.{none-some, slice_get_past}
 use Rattle.std.proofs.lemmas.List.{take_more}
 use Rattle.std.proofs.lemmas.List.Folds.{list_any-append}
 use Rattle.std.proofs.lemmas.Nat.Bits.{bit_at-zero}
-use Rattle.rr_graph.specs.declared.parts.Kind.TheVariants.{Ipin}
-use Rattle.rr_graph.specs.Fabric.{Fabric}
-use Rattle.rr_graph.specs.Nodes.{nodes_of, node_count_of, kind_of_node, is_wire_at}
+use Rattle.routing_problem.specs.parts.Kind.TheVariants.{Ipin}
+use Rattle.routing_problem.specs.Fabric.{Fabric}
+use Rattle.routing_problem.specs.Nodes.{nodes_of, node_count_of, kind_of_node, is_wire_at}
 use Rattle.track_groups.specs.declared.group.Tap.{Tap}
 use Rattle.track_groups.specs.Joints.{taps_track, tap_on}
 use Rattle.track_groups.specs.kept.Merging.{SetsBit}

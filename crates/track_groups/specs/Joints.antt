@@ -1,12 +1,12 @@
--- What groups tell of the edges from wires (ours; the edges are those of `rr_graph`).
+-- What groups tell of the edges from wires (ours; the edges are those of `rr_edges`).
 use Rattle.std.specs.Prelude.{◌≡◌, ℕ, ◌==◌, ◌&&◌, Bool, true, List, [], map, get_or, Some, All, Contains, ◌↔◌}
 use Rattle.std.specs.List.{list_any}
 use Rattle.std.specs.Int.{bit_at}
-use Rattle.rr_graph.specs.declared.parts.Kind.TheVariants.{Ipin}
-use Rattle.rr_graph.specs.Fabric.{Fabric}
-use Rattle.rr_graph.specs.Nodes.{kind_of_node, is_wire_at}
-use Rattle.rr_graph.specs.Edges.{edge_between}
-use Rattle.rr_graph.specs.InputPins.{IsPinOf}
+use Rattle.routing_problem.specs.parts.Kind.TheVariants.{Ipin}
+use Rattle.routing_problem.specs.Fabric.{Fabric}
+use Rattle.routing_problem.specs.Nodes.{kind_of_node, is_wire_at}
+use Rattle.routing_problem.specs.Edges.{edge_between}
+use Rattle.routing_problem.specs.InputPins.{IsPinOf}
 use Rattle.track_groups.specs.declared.group.Group.{Group}
 use Rattle.track_groups.specs.declared.group.GroupTrack.{GroupTrack}
 use Rattle.track_groups.specs.declared.group.Tap.{Tap}

@@ -1,9 +1,9 @@
 -- The input pins of sinks.
 use Rattle.std.specs.Prelude.{◌≡◌, ℕ, List, [], get_or, Some, Contains, ◌↔◌}
-use Rattle.rr_graph.specs.declared.parts.Kind.TheVariants.{Sink}
-use Rattle.rr_graph.specs.Fabric.{Fabric}
-use Rattle.rr_graph.specs.Nodes.{kind_of_node}
-use Rattle.rr_graph.specs.InputPins.{IsPinOf}
+use Rattle.routing_problem.specs.parts.Kind.TheVariants.{Sink}
+use Rattle.routing_problem.specs.Fabric.{Fabric}
+use Rattle.routing_problem.specs.Nodes.{kind_of_node}
+use Rattle.routing_problem.specs.InputPins.{IsPinOf}
 
 -- these are the input pins that lead to the sink, and to nothing else
 pub record ArePinsOf (f : Fabric) (sink : ℕ) (pins : List ℕ) : Type 0 where

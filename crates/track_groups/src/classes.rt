@@ -2,7 +2,7 @@
 
 ghost use Rattle.std.specs.Prelude.{◌≡◌, ◌<◌, ◌≤◌, length, IfOk};
 
-use rr_graph::{Device, Kind, Mode, Node};
+use routing_problem::{Device, Kind, Mode, Node};
 use std::alloc::{AllocError, Global};
 
 /// The most tracks of a class: a set of them is a number of 64 bits.

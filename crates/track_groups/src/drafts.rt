@@ -7,7 +7,7 @@ use crate::classes::{Class, classes_of};
 use crate::group::{Group, GroupTrack};
 use crate::packed::PackedGroup;
 use crate::wires::WireGroups;
-use rr_graph::{Device, Kind, Node};
+use routing_problem::{Device, Kind, Node};
 use std::alloc::{AllocError, Global};
 
 /// No wire's place is unknown for long: each is written.

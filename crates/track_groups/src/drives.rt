@@ -1,7 +1,7 @@
 //! What output pins drive.
 
 ghost use Rattle.std.specs.Prelude.{◌≡◌, [], get_or, Some, IfOk, OnOk};
-ghost use Rattle.rr_graph.specs.Nodes.{kind_of_node};
+ghost use Rattle.routing_problem.specs.Nodes.{kind_of_node};
 ghost use Rattle.track_groups.specs.Groups.{IsGrouped};
 ghost use Rattle.track_groups.specs.Drives.{AreDrivenBy, AreDrives};
 
@@ -9,7 +9,7 @@ use crate::group::Drive;
 use crate::groups::TrackGroups;
 use crate::rows::Rows;
 use crate::wires::WireGroups;
-use rr_graph::{Device, Kind};
+use routing_problem::{Device, Kind};
 use smallvec::SmallVec;
 use std::alloc::{AllocError, Global};
 use std::marker::Model;

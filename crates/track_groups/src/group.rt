@@ -1,6 +1,6 @@
 //! What groups are made of.
 
-use rr_graph::{Kind, Span};
+use routing_problem::{Kind, Span};
 
 /// The wires of a class of tracks over one span, one of each track. Track `j` of the class, counted from 0, is node `base + j * stride`.
 #[derive(Clone, Copy, Debug, PartialEq, Eq)]

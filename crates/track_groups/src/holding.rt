@@ -2,14 +2,14 @@
 //! test finds.
 
 ghost use Rattle.std.specs.Prelude.{◌≡◌, ℕ, ◌+◌, ◌<◌, ◌≤◌, true, length, IsTrue};
-ghost use Rattle.rr_graph.specs.Nodes.{node_at, is_wire_at, wire_in};
+ghost use Rattle.routing_problem.specs.Nodes.{node_at, is_wire_at, wire_in};
 ghost use Rattle.track_groups.specs.declared.group.GroupTrack.{GroupTrack};
 ghost use Rattle.track_groups.specs.Groups.{group_at, wire_on, wire_told, place_of, IsOn, IsTrack, HasPlace, IsGrouped};
 ghost use Rattle.track_groups.specs.kept.Parts.{HaveTracks};
 
 use crate::group::GroupTrack;
 use crate::wires::WireGroups;
-use rr_graph::Device;
+use routing_problem::Device;
 
 impl WireGroups {
     /// Whether the wire of a track is listed with this track of this group.

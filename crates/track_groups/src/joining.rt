@@ -1,7 +1,7 @@
 //! Neighbours and pins of groups, by the edges from their wires.
 
 ghost use Rattle.std.specs.Prelude.{◌≡◌, ◌≢◌, ◌+◌, ◌<◌, All, IsTrue, IfOk, IfSome, OnOk, Ok, None, false, [], ◌∷◌, ◌++◌, length};
-ghost use Rattle.rr_graph.specs.Edges.{successors_of};
+ghost use Rattle.routing_problem.specs.Edges.{successors_of};
 ghost use Rattle.track_groups.specs.Groups.{wire_on, IsOn, IsGrouped};
 ghost use Rattle.track_groups.specs.Joints.{IsTap, TellsEdges, IsTabled};
 ghost use Rattle.track_groups.specs.kept.Joining.{HasSecondTrack, Matches, AddsNeighbour, StepsTo, AddsTap, AddTaps, AreJoinedBefore, AreTold};
@@ -11,7 +11,7 @@ use crate::groups::TrackGroups;
 use crate::merging::with_bit;
 use crate::rows::Rows;
 use crate::wires::WireGroups;
-use rr_graph::Device;
+use routing_problem::Device;
 use smallvec::SmallVec;
 use std::alloc::{AllocError, Global};
 

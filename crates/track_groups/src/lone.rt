@@ -1,14 +1,14 @@
 //! Groups of one wire each, for a device whose tracks don't stand evenly apart.
 
 ghost use Rattle.std.specs.Prelude.{◌≡◌, ◌+◌, ◌^◌, ◌<◌, map, IfOk};
-ghost use Rattle.rr_graph.specs.Fabric.{numbers_below};
+ghost use Rattle.routing_problem.specs.Fabric.{numbers_below};
 ghost use Rattle.track_groups.specs.Groups.{IsGrouped};
 ghost use Rattle.track_groups.specs.kept.Lone.{lone_wire, lone_at, first_track, AreLone};
 
 use crate::group::{Group, GroupTrack};
 use crate::packed::PackedGroup;
 use crate::wires::WireGroups;
-use rr_graph::{Device, Kind, Span};
+use routing_problem::{Device, Kind, Span};
 use std::alloc::{AllocError, Global};
 
 /// Where no wire is.

@@ -5,7 +5,7 @@ ghost use Rattle.track_groups.specs.Joints.{IsTabled};
 
 use crate::groups::TrackGroups;
 use crate::wires::WireGroups;
-use rr_graph::Device;
+use routing_problem::Device;
 use std::alloc::{AllocError, Global};
 
 impl TrackGroups {

@@ -3,11 +3,11 @@
 ghost use Rattle.std.specs.Prelude.{◌≡◌, ◌<◌, OnOk};
 ghost use Rattle.track_groups.specs.Groups.{IsGrouped};
 ghost use Rattle.track_groups.specs.kept.Merging.{SetsBit, DrivesMore, PutsNode, AreMerged};
-ghost use Rattle.rr_graph.specs.Fabric.{Fabric};
+ghost use Rattle.routing_problem.specs.Fabric.{Fabric};
 
 use crate::group::{Drive, GroupTrack};
 use crate::wires::WireGroups;
-use rr_graph::Device;
+use routing_problem::Device;
 use std::alloc::AllocError;
 
 /// The bits with one more of them 1.

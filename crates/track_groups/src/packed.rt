@@ -4,7 +4,7 @@ ghost use Rattle.std.specs.Prelude.{◌≡◌, ◌≤◌};
 ghost use Rattle.track_groups.specs.kept.Fields.{FitsBytes, IsSmall};
 
 use crate::group::Group;
-use rr_graph::{Kind, Span};
+use routing_problem::{Kind, Span};
 use std::marker::Model;
 
 /// A number, or the greatest of a byte where it doesn't fit.

@@ -1,13 +1,13 @@
 //! The input pins of sinks.
 
 ghost use Rattle.std.specs.Prelude.{◌≡◌, [], get_or, Some, ◌↔◌, IsTrue, IfOk, OnOk};
-ghost use Rattle.rr_graph.specs.Nodes.{kind_of_node};
-ghost use Rattle.rr_graph.specs.InputPins.{IsPinOf};
+ghost use Rattle.routing_problem.specs.Nodes.{kind_of_node};
+ghost use Rattle.routing_problem.specs.InputPins.{IsPinOf};
 ghost use Rattle.track_groups.specs.SinkPins.{ArePinsOf, AreSinkPins};
 ghost use Rattle.track_groups.specs.kept.Listing.{AddsPin};
 
 use crate::rows::Rows;
-use rr_graph::{Device, Kind};
+use routing_problem::{Device, Kind};
 use std::alloc::{AllocError, Global};
 use std::marker::Model;
 

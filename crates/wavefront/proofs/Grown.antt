@@ -5,8 +5,8 @@ use Rattle.std.proofs.lemmas.Bool.{false≢true, eqb-true, eq-eqb, false_from_ne
 use Rattle.std.proofs.lemmas.Grind.{common_steps}
 use Rattle.std.proofs.lemmas.List.Elements.{All-weaker, All-contains_itself, Contains-append_left, Contains-append_right, Contains-append_cases}
 use Rattle.std.proofs.lemmas.List.Sums.{sum_by-cons, sum_by-append}
-use Rattle.rr_graph.specs.Edges.{edge_between}
-use Rattle.rr_graph.specs.Problems.{Net, is_sink}
+use Rattle.routing_problem.specs.Edges.{edge_between}
+use Rattle.routing_problem.specs.Problems.{Net, is_sink}
 use Rattle.route_tree.specs.Paths.{Pair, Path, ends_of}
 use Rattle.route_tree.specs.Paths.Path.{here, along}
 use Rattle.route_tree.specs.Legality.{has_twice, is_among, IsJoined, IsLegal}

@@ -3,13 +3,13 @@ use Rattle.std.proofs.Common.{◌≡◌, ℕ, ◌+◌, ◌≤◌, true, false, L
 use Rattle.std.specs.Option.{option_map, option_map_or}
 use Rattle.std.proofs.lemmas.Bool.{false≢true}
 use Rattle.std.proofs.lemmas.Bool.Decides.{nat_tests}
-use Rattle.rr_graph.specs.declared.parts.Kind.{Kind}
-use Rattle.rr_graph.specs.declared.parts.Kind.TheVariants.{Source, Sink, Opin, Ipin, Chanx, Chany}
-use Rattle.rr_graph.specs.declared.parts.Node.{Node}
-use Rattle.rr_graph.specs.declared.parts.Span.{Span}
-use Rattle.rr_graph.specs.Fabric.{Fabric}
-use Rattle.rr_graph.specs.Nodes.{node_at, span_by, span_of}
-use Rattle.rr_graph.specs.Problems.{Net, is_source_kind, any_node, is_source}
+use Rattle.routing_problem.specs.parts.Kind.{Kind}
+use Rattle.routing_problem.specs.parts.Kind.TheVariants.{Source, Sink, Opin, Ipin, Chanx, Chany}
+use Rattle.routing_problem.specs.parts.Node.{Node}
+use Rattle.routing_problem.specs.parts.Span.{Span}
+use Rattle.routing_problem.specs.Fabric.{Fabric}
+use Rattle.routing_problem.specs.Nodes.{node_at, span_by, span_of}
+use Rattle.routing_problem.specs.Problems.{Net, is_source_kind, any_node, is_source}
 use Rattle.wavefront.proofs.Lists.{contains_cases, contains_none}
 use Rattle.wavefront.specs.Boxes.{BoundingBox}
 use Rattle.wavefront.specs.Boxes.{box_of_span, box_of_node, box_around, box_with, box_of_net, touches, is_in_box}

@@ -4,13 +4,13 @@ use Rattle.std.specs.Prelude.{slice_get}
 use Rattle.std.specs.List.{list_any}
 use Rattle.std.proofs.lemmas.Bool.{cases_Bool, eqb-true, leb-true, false≢true}
 use Rattle.arch_file.specs.declared.parts.Pin.{Pin}
-use Rattle.rr_graph.specs.declared.parts.Kind.{Kind}
-use Rattle.rr_graph.specs.declared.parts.Kind.TheVariants.{Chanx, Chany}
-use Rattle.rr_graph.specs.declared.parts.Node.{Node}
-use Rattle.rr_graph.specs.Fabric.{Fabric, is_block, is_pad}
-use Rattle.rr_graph.specs.Nodes.{span_by, span_of}
-use Rattle.rr_graph.specs.Wires.{Place, last_of, runs_by, runs_through}
-use Rattle.rr_graph.specs.Pins.{belongs, channel_of_pad, channels_beside, channels_of_pin, is_global_pin, taps, when}
+use Rattle.routing_problem.specs.parts.Kind.{Kind}
+use Rattle.routing_problem.specs.parts.Kind.TheVariants.{Chanx, Chany}
+use Rattle.routing_problem.specs.parts.Node.{Node}
+use Rattle.routing_problem.specs.Fabric.{Fabric, is_block, is_pad}
+use Rattle.routing_problem.specs.Nodes.{span_by, span_of}
+use Rattle.routing_problem.specs.Wires.{Place, last_of, runs_by, runs_through}
+use Rattle.routing_problem.specs.Pins.{belongs, channel_of_pad, channels_beside, channels_of_pin, is_global_pin, taps, when}
 use Rattle.wavefront.specs.Boxes.{BoundingBox}
 use Rattle.wavefront.specs.kept.Bounds.{gap, wires_by_kind}
 use Rattle.wavefront.proofs.WireSteps.{both}

@@ -5,16 +5,16 @@ use Rattle.std.proofs.lemmas.Bool.{false≢true, cases_lt}
 use Rattle.std.proofs.Math.Nat.{mul-le-mul}
 use Rattle.std.proofs.lemmas.List.Elements.{All-contains}
 use Rattle.std.proofs.lemmas.Option.{slice_get-get_or, slice_get_past, none-some}
-use Rattle.rr_graph.specs.declared.parts.Kind.{Kind}
-use Rattle.rr_graph.specs.declared.parts.Kind.TheVariants.{Source, Sink, Opin, Ipin, Chanx, Chany}
-use Rattle.rr_graph.specs.declared.parts.Node.{Node}
-use Rattle.rr_graph.specs.Fabric.{Fabric, IsFabric}
-use Rattle.rr_graph.specs.Nodes.{nodes_of, node_at, node_count_of, kind_of_node, capacity_of}
-use Rattle.rr_graph.specs.Edges.{edge_between_nodes, edge_between, successors_of}
-use Rattle.rr_graph.specs.Problems.{IsNet, is_source_kind, is_sink_kind, any_node, is_source, is_sink}
-use Rattle.rr_graph.proofs.Capacities.{some_capacity}
-use Rattle.rr_graph.proofs.EdgeEnds.{enters_no_source, leaves_no_sink, pin_enters_sink, source_or_sink}
-use Rattle.rr_graph.proofs.Graph.{edge_to_node, successors_contain}
+use Rattle.routing_problem.specs.parts.Kind.{Kind}
+use Rattle.routing_problem.specs.parts.Kind.TheVariants.{Source, Sink, Opin, Ipin, Chanx, Chany}
+use Rattle.routing_problem.specs.parts.Node.{Node}
+use Rattle.routing_problem.specs.Fabric.{Fabric, IsFabric}
+use Rattle.routing_problem.specs.Nodes.{nodes_of, node_at, node_count_of, kind_of_node, capacity_of}
+use Rattle.routing_problem.specs.Edges.{edge_between_nodes, edge_between, successors_of}
+use Rattle.routing_problem.specs.Problems.{IsNet, is_source_kind, is_sink_kind, any_node, is_source, is_sink}
+use Rattle.routing_problem.proofs.Capacities.{some_capacity}
+use Rattle.routing_problem.proofs.EdgeEnds.{enters_no_source, leaves_no_sink, pin_enters_sink, source_or_sink}
+use Rattle.routing_problem.proofs.Graph.{edge_to_node, successors_contain}
 use Rattle.route_tree.specs.Usage.{room_of}
 use Rattle.node_cost.specs.Views.{others_in, history_in}
 use Rattle.node_cost.proofs.Bounds.{factor_bounded, cost_bounded}

@@ -4,17 +4,17 @@ use Rattle.std.specs.Option.{option_map, option_map_or}
 use Rattle.std.proofs.Math.Nat.{mul-le-mul}
 use Rattle.std.proofs.lemmas.Bool.{false≢true}
 use Rattle.std.proofs.lemmas.Option.{same_Some}
-use Rattle.rr_graph.specs.declared.parts.Kind.{Kind}
-use Rattle.rr_graph.specs.declared.parts.Kind.TheVariants.{Source, Sink, Opin, Ipin, Chanx, Chany}
-use Rattle.rr_graph.specs.declared.parts.Node.{Node}
-use Rattle.rr_graph.specs.Fabric.{Fabric}
-use Rattle.rr_graph.specs.Nodes.{node_at, is_wire, is_wire_at, kind_of_node, span_of}
-use Rattle.rr_graph.specs.kept.Numbering.{is_terminal}
-use Rattle.rr_graph.specs.Pins.{belongs, taps}
-use Rattle.rr_graph.specs.Edges.{edge_by, edge_between, edge_between_nodes, is_edge}
-use Rattle.rr_graph.specs.Problems.{is_sink, is_sink_kind}
-use Rattle.rr_graph.proofs.EdgeEnds.{pin_enters_sink}
-use Rattle.rr_graph.proofs.TerminalPlaces.{terminal_node}
+use Rattle.routing_problem.specs.parts.Kind.{Kind}
+use Rattle.routing_problem.specs.parts.Kind.TheVariants.{Source, Sink, Opin, Ipin, Chanx, Chany}
+use Rattle.routing_problem.specs.parts.Node.{Node}
+use Rattle.routing_problem.specs.Fabric.{Fabric}
+use Rattle.routing_problem.specs.Nodes.{node_at, is_wire, is_wire_at, kind_of_node, span_of}
+use Rattle.routing_problem.specs.Numbering.{is_terminal}
+use Rattle.routing_problem.specs.Pins.{belongs, taps}
+use Rattle.routing_problem.specs.Edges.{edge_by, edge_between, edge_between_nodes, is_edge}
+use Rattle.routing_problem.specs.Problems.{is_sink, is_sink_kind}
+use Rattle.routing_problem.proofs.EdgeEnds.{pin_enters_sink}
+use Rattle.routing_problem.proofs.TerminalPlaces.{terminal_node}
 use Rattle.node_cost.specs.Views.{others_in, history_in}
 use Rattle.route_tree.specs.Usage.{room_of}
 use Rattle.wavefront.specs.Boxes.{BoundingBox}

@@ -1,14 +1,14 @@
 -- What each edge brings of the way to a sink.
 use Rattle.std.proofs.Common.{◌≡◌, ℕ, ◌+◌, ◌≤◌, Bool, true, false, ◌&&◌, ◌==◌, not, nat_le, refl, sym, ◌∙◌, arith}
 use Rattle.std.proofs.lemmas.Bool.{eqb-true, leb-true, false≢true}
-use Rattle.rr_graph.specs.declared.parts.Kind.{Kind}
-use Rattle.rr_graph.specs.declared.parts.Kind.TheVariants.{Chanx, Chany}
-use Rattle.rr_graph.specs.Fabric.{Fabric, IsFabric}
-use Rattle.rr_graph.specs.Wires.{last_of}
-use Rattle.rr_graph.specs.Nodes.{node_of, is_wire, span_of}
-use Rattle.rr_graph.specs.Edges.{is_edge}
-use Rattle.rr_graph.proofs.WiresWithin.{column_within, row_within}
-use Rattle.rr_graph.proofs.Joins.{chanx_joins_chanx, chanx_joins_chany, chany_joins_chanx, chany_joins_chany}
+use Rattle.routing_problem.specs.parts.Kind.{Kind}
+use Rattle.routing_problem.specs.parts.Kind.TheVariants.{Chanx, Chany}
+use Rattle.routing_problem.specs.Fabric.{Fabric, IsFabric}
+use Rattle.routing_problem.specs.Wires.{last_of}
+use Rattle.routing_problem.specs.Nodes.{node_of, is_wire, span_of}
+use Rattle.routing_problem.specs.Edges.{is_edge}
+use Rattle.routing_problem.proofs.WiresWithin.{column_within, row_within}
+use Rattle.routing_problem.proofs.Joins.{chanx_joins_chanx, chanx_joins_chany, chany_joins_chanx, chany_joins_chany}
 use Rattle.wavefront.specs.Boxes.{BoundingBox}
 use Rattle.wavefront.specs.kept.Bounds.{steps_within, wires_by_kind}
 use Rattle.wavefront.proofs.WiresOver.{next_across, next_along}

@@ -1,10 +1,10 @@
 -- The box of a net: the bounding box of its terminals, widened (VPR and T-VPack manual 4.30, "bb_factor").
 use Rattle.std.specs.Prelude.{ℕ, ◌+◌, Bool, false, ◌&&◌, nat_le, min, max, List, [], ◌∷◌}
 use Rattle.std.specs.Option.{option_map, option_map_or}
-use Rattle.rr_graph.specs.declared.parts.Span.{Span}
-use Rattle.rr_graph.specs.Fabric.{Fabric}
-use Rattle.rr_graph.specs.Nodes.{node_at, span_of}
-use Rattle.rr_graph.specs.Problems.{Net}
+use Rattle.routing_problem.specs.parts.Span.{Span}
+use Rattle.routing_problem.specs.Fabric.{Fabric}
+use Rattle.routing_problem.specs.Nodes.{node_at, span_of}
+use Rattle.routing_problem.specs.Problems.{Net}
 
 -- the columns and rows from one place to another, both included
 pub record BoundingBox : Type 0 where

@@ -1,7 +1,7 @@
 -- Trees that are grown way by way (McMurchie and Ebeling 1995, "signal router").
 use Rattle.std.specs.Prelude.{◌≡◌, ℕ, ◌≤◌, ◌⊎◌, List, [], ◌++◌, length, Contains}
 use Rattle.std.specs.List.{filter}
-use Rattle.rr_graph.specs.Problems.{Net, RoutingProblem, net_in}
+use Rattle.routing_problem.specs.Problems.{Net, RoutingProblem, net_in}
 use Rattle.node_cost.specs.Views.{NetView}
 use Rattle.route_tree.specs.declared.tree.Row.{Row}
 use Rattle.route_tree.specs.Paths.{Pair, ends_of}

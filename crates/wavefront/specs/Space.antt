@@ -1,12 +1,12 @@
 -- What a search of one net may enter, and at what cost (McMurchie and Ebeling 1995).
 use Rattle.std.specs.Prelude.{◌≡◌, ℕ, true, Contains}
 use Rattle.std.specs.Option.{option_map_or}
-use Rattle.rr_graph.specs.declared.parts.Kind.{Kind}
-use Rattle.rr_graph.specs.declared.parts.Kind.TheVariants.{Source, Sink, Opin, Ipin, Chanx, Chany}
-use Rattle.rr_graph.specs.Fabric.{Fabric}
-use Rattle.rr_graph.specs.Nodes.{node_at, kind_of_node}
-use Rattle.rr_graph.specs.Edges.{edge_between}
-use Rattle.rr_graph.specs.Problems.{Net}
+use Rattle.routing_problem.specs.parts.Kind.{Kind}
+use Rattle.routing_problem.specs.parts.Kind.TheVariants.{Source, Sink, Opin, Ipin, Chanx, Chany}
+use Rattle.routing_problem.specs.Fabric.{Fabric}
+use Rattle.routing_problem.specs.Nodes.{node_at, kind_of_node}
+use Rattle.routing_problem.specs.Edges.{edge_between}
+use Rattle.routing_problem.specs.Problems.{Net}
 use Rattle.route_tree.specs.Usage.{room_of}
 use Rattle.node_cost.specs.Costs.{cost_of}
 use Rattle.node_cost.specs.Views.{others_in, history_in, NetView}

@@ -16,7 +16,7 @@ use net_file::Netlist;
 use net_workers::{Gate, TrialEnd, WorkFault};
 use node_cost::Settings;
 use place_file::Placement;
-use rr_graph::{Mode, Problem};
+use rr_graph::{MadeOfDesigns, Mode, Problem};
 use std::alloc::Global;
 use std::sync::Wait;
 use std::thread::Threads;

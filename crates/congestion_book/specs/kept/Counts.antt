@@ -1,7 +1,7 @@
 -- What is kept of the recorded trees: how many nets use each node, how many nodes are overused, and how many nets have no tree.
 use Rattle.std.specs.Prelude.{◌≡◌, ℕ, ◌+◌, ◌≤◌, List, length, get_or, Option, Some, None}
-use Rattle.rr_graph.specs.Nodes.{node_count_of}
-use Rattle.rr_graph.specs.Problems.{RoutingProblem, net_in}
+use Rattle.routing_problem.specs.Nodes.{node_count_of}
+use Rattle.routing_problem.specs.Problems.{RoutingProblem, net_in}
 use Rattle.route_tree.specs.Paths.{Pair}
 use Rattle.route_tree.specs.Faults.{IsRoute}
 use Rattle.route_tree.specs.Usage.{use_by, use_of, Lists}

@@ -5,8 +5,8 @@ use Rattle.congestion_book.specs.Turns.{TurnTable, AreInOrder}
 use Rattle.congestion_book.specs.Histories.{amount_in}
 use Rattle.congestion_book.specs.kept.HistoryTables.{HistoryTable, AreHistories}
 use Rattle.congestion_book.specs.declared.history.History.TheInside as history
-use Rattle.rr_graph.specs.Nodes.{node_count_of}
-use Rattle.rr_graph.specs.Problems.{RoutingProblem}
+use Rattle.routing_problem.specs.Nodes.{node_count_of}
+use Rattle.routing_problem.specs.Problems.{RoutingProblem}
 use Rattle.route_tree.specs.TreeLists.{lists_of_trees}
 use Rattle.node_cost.specs.Options.{most_iterations}
 use Rattle.congestion_book.specs.kept.Usage.{overused_by}

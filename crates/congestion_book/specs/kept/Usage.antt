@@ -1,8 +1,8 @@
 -- How many nets use each node by what is counted, and how many nodes are overused.
 use Rattle.std.specs.Prelude.{◌≡◌, ℕ, ◌+◌, ◌-◌, ◌==◌, Bool, cond, nat_lt, List, [], ◌∷◌, length, map, get_or, count_by}
 use Rattle.std.specs.List.{filter, sum_by}
-use Rattle.rr_graph.specs.Fabric.{Fabric, numbers_below}
-use Rattle.rr_graph.specs.Nodes.{node_at}
+use Rattle.routing_problem.specs.Fabric.{Fabric, numbers_below}
+use Rattle.routing_problem.specs.Nodes.{node_at}
 use Rattle.route_tree.specs.Usage.{room_of}
 
 -- more nets use the node than it has room for

@@ -1,10 +1,10 @@
 -- A view from which nets are left out.
 use Rattle.std.specs.Prelude.{◌≡◌, ℕ, ◌+◌, ◌-◌, ◌≤◌, Bool, ◌&&◌, not, List, length, get_or, Option, Some}
 use Rattle.std.specs.Option.{option_map}
-use Rattle.rr_graph.specs.Fabric.{Fabric}
-use Rattle.rr_graph.specs.Nodes.{node_at, capacity_of}
+use Rattle.routing_problem.specs.Fabric.{Fabric}
+use Rattle.routing_problem.specs.Nodes.{node_at, capacity_of}
 use Rattle.node_cost.specs.Views.{others_in, history_in}
-use Rattle.rr_graph.specs.Problems.{RoutingProblem, net_in}
+use Rattle.routing_problem.specs.Problems.{RoutingProblem, net_in}
 use Rattle.route_tree.specs.Paths.{Pair}
 use Rattle.route_tree.specs.Usage.{use_by}
 use Rattle.congestion_book.specs.kept.Usage.{times_in}

@@ -1,6 +1,6 @@
 -- Boxes as they are kept, and what those around the sinks of a net tell.
 use Rattle.std.specs.Prelude.{◌≡◌, ℕ, ◌+◌, ◌-◌, ◌<◌, ◌≤◌, List, Contains, get_or, length, max, min}
-use Rattle.rr_graph.specs.Fabric.{Fabric}
+use Rattle.routing_problem.specs.Fabric.{Fabric}
 use Rattle.wavefront.specs.Boxes as plain
 use Rattle.wavefront.specs.kept.Bounds.{Wire}
 use Rattle.wavefront.specs.kept.Bounds.{wires_to}

@@ -1,7 +1,7 @@
 -- What the fields of a search's ground stand for.
 use Rattle.std.specs.Prelude.{◌≡◌, ◌<◌, ◌≤◌, length}
-use Rattle.rr_graph.specs.Nodes.{node_count_of, wire_capacity}
-use Rattle.rr_graph.specs.Problems.{net_in}
+use Rattle.routing_problem.specs.Nodes.{node_count_of, wire_capacity}
+use Rattle.routing_problem.specs.Problems.{net_in}
 use Rattle.wavefront.specs.Boxes.{box_of_net}
 use Rattle.wavefront.specs.Growth.{space_of}
 use Rattle.group_wave.specs.declared.ground.Ground.TheInside.{Inside}

@@ -1,7 +1,7 @@
 -- What a search over groups goes over.
 use Rattle.std.specs.Prelude.{◌≡◌, ℕ, ◌<◌, List, true}
-use Rattle.rr_graph.specs.Nodes.{is_wire_at}
-use Rattle.rr_graph.specs.Problems.{is_source}
+use Rattle.routing_problem.specs.Nodes.{is_wire_at}
+use Rattle.routing_problem.specs.Problems.{is_source}
 use Rattle.track_groups.specs.declared.group.Drive.{Drive}
 use Rattle.track_groups.specs.declared.group.Group.{Group}
 use Rattle.track_groups.specs.Joints.{Tables, IsTabled}

@@ -2,8 +2,8 @@
 use Rattle.std.specs.Prelude.{◌≡◌, ℕ, ◌+◌, ◌*◌, ◌<◌, ◌≤◌, ◌⊎◌, ◌↔◌, Bool, true, false, cond, List, ◌∷◌, length, get_or, slice_set, Contains, min}
 use Rattle.std.specs.Int.{bit_at}
 use Rattle.std.specs.List.Sorted.{IsPermutation}
-use Rattle.rr_graph.specs.InputPins.{IsPinOf}
-use Rattle.rr_graph.specs.Nodes.{is_wire_at}
+use Rattle.routing_problem.specs.InputPins.{IsPinOf}
+use Rattle.routing_problem.specs.Nodes.{is_wire_at}
 use Rattle.track_groups.specs.declared.group.Tap.{Tap}
 use Rattle.track_groups.specs.Groups.{IsOn, group_at, on_track, wire_on}
 use Rattle.track_groups.specs.Joints.{taps_of, wire_beside}

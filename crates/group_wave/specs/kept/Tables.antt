@@ -1,6 +1,6 @@
--- What all searches over a device share (ours; the device is that of `rr_graph`, its groups those of `track_groups`).
+-- What all searches over a device share (ours; the device is that of `routing_problem`, its groups those of `track_groups`).
 use Rattle.std.specs.Prelude.{List}
-use Rattle.rr_graph.specs.Fabric.{Fabric}
+use Rattle.routing_problem.specs.Fabric.{Fabric}
 use Rattle.track_groups.specs.declared.group.Drive.{Drive}
 use Rattle.track_groups.specs.Drives.{AreDrives}
 use Rattle.track_groups.specs.Joints.{Tables, IsTabled}

@@ -24,7 +24,7 @@ fn node_on(group: &Group, track: u32) -> u32
 
 impl<K: Key> Wave<K> {
     ghost use Rattle.std.specs.Prelude.{length, OnOk, IsTrue, ◌↔◌};
-    ghost use Rattle.rr_graph.specs.InputPins.{IsPinOf};
+    ghost use Rattle.routing_problem.specs.InputPins.{IsPinOf};
     ghost use Rattle.track_groups.specs.Groups.{group_at};
     ghost use Rattle.track_groups.specs.Joints.{taps_of};
     ghost use Rattle.wavefront.specs.kept.Spaces.{node_count};

@@ -2,7 +2,7 @@
 //! entry, each other one by itself. What is done for each track is inlined.
 
 ghost use Rattle.std.specs.Prelude.{◌≡◌, ◌+◌, ◌*◌, ◌^◌, ◌<◌, ◌≤◌, true, min};
-ghost use Rattle.rr_graph.specs.Nodes.{is_wire_at};
+ghost use Rattle.routing_problem.specs.Nodes.{is_wire_at};
 ghost use Rattle.wavefront.specs.Space.{entry_cost};
 ghost use Rattle.wavefront.specs.kept.Bounds.{least_wire_cost};
 ghost use Rattle.wavefront.specs.kept.Spaces.{node_count};

@@ -1,7 +1,7 @@
 //! How a wave begins, and starts at the nodes of a tree.
 
 ghost use Rattle.std.specs.Prelude.{◌≡◌, ◌+◌, ◌*◌, ◌<◌, ◌≤◌, ◌↔◌, ℕ, [], get_or, slice_index, IsTrue, Some};
-ghost use Rattle.rr_graph.specs.declared.parts.Kind.TheVariants.{Opin};
+ghost use Rattle.routing_problem.specs.parts.Kind.TheVariants.{Opin};
 
 use super::relaxing::Offer;
 use super::{Wave, bound_over};
@@ -12,7 +12,7 @@ use crate::keys::Key;
 use crate::labels::Labels;
 use crate::nearest::{Nearest, SinkBox};
 use crate::queue::{Entry, Queue};
-use rr_graph::Kind;
+use routing_problem::Kind;
 use smallvec::SmallVec;
 use std::alloc::{AllocError, Global};
 
@@ -42,7 +42,7 @@ fn is_output(kind: Option<Kind>) -> bool
 
 impl<K: Key> Wave<K> {
     ghost use Rattle.std.specs.Prelude.{length, Contains, IfOk, IsFalse, OnOk};
-    ghost use Rattle.rr_graph.specs.Nodes.{kind_of_node};
+    ghost use Rattle.routing_problem.specs.Nodes.{kind_of_node};
     ghost use Rattle.track_groups.specs.Groups.{HasPlace};
     ghost use Rattle.wavefront.specs.Space.{HasEdge, IsInside, IsWanted, entry_cost};
     ghost use Rattle.wavefront.specs.kept.Spaces.{node_count};

@@ -1,6 +1,6 @@
 -- What a worker has of a net that it holds, where it looks and searches again.
 use Rattle.std.specs.Prelude.{◌≡◌, ℕ, ◌==◌, if◌then◌else◌, List, Option, Some, None, Result, Ok, Err}
-use Rattle.rr_graph.specs.Problems.{RoutingProblem}
+use Rattle.routing_problem.specs.Problems.{RoutingProblem}
 use Rattle.route_tree.specs.declared.tree.Row.{Row}
 use Rattle.route_tree.specs.Faults.{IsRoute}
 use Rattle.route_tree.specs.Rows.{pairs_of}

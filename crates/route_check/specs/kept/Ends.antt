@@ -2,7 +2,7 @@
 use Rattle.std.specs.Prelude.{◌≡◌, ℕ, ◌+◌, ◌-◌, ◌<◌, ◌≤◌, ◌==◌, Bool, false, List, length, map, get_or, Option, Some, None}
 use Rattle.std.specs.List.{list_any}
 use Rattle.std.specs.List.Sorted.{IsPermutation, IsNonDecreasingBy}
-use Rattle.rr_graph.specs.Fabric.{numbers_below}
+use Rattle.routing_problem.specs.Fabric.{numbers_below}
 use Rattle.route_tree.specs.Paths.{Pair, ends_of}
 use Rattle.route_tree.specs.Legality.{is_among}
 use Rattle.route_check.specs.declared.ends.End.{End}

@@ -1,7 +1,7 @@
 -- Pairs in order: what stands before one, and where the last one ends.
 use Rattle.std.specs.Prelude.{ℕ, ◌-◌, Bool, List, length, reverse, take}
-use Rattle.rr_graph.specs.Fabric.{Fabric}
-use Rattle.rr_graph.specs.Problems.{is_sink}
+use Rattle.routing_problem.specs.Fabric.{Fabric}
+use Rattle.routing_problem.specs.Problems.{is_sink}
 use Rattle.route_tree.specs.Paths.{Pair, ends_of}
 use Rattle.route_check.specs.kept.Ends.{end_in}
 

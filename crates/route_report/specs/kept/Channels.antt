@@ -1,10 +1,10 @@
 -- Where wires lie along channels, and how full the channels are by the first nodes.
 use Rattle.std.specs.Prelude.{◌≡◌, ℕ, ◌+◌, ◌<◌, ◌≤◌, ◌^◌, ◌==◌, Bool, ◌&&◌, nat_le, if◌then◌else◌, List, [], length, map, get_or, Option, Some, None}
 use Rattle.std.specs.List.{sum_by}
-use Rattle.rr_graph.specs.declared.parts.Kind.{Kind}
-use Rattle.rr_graph.specs.declared.parts.Kind.TheVariants.{Chanx, Chany}
-use Rattle.rr_graph.specs.declared.parts.Span.{Span}
-use Rattle.rr_graph.specs.Fabric.{Fabric, numbers_below}
+use Rattle.routing_problem.specs.parts.Kind.{Kind}
+use Rattle.routing_problem.specs.parts.Kind.TheVariants.{Chanx, Chany}
+use Rattle.routing_problem.specs.parts.Span.{Span}
+use Rattle.routing_problem.specs.Fabric.{Fabric, numbers_below}
 use Rattle.route_report.specs.declared.occupancy.Stretch.{Stretch}
 use Rattle.route_report.specs.declared.channels.ChannelUse.TheInside as channel
 use Rattle.route_report.specs.Channels.{Channel, channel_with, occupies, place_in}

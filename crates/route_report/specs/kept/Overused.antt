@@ -1,9 +1,9 @@
 -- The overused nodes by counted uses, and the nets found on them so far.
 use Rattle.std.specs.Prelude.{ℕ, Bool, if◌then◌else◌, List, [], ◌∷◌, ◌++◌, get_or}
 use Rattle.std.specs.List.{filter}
-use Rattle.rr_graph.specs.Fabric.{Fabric, numbers_below}
-use Rattle.rr_graph.specs.Nodes.{node_at}
-use Rattle.rr_graph.specs.Problems.{RoutingProblem, net_in}
+use Rattle.routing_problem.specs.Fabric.{Fabric, numbers_below}
+use Rattle.routing_problem.specs.Nodes.{node_at}
+use Rattle.routing_problem.specs.Problems.{RoutingProblem, net_in}
 use Rattle.route_tree.specs.Usage.{covers_by, use_of, room_of, Lists, list_in}
 use Rattle.route_report.specs.declared.overused.OverusedNode.TheInside as overused
 use Rattle.route_report.specs.Overused.{Overuse}

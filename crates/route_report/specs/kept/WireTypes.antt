@@ -1,7 +1,7 @@
 -- How many tracks of a channel are of a type.
 use Rattle.std.specs.Prelude.{ℕ, ◌==◌, count_by}
-use Rattle.rr_graph.specs.Fabric.{Fabric, numbers_below}
-use Rattle.rr_graph.specs.Wires.{tracks_in}
+use Rattle.routing_problem.specs.Fabric.{Fabric, numbers_below}
+use Rattle.routing_problem.specs.Wires.{tracks_in}
 use Rattle.route_report.specs.WireTypes.{track_type}
 
 abbrev pub tracks_with : Fabric → (s : ℕ) → ℕ

@@ -1,10 +1,10 @@
 -- Neighbours and pins of a group, found by the edges from its wires.
 use Rattle.std.specs.Prelude.{◌≡◌, ℕ, ◌+◌, ◌<◌, ◌==◌, ◌&&◌, ◌||◌, ◌⊎◌, Bool, nat_lt, List, [], ◌∷◌, ◌++◌, length, get_or, Some, All}
 use Rattle.std.specs.List.{list_any}
-use Rattle.rr_graph.specs.declared.parts.Kind.TheVariants.{Ipin}
-use Rattle.rr_graph.specs.Fabric.{Fabric}
-use Rattle.rr_graph.specs.Nodes.{kind_of_node}
-use Rattle.rr_graph.specs.Edges.{edge_between, successors_of}
+use Rattle.routing_problem.specs.parts.Kind.TheVariants.{Ipin}
+use Rattle.routing_problem.specs.Fabric.{Fabric}
+use Rattle.routing_problem.specs.Nodes.{kind_of_node}
+use Rattle.routing_problem.specs.Edges.{edge_between, successors_of}
 use Rattle.track_groups.specs.declared.group.GroupTrack.{GroupTrack}
 use Rattle.track_groups.specs.declared.group.Tap.{Tap}
 use Rattle.track_groups.specs.Groups.{Grouping, on_track, IsOn, wire_on, place_of, HasPlace}

@@ -1,9 +1,9 @@
 -- Input pins of a sink, one by one.
 use Rattle.std.specs.Prelude.{◌≡◌, ℕ, ◌<◌, ◌≤◌, ◌⊎◌, List, [], ◌∷◌, ◌++◌, get_or, Some, Contains}
-use Rattle.rr_graph.specs.declared.parts.Kind.TheVariants.{Sink}
-use Rattle.rr_graph.specs.Fabric.{Fabric}
-use Rattle.rr_graph.specs.Nodes.{kind_of_node}
-use Rattle.rr_graph.specs.InputPins.{IsPinOf}
+use Rattle.routing_problem.specs.parts.Kind.TheVariants.{Sink}
+use Rattle.routing_problem.specs.Fabric.{Fabric}
+use Rattle.routing_problem.specs.Nodes.{kind_of_node}
+use Rattle.routing_problem.specs.InputPins.{IsPinOf}
 use Rattle.track_groups.specs.SinkPins.{ArePinsOf}
 
 -- the node is added, where it is a pin of the sink

@@ -1,9 +1,9 @@
 -- Groups of one wire each.
 use Rattle.std.specs.Prelude.{◌≡◌, ℕ, ◌+◌, map, unwrap_or}
-use Rattle.rr_graph.specs.declared.parts.Kind.{Kind}
-use Rattle.rr_graph.specs.declared.parts.Span.{Span}
-use Rattle.rr_graph.specs.Fabric.{Fabric, numbers_below}
-use Rattle.rr_graph.specs.Nodes.{node_at, wire_in}
+use Rattle.routing_problem.specs.parts.Kind.{Kind}
+use Rattle.routing_problem.specs.parts.Span.{Span}
+use Rattle.routing_problem.specs.Fabric.{Fabric, numbers_below}
+use Rattle.routing_problem.specs.Nodes.{node_at, wire_in}
 use Rattle.track_groups.specs.declared.group.Group.{Group}
 use Rattle.track_groups.specs.declared.group.GroupTrack.{GroupTrack}
 use Rattle.track_groups.specs.Groups.{Grouping, no_group, on_track, IsOn}

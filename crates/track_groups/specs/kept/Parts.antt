@@ -1,7 +1,7 @@
 -- Lists that stand one behind the other.
 use Rattle.std.specs.Prelude.{ℕ, ◌≤◌, List, slice_range}
 use Rattle.track_groups.specs.declared.rows.Part.{Part}
-use Rattle.rr_graph.specs.Fabric.{Fabric}
+use Rattle.routing_problem.specs.Fabric.{Fabric}
 use Rattle.track_groups.specs.Groups.{Grouping, on_track, IsOn, IsTrack}
 
 -- the part lies in a list of that length

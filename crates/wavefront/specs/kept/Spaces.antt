@@ -1,9 +1,9 @@
 -- What every search finds.
 use Rattle.std.specs.Prelude.{◌≡◌, ℕ, ◌<◌, ◌^◌, true, false, length}
 use Rattle.std.specs.List.Sorted.{IsStrictlyIncreasing}
-use Rattle.rr_graph.specs.Fabric.{IsFabric}
-use Rattle.rr_graph.specs.Nodes.{node_count_of}
-use Rattle.rr_graph.specs.Problems.{is_sink}
+use Rattle.routing_problem.specs.Fabric.{IsFabric}
+use Rattle.routing_problem.specs.Nodes.{node_count_of}
+use Rattle.routing_problem.specs.Problems.{is_sink}
 use Rattle.wavefront.specs.Space.{Space, entry_cost, HasEdge, IsInside, IsWanted}
 
 abbrev pub node_count : Space → ℕ

@@ -1,6 +1,6 @@
 use Rattle.std.proofs.Common.{◌≤◌, ◌^◌, Some, sym, subst}
 use Rattle.std.specs.List.{sum_by}
-use Rattle.rr_graph.specs.Fabric.{IsFabric}
+use Rattle.routing_problem.specs.Fabric.{IsFabric}
 use Rattle.route_tree.specs.declared.tree.Row.{Row}
 use Rattle.route_tree.specs.Rows.{pairs_of}
 use Rattle.route_report.specs.Wirelength.{places_at}

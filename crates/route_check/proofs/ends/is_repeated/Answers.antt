@@ -1,6 +1,6 @@
 use Rattle.std.proofs.Common.{◌-◌, length, sym, arith}
 use Rattle.std.proofs.lemmas.Bool.{eq-eqb}
-use Rattle.rr_graph.proofs.Ranges.{none_below, some_below}
+use Rattle.routing_problem.proofs.Ranges.{none_below, some_below}
 use Rattle.route_check.specs.kept.Ends.{is_repeated_at}
 use Rattle.route_check.proofs.ends.is_repeated.Goals as goal
 

@@ -1,5 +1,5 @@
 use Rattle.std.proofs.Common.{sym, ◌∙◌, not, ◌&&◌}
-use Rattle.rr_graph.specs.Problems.{is_sink}
+use Rattle.routing_problem.specs.Problems.{is_sink}
 use Rattle.route_tree.specs.Legality.{is_among}
 use Rattle.route_check.proofs.SortedEnds.{some_end}
 use Rattle.route_check.proofs.ladder.has_foreign_sink.Goals as goal

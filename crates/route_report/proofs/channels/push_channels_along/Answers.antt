@@ -1,5 +1,5 @@
 use Rattle.std.proofs.Common.{◌++◌, length, sym, ap, subst, ◌∙◌, arith}
-use Rattle.rr_graph.proofs.Ranges.{length_below}
+use Rattle.routing_problem.proofs.Ranges.{length_below}
 use Rattle.route_report.specs.Channels.{occupancies_in}
 use Rattle.route_report.specs.kept.Channels.{AreSmall}
 use Rattle.route_report.proofs.Occupying.{are_small, numbered_all}

@@ -1,8 +1,8 @@
 use Rattle.std.proofs.Common.{sym, ap, ◌∙◌}
 use Rattle.std.specs.List.{filter}
-use Rattle.rr_graph.specs.Fabric.{numbers_below}
-use Rattle.rr_graph.specs.Nodes.{node_count_of}
-use Rattle.rr_graph.specs.Problems.{net_in}
+use Rattle.routing_problem.specs.Fabric.{numbers_below}
+use Rattle.routing_problem.specs.Nodes.{node_count_of}
+use Rattle.routing_problem.specs.Problems.{net_in}
 use Rattle.route_tree.specs.Usage.{covers_by}
 use Rattle.route_report.proofs.Covering.{none_covered}
 use Rattle.route_report.proofs.covered.covered_by_list.Goals as goal

@@ -1,6 +1,6 @@
 use Rattle.std.proofs.Common.{◌≡◌, ◌*◌, ◌≤◌, if◌then◌else◌}
 use Rattle.std.specs.List.{sum_by}
-use Rattle.rr_graph.specs.Fabric.{numbers_below}
+use Rattle.routing_problem.specs.Fabric.{numbers_below}
 use Rattle.route_report.specs.Covered.{is_used}
 use Rattle.route_report.specs.Wirelength.{places_at}
 use Rattle.route_report.proofs.figures.places_used.Given as goal

@@ -1,7 +1,7 @@
 use Rattle.std.proofs.Common.{◌≡◌, ◌≤◌}
 use Rattle.std.specs.Prelude.{◌&&◌, count_by}
-use Rattle.rr_graph.specs.Fabric.{numbers_below}
-use Rattle.rr_graph.specs.Nodes.{is_wire_at}
+use Rattle.routing_problem.specs.Fabric.{numbers_below}
+use Rattle.routing_problem.specs.Nodes.{is_wire_at}
 use Rattle.route_report.specs.Covered.{is_used}
 use Rattle.route_report.proofs.figures.wires_used.Given as goal
 

@@ -1,6 +1,6 @@
 use Rattle.std.proofs.Common.{◌≡◌, length, replicate, sym, ap, subst, ◌∙◌, arith}
 use Rattle.std.proofs.lemmas.List.{length-replicate}
-use Rattle.rr_graph.specs.Nodes.{node_count_of}
+use Rattle.routing_problem.specs.Nodes.{node_count_of}
 use Rattle.route_report.specs.kept.Channels.{IsOccupied}
 use Rattle.route_report.proofs.Counting.{written_back}
 use Rattle.route_report.proofs.Occupying.{all_occupied}

@@ -2,8 +2,8 @@ use Rattle.std.proofs.Common.{◌≡◌, ◌<◌, All, List, ℕ, length, map, a
 use Rattle.std.specs.List.{filter}
 use Rattle.std.specs.List.Sorted.{IsStrictlyIncreasing}
 use Rattle.std.proofs.lemmas.List.{length-map}
-use Rattle.rr_graph.specs.Fabric.{numbers_below}
-use Rattle.rr_graph.specs.Nodes.{node_count_of}
+use Rattle.routing_problem.specs.Fabric.{numbers_below}
+use Rattle.routing_problem.specs.Nodes.{node_count_of}
 use Rattle.route_tree.specs.Usage.{Lists}
 use Rattle.route_report.specs.Overused.{is_over, is_overused, overuse_at, overused_nodes}
 use Rattle.route_report.specs.kept.Overused.{bare, entry_to}

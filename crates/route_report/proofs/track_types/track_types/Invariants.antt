@@ -1,5 +1,5 @@
 use Rattle.std.proofs.Common.{◌≡◌, map}
-use Rattle.rr_graph.specs.Fabric.{numbers_below}
+use Rattle.routing_problem.specs.Fabric.{numbers_below}
 use Rattle.route_report.specs.WireTypes.{track_type}
 use Rattle.route_report.proofs.track_types.track_types.Given as goal
 

@@ -1,7 +1,7 @@
 use Rattle.std.proofs.Common.{◌+◌, ◌*◌, length, sym, arith}
 use Rattle.std.proofs.lemmas.Bool.{lt-ltb}
-use Rattle.rr_graph.proofs.Ranges.{first_below}
-use Rattle.rr_graph.specs.Wires.{type_of, reaches, weight_of_first}
+use Rattle.routing_problem.proofs.Ranges.{first_below}
+use Rattle.routing_problem.specs.Wires.{type_of, reaches, weight_of_first}
 use Rattle.route_report.proofs.TypesOfTracks.{no_type}
 use Rattle.route_report.proofs.track_types.type_of.Goals as goal
 

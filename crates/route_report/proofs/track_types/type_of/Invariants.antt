@@ -1,5 +1,5 @@
 use Rattle.std.proofs.Common.{◌≡◌, ℕ, ◌<◌, false}
-use Rattle.rr_graph.specs.Wires.{reaches}
+use Rattle.routing_problem.specs.Wires.{reaches}
 use Rattle.route_report.proofs.track_types.type_of.Given as goal
 
 abbrev pub invariant-loop-kind : goal.invariant-loop-kind

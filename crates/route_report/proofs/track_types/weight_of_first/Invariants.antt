@@ -1,6 +1,6 @@
 use Rattle.std.proofs.Common.{◌≡◌, ◌*◌, ◌^◌, ◌≤◌, take}
 use Rattle.std.specs.List.{sum_by}
-use Rattle.rr_graph.specs.Wires.{weight_in}
+use Rattle.routing_problem.specs.Wires.{weight_in}
 use Rattle.route_report.proofs.track_types.weight_of_first.Given as goal
 
 abbrev pub invariant-loop-segment : goal.invariant-loop-segment

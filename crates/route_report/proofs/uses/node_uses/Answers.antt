@@ -1,5 +1,5 @@
 use Rattle.std.proofs.Common.{◌≡◌, length, refl, subst, ap, ◌∙◌, arith}
-use Rattle.rr_graph.specs.Nodes.{node_count_of}
+use Rattle.routing_problem.specs.Nodes.{node_count_of}
 use Rattle.route_report.specs.kept.Counting.{AreUses}
 use Rattle.route_report.proofs.Counting.{all_used, written_back}
 use Rattle.route_report.proofs.uses.node_uses.Goals as goal

@@ -1,6 +1,6 @@
 use Rattle.std.proofs.Common.{◌≡◌, ◌==◌, ◌≤◌}
 use Rattle.std.specs.Prelude.{count_by}
-use Rattle.rr_graph.specs.Fabric.{numbers_below}
+use Rattle.routing_problem.specs.Fabric.{numbers_below}
 use Rattle.route_report.specs.WireTypes.{track_type}
 use Rattle.route_report.proofs.wire_types.count_tracks.Given as goal
 

@@ -1,5 +1,5 @@
 use Rattle.std.proofs.Common.{◌≡◌, map}
-use Rattle.rr_graph.specs.Fabric.{numbers_below}
+use Rattle.routing_problem.specs.Fabric.{numbers_below}
 use Rattle.route_report.specs.WireTypes.{wire_type_of}
 use Rattle.route_report.proofs.wire_types.wire_type_uses.Given as goal
 

@@ -1,5 +1,5 @@
 use Rattle.std.proofs.Common.{◌∙◌, IsOk, ap, subst, sym}
-use Rattle.rr_graph.specs.Problems.{net_in}
+use Rattle.routing_problem.specs.Problems.{net_in}
 use Rattle.route_tree.specs.Rows.{pairs_of, IsTree}
 use Rattle.route_tree.specs.kept.Ladder.{fault_of, or_ok}
 use Rattle.route_tree.proofs.Hanging.{rows_hang, ok_none, err_some}

@@ -1,5 +1,5 @@
 use Rattle.std.proofs.Common.{◌-◌, length, sym, arith}
-use Rattle.rr_graph.proofs.Ranges.{none_below, some_below}
+use Rattle.routing_problem.proofs.Ranges.{none_below, some_below}
 use Rattle.route_tree.specs.Rows.{pairs_of}
 use Rattle.route_tree.specs.kept.Ladder.{breaks_at}
 use Rattle.route_tree.proofs.passes.breaks_off.Goals as goal

@@ -1,5 +1,5 @@
 use Rattle.std.proofs.Common.{not, sym, arith}
-use Rattle.rr_graph.specs.Edges.{edge_between}
+use Rattle.routing_problem.specs.Edges.{edge_between}
 use Rattle.route_tree.specs.Rows.{pairs_of}
 use Rattle.route_tree.proofs.RowTests.{none_passes}
 use Rattle.route_tree.proofs.passes.lacks_switch.Goals as goal

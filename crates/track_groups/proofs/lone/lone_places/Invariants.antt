@@ -1,5 +1,5 @@
 use Rattle.std.proofs.Common.{◌≡◌, map}
-use Rattle.rr_graph.specs.Fabric.{numbers_below}
+use Rattle.routing_problem.specs.Fabric.{numbers_below}
 use Rattle.track_groups.specs.kept.Lone.{first_track}
 use Rattle.track_groups.proofs.lone.lone_places.Given as goal
 

@@ -1,5 +1,5 @@
 use Rattle.std.proofs.Common.{◌∙◌}
-use Rattle.rr_graph.proofs.Ranges.{mapped_next}
+use Rattle.routing_problem.proofs.Ranges.{mapped_next}
 use Rattle.track_groups.specs.kept.Lone.{lone_at}
 use Rattle.track_groups.proofs.lone.lone_wires.Goals as goal
 

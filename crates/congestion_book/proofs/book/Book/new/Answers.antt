@@ -1,5 +1,5 @@
 use Rattle.std.proofs.Common.{ap, ◌∙◌}
-use Rattle.rr_graph.specs.Nodes.{node_count_of}
+use Rattle.routing_problem.specs.Nodes.{node_count_of}
 use Rattle.congestion_book.proofs.Soundness.{new_kept}
 use Rattle.congestion_book.proofs.book.Book.new.Goals as goal
 

@@ -1,5 +1,5 @@
 use Rattle.std.proofs.Common.{◌≡◌, length, replicate, ap, ◌∙◌, None}
-use Rattle.rr_graph.specs.Nodes.{node_count_of}
+use Rattle.routing_problem.specs.Nodes.{node_count_of}
 use Rattle.congestion_book.proofs.Recording.{none_recorded, no_lists_yet}
 use Rattle.congestion_book.proofs.routes.Routes.new.Goals as goal
 use Rattle.congestion_book.proofs.routes.Routes.new.Goals.{After-nets-2}

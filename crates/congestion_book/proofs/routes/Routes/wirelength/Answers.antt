@@ -1,6 +1,6 @@
 use Rattle.std.proofs.Common.{◌≡◌, length, ap, ◌∙◌, arith}
 use Rattle.std.specs.List.{sum_by}
-use Rattle.rr_graph.specs.Fabric.{numbers_below}
+use Rattle.routing_problem.specs.Fabric.{numbers_below}
 use Rattle.route_report.specs.Wirelength.{wirelength_of}
 use Rattle.route_tree.specs.TreeLists.{lists_of_trees}
 use Rattle.congestion_book.proofs.Lengths.{lengths_all}

@@ -1,6 +1,6 @@
 use Rattle.std.proofs.Common.{◌≡◌, ◌*◌, ◌≤◌}
 use Rattle.std.specs.List.{sum_by}
-use Rattle.rr_graph.specs.Fabric.{numbers_below}
+use Rattle.routing_problem.specs.Fabric.{numbers_below}
 use Rattle.congestion_book.specs.kept.Usage.{excess_of}
 use Rattle.congestion_book.proofs.usage.Usage.total_excess.Given as goal
 

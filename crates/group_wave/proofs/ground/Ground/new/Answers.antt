@@ -1,7 +1,7 @@
 use Rattle.std.proofs.Common.{arith, ap}
 use Rattle.std.proofs.lemmas.List.Elements.{All-contains, Contains-get_or}
-use Rattle.rr_graph.specs.Nodes.{node_count_of}
-use Rattle.rr_graph.specs.Problems.{IsNet, no_net}
+use Rattle.routing_problem.specs.Nodes.{node_count_of}
+use Rattle.routing_problem.specs.Problems.{IsNet, no_net}
 use Rattle.wavefront.specs.Growth.{space_of}
 use Rattle.wavefront.proofs.Spaces.{is_space}
 use Rattle.group_wave.proofs.Opened.{wire_node}

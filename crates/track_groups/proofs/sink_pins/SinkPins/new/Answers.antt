@@ -1,7 +1,7 @@
 use Rattle.std.proofs.Common.{◌≡◌, ℕ, ◌+◌, List, length, Some, sym, ap, subst, arith}
 use Rattle.std.proofs.lemmas.List.{length_push}
-use Rattle.rr_graph.specs.declared.parts.Kind.TheVariants.{Sink}
-use Rattle.rr_graph.specs.Nodes.{kind_of_node}
+use Rattle.routing_problem.specs.parts.Kind.TheVariants.{Sink}
+use Rattle.routing_problem.specs.Nodes.{kind_of_node}
 use Rattle.track_groups.specs.SinkPins.{ArePinsOf}
 use Rattle.track_groups.specs.kept.Listing.{AreSinkPinsBefore}
 use Rattle.track_groups.proofs.AllNodes.{sinks_next, sinks_all}

@@ -1,5 +1,5 @@
 use Rattle.std.proofs.Common.{ℕ, List, sym, ap, ◌∙◌, subst}
-use Rattle.rr_graph.specs.Edges.{successors_of}
+use Rattle.routing_problem.specs.Edges.{successors_of}
 use Rattle.track_groups.specs.kept.Joining.{AddTaps}
 use Rattle.track_groups.proofs.Joined.{joined_next}
 use Rattle.track_groups.proofs.wires.WireGroups.join_track.Goals as goal

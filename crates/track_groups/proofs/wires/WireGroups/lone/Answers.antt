@@ -1,6 +1,6 @@
 use Rattle.std.proofs.Common.{◌-◌, List, length, ap, sym, subst, arith}
 use Rattle.std.specs.Prelude.{All}
-use Rattle.rr_graph.proofs.Ranges.{length_below}
+use Rattle.routing_problem.proofs.Ranges.{length_below}
 use Rattle.track_groups.specs.declared.group.Group.{Group}
 use Rattle.track_groups.specs.kept.Fields.{IsSmall}
 use Rattle.track_groups.specs.kept.Lone.{lone_at}

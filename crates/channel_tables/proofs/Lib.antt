@@ -1,0 +1,12 @@
+pub mod Ranges
+pub mod Windows
+pub mod Lengths
+pub mod Picks
+pub mod Rising
+pub mod Taps
+pub mod TappingTables
+pub mod TrackWires
+pub mod TrackCounts
+pub mod TrackOrder
+pub mod WireTables
+pub mod WiresWithin

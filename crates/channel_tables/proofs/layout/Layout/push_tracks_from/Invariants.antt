@@ -1,0 +1,10 @@
+use Rattle.std.proofs.Common.{◌≡◌, ◌++◌}
+use Rattle.std.specs.Prelude.{◌==◌}
+use Rattle.std.specs.List.{filter}
+use Rattle.channel_tables.specs.Fabric.{numbers_below}
+use Rattle.channel_tables.specs.Channels.{first_of}
+use Rattle.channel_tables.proofs.layout.Layout.push_tracks_from.Given as goal
+
+abbrev pub invariant-loop-track : goal.invariant-loop-track
+invariant-loop-track l =
+    l.order.items ≡ l.initial.order.items ++ filter (λ t. first_of l.self l.places t l.place == l.first) (numbers_below l.track)

@@ -1,0 +1,16 @@
+-- Where a wire ends.
+use Rattle.std.specs.Prelude.{ℕ}
+use Rattle.channel_tables.specs.declared.parts.Kind.{Kind}
+use Rattle.channel_tables.specs.declared.parts.Kind.TheVariants.{Source, Sink, Opin, Ipin, Chanx, Chany}
+use Rattle.channel_tables.specs.declared.parts.Node.{Node}
+use Rattle.channel_tables.specs.Fabric.{Fabric}
+use Rattle.channel_tables.specs.Wires.{last_of}
+
+-- the last place of a node along its channel; of what is no wire its x
+abbrev pub last_by : Kind → Fabric → Node → ℕ
+last_by Source f n = n.x
+last_by Sink f n = n.x
+last_by Opin f n = n.x
+last_by Ipin f n = n.x
+last_by Chanx f n = last_of f f.nx n.number n.x
+last_by Chany f n = last_of f f.ny n.number n.y

@@ -1,0 +1,148 @@
+//! The tracks of a channel in the order of where their wires through a place begin, in a table that is made once.
+
+ghost use Rattle.std.specs.Prelude.{◌≡◌, ◌+◌, ◌<◌, ◌≤◌, ◌==◌, ◌++◌, All, IfOk, OnOk};
+ghost use Rattle.std.specs.List.{flat_map, prefix_len};
+ghost use Rattle.arch_file.specs.Architecture.{longest_side};
+ghost use Rattle.channel_tables.specs.Fabric.{numbers_below};
+ghost use Rattle.channel_tables.specs.Wires.{tracks_in};
+ghost use Rattle.channel_tables.specs.Channels.{first_of, tracks_from, tracks_since, tracks_through};
+ghost use Rattle.channel_tables.specs.kept.Tables.{wires_at, IsChannel};
+
+use crate::channel::{Channel, Wire};
+use crate::layout::Layout;
+use crate::tables::ChannelTables;
+use std::alloc::{AllocError, Global};
+
+impl Layout {
+    /// The tracks whose wires through a place begin at place `first`.
+    #[tactic(auto, using(crate::proofs::TrackOrder::listed_more, crate::proofs::TrackOrder::skipped_more))]
+    fn push_tracks_from(
+        &self,
+        order: &mut Vec<u8>,
+        wires: &[Wire],
+        places: u32,
+        place: u32,
+        first: u32,
+    ) -> Result<(), AllocError>
+        requires few { places ≤ longest_side }
+        requires within { (1 ≤ place) × (place ≤ places) }
+        requires wires { wires.now ≡ flat_map (λ m. wires_at self.now places (m + 1)) (numbers_below places) }
+        ensures { OnOk result (order.new.items ≡ order.old.items ++ tracks_from self.now places place first) }
+    {
+        for track in 0..self.tracks() {
+            let wire = self.wire_among(wires, places, place, track);
+            if u32::from(wire.first) == first {
+                order.push(track as u8)?;
+            }
+        }
+        Ok(())
+    }
+
+    /// All tracks in the order of where their wires through a place begin.
+    #[tactic(auto, using(crate::proofs::TrackOrder::joined_further), unfolding(crate::specs::Channels::tracks_since))]
+    fn push_tracks_through(
+        &self,
+        order: &mut Vec<u8>,
+        wires: &[Wire],
+        places: u32,
+        place: u32,
+    ) -> Result<(), AllocError>
+        requires few { places ≤ longest_side }
+        requires within { place ≤ places }
+        requires wires { wires.now ≡ flat_map (λ m. wires_at self.now places (m + 1)) (numbers_below places) }
+        ensures { OnOk result (order.new.items ≡ order.old.items ++ tracks_through self.now places place) }
+    {
+        for before in 0..place {
+            self.push_tracks_from(order, wires, places, place, 1 + before)?;
+        }
+        Ok(())
+    }
+
+    /// Those of each place of a channel of `places` places.
+    #[tactic(auto, using(crate::proofs::Windows::flat_map_next))]
+    pub(crate) fn order(
+        &self,
+        alloc: Global,
+        wires: &[Wire],
+        places: u32,
+    ) -> Result<Vec<u8>, AllocError>
+        requires few { places ≤ longest_side }
+        requires wires { wires.now ≡ flat_map (λ m. wires_at self.now places (m + 1)) (numbers_below places) }
+        ensures { IfOk result (λ v. v.items ≡ flat_map (tracks_through self.now places) (numbers_below (places + 1))) }
+    {
+        let mut order = Vec::with_capacity(alloc, (places * self.tracks()) as usize)?;
+        for place in 0..places + 1 {
+            self.push_tracks_through(&mut order, wires, places, place)?;
+        }
+        Ok(order)
+    }
+
+    /// The tracks of a channel of `places` places in the order of where their wires through a place begin.
+    pub(crate) fn tracks_through<'a>(
+        &self,
+        channel: &'a Channel,
+        places: u32,
+        place: u32,
+    ) -> &'a [u8]
+        requires few { places ≤ longest_side }
+        requires within { place ≤ places }
+        requires tables { IsChannel self.now places channel.now }
+        ensures { result.now ≡ tracks_through self.now places place }
+    {
+        let width = self.tracks();
+        let start = place.saturating_sub(1) * width;
+        &channel.order[start as usize..(place * width) as usize]
+    }
+}
+
+impl ChannelTables {
+    /// The tracks in the order of where their wires through a column, above a row, begin.
+    pub fn tracks_above(&self, column: u32) -> &[u8]
+        requires { column ≤ self.now.nx }
+        ensures { result.now ≡ tracks_through self.now self.now.nx column }
+    {
+        self.layout
+            .tracks_through(&self.rows, self.layout.nx(), column)
+    }
+
+    /// The tracks in the order of where their wires through a row, right of a column, begin.
+    pub fn tracks_right(&self, row: u32) -> &[u8]
+        requires { row ≤ self.now.ny }
+        ensures { result.now ≡ tracks_through self.now self.now.ny row }
+    {
+        self.layout
+            .tracks_through(&self.columns, self.layout.ny(), row)
+    }
+
+    /// How many of the tracks stand before the first one whose wire through a column does not begin at place `first`.
+    #[tactic(auto, using(std::proofs::lemmas::List::Sums::prefix_len_is))]
+    fn count_begun(&self, tracks: &[u8], column: u32, first: u32) -> usize
+        requires column { (1 ≤ column) × (column ≤ self.now.nx) }
+        requires tracks { All (λ t. t < tracks_in self.now.mode self.now.width) tracks.now }
+        ensures { result ≡ prefix_len (λ t. first_of self.now self.now.nx t column == first) tracks.now }
+    {
+        for (count, track) in tracks.iter().enumerate() {
+            if u32::from(self.wire_above(u32::from(*track), column).first) != first {
+                return count;
+            }
+        }
+        tracks.len()
+    }
+
+    /// Of the tracks whose wires through a column begin at place `first` or behind it, those at `first`, and the others.
+    #[tactic(auto, using(crate::proofs::TrackOrder::begun_front, crate::proofs::TrackOrder::begun_rest, crate::proofs::TrackOrder::since_small))]
+    pub fn split_tracks<'a>(
+        &self,
+        tracks: &'a [u8],
+        column: u32,
+        first: u32,
+    ) -> (&'a [u8], &'a [u8])
+        requires column { column ≤ self.now.nx }
+        requires first { (1 ≤ first) × (first ≤ column) }
+        requires tracks { tracks.now ≡ tracks_since self.now self.now.nx column first }
+        ensures begun { result.0.now ≡ tracks_from self.now self.now.nx column first }
+        ensures rest { result.1.now ≡ tracks_since self.now self.now.nx column (first + 1) }
+    {
+        tracks.split_at(self.count_begun(tracks, column, first))
+    }
+}

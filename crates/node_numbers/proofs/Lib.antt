@@ -1,0 +1,11 @@
+pub mod Order
+pub mod NodesByPlace
+pub mod PlaceStarts
+pub mod WiresAtPlaces
+pub mod NumbersAtPlaces
+pub mod NodesFound
+pub mod FirstWire
+pub mod Capacities
+pub mod Classes
+pub mod Ascending
+pub mod Divisors

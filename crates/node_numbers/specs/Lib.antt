@@ -1,0 +1,4 @@
+pub mod Nodes
+pub mod Starts
+pub mod Numbering
+pub mod kept

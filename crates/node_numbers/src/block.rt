@@ -1,0 +1,58 @@
+//! What stands at a block: its classes and pins by direction.
+
+ghost use Rattle.std.specs.Prelude.{◌≡◌, ◌≤◌, length, IfOk};
+ghost use Rattle.arch_file.specs.Architecture.{most_pins};
+ghost use Rattle.node_numbers.specs.Numbering.{block_numbers};
+ghost use Rattle.node_numbers.specs.kept.Numbers.{IsBlock};
+
+use arch_file::Direction;
+use channel_tables::{Kind, Layout};
+use std::alloc::{AllocError, Global};
+
+/// The numbers of a block's nodes, by kind, ascending.
+#[derive(Debug, Drop)]
+pub(crate) struct Block {
+    pub(crate) sources: Vec<u32>,
+    pub(crate) sinks: Vec<u32>,
+    pub(crate) opins: Vec<u32>,
+    pub(crate) ipins: Vec<u32>,
+}
+
+/// What stands at a block.
+#[tactic(auto, unfolding(crate::specs::Numbering::block_numbers))]
+pub(crate) fn block_of(alloc: Global, layout: &Layout) -> Result<Block, AllocError>
+    ensures { IfOk result (IsBlock layout.now) }
+{
+    Ok(Block {
+        sources: layout.classes_by(alloc, Direction::Output)?,
+        sinks: layout.classes_by(alloc, Direction::Input)?,
+        opins: layout.pins_by(alloc, Direction::Output)?,
+        ipins: layout.pins_by(alloc, Direction::Input)?,
+    })
+}
+
+/// The numbers of the nodes of a kind at a block, at which no wire stands.
+#[tactic(auto, unfolding(crate::specs::Numbering::block_numbers))]
+pub(crate) fn numbers<'a>(layout: &Layout, block: &'a Block, kind: Kind) -> &'a [u32]
+    requires { IsBlock layout.now block.now }
+    ensures { result.now ≡ block_numbers layout.now kind }
+{
+    match kind {
+        Kind::Source => &block.sources,
+        Kind::Sink => &block.sinks,
+        Kind::Opin => &block.opins,
+        Kind::Ipin => &block.ipins,
+        Kind::Chanx | Kind::Chany => &[],
+    }
+}
+
+/// How many nodes of a kind stand at a block.
+#[tactic(auto, using(crate::proofs::PlaceStarts::few_numbers))]
+pub(crate) fn count_at_block(layout: &Layout, block: &Block, kind: Kind) -> u32
+    requires { IsBlock layout.now block.now }
+    ensures count { result ≡ length (block_numbers layout.now kind) }
+    ensures few { result ≤ most_pins }
+{
+    let _limits = layout.nx();
+    numbers(layout, block, kind).len() as u32
+}

@@ -1,0 +1,168 @@
+//! The number of a node, by arithmetic.
+
+ghost use Rattle.std.specs.Prelude.{◌≡◌, ◌≤◌, ◌<◌, ◌==◌, ◌&&◌, nat_le, nat_lt, true, false};
+ghost use Rattle.std.specs.List.{position};
+ghost use Rattle.channel_tables.specs.Fabric.{IsFabric, is_between, is_block, is_pad};
+ghost use Rattle.channel_tables.specs.Wires.{tracks_in, begins};
+ghost use Rattle.node_numbers.specs.Nodes.{number_of, node_of};
+ghost use Rattle.node_numbers.specs.Numbering.{is_terminal};
+ghost use Rattle.node_numbers.specs.kept.WireIds.{wire_id};
+
+use crate::numbers::NodeNumbers;
+use channel_tables::{Kind, Node};
+
+/// The place of a number in a list.
+fn position_of(numbers: &[u32], number: u32) -> Option<usize>
+    ensures { result ≡ position (λ n. n == number) numbers.now }
+{
+    numbers.iter().position(|n| *n == number)
+}
+
+impl NodeNumbers {
+    /// Whether a wire of the track begins at place `x` above a row.
+    #[tactic(auto, using(channel_tables::proofs::WireTables::begins_by_first))]
+    pub(crate) fn begins_above(&self, track: u32, x: u32) -> bool
+        requires place { (1 ≤ x) × (x ≤ self.now.nx) }
+        requires track { track < tracks_in self.now.mode self.now.width }
+        ensures { result ≡ begins self.now self.now.nx track x }
+    {
+        u32::from(self.tables.wire_above(track, x).first) == x
+    }
+
+    /// Whether a wire of the track begins at place `y` right of a column.
+    #[tactic(auto, using(channel_tables::proofs::WireTables::begins_by_first))]
+    pub(crate) fn begins_right(&self, track: u32, y: u32) -> bool
+        requires place { (1 ≤ y) × (y ≤ self.now.ny) }
+        requires track { track < tracks_in self.now.mode self.now.width }
+        ensures { result ≡ begins self.now self.now.ny track y }
+    {
+        u32::from(self.tables.wire_right(track, y).first) == y
+    }
+
+    /// Whether (x, y, track) is a wire above a row, at its first place.
+    fn is_above(&self, x: u32, y: u32, track: u32) -> bool
+        ensures { result
+            ≡ ((is_between 1 self.now.nx x && (nat_le y self.now.ny && nat_lt track (tracks_in self.now.mode self.now.width))) && begins self.now self.now.nx track x) }
+    {
+        let is_inside = (1 <= x && x <= self.layout().nx())
+            && (y <= self.layout().ny() && track < self.layout().tracks());
+        is_inside && self.begins_above(track, x)
+    }
+
+    /// Whether (x, y, track) is a wire right of a column, at its first place.
+    fn is_right(&self, x: u32, y: u32, track: u32) -> bool
+        ensures { result
+            ≡ ((is_between 1 self.now.ny y && (nat_le x self.now.nx && nat_lt track (tracks_in self.now.mode self.now.width))) && begins self.now self.now.ny track y) }
+    {
+        let is_inside = (1 <= y && y <= self.layout().ny())
+            && (x <= self.layout().nx() && track < self.layout().tracks());
+        is_inside && self.begins_right(track, y)
+    }
+
+    /// The number of a wire above row `y` that begins at `x`.
+    #[tactic(auto, using(crate::proofs::NumbersAtPlaces::above_by_row))]
+    fn number_above(&self, x: u32, y: u32, track: u32) -> u32
+        requires place { (1 ≤ x) × (x ≤ self.now.nx) }
+        requires row { y ≤ self.now.ny }
+        requires track { track < tracks_in self.now.mode self.now.width }
+        requires begins { begins self.now self.now.nx track x ≡ true }
+        ensures number { result ≡ wire_id self.now Kind.Chanx x y track }
+        ensures limits { IsFabric self.now }
+    {
+        let _ = &self.tables;
+        self.above_first(track, x) + y * self.tables.above_step(x)
+    }
+
+    /// The number of a wire right of column `x` that begins at `y`.
+    #[tactic(auto, using(crate::proofs::NumbersAtPlaces::right_by_column))]
+    fn number_right(&self, x: u32, y: u32, track: u32) -> u32
+        requires place { (1 ≤ y) × (y ≤ self.now.ny) }
+        requires column { x ≤ self.now.nx }
+        requires track { track < tracks_in self.now.mode self.now.width }
+        requires begins { begins self.now self.now.ny track y ≡ true }
+        ensures number { result ≡ wire_id self.now Kind.Chany x y track }
+        ensures limits { IsFabric self.now }
+    {
+        let _ = &self.tables;
+        self.right_first(track, y) + x * self.tables.right_step()
+    }
+
+    /// The number of a wire above a row; None for what is no wire.
+    fn id_above(&self, x: u32, y: u32, track: u32) -> Option<u32>
+        ensures { result ≡ number_of self.now (node_of Kind.Chanx x y track) }
+    {
+        if self.is_above(x, y, track) {
+            Some(self.number_above(x, y, track))
+        } else {
+            None
+        }
+    }
+
+    /// The number of a wire right of a column; None for what is no wire.
+    fn id_right(&self, x: u32, y: u32, track: u32) -> Option<u32>
+        ensures { result ≡ number_of self.now (node_of Kind.Chany x y track) }
+    {
+        if self.is_right(x, y, track) {
+            Some(self.number_right(x, y, track))
+        } else {
+            None
+        }
+    }
+
+    /// The number of a node of a block; None for what is no node.
+    fn id_at_block(&self, kind: Kind, x: u32, y: u32, number: u32) -> Option<u32>
+        requires terminal { is_terminal kind ≡ true }
+        requires block { is_block self.now x y ≡ true }
+        ensures { result ≡ number_of self.now (node_of kind x y number) }
+    {
+        match position_of(self.numbers(kind), number) {
+            None => None,
+            Some(index) => Some(self.terminal_start(kind, x, y) + index as u32),
+        }
+    }
+
+    /// Whether a pad of that number stands at (x, y).
+    fn has_pad(&self, x: u32, y: u32, number: u32) -> bool
+        ensures { result ≡ (is_pad self.now x y && nat_lt number self.now.architecture.io_rat) }
+    {
+        self.layout().is_pad(x, y) && number < self.layout().architecture().io_rat()
+    }
+
+    /// The number of a pad; None for what is no node.
+    fn id_of_pad(&self, kind: Kind, x: u32, y: u32, number: u32) -> Option<u32>
+        requires terminal { is_terminal kind ≡ true }
+        requires perimeter { is_block self.now x y ≡ false }
+        ensures { result ≡ number_of self.now (node_of kind x y number) }
+    {
+        if self.has_pad(x, y, number) {
+            Some(self.terminal_start(kind, x, y) + number)
+        } else {
+            None
+        }
+    }
+
+    /// The number of a terminal or pin; None for what is no node.
+    fn id_of_terminal(&self, kind: Kind, x: u32, y: u32, number: u32) -> Option<u32>
+        requires { is_terminal kind ≡ true }
+        ensures { result ≡ number_of self.now (node_of kind x y number) }
+    {
+        if self.layout().is_block(x, y) {
+            self.id_at_block(kind, x, y, number)
+        } else {
+            self.id_of_pad(kind, x, y, number)
+        }
+    }
+
+    /// The number of a node; None for what is no node.
+    pub(crate) fn id_of(&self, node: Node) -> Option<u32>
+        ensures { result ≡ number_of self.now node }
+    {
+        match node.kind {
+            Kind::Source | Kind::Sink | Kind::Opin | Kind::Ipin => {
+                self.id_of_terminal(node.kind, node.x, node.y, node.number)
+            }
+            Kind::Chanx => self.id_above(node.x, node.y, node.number),
+            Kind::Chany => self.id_right(node.x, node.y, node.number),
+        }
+    }
+}

@@ -1,0 +1,170 @@
+//! The numbers of a device's nodes, and the nodes of numbers.
+
+ghost use Rattle.std.specs.Prelude.{◌≡◌, ℕ, ◌^◌, ◌<◌, ◌≤◌, nat_le, IfOk, IfSome, Some};
+ghost use Rattle.std.specs.Option.{option_map};
+ghost use Rattle.node_numbers.specs.Nodes.{node_count_of, node_at, kind_of_node, is_wire_at, number_of, label_of, capacity_of, span_of, wire_in};
+
+use crate::block::{Block, block_of};
+use crate::nodes::{label_of, span_of, terminal_capacity, wire_capacity};
+use crate::starts::{Starts, starts_of};
+use crate::strides::{Strides, strides_of};
+use channel_tables::{ChannelTables, Kind, Label, Layout, Node, Span};
+use std::alloc::{AllocError, Global};
+use std::marker::Model;
+
+/// The nodes of a device by number: its tables, and how many nodes stand before others.
+/// Contracts see the record of the device.
+#[derive(Drop)]
+pub struct NodeNumbers {
+    pub(crate) tables: ChannelTables,
+    pub(crate) block: Block,
+    pub(crate) starts: Starts,
+    pub(crate) strides: Strides,
+}
+
+impl Model for NodeNumbers {
+    ghost use Rattle.channel_tables.specs.Fabric.{Fabric};
+
+    ghost Value = { Fabric };
+
+    ghost use Rattle.channel_tables.specs.Fabric.{IsFabric};
+    ghost use Rattle.node_numbers.specs.kept.Numbers.{IsTabled};
+
+    ghost view = { λ n. n.tables };
+
+    ghost invariant = { λ n. IsFabric n.tables × IsTabled n.tables n.block n.starts n.strides };
+}
+
+impl NodeNumbers {
+    /// The numbers of a device's nodes, from its tables.
+    pub fn new(alloc: Global, tables: ChannelTables) -> Result<NodeNumbers, AllocError>
+        ensures { IfOk result (λ n. n ≡ tables) }
+    {
+        let _limits = tables.layout().nx();
+        let block = block_of(alloc, tables.layout())?;
+        let starts = starts_of(&tables, &block);
+        let strides = strides_of(alloc, &tables)?;
+        Ok(NodeNumbers {
+            tables,
+            block,
+            starts,
+            strides,
+        })
+    }
+
+    /// A copy.
+    pub fn copy(&self, alloc: Global) -> Result<NodeNumbers, AllocError>
+        ensures { IfOk result (λ n. n ≡ self.now) }
+    {
+        NodeNumbers::new(alloc, self.tables.copy(alloc)?)
+    }
+
+    /// The tables of the device's channels and pins.
+    #[inline(always)]
+    pub fn tables(&self) -> &ChannelTables
+        ensures { result.now ≡ self.now }
+    {
+        &self.tables
+    }
+
+    /// What the device is made from.
+    #[inline(always)]
+    pub fn layout(&self) -> &Layout
+        ensures { result.now ≡ self.now }
+    {
+        self.tables.layout()
+    }
+
+    /// How many nodes there are: fewer than 2^23.
+    #[tactic(auto, using(crate::proofs::Order::node_count_below))]
+    pub fn node_count(&self) -> u32
+        ensures count { result ≡ node_count_of self.now }
+        ensures few { result < 2 ^ 23 }
+    {
+        self.starts.end
+    }
+
+    /// The number of the first wire: all nodes from there on are wires, and none before is one.
+    #[tactic(auto, using(crate::proofs::FirstWire::wires_from, crate::proofs::FirstWire::few_before_wires))]
+    pub fn first_wire(&self) -> u32
+        ensures wires { (i : ℕ) → i < node_count_of self.now → is_wire_at self.now i ≡ nat_le result i }
+        ensures within { result ≤ node_count_of self.now }
+    {
+        self.kind_start(Kind::Chanx)
+    }
+
+    /// The node of a number.
+    #[inline(always)]
+    pub fn node(&self, id: u32) -> Option<Node>
+        ensures node { result ≡ node_at self.now id }
+        ensures inverse { IfSome result (λ n. number_of self.now n ≡ Some id) }
+    {
+        let _ = &self.tables;
+        self.node_of(id)
+    }
+
+    /// The kind of the node of a number, found without the node.
+    pub fn kind(&self, id: u32) -> Option<Kind>
+        ensures { result ≡ kind_of_node self.now id }
+    {
+        self.kind_of(id)
+    }
+
+    /// What a node's number counts.
+    pub fn label(&self, id: u32) -> Option<Label>
+        ensures { result ≡ option_map (label_of self.now) (node_at self.now id) }
+    {
+        self.node(id).map(|node| label_of(self.layout(), node))
+    }
+
+    /// The number of a node: how many nodes stand before it. None for what is no node.
+    pub fn id(&self, node: Node) -> Option<u32>
+        ensures number { result ≡ number_of self.now node }
+        ensures inverse { IfSome result (λ i. node_at self.now i ≡ Some node) }
+    {
+        self.id_of(node)
+    }
+
+    /// How many nets may use a node. The node is looked for only where it is a source or a sink.
+    pub fn capacity(&self, id: u32) -> Option<u32>
+        ensures { result ≡ option_map (capacity_of self.now) (node_at self.now id) }
+    {
+        match self.kind(id) {
+            None => None,
+            Some(Kind::Source | Kind::Sink) => {
+                self.node(id)
+                    .map(|node| terminal_capacity(self.layout(), node))
+            }
+            Some(Kind::Opin | Kind::Ipin) => Some(1),
+            Some(Kind::Chanx | Kind::Chany) => Some(wire_capacity(self.layout())),
+        }
+    }
+
+    /// The first and the last place of a node; only those of a wire may differ.
+    pub fn span(&self, id: u32) -> Option<Span>
+        ensures { result ≡ option_map (span_of self.now) (node_at self.now id) }
+    {
+        match self.node(id) {
+            None => None,
+            Some(node) => Some(span_of(self.layout(), node, self.last_of(id, node))),
+        }
+    }
+
+    /// The kind of a wire, the places that it passes, and how many the wires of its track pass at most, from one look-up;
+    /// None for what is no wire.
+    #[tactic(auto, unfolding(crate::specs::Nodes::wire_in))]
+    pub fn wire(&self, id: u32) -> Option<(Kind, Span, u32)>
+        ensures { result ≡ wire_in self.now (node_at self.now id) }
+    {
+        if id < self.first_wire() {
+            return None;
+        }
+        match self.node_of(id) {
+            None => None,
+            Some(node) => {
+                let span = span_of(self.layout(), node, self.last_of(id, node));
+                Some((node.kind, span, self.tables.reach_of(node.number)))
+            }
+        }
+    }
+}

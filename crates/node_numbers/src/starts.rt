@@ -1,0 +1,104 @@
+//! How many nodes stand before those of a kind, counted by arithmetic.
+
+ghost use Rattle.std.specs.Prelude.{◌≡◌, ◌≤◌, true};
+ghost use Rattle.arch_file.specs.Architecture.{most_pins};
+ghost use Rattle.node_numbers.specs.Starts.{kind_length, kind_start};
+ghost use Rattle.node_numbers.specs.Numbering.{is_terminal};
+ghost use Rattle.node_numbers.specs.kept.Columns.{terminals_length};
+ghost use Rattle.node_numbers.specs.kept.Numbers.{IsBlock, IsStarts};
+
+use crate::block::{Block, numbers};
+use channel_tables::{ChannelTables, Kind, Layout};
+
+/// How many nodes stand before those of each kind, and how many there are.
+#[derive(Clone, Copy, Debug)]
+pub(crate) struct Starts {
+    pub(crate) sink: u32,
+    pub(crate) opin: u32,
+    pub(crate) ipin: u32,
+    pub(crate) chanx: u32,
+    pub(crate) chany: u32,
+    pub(crate) end: u32,
+}
+
+/// How many nodes there are of a kind of terminals or pins, of which a block has `count`.
+#[tactic(auto, unfolding(crate::specs::kept::Columns::terminals_length))]
+fn terminal_count(layout: &Layout, count: usize) -> u32
+    requires { count ≤ most_pins }
+    ensures count { result ≡ terminals_length layout.now count }
+    ensures few { result ≤ 1000000 }
+{
+    let pads = layout.architecture().io_rat();
+    let blocks = layout.ny() * count as u32;
+    2 * (layout.ny() * pads) + layout.nx() * (2 * pads + blocks)
+}
+
+/// How many nodes there are of a kind of terminals or pins.
+#[tactic(auto, using(crate::proofs::PlaceStarts::few_numbers, crate::proofs::PlaceStarts::terminal_length))]
+fn terminals_of(tables: &ChannelTables, block: &Block, kind: Kind) -> u32
+    requires terminal { is_terminal kind ≡ true }
+    requires block { IsBlock tables.now block.now }
+    ensures count { result ≡ kind_length tables.now kind }
+    ensures few { result ≤ 1000000 }
+{
+    let layout = tables.layout();
+    let _limits = layout.nx();
+    terminal_count(layout, numbers(layout, block, kind).len())
+}
+
+/// How many wires lie above rows.
+#[tactic(auto, using(crate::proofs::PlaceStarts::above_count))]
+fn wires_above(tables: &ChannelTables) -> u32
+    ensures count { result ≡ kind_length tables.now Kind.Chanx }
+    ensures few { result ≤ 2611456 }
+{
+    let layout = tables.layout();
+    (layout.ny() + 1) * tables.above_before(layout.nx() + 1)
+}
+
+/// How many wires lie right of columns.
+#[tactic(auto, using(crate::proofs::PlaceStarts::right_count))]
+fn wires_right(tables: &ChannelTables) -> u32
+    ensures count { result ≡ kind_length tables.now Kind.Chany }
+    ensures few { result ≤ 2611456 }
+{
+    (tables.layout().nx() + 1) * tables.right_step()
+}
+
+/// How many nodes stand before those of each kind, and how many there are.
+#[tactic(auto, unfolding(crate::specs::Starts::kind_start))]
+pub(crate) fn starts_of(tables: &ChannelTables, block: &Block) -> Starts
+    requires { IsBlock tables.now block.now }
+    ensures { IsStarts tables.now result }
+{
+    let sink = terminals_of(tables, block, Kind::Source);
+    let opin = sink + terminals_of(tables, block, Kind::Sink);
+    let ipin = opin + terminals_of(tables, block, Kind::Opin);
+    let chanx = ipin + terminals_of(tables, block, Kind::Ipin);
+    let chany = chanx + wires_above(tables);
+    let end = chany + wires_right(tables);
+    Starts {
+        sink,
+        opin,
+        ipin,
+        chanx,
+        chany,
+        end,
+    }
+}
+
+/// How many nodes stand before those of a kind.
+#[tactic(auto, unfolding(crate::specs::Starts::kind_start))]
+pub(crate) fn kind_start(layout: &Layout, starts: Starts, kind: Kind) -> u32
+    requires { IsStarts layout.now starts }
+    ensures { result ≡ kind_start layout.now kind }
+{
+    match kind {
+        Kind::Source => 0,
+        Kind::Sink => starts.sink,
+        Kind::Opin => starts.opin,
+        Kind::Ipin => starts.ipin,
+        Kind::Chanx => starts.chanx,
+        Kind::Chany => starts.chany,
+    }
+}

@@ -1,0 +1,12 @@
+pub mod Problems
+pub mod Same
+pub mod SameLaws
+pub mod kept
+pub use Rattle.channel_tables.specs.Fabric
+pub use Rattle.channel_tables.specs.Wires
+pub use Rattle.channel_tables.specs.Pins
+pub use Rattle.channel_tables.specs.declared.parts
+pub use Rattle.node_numbers.specs.Nodes
+pub use Rattle.node_numbers.specs.Numbering
+pub use Rattle.rr_edges.specs.Edges
+pub use Rattle.rr_edges.specs.InputPins

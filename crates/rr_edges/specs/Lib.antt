@@ -1,0 +1,4 @@
+pub mod Edges
+pub mod Found
+pub mod InputPins
+pub mod kept

@@ -1,0 +1,10 @@
+pub mod Channels
+pub mod Fanouts
+pub mod Finding
+pub mod NodeSuccessors
+pub mod Pieces
+pub mod PinSuccessors
+pub mod PinsAtPlaces
+pub mod Pushes
+pub mod Terminals
+pub mod WireSuccessors

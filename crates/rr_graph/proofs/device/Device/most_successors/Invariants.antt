@@ -1,5 +1,0 @@
-use Rattle.rr_graph.proofs.Degrees.{IsMostBelow}
-use Rattle.rr_graph.proofs.device.Device.most_successors.Given as goal
-
-abbrev pub invariant-loop-id : goal.invariant-loop-id
-invariant-loop-id l = IsMostBelow l.self l.id l.most

@@ -1,7 +1,0 @@
-use Rattle.std.proofs.Common.{subst}
-use Rattle.rr_graph.specs.Fabric.{IsFabric}
-use Rattle.rr_graph.proofs.Order.{node_inverse}
-use Rattle.rr_graph.proofs.device.Device.node.Goals as goal
-
-pub returns-clause-inverse : goal.returns-clause-inverse
-returns-clause-inverse c = node_inverse c.args.self.now (subst IsFabric c.self.view_is c.self.invariant.0) c.args.id c.node_of.result c.node_of.ensures

@@ -1,8 +1,0 @@
-use Rattle.std.proofs.Common.{arith}
-use Rattle.rr_graph.proofs.WireLists.{row_list-is}
-use Rattle.rr_graph.proofs.device.Device.row_fanout.Goals as goal
-
-pub returns-clause-list : goal.returns-clause-list
-returns-clause-list c =
-    let end = c.end_above-last.ensures in
-    row_list-is c.args.self.now c.args.x c.args.y c.args.track _ c.requires.wire.0 (omega (arith, end.end, end.within.1)) c.taps_under.ensures.pins c.taps_over.ensures.pins (omega (arith, end.end)) (rw end.end at c.beside_above.ensures) c.meeting_right.ensures.meeting

@@ -1,9 +1,0 @@
-use Rattle.std.proofs.Common.{◌≡◌}
-use Rattle.std.specs.List.{filter}
-use Rattle.arch_file.specs.Architecture.{class_direction}
-use Rattle.rr_graph.specs.Fabric.{numbers_below}
-use Rattle.rr_graph.specs.Pins.{has_direction}
-use Rattle.rr_graph.proofs.layout.Layout.classes.Given as goal
-
-abbrev pub invariant-loop-class : goal.invariant-loop-class
-invariant-loop-class l = l.classes.items ≡ filter (λ c. has_direction l.direction (class_direction l.self.architecture c)) (numbers_below l.class)

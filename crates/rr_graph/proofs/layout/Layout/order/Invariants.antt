@@ -1,8 +1,0 @@
-use Rattle.std.proofs.Common.{◌≡◌}
-use Rattle.std.specs.List.{flat_map}
-use Rattle.rr_graph.specs.Fabric.{numbers_below}
-use Rattle.rr_graph.specs.kept.Tables.{tracks_through}
-use Rattle.rr_graph.proofs.layout.Layout.order.Given as goal
-
-abbrev pub invariant-loop-place : goal.invariant-loop-place
-invariant-loop-place l = l.order.items ≡ flat_map (tracks_through l.self l.places) (numbers_below l.place)

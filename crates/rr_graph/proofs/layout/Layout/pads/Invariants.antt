@@ -1,9 +1,0 @@
-use Rattle.std.proofs.Common.{◌≡◌, ◌≤◌, vec_len}
-use Rattle.rr_graph.specs.Fabric.{numbers_below}
-use Rattle.rr_graph.proofs.layout.Layout.pads.Given as goal
-
-abbrev pub invariant-loop-pad : goal.invariant-loop-pad
-invariant-loop-pad l = record {
-  pads : l.pads.items ≡ numbers_below l.pad;
-  few : vec_len l.pads ≤ l.pad;
-}

@@ -1,9 +1,0 @@
-use Rattle.std.proofs.Common.{take}
-use Rattle.std.specs.Prelude.{slice_get}
-use Rattle.rr_graph.specs.Pins.{has_class}
-use Rattle.rr_graph.specs.kept.Picks.{picks}
-use Rattle.rr_graph.specs.kept.Pushes.{Pushes}
-use Rattle.rr_graph.proofs.layout.Layout.push_class.Given as goal
-
-abbrev pub invariant-loop-place : goal.invariant-loop-place
-invariant-loop-place l = Pushes l.initial.list (picks (λ p. has_class (slice_get l.self.architecture.pins p) l.class) l.start (take l.place l.pins)) l.list

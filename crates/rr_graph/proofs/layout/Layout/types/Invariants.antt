@@ -1,7 +1,0 @@
-use Rattle.std.proofs.Common.{◌≡◌, map}
-use Rattle.rr_graph.specs.Fabric.{numbers_below}
-use Rattle.rr_graph.specs.Wires.{type_of}
-use Rattle.rr_graph.proofs.layout.Layout.types.Given as goal
-
-abbrev pub invariant-loop-track : goal.invariant-loop-track
-invariant-loop-track l = l.types.items ≡ map (type_of l.self.architecture.segments l.self.width) (numbers_below l.track)

@@ -1,6 +1,0 @@
-use Rattle.std.proofs.Common.{◌≡◌, ℕ, ◌<◌, true}
-use Rattle.rr_graph.specs.Problems.{rises_at}
-use Rattle.rr_graph.proofs.problem.ascends.Given as goal
-
-abbrev pub invariant-loop-index : goal.invariant-loop-index
-invariant-loop-index l = (k : ℕ) → k < l.index → rises_at l.numbers k ≡ true
