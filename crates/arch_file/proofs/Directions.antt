@@ -1,8 +1,7 @@
 -- The pins of a class have one direction.
-use Rattle.std.proofs.Common.{◌≡◌, ℕ, Bool, true, false, cond, eqb, ◌&&◌, not, List, [], ◌∷◌, ◌++◌, length, All, Option, Some, None, refl, ap, arith, ◌∙◌}
-use Rattle.std.specs.Prelude.{find, unwrap_or, codes}
+use Rattle.std.proofs.Common.{◌≡◌, ℕ, Bool, true, false, eqb, ◌&&◌, not, List, [], ◌∷◌, ◌++◌, length, All, Option, Some, None, refl, ap, arith, ◌∙◌}
+use Rattle.std.specs.Prelude.{find, unwrap_or}
 use Rattle.std.specs.Option.{option_map, option_map_or, option_or}
-use Rattle.std.specs.List.{list_any}
 use Rattle.std.proofs.lemmas.Bool.{eq-eqb, lt-ltb}
 use Rattle.std.proofs.lemmas.List.Elements.{All-push, All-weaker}
 use Rattle.std.proofs.lemmas.List.Folds.{find-append}
@@ -13,7 +12,7 @@ use Rattle.arch_file.specs.declared.parts.Pin.{Pin}
 use Rattle.arch_file.specs.Lines.{same_direction, pins_of}
 use Rattle.arch_file.specs.PinLine.{mixes, is_bad_class, is_global_pin, side_words, lacks_sides, pin_in}
 use Rattle.arch_file.specs.Word.{has, number_at}
-use Rattle.arch_file.proofs.Faultless.{and_false, or_false, not_false, found_passes, found_fails}
+use Rattle.arch_file.proofs.Faultless.{and_false, not_false, found_passes, found_fails}
 
 -- the direction of the first pin of a class
 abbrev pub direction_in : List Pin → ℕ → Option Direction

@@ -7,9 +7,9 @@ use Rattle.std.proofs.lemmas.List.Sums.{prefix_len-le-length}
 use Rattle.std.proofs.lemmas.List.FromFn.{length-range_with_len}
 use Rattle.std.proofs.lemmas.Option.{slice_get_within, get_or_from_slice_get}
 use Rattle.arch_file.specs.Architecture.{IsSegmentLength}
-use Rattle.arch_file.specs.parts.Segment.{Segment}
-use Rattle.arch_file.specs.parts.SegmentLength.{SegmentLength}
-use Rattle.arch_file.specs.parts.SegmentLength.TheVariants.{Places, Longline}
+use Rattle.arch_file.specs.declared.parts.Segment.{Segment}
+use Rattle.arch_file.specs.declared.parts.SegmentLength.{SegmentLength}
+use Rattle.arch_file.specs.declared.parts.SegmentLength.TheVariants.{Places, Longline}
 use Rattle.routing_problem.specs.parts.Kind.{Kind}
 use Rattle.routing_problem.specs.parts.Kind.TheVariants.{Source, Sink, Opin, Ipin, Chanx, Chany}
 use Rattle.routing_problem.specs.parts.Mode.{Mode}
@@ -19,7 +19,7 @@ use Rattle.routing_problem.specs.parts.Span.{Span}
 use Rattle.routing_problem.specs.Fabric.{Fabric, IsFabric}
 use Rattle.routing_problem.specs.Nodes.{node_at, is_wire, span_by, span_of, wire_in}
 use Rattle.routing_problem.specs.Wires.{begins, length_by, length_of, places_of_length, places_of_type, reach_of, steps_of, type_of}
-use Rattle.routing_problem.proofs.Pieces.{place_of_node}
+use Rattle.routing_problem.proofs.NodesByPlace.{place_of_node}
 use Rattle.track_groups.specs.kept.Fields.{FitsBytes}
 use Rattle.track_groups.specs.kept.Lone.{lone_by, lone_wire, no_wire}
 
