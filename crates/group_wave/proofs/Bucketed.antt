@@ -1,54 +1,60 @@
 -- Entries in the buckets of their keys.
-use Rattle.std.proofs.Common.{◌≡◌, ◌⊎◌, inl, inr, ℕ, ◌+◌, ◌<◌, ◌≤◌, ◌-◌, min, max, List, [], ◌∷◌, ◌++◌, Some, length, map, get_or, set, refl, sym, ap, subst, ◌∙◌, arith}
+use Rattle.std.proofs.Common.{◌≡◌, inl, inr, ℕ, ◌+◌, ◌<◌, ◌≤◌, ◌-◌, min, List, [], ◌∷◌, ◌++◌, Some, length, map, get_or, set, refl, sym, ap, subst, ◌∙◌, arith}
 use Rattle.std.specs.List.{All}
 use Rattle.std.specs.List.Sorted.{IsPermutation}
 use Rattle.std.proofs.lemmas.Bool.{cases_eq, cases_lt}
-use Rattle.std.proofs.lemmas.List.{get_or-set_same, get_or-set_other, length-set}
+use Rattle.std.proofs.lemmas.List.{get_or-set_same, get_or-set_other}
 use Rattle.std.proofs.lemmas.List.Elements.{All-nil, All-head, All-map, All-pop, All-push, All-weaker}
 use Rattle.std.proofs.lemmas.List.Sorted.{length_permutation, IsPermutation-map, IsPermutation-sym}
 use Rattle.group_wave.specs.declared.queue.Entry.{Entry}
-use Rattle.group_wave.specs.kept.Buckets.{most_buckets, bucket_of}
+use Rattle.group_wave.specs.kept.Buckets.{bucket_of}
 use Rattle.group_wave.specs.kept.Queues.{Waiting, entry_of, all_of, entries_of, IsPlaced, ArePlaced, IsBucketed, IsLowest, IsPast}
 use Rattle.group_wave.proofs.KeysInOrder.{key_below}
-use Rattle.group_wave.proofs.Rows.{AreEmpty, all_more, each_of, none_in}
+use Rattle.group_wave.proofs.Rows.{AreEmpty, all_more, each_of, none_in, row_within, same_in}
 
 module _ {K : Type 0} (value : K → ℕ) where
-  -- the bounds may lie farther apart
-  wider : (low end low' end' i : ℕ) (e : Entry K) → low' ≤ low → end ≤ end' → IsPlaced value low end i e → IsPlaced value low' end' i e
-  wider low end low' end' i e down up h = record {
+  -- the bound may lie farther down
+  wider : (low low' i : ℕ) (e : Entry K) → low' ≤ low → IsPlaced value low i e → IsPlaced value low' i e
+  wider low low' i e down h = record {
     here = h.here;
     from = omega (arith, h.from, down);
-    until = omega (arith, h.until, up);
   }
 
   -- ---- an entry more
-  placed_more : (rows : List (List (Entry K))) (low end low' end' at : ℕ) (x : Entry K) → at < length rows → bucket_of (value x.key) ≡ at → low' ≤ low → low' ≤ at → end ≤ end' → at < end'
-      → ArePlaced value low end rows → ArePlaced value low' end' (set rows at (get_or rows at [] ++ x ∷ []))
-  placed_more rows low end low' end' at x within is down from up until placed i =
-      let before : All (IsPlaced value low' end' i) (get_or rows i []) = All-weaker (IsPlaced value low end i) (IsPlaced value low' end' i) (λ e h. wider low end low' end' i e down up h) (get_or rows i []) (placed i) in
+  placed_more : (rows : List (List (Entry K))) (low low' at : ℕ) (x : Entry K) → at < length rows → bucket_of (value x.key) ≡ at → low' ≤ low → low' ≤ at
+      → ArePlaced value low rows → ArePlaced value low' (set rows at (get_or rows at [] ++ x ∷ []))
+  placed_more rows low low' at x within is down from placed i =
+      let before : All (IsPlaced value low' i) (get_or rows i []) = All-weaker (IsPlaced value low i) (IsPlaced value low' i) (λ e h. wider low low' i e down h) (get_or rows i []) (placed i) in
       elim (cases_eq i at) [
         | inl same ↦
-            let last : IsPlaced value low' end' i x = record { here = is ∙ sym same; from = omega (arith, from, same); until = omega (arith, until, same) } in
+            let last : IsPlaced value low' i x = record { here = is ∙ sym same; from = omega (arith, from, same) } in
             let row : get_or (set rows at (get_or rows at [] ++ x ∷ [])) i [] ≡ get_or rows i [] ++ x ∷ [] =
             ap (λ n. get_or (set rows at (get_or rows at [] ++ x ∷ [])) n []) same
             ∙ get_or-set_same rows at (get_or rows at [] ++ x ∷ []) [] within
             ∙ ap (λ n. get_or rows n [] ++ x ∷ []) (sym same) in
-            subst (λ (es : List (Entry K)). All (IsPlaced value low' end' i) es) (sym row) (All-push (IsPlaced value low' end' i) (get_or rows i []) x before last)
-        | inr other ↦ subst (λ (es : List (Entry K)). All (IsPlaced value low' end' i) es) (sym (get_or-set_other rows at i (get_or rows at [] ++ x ∷ []) [] other)) before
+            subst (λ (es : List (Entry K)). All (IsPlaced value low' i) es) (sym row) (All-push (IsPlaced value low' i) (get_or rows i []) x before last)
+        | inr other ↦ subst (λ (es : List (Entry K)). All (IsPlaced value low' i) es) (sym (get_or-set_other rows at i (get_or rows at [] ++ x ∷ []) [] other)) before
       ]
 
-  pub bucketed_more : (rows now : List (List (Entry K))) (low end low' end' count at : ℕ) (x : Entry K) → now ≡ set rows at (get_or rows at [] ++ x ∷ []) → bucket_of (value x.key) ≡ at → at < most_buckets
-      → low' ≡ min low at → end' ≡ max end (at + 1) → IsBucketed value rows low end count → IsBucketed value now low' end' (count + 1)
-  bucketed_more rows now low end low' end' count at x is here within down up h =
-      let in_rows : at < length rows = omega (arith, within, h.whole) in
-      let placed = placed_more rows low end low' end' at x in_rows here (omega (arith, down)) (omega (arith, down)) (omega (arith, up)) (omega (arith, up)) h.placed in
-      let one : length (all_of (set rows at (get_or rows at [] ++ x ∷ []))) ≡ length (x ∷ all_of rows) = length_permutation _ _ (all_more rows at x in_rows) in
-      subst (λ (rs : List (List (Entry K))). IsBucketed value rs low' end' (count + 1)) (sym is) (record {
-        whole = length-set rows at (get_or rows at [] ++ x ∷ []) ∙ h.whole;
-        within = omega (arith, h.within, within, up);
+  pub bucketed_more : (rows now : List (List (Entry K))) (low low' count at : ℕ) (x : Entry K) → now ≡ set rows at (get_or rows at [] ++ x ∷ []) → bucket_of (value x.key) ≡ at → at < length rows
+      → low' ≡ min low at → IsBucketed value rows low count → IsBucketed value now low' (count + 1)
+  bucketed_more rows now low low' count at x is here within down h =
+      let placed = placed_more rows low low' at x within here (omega (arith, down)) (omega (arith, down)) h.placed in
+      let one : length (all_of (set rows at (get_or rows at [] ++ x ∷ []))) ≡ length (x ∷ all_of rows) = length_permutation _ _ (all_more rows at x within) in
+      subst (λ (rs : List (List (Entry K))). IsBucketed value rs low' (count + 1)) (sym is) (record {
         placed = placed;
         counted = omega (arith, one, h.counted);
       })
+
+  -- ---- rows more without any
+  pub bucketed_same : (rows now : List (List (Entry K))) (low count : ℕ) → ((i : ℕ) → get_or now i [] ≡ get_or rows i []) → IsBucketed value rows low count → IsBucketed value now low count
+  bucketed_same rows now low count same h = record {
+    placed = λ i. subst (λ (es : List (Entry K)). All (IsPlaced value low i) es) (sym (same i)) (h.placed i);
+    counted = ap length (same_in rows now same) ∙ h.counted;
+  }
+
+  pub entries_same : (rows now : List (List (Entry K))) (es : List Waiting) → ((i : ℕ) → get_or now i [] ≡ get_or rows i []) → entries_of value rows ≡ es → entries_of value now ≡ es
+  entries_same rows now es same view = ap (map (entry_of value)) (same_in rows now same) ∙ view
 
   pub entries_more : (rows now : List (List (Entry K))) (at : ℕ) (x : Entry K) (es : List Waiting) → now ≡ set rows at (get_or rows at [] ++ x ∷ []) → at < length rows → entries_of value rows ≡ es
       → IsPermutation (entry_of value x ∷ es) (entries_of value now)
@@ -57,8 +63,8 @@ module _ {K : Type 0} (value : K → ℕ) where
       subst (λ (ws : List Waiting). IsPermutation (entry_of value x ∷ ws) (entries_of value now)) view (IsPermutation-map (entry_of value) (x ∷ all_of rows) (all_of now) moved)
 
   -- ---- an entry less
-  placed_less : (rows now : List (List (Entry K))) (low end at : ℕ) (x : Entry K) → rows ≡ set now at (get_or now at [] ++ x ∷ []) → at < length now → ArePlaced value low end rows → ArePlaced value low end now
-  placed_less rows now low end at x is within placed i =
+  placed_less : (rows now : List (List (Entry K))) (low at : ℕ) (x : Entry K) → rows ≡ set now at (get_or now at [] ++ x ∷ []) → at < length now → ArePlaced value low rows → ArePlaced value low now
+  placed_less rows now low at x is within placed i =
       let same_rows : get_or rows i [] ≡ get_or (set now at (get_or now at [] ++ x ∷ [])) i [] = ap (λ (rs : List (List (Entry K))). get_or rs i []) is in
       elim (cases_eq i at) [
         | inl same ↦
@@ -67,23 +73,21 @@ module _ {K : Type 0} (value : K → ℕ) where
             ∙ ap (λ n. get_or (set now at (get_or now at [] ++ x ∷ [])) n []) same
             ∙ get_or-set_same now at (get_or now at [] ++ x ∷ []) [] within
             ∙ ap (λ n. get_or now n [] ++ x ∷ []) (sym same) in
-            (All-pop (IsPlaced value low end i) (get_or rows i []) (get_or now i []) (Some x) row (placed i)).0
-        | inr other ↦ subst (λ (es : List (Entry K)). All (IsPlaced value low end i) es) (same_rows ∙ get_or-set_other now at i (get_or now at [] ++ x ∷ []) [] other) (placed i)
+            (All-pop (IsPlaced value low i) (get_or rows i []) (get_or now i []) (Some x) row (placed i)).0
+        | inr other ↦ subst (λ (es : List (Entry K)). All (IsPlaced value low i) es) (same_rows ∙ get_or-set_other now at i (get_or now at [] ++ x ∷ []) [] other) (placed i)
       ]
 
   less_moved : (rows now : List (List (Entry K))) (at : ℕ) (x : Entry K) → rows ≡ set now at (get_or now at [] ++ x ∷ []) → at < length now → IsPermutation (all_of rows) (x ∷ all_of now)
   less_moved rows now at x is within = rw is (IsPermutation-sym _ _ (all_more now at x within))
 
-  pub bucketed_less : (rows now : List (List (Entry K))) (low end count at : ℕ) (x : Entry K) → rows ≡ set now at (get_or now at [] ++ x ∷ []) → at < length rows → length now ≡ length rows
-      → IsBucketed value rows low end count → (1 ≤ count) × IsBucketed value now low end (count - 1)
-  bucketed_less rows now low end count at x is within long h =
+  pub bucketed_less : (rows now : List (List (Entry K))) (low count at : ℕ) (x : Entry K) → rows ≡ set now at (get_or now at [] ++ x ∷ []) → at < length rows → length now ≡ length rows
+      → IsBucketed value rows low count → (1 ≤ count) × IsBucketed value now low (count - 1)
+  bucketed_less rows now low count at x is within long h =
       let in_now : at < length now = omega (arith, within, long) in
       let one : length (x ∷ all_of now) ≡ length (all_of rows) = length_permutation _ _ (less_moved rows now at x is in_now) in (
         omega (arith, one, h.counted),
         record {
-          whole = long ∙ h.whole;
-          within = h.within;
-          placed = placed_less rows now low end at x is in_now h.placed;
+          placed = placed_less rows now low at x is in_now h.placed;
           counted = omega (arith, one, h.counted);
         },
       )
@@ -95,45 +99,43 @@ module _ {K : Type 0} (value : K → ℕ) where
       subst (λ (ws : List Waiting). IsPermutation ws (entry_of value x ∷ entries_of value now)) view (IsPermutation-map (entry_of value) (all_of rows) (x ∷ all_of now) moved)
 
   -- ---- the first row that may have some
-  pub bucketed_from : (rows : List (List (Entry K))) (low low' end count : ℕ) → AreEmpty rows low low' → IsBucketed value rows low end count → IsBucketed value rows low' end count
-  bucketed_from rows low low' end count empty h = record {
-    whole = h.whole;
-    within = h.within;
+  pub bucketed_from : (rows : List (List (Entry K))) (low low' count : ℕ) → AreEmpty rows low low' → IsBucketed value rows low count → IsBucketed value rows low' count
+  bucketed_from rows low low' count empty h = record {
     placed = λ i k d within.
-        let one : IsPlaced value low end i (get_or (get_or rows i []) k d) = h.placed i k d within in
+        let one : IsPlaced value low i (get_or (get_or rows i []) k d) = h.placed i k d within in
         record {
           here = one.here;
           from = elim (cases_lt i low') [
             | inl less ↦ absurd (let none = ap length (empty i one.from less) in omega (arith, none, within))
             | inr more ↦ more
           ];
-          until = one.until;
         };
     counted = h.counted;
   }
 
   -- where none stands in the bucket of a bound or before, all keys are above the bound
-  pub all_past : (rows : List (List (Entry K))) (low end stop count : ℕ) (bound : K) (es : List Waiting) → stop ≡ min end (bucket_of (value bound) + 1) → stop ≤ low
-      → IsBucketed value rows low end count → entries_of value rows ≡ es → IsPast es (entries_of value rows) (value bound)
-  all_past rows low end stop count bound es is past h view =
+  pub all_past : (rows : List (List (Entry K))) (low stop count : ℕ) (bound : K) (es : List Waiting) → stop ≡ min (length rows) (bucket_of (value bound) + 1) → stop ≤ low
+      → IsBucketed value rows low count → entries_of value rows ≡ es → IsPast es (entries_of value rows) (value bound)
+  all_past rows low stop count bound es is past h view =
       let each : All (λ (e : Entry K). value bound < value e.key) (all_of rows) =
-      each_of (λ (e : Entry K). value bound < value e.key) rows (λ i. All-weaker (IsPlaced value low end i) (λ (e : Entry K). value bound < value e.key)
-      (λ e one. key_below (value bound) (value e.key) (omega (arith, one.here, one.from, one.until, is, past))) (get_or rows i []) (h.placed i)) in
+      each_of (λ (e : Entry K). value bound < value e.key) rows (λ i k d within.
+      let one : IsPlaced value low i (get_or (get_or rows i []) k d) = h.placed i k d within in
+      key_below (value bound) _ (let there = row_within rows i k within in omega (arith, one.here, one.from, there, is, past))) in
       record {
         same = view;
         past = subst (λ (ws : List Waiting). All (λ (w : Waiting). value bound < w.key) ws) view (All-map (λ (w : Waiting). value bound < w.key) (entry_of value) (all_of rows) each);
       }
 
   -- what stands at the end of the first row that has some
-  pub is_lowest : (rows now : List (List (Entry K))) (low end stop count : ℕ) (bound : K) (x : Entry K) (es : List Waiting) → stop ≡ min end (bucket_of (value bound) + 1) → low < stop
-      → rows ≡ set now low (get_or now low [] ++ x ∷ []) → low < length rows → length now ≡ length rows → IsBucketed value rows low end count → entries_of value rows ≡ es
+  pub is_lowest : (rows now : List (List (Entry K))) (low stop count : ℕ) (bound : K) (x : Entry K) (es : List Waiting) → stop ≡ min (length rows) (bucket_of (value bound) + 1) → low < stop
+      → rows ≡ set now low (get_or now low [] ++ x ∷ []) → length now ≡ length rows → IsBucketed value rows low count → entries_of value rows ≡ es
       → IsLowest es (value x.key) (value bound)
-  is_lowest rows now low end stop count bound x es stops below is within long h view =
+  is_lowest rows now low stop count bound x es stops below is long h view =
       let row : get_or rows low [] ≡ get_or now low [] ++ x ∷ [] =
-      ap (λ (rs : List (List (Entry K))). get_or rs low []) is ∙ get_or-set_same now low (get_or now low [] ++ x ∷ []) [] (omega (arith, within, long)) in
-      let one : IsPlaced value low end low x = (All-pop (IsPlaced value low end low) (get_or rows low []) (get_or now low []) (Some x) row (h.placed low)).1 in
+      ap (λ (rs : List (List (Entry K))). get_or rs low []) is ∙ get_or-set_same now low (get_or now low [] ++ x ∷ []) [] (omega (arith, below, stops, long)) in
+      let one : IsPlaced value low low x = (All-pop (IsPlaced value low low) (get_or rows low []) (get_or now low []) (Some x) row (h.placed low)).1 in
       let each : All (λ (e : Entry K). bucket_of (value x.key) ≤ bucket_of (value e.key)) (all_of rows) =
-      each_of (λ (e : Entry K). bucket_of (value x.key) ≤ bucket_of (value e.key)) rows (λ i. All-weaker (IsPlaced value low end i) (λ (e : Entry K). bucket_of (value x.key) ≤ bucket_of (value e.key))
+      each_of (λ (e : Entry K). bucket_of (value x.key) ≤ bucket_of (value e.key)) rows (λ i. All-weaker (IsPlaced value low i) (λ (e : Entry K). bucket_of (value x.key) ≤ bucket_of (value e.key))
       (λ e other. omega (arith, one.here, other.here, other.from)) (get_or rows i []) (h.placed i)) in
       record {
         near = omega (arith, one.here, below, stops);
@@ -141,29 +143,23 @@ module _ {K : Type 0} (value : K → ℕ) where
       }
 
   -- ---- none
-  pub bucketed_none : (rows : List (List (Entry K))) (low : ℕ) → length rows ≡ most_buckets → ((i : ℕ) → get_or rows i [] ≡ []) → IsBucketed value rows low 0 0
-  bucketed_none rows low whole none = record {
-    whole = whole;
-    within = omega arith;
-    placed = λ i. subst (λ (es : List (Entry K)). All (IsPlaced value low 0 i) es) (sym (none i)) (All-nil (IsPlaced value low 0 i));
+  pub bucketed_none : (rows : List (List (Entry K))) (low : ℕ) → ((i : ℕ) → get_or rows i [] ≡ []) → IsBucketed value rows low 0
+  bucketed_none rows low none = record {
+    placed = λ i. subst (λ (es : List (Entry K)). All (IsPlaced value low i) es) (sym (none i)) (All-nil (IsPlaced value low i));
     counted = ap length (none_in rows none);
   }
 
   pub entries_none : (rows : List (List (Entry K))) → ((i : ℕ) → get_or rows i [] ≡ []) → entries_of value rows ≡ []
   entries_none rows none = ap (map (entry_of value)) (none_in rows none)
 
-  -- outside of the bounds no row has any
-  empty_outside : (low end i : ℕ) (row : List (Entry K)) → All (IsPlaced value low end i) row → (i < low) ⊎ (end ≤ i) → row ≡ []
-  empty_outside low end i [] h out = refl
-  empty_outside low end i (x ∷ row) h (inl before) = absurd (let one = All-head (IsPlaced value low end i) x row h in omega (arith, one.from, before))
-  empty_outside low end i (x ∷ row) h (inr after) = absurd (let one = All-head (IsPlaced value low end i) x row h in omega (arith, one.until, after))
+  -- before the bound no row has any
+  empty_before : (low i : ℕ) (row : List (Entry K)) → All (IsPlaced value low i) row → i < low → row ≡ []
+  empty_before low i [] h before = refl
+  empty_before low i (x ∷ row) h before = absurd (let one = All-head (IsPlaced value low i) x row h in omega (arith, one.from, before))
 
-  -- where those between the bounds are made empty, all are
-  pub all_emptied : (rows now : List (List (Entry K))) (low end : ℕ) → ArePlaced value low end rows → AreEmpty now low end → ((i : ℕ) → get_or rows i [] ≡ [] → get_or now i [] ≡ []) → (i : ℕ) → get_or now i [] ≡ []
-  all_emptied rows now low end placed empty kept i = elim (cases_lt i low) [
-    | inl before ↦ kept i (empty_outside low end i (get_or rows i []) (placed i) (inl before))
-    | inr from ↦ elim (cases_lt i end) [
-      | inl until ↦ empty i from until
-      | inr after ↦ kept i (empty_outside low end i (get_or rows i []) (placed i) (inr after))
-    ]
+  -- where those from the bound on are made empty, all are
+  pub all_emptied : (rows now : List (List (Entry K))) (low : ℕ) → ArePlaced value low rows → ((i : ℕ) → low ≤ i → get_or now i [] ≡ []) → ((i : ℕ) → get_or rows i [] ≡ [] → get_or now i [] ≡ []) → (i : ℕ) → get_or now i [] ≡ []
+  all_emptied rows now low placed empty kept i = elim (cases_lt i low) [
+    | inl before ↦ kept i (empty_before low i (get_or rows i []) (placed i) before)
+    | inr from ↦ empty i from
   ]

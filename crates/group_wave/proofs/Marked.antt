@@ -1,11 +1,12 @@
 -- Marks of places, and which rows they tell of.
-use Rattle.std.proofs.Common.{◌≡◌, ◌≢◌, ℕ, ◌+◌, ◌*◌, ◌-◌, ◌/◌, ◌%◌, ◌^◌, ◌<◌, ◌≤◌, List, [], ◌∷◌, ◌++◌, length, get_or, set, replicate, sym, ap, subst, ◌∙◌, inl, inr, arith}
+use Rattle.std.proofs.Common.{◌≡◌, ◌≢◌, ℕ, ◌+◌, ◌*◌, ◌-◌, ◌/◌, ◌%◌, ◌^◌, ◌<◌, ◌≤◌, List, [], ◌∷◌, ◌++◌, length, get_or, set, replicate, refl, sym, ap, subst, ◌∙◌, inl, inr, arith}
 use Rattle.std.specs.Int.{bit_at}
 use Rattle.std.proofs.lemmas.Bool.{cases_eq, cases_lt}
 use Rattle.std.proofs.lemmas.List.{get_or-replicate, get_or_past, get_or-set_same, get_or-set_other, length-set, length-replicate, length_push}
 use Rattle.std.proofs.lemmas.Nat.{shr-shr}
 use Rattle.std.proofs.lemmas.Nat.Bits.{bit_at-zero, bit_at_above}
 use Rattle.group_wave.specs.kept.Bits.{PutsBit, DropsBit, NoneBelow}
+use Rattle.group_wave.specs.kept.Buckets.{most_buckets}
 use Rattle.group_wave.specs.kept.Marks.{mark_at, Marks, Unmarks, AreMarksFrom, AreUsed}
 
 -- the marks of other places stay where the other bits of a word do
@@ -79,7 +80,8 @@ module _ {X : Type 0} where
 
   pub used_more : (rows : List (List X)) (words now : List ℕ) (at : ℕ) (x : X) → at < length rows → AreUsed rows words → Marks words now at → AreUsed (set rows at (get_or rows at [] ++ x ∷ [])) now
   used_more rows words now at x within used marks = record {
-    each = marks.count ∙ (used.each ∙ ap (λ n. n / 64 + 1) (sym (length-set rows at (get_or rows at [] ++ x ∷ []))));
+    each = marks.count ∙ used.each;
+    few = let size = length-set rows at (get_or rows at [] ++ x ∷ []) in let few = used.few in omega (arith, size, few);
     off = λ i none. elim (cases_eq i at) [
       | inl same ↦ absurd (let one = ap (mark_at now) same ∙ marks.here in omega (arith, none, one))
       | inr apart ↦ get_or-set_other rows at i (get_or rows at [] ++ x ∷ []) [] apart ∙ used.off i (sym (marks.others i apart) ∙ none)
@@ -92,7 +94,8 @@ module _ {X : Type 0} where
 
   pub used_emptied : (rows : List (List X)) (words now : List ℕ) (at : ℕ) → at < length rows → AreUsed rows words → Unmarks words now at → AreUsed (set rows at []) now
   used_emptied rows words now at within used gone = record {
-    each = gone.count ∙ (used.each ∙ ap (λ n. n / 64 + 1) (sym (length-set rows at [])));
+    each = gone.count ∙ used.each;
+    few = let size = length-set rows at [] in let few = used.few in omega (arith, size, few);
     off = λ i none. elim (cases_eq i at) [
       | inl same ↦ ap (λ k. get_or (set rows at []) k []) same ∙ get_or-set_same rows at [] [] within
       | inr apart ↦ get_or-set_other rows at i [] [] apart ∙ used.off i (sym (gone.others i apart) ∙ none)
@@ -106,7 +109,8 @@ module _ {X : Type 0} where
   -- a row of which an element is taken has some left, or is marked no more
   pub used_less : (rows now : List (List X)) (words : List ℕ) (at : ℕ) (x : X) → at < length now → length now ≡ length rows → rows ≡ set now at (get_or now at [] ++ x ∷ []) → 0 < length (get_or now at []) → AreUsed rows words → AreUsed now words
   used_less rows now words at x within long is left used = record {
-    each = used.each ∙ ap (λ n. n / 64 + 1) (sym long);
+    each = used.each;
+    few = let few = used.few in omega (arith, long, few);
     off = λ i none. elim (cases_eq i at) [
       | inl same ↦ absurd (let here = row_at same in let gone = used.off i none in some_not_none (get_or now at []) x (sym here ∙ gone))
       | inr apart ↦ sym (row_else i apart) ∙ used.off i none
@@ -129,7 +133,8 @@ module _ {X : Type 0} where
   -- where none is left the mark is taken off
   pub used_last : (rows now : List (List X)) (words marks : List ℕ) (at : ℕ) (x : X) → at < length now → length now ≡ length rows → rows ≡ set now at (get_or now at [] ++ x ∷ []) → get_or now at [] ≡ [] → AreUsed rows words → Unmarks words marks at → AreUsed now marks
   used_last rows now words marks at x within long is none used gone = record {
-    each = gone.count ∙ (used.each ∙ ap (λ n. n / 64 + 1) (sym long));
+    each = gone.count ∙ used.each;
+    few = let few = used.few in omega (arith, long, few);
     off = λ i off. elim (cases_eq i at) [
       | inl same ↦ ap (λ k. get_or now k []) same ∙ none
       | inr apart ↦ sym (row_else i apart) ∙ used.off i (sym (gone.others i apart) ∙ off)
@@ -157,9 +162,19 @@ unmarked_zero : (n i : ℕ) → mark_at (replicate n 0) i ≡ 0
 unfolding mark_at
 unmarked_zero n i = ap (λ w. bit_at w (i % 64)) (blank n (i / 64)) ∙ bit_at-zero (i % 64)
 
-pub used_none : {X : Type 0} (rows : List (List X)) (count : ℕ) → length rows ≡ count → ((i : ℕ) → get_or rows i [] ≡ []) → AreUsed rows (replicate (count / 64 + 1) 0)
-used_none rows count long none = record {
-  each = length-replicate (count / 64 + 1) nought ∙ ap (λ n. n / 64 + 1) (sym long);
-  off = λ i _. none i;
-  on = λ i one. absurd (let zero = unmarked_zero (count / 64 + 1) i in omega (arith, zero, one));
+pub used_none : {X : Type 0} → AreUsed {X = X} [] (replicate (most_buckets / 64 + 1) 0)
+used_none = record {
+  each = length-replicate (most_buckets / 64 + 1) nought;
+  few = omega arith;
+  off = λ i _. refl;
+  on = λ i one. absurd (let zero = unmarked_zero (most_buckets / 64 + 1) i in omega (arith, zero, one));
+}
+
+-- rows that have the same, but for rows at the end without any
+pub used_same : {X : Type 0} (rows now : List (List X)) (words : List ℕ) → ((i : ℕ) → get_or now i [] ≡ get_or rows i []) → length now ≤ most_buckets → AreUsed rows words → AreUsed now words
+used_same rows now words same few used = record {
+  each = used.each;
+  few = few;
+  off = λ i none. same i ∙ used.off i none;
+  on = λ i one. subst (λ row. 0 < length row) (sym (same i)) (used.on i one);
 }

@@ -18,15 +18,35 @@ module _ {X : Type 0} where
       let front = IsPermutation-sym _ _ (IsPermutation-middle row x (all_of rows)) in
       IsPermutation-trans _ _ _ front (IsPermutation-append_right row _ _ (all_more rows at x (omega arith)))
 
+  -- a row more without any, at the end
+  pub grown_at : (rows : List (List X)) (i : ℕ) → get_or (rows ++ [] ∷ []) i [] ≡ get_or rows i []
+  grown_at [] zero = refl
+  grown_at [] (suc i) = refl
+  grown_at (row ∷ rows) zero = refl
+  grown_at (row ∷ rows) (suc i) = grown_at rows i
+
   -- where no row has any, there is none
   pub none_in : (rows : List (List X)) → ((i : ℕ) → get_or rows i [] ≡ []) → all_of rows ≡ []
   none_in [] none = refl
   none_in (row ∷ rows) none = ap (λ (xs : List X). xs ++ all_of rows) (none 0) ∙ none_in rows (λ i. none (suc i))
 
+  -- rows that have the same, but for rows at the end without any, have the same in all
+  pub same_in : (rows now : List (List X)) → ((i : ℕ) → get_or now i [] ≡ get_or rows i []) → all_of now ≡ all_of rows
+  same_in [] now same = none_in now same
+  same_in (row ∷ rows) [] same = sym (none_in (row ∷ rows) (λ i. sym (same i)))
+  same_in (row ∷ rows) (other ∷ now) same =
+      ap (λ (xs : List X). xs ++ all_of now) (same 0) ∙ ap (λ (xs : List X). row ++ xs) (same_in rows now (λ i. same (suc i)))
+
   -- what holds of each in its row holds of all
   pub each_of : (P : X → Type 0) (rows : List (List X)) → ((i : ℕ) → All P (get_or rows i [])) → All P (all_of rows)
   each_of P [] each = All-nil P
   each_of P (row ∷ rows) each = All-append P row (all_of rows) (each 0) (each_of P rows (λ i. each (suc i)))
+
+  -- a row that has some is one of the rows
+  pub row_within : (rows : List (List X)) (i k : ℕ) → k < length (get_or rows i []) → i < length rows
+  row_within [] i k within = absurd (omega (arith, within))
+  row_within (row ∷ rows) zero k within = omega arith
+  row_within (row ∷ rows) (suc i) k within = let there = row_within rows i k within in omega (arith, there)
 
   -- what was taken from the end of a row is put back
   pub put_back : (rows : List (List X)) (at : ℕ) (row rest : List X) (x : X) → at < length rows → row ≡ get_or rows at row → row ≡ rest ++ x ∷ []

@@ -1,5 +1,5 @@
 -- Boxes that stand eight by eight too.
-use Rattle.std.proofs.Common.{◌≡◌, ℕ, ◌+◌, ◌-◌, ◌*◌, ◌/◌, ◌%◌, ◌<◌, ◌≤◌, ◌++◌, inl, inr, get_or, get_or-set_same, get_or-set_other, List, [], ◌∷◌, length, sym, ap, subst, ◌∙◌, arith, slice_set}
+use Rattle.std.proofs.Common.{◌≡◌, ℕ, ◌-◌, ◌*◌, ◌/◌, ◌%◌, ◌<◌, ◌≤◌, ◌++◌, inl, inr, get_or, get_or-set_same, get_or-set_other, List, [], ◌∷◌, length, subst, ◌∙◌, arith, slice_set}
 use Rattle.std.specs.List.{swap_remove}
 use Rattle.std.proofs.lemmas.Bool.{cases_eq, cases_lt}
 use Rattle.std.proofs.lemmas.List.{length-set, length_push, length-take, get_or_append_left, get_or_push, get_or-take}

@@ -1,7 +1,9 @@
 //! Buckets of entries that wait.
 
-ghost use Rattle.std.specs.Prelude.{◌≡◌, ◌<◌, ◌≤◌, ◌∷◌, ◌++◌, ℕ, [], length, eqb, slice_index_or, slice_set, vec_len, OnOk, OnErr, IfOk};
+ghost use Rattle.std.specs.Prelude.{◌≡◌, ◌<◌, ◌≤◌, ◌+◌, ◌∷◌, ◌++◌, ℕ, [], length, max, eqb, slice_index_or, slice_set, vec_len, OnOk, OnErr, IfOk};
+ghost use Rattle.group_wave.specs.kept.Buckets.{most_buckets};
 
+use crate::keys::BUCKETS;
 use crate::marks::{first_marked, mark, unmark};
 use crate::queue::Entry;
 use std::alloc::{AllocError, Global};
@@ -65,16 +67,22 @@ impl<K: Copy + Drop> Bucket<K> {
     }
 }
 
-/// This many buckets, all without entries.
-fn empty_buckets<K: Copy + Drop>(alloc: Global, count: usize) -> Result<Vec<Bucket<K>>, AllocError>
-    ensures count { IfOk result (λ v. length v.items ≡ count) }
-    ensures empty { IfOk result (λ v. (i : ℕ) → slice_index_or v.items i [] ≡ []) }
+/// Makes buckets without entries up to one.
+#[inline(never)]
+fn add_buckets<K: Copy + Drop>(
+    alloc: Global,
+    buckets: &mut Vec<Bucket<K>>,
+    at: usize,
+) -> Result<(), AllocError>
+    ensures room { OnOk result (at < length buckets.new.items) }
+    ensures few { length buckets.new.items ≤ max (length buckets.old.items) (at + 1) }
+    ensures same { (i : ℕ) →
+        slice_index_or buckets.new.items i [] ≡ slice_index_or buckets.old.items i [] }
 {
-    let mut buckets = Vec::with_capacity(alloc, count)?;
-    for _ in 0..count {
+    while buckets.len() <= at {
         buckets.push(Bucket::new(alloc))?;
     }
-    Ok(buckets)
+    Ok(())
 }
 
 /// Puts an entry into a bucket. An `Err` changes nothing.
@@ -104,11 +112,13 @@ fn take_from<K: Copy + Drop>(buckets: &mut Vec<Bucket<K>>, at: usize) -> Entry<K
     buckets[at].take_last()
 }
 
-/// Buckets, with a bit for each that tells whether it has entries. Contracts see a list of lists.
+/// Buckets, as many as were needed so far, with a bit for each that tells whether it has entries.
+/// Contracts see a list of lists.
 #[derive(Drop)]
 pub(crate) struct Buckets<K> {
     rows: Vec<Bucket<K>>,
     used: Vec<u64>,
+    alloc: Global,
 }
 
 impl<K> Model for Buckets<K> {
@@ -124,14 +134,37 @@ impl<K> Model for Buckets<K> {
 }
 
 impl<K: Copy + Drop> Buckets<K> {
-    /// This many buckets, all without entries.
-    pub(crate) fn new(alloc: Global, count: usize) -> Result<Buckets<K>, AllocError>
-        ensures count { IfOk result (λ b. length b ≡ count) }
-        ensures empty { IfOk result (λ b. (i : ℕ) → slice_index_or b i [] ≡ []) }
+    /// None.
+    pub(crate) fn new(alloc: Global) -> Result<Buckets<K>, AllocError>
+        ensures { IfOk result (λ b. b ≡ []) }
     {
-        let rows = empty_buckets(alloc, count)?;
-        let used = vec![in alloc; 0; count / 64 + 1]?;
-        Ok(Buckets { rows, used })
+        let used = vec![in alloc; 0; BUCKETS / 64 + 1]?;
+        Ok(Buckets {
+            rows: Vec::new(alloc),
+            used,
+            alloc,
+        })
+    }
+
+    /// How many there are.
+    #[inline(always)]
+    pub(crate) fn len(&self) -> usize
+        ensures { result ≡ length self.now }
+    {
+        self.rows.len()
+    }
+
+    /// Makes buckets up to one, where there are fewer. Those that come to it have no entries.
+    #[inline(always)]
+    pub(crate) fn make_room(&mut self, at: usize) -> Result<(), AllocError>
+        requires { at < most_buckets }
+        ensures room { OnOk result (at < length self.new) }
+        ensures same { (i : ℕ) → slice_index_or self.new i [] ≡ slice_index_or self.old i [] }
+    {
+        if at < self.rows.len() {
+            return Ok(());
+        }
+        add_buckets(self.alloc, &mut self.rows, at)
     }
 
     /// The first place from one on and before another whose bucket has entries, if there is one.
@@ -153,14 +186,13 @@ impl<K: Copy + Drop> Buckets<K> {
         unmark(&mut self.used, at);
     }
 
-    /// Takes all entries out of the buckets from one place to the one before another.
-    pub(crate) fn clear(&mut self, low: usize, end: usize)
-        requires { end ≤ length self.old }
-        ensures count { length self.new ≡ length self.old }
-        ensures empty { (i : ℕ) → low ≤ i → i < end → slice_index_or self.new i [] ≡ [] }
+    /// Takes all entries out of the buckets from one on.
+    pub(crate) fn clear(&mut self, low: usize)
+        ensures empty { (i : ℕ) → low ≤ i → slice_index_or self.new i [] ≡ [] }
         ensures kept { (i : ℕ) → slice_index_or self.old i [] ≡ []
             → slice_index_or self.new i [] ≡ [] }
     {
+        let end = self.rows.len();
         let mut at = self.first_used(low, end);
         while at < end {
             self.empty_at(at);

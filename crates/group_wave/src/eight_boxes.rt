@@ -30,13 +30,24 @@ fn gap(low: u16, high: u16, first: u16, last: u16) -> u16
         .saturating_add(first.saturating_sub(high))
 }
 
-/// A 65,536th of how often this is divides by one more than the steps, rounded up.
+/// A 65,536th of how often this is divides by one more than the steps, rounded up. What short wires
+/// divide by is known: a division takes as long as a look at eight boxes.
+#[inline(always)]
 fn share_of(steps: u16) -> u16
     requires some { 0 < steps }
     requires few { steps < 128 }
     ensures { IsShare steps result }
 {
-    65_535 / (steps + 1) + 1
+    match steps {
+        1 => 32_768,
+        2 => 21_846,
+        3 => 16_384,
+        4 => 13_108,
+        5 => 10_923,
+        6 => 9_363,
+        7 => 8_192,
+        _ => 65_535 / (steps + 1) + 1,
+    }
 }
 
 /// How many wires lead over so many places, at least.
@@ -115,26 +126,24 @@ impl Sides {
     }
 }
 
-/// The fewest wires of one place that lead on from one, and the number of the box to which they do,
-/// which are counted from one on.
+/// The fewest wires of one place that lead on from one, and the last six bits of the number of the
+/// box to which they do.
 #[inline(always)]
-fn fewest_short(along: &Sides, across: &Sides, from: u16) -> u16
-    requires { from ≤ 56 }
+fn fewest_short(along: &Sides, across: &Sides, numbers: &[u16; 8]) -> u16
     ensures { (lane : ℕ) → lane < 8
         → result / 64 ≤ wires_for 0 (gap_at along.now lane) (gap_beside across.now lane) }
 {
     let mut fewest = u16::MAX;
     for lane in 0..8 {
         let wires = short_wires(along.gap_at(lane), across.gap_beside(lane));
-        fewest = fewest.min(numbered(wires, from + lane as u16));
+        fewest = fewest.min(numbered(wires, numbers[lane] % 64));
     }
     fewest
 }
 
 /// The same of wires that go on over so many steps.
 #[inline(always)]
-fn fewest_long(along: &Sides, across: &Sides, from: u16, steps: u16) -> u16
-    requires from { from ≤ 56 }
+fn fewest_long(along: &Sides, across: &Sides, numbers: &[u16; 8], steps: u16) -> u16
     requires some { 0 < steps }
     requires few { steps < 128 }
     ensures { (lane : ℕ) → lane < 8
@@ -144,23 +153,22 @@ fn fewest_long(along: &Sides, across: &Sides, from: u16, steps: u16) -> u16
     let mut fewest = u16::MAX;
     for lane in 0..8 {
         let wires = long_wires(share, steps, along.gap_at(lane), across.gap_beside(lane));
-        fewest = fewest.min(numbered(wires, from + lane as u16));
+        fewest = fewest.min(numbered(wires, numbers[lane] % 64));
     }
     fewest
 }
 
 /// The same of all wires.
 #[inline(always)]
-fn fewest_from(along: &Sides, across: &Sides, from: u16, steps: u16) -> u16
-    requires from { from ≤ 56 }
+fn fewest_from(along: &Sides, across: &Sides, numbers: &[u16; 8], steps: u16) -> u16
     requires few { steps < 128 }
     ensures { (lane : ℕ) → lane < 8
         → result / 64 ≤ wires_for steps (gap_at along.now lane) (gap_beside across.now lane) }
 {
     if steps == 0 {
-        fewest_short(along, across, from)
+        fewest_short(along, across, numbers)
     } else {
-        fewest_long(along, across, from, steps)
+        fewest_long(along, across, numbers, steps)
     }
 }
 
@@ -171,6 +179,8 @@ pub(crate) struct EightBoxes {
     right: [u16; 8],
     bottom: [u16; 8],
     top: [u16; 8],
+    /// The numbers of the boxes, of which the last six bits are told.
+    numbers: [u16; 8],
 }
 
 impl EightBoxes {
@@ -180,10 +190,11 @@ impl EightBoxes {
         right: [0; 8],
         bottom: [u16::MAX; 8],
         top: [0; 8],
+        numbers: [0; 8],
     };
 
-    /// Puts a box in one of the places.
-    pub(crate) fn put(&mut self, lane: usize, place: BoundingBox)
+    /// Puts a box of a number in one of the places.
+    pub(crate) fn put(&mut self, lane: usize, place: BoundingBox, number: u16)
         requires { lane < 8 }
         ensures put { KeepsBox self.new lane (boxed place) }
         ensures others { (other : ℕ) (place : plain.BoundingBox) → (other ≡ lane → ⊥)
@@ -193,6 +204,7 @@ impl EightBoxes {
         self.right[lane] = cut(place.right);
         self.bottom[lane] = cut(place.bottom);
         self.top[lane] = cut(place.top);
+        self.numbers[lane] = number;
     }
 }
 
@@ -233,10 +245,9 @@ impl Outlook {
     }
 
     /// How many wires lead on to the nearest of eight boxes at least, by 64 times as much, and the
-    /// number of that box, which are counted from one on.
+    /// last six bits of that box's number.
     #[inline(always)]
-    pub(crate) fn fewest(self, boxes: &EightBoxes, from: u16) -> u16
-        requires from { from ≤ 56 }
+    pub(crate) fn fewest(self, boxes: &EightBoxes) -> u16
         requires few { self.steps < 128 }
         ensures { (wire : Wire) (lane : ℕ) (place : plain.BoundingBox) → IsOutlook self wire
             → lane < 8 → KeepsBox boxes.now lane place → result / 64 ≤ wires_to place wire }
@@ -254,9 +265,9 @@ impl Outlook {
             last: self.y2,
         };
         if self.is_column {
-            fewest_from(&rows, &columns, from, self.steps)
+            fewest_from(&rows, &columns, &boxes.numbers, self.steps)
         } else {
-            fewest_from(&columns, &rows, from, self.steps)
+            fewest_from(&columns, &rows, &boxes.numbers, self.steps)
         }
     }
 }
@@ -275,19 +286,19 @@ pub(crate) fn make_room(eights: &mut Vec<EightBoxes>, count: usize) -> Result<()
     Ok(())
 }
 
-/// Puts a box in one of the places.
-pub(crate) fn put_box(eights: &mut Vec<EightBoxes>, at: usize, place: BoundingBox)
+/// Puts a box of a number in one of the places.
+pub(crate) fn put_box(eights: &mut Vec<EightBoxes>, at: usize, place: BoundingBox, number: u16)
     requires { at < 8 * length eights.old.items }
     ensures count { length eights.new.items ≡ length eights.old.items }
     ensures put { StandsAt eights.new.items at (boxed place) }
     ensures others { (other : ℕ) (place : plain.BoundingBox) → (other ≡ at → ⊥)
         → StandsAt eights.old.items other place → StandsAt eights.new.items other place }
 {
-    eights[at / 8].put(at % 8, place);
+    eights[at / 8].put(at % 8, place, number);
 }
 
 /// How many wires lead on from one of a group to the nearest of boxes at least, by 64 times as
-/// much, and the last six bits of that box's place.
+/// much, and the last six bits of that box's number.
 #[inline(always)]
 pub(crate) fn fewest_in(eights: &[EightBoxes], group: &Group) -> u16
     ensures { (at : ℕ) (place : plain.BoundingBox) → at < 8 * length eights.now
@@ -298,7 +309,7 @@ pub(crate) fn fewest_in(eights: &[EightBoxes], group: &Group) -> u16
     };
     let mut fewest = u16::MAX;
     for at in 0..eights.len() {
-        fewest = fewest.min(outlook.fewest(&eights[at], (at % 8 * 8) as u16));
+        fewest = fewest.min(outlook.fewest(&eights[at]));
     }
     fewest
 }

@@ -20,7 +20,7 @@ ghost use Rattle.group_wave.specs.kept.Boxes.{AreFirstBoxes, boxed};
 ghost use Rattle.group_wave.specs.kept.Grounds.{IsGround, groups_of};
 
 use crate::boxes::BoundingBox;
-use node_cost::{GREATEST_PRESENT, View, cost};
+use node_cost::{BorrowedView, GREATEST_PRESENT, View, cost};
 use routing_problem::{Device, Kind, Mode, Problem, Span};
 use smallvec::SmallVec;
 use std::alloc::AllocError;
@@ -36,7 +36,7 @@ pub(crate) struct Ground<'a> {
     drives: &'a PinDrives,
     boxes: &'a [BoundingBox],
     net: u32,
-    view: &'a View,
+    view: BorrowedView<'a>,
     present: u32,
     bb: u32,
     /// Where the net may be routed.
@@ -126,7 +126,7 @@ impl<'a> Ground<'a> {
             drives,
             boxes,
             net,
-            view,
+            view: view.borrowed(),
             present,
             bb,
             inside: BoundingBox::of_net(boxes, problem, net).widened(bb),

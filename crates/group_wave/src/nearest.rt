@@ -68,18 +68,14 @@ fn take_stamps_off(known: &mut Vec<Known>)
 
 /// Makes a number that of a box as it is now. Its last six bits say which of the boxes it is, the
 /// others how often that was made narrower.
-fn make_live(live: &mut Vec<u16>, number: u16) {
-    let which = usize::from(number % 64);
-    if which < live.len() {
-        live[which] = number;
-    }
+fn make_live(live: &mut [u16; 64], number: u16) {
+    live[usize::from(number % 64)] = number;
 }
 
 /// Whether the number is that of a box as it is now.
 #[inline(always)]
-fn is_live(live: &[u16], number: u16) -> bool {
-    let which = usize::from(number % 64);
-    which < live.len() && live[which] == number
+fn is_live(live: &[u16; 64], number: u16) -> bool {
+    live[usize::from(number % 64)] == number
 }
 
 /// Puts the box that stands in a place there, if one does.
@@ -92,7 +88,7 @@ fn put_again(eights: &mut Vec<EightBoxes>, boxes: &[SinkBox], at: usize)
         → StandsAt eights.old.items other place → StandsAt eights.new.items other place }
 {
     if at < boxes.len() {
-        put_box(eights, at, boxes[at].place);
+        put_box(eights, at, boxes[at].place, boxes[at].number);
     }
 }
 
@@ -105,7 +101,7 @@ pub(crate) struct Nearest {
     eights: Vec<EightBoxes>,
     /// The numbers of the boxes as they are now. One that is taken away or made narrower has
     /// another number from then on.
-    live: Vec<u16>,
+    live: [u16; 64],
     known: Vec<Known>,
     /// What was found at an earlier stamp was found before all boxes were last taken away.
     stamp: u32,
@@ -132,7 +128,7 @@ impl Nearest {
         Ok(Nearest {
             boxes: Vec::new(alloc),
             eights: Vec::new(alloc),
-            live: vec![in alloc; 0; 64]?,
+            live: [0; 64],
             known: nothing_known(alloc, groups)?,
             stamp: 1,
         })
@@ -182,7 +178,7 @@ impl Nearest {
             until,
             number,
         })?;
-        put_box(&mut self.eights, at, place);
+        put_box(&mut self.eights, at, place, number);
         Ok(())
     }
 
@@ -217,7 +213,7 @@ impl Nearest {
             until: around.until,
             number,
         };
-        put_box(&mut self.eights, at, place);
+        put_box(&mut self.eights, at, place, number);
     }
 
     /// Takes a box away. What was found for groups stays, and is no more than the boxes that are
@@ -231,7 +227,7 @@ impl Nearest {
         let gone = self.boxes.swap_remove(at);
         make_live(&mut self.live, gone.number.wrapping_add(64));
         let last = self.boxes.len();
-        put_box(&mut self.eights, last, BoundingBox::NOTHING);
+        put_box(&mut self.eights, last, BoundingBox::NOTHING, 0);
         put_again(&mut self.eights, &self.boxes, at);
         gone
     }
@@ -270,16 +266,7 @@ impl Nearest {
         let fewest = fewest_in(&self.eights, group);
         Sight {
             wires: fewest / 64,
-            number: self.number_at(usize::from(fewest % 64)),
-        }
-    }
-
-    /// The number of a box, or one of no box.
-    fn number_at(&self, at: usize) -> u16 {
-        if at < self.boxes.len() {
-            self.boxes[at].number
-        } else {
-            0
+            number: self.live[usize::from(fewest % 64)],
         }
     }
 }

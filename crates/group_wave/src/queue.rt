@@ -27,8 +27,6 @@ pub(crate) struct Queue<K: Key> {
     buckets: Buckets<K>,
     /// None stands in a bucket before this one.
     low: usize,
-    /// None stands in this bucket or a later one.
-    end: usize,
     /// How many wait.
     count: usize,
 }
@@ -41,7 +39,7 @@ impl<K: Key> Model for Queue<K> {
 
     ghost view = { λ q. entries_of K.value q.buckets };
 
-    ghost invariant = { λ q. IsBucketed K.value q.buckets q.low q.end q.count };
+    ghost invariant = { λ q. IsBucketed K.value q.buckets q.low q.count };
 }
 
 impl<K: Key> Queue<K> {
@@ -53,11 +51,10 @@ impl<K: Key> Queue<K> {
     pub(crate) fn new(alloc: Global) -> Result<Queue<K>, AllocError>
         ensures { IfOk result (λ q. q ≡ []) }
     {
-        let buckets = Buckets::new(alloc, BUCKETS)?;
+        let buckets = Buckets::new(alloc)?;
         Ok(Queue {
             buckets,
             low: BUCKETS,
-            end: 0,
             count: 0,
         })
     }
@@ -66,9 +63,8 @@ impl<K: Key> Queue<K> {
     pub(crate) fn clear(&mut self)
         ensures { self.new ≡ [] }
     {
-        self.buckets.clear(self.low, self.end);
+        self.buckets.clear(self.low);
         self.low = BUCKETS;
-        self.end = 0;
         self.count = 0;
     }
 
@@ -102,9 +98,9 @@ impl<K: Key> Queue<K> {
             return Err(AllocError);
         }
         let at = entry.key.bucket();
+        self.buckets.make_room(at)?;
         self.buckets.put(at, entry)?;
         self.low = self.low.min(at);
-        self.end = self.end.max(at + 1);
         self.count += 1;
         Ok(())
     }
@@ -117,7 +113,7 @@ impl<K: Key> Queue<K> {
             (λ e. IsLowest self.old (K.value e.key) (K.value bound)) }
         ensures none { IfNone result (IsPast self.old self.new (K.value bound)) }
     {
-        let end = self.end.min(bound.bucket() + 1);
+        let end = self.buckets.len().min(bound.bucket() + 1);
         self.low = self.buckets.first_used(self.low, end);
         if end <= self.low {
             return None;

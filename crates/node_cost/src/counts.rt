@@ -28,6 +28,37 @@ impl Model for Counts {
     ghost invariant = { λ c. IsPacked c.words.items c.wide.items c.marks.items };
 }
 
+/// How many nets use each node, without the marks. Contracts see the list of these numbers.
+#[derive(Drop)]
+pub(crate) struct BorrowedCounts<'a> {
+    words: &'a [u64],
+    wide: &'a [u16],
+}
+
+impl<'a> Model for BorrowedCounts<'a> {
+    ghost use Rattle.std.specs.Prelude.{List, ℕ, ◌≡◌, ◌+◌, ◌/◌, length};
+    ghost use Rattle.node_cost.specs.kept.Packed.{counts_of};
+
+    ghost Value = { List ℕ };
+
+    ghost view = { λ c. counts_of c.words.now c.wide.now };
+
+    ghost invariant = { λ c. length c.words.now ≡ length c.wide.now / 16 + 1 };
+}
+
+impl<'a> BorrowedCounts<'a> {
+    /// How many nets use a node.
+    #[inline(always)]
+    #[tactic(auto, using(crate::proofs::Packing::length_counts, crate::proofs::Packing::count_is))]
+    pub(crate) fn get(&self, id: u32) -> u32
+        requires { id < length self.now }
+        ensures exact { result ≡ get_or self.now id 0 }
+        ensures bounded { result ≤ 65535 }
+    {
+        count(self.words, self.wide, id)
+    }
+}
+
 impl Counts {
     /// Zero for each of the nodes.
     #[tactic(auto, using(crate::proofs::Packing::none_counted, crate::proofs::Packing::none_packed))]
@@ -49,14 +80,24 @@ impl Counts {
         self.wide.len()
     }
 
+    /// The same numbers, with their words and their table at hand.
+    #[inline(always)]
+    pub(crate) fn borrowed(&self) -> BorrowedCounts<'_>
+        ensures { result ≡ self.now }
+    {
+        BorrowedCounts {
+            words: &self.words,
+            wide: &self.wide,
+        }
+    }
+
     /// How many nets use a node.
-    #[tactic(auto, using(crate::proofs::Packing::length_counts, crate::proofs::Packing::count_is))]
     pub fn get(&self, id: u32) -> u32
         requires { id < length self.now }
         ensures exact { result ≡ get_or self.now id 0 }
         ensures bounded { result ≤ 65535 }
     {
-        count(&self.words, &self.wide, id)
+        self.borrowed().get(id)
     }
 
     /// So many nets use a node.

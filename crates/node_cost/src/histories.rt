@@ -34,6 +34,48 @@ fn note_of(history: u64) -> u64
     u64::from(history != 0)
 }
 
+/// The history of each node, where it stands. Contracts see the list of these numbers.
+#[derive(Drop)]
+pub(crate) struct BorrowedHistories<'a> {
+    histories: &'a [u64],
+    some: &'a [u64],
+}
+
+impl<'a> Model for BorrowedHistories<'a> {
+    ghost use Rattle.std.specs.Prelude.{List, ℕ};
+    ghost use Rattle.node_cost.specs.kept.Noted.{AreHistories};
+
+    ghost Value = { List ℕ };
+
+    ghost view = { λ h. h.histories.now };
+
+    ghost invariant = { λ h. AreHistories h.histories.now h.some.now };
+}
+
+impl<'a> BorrowedHistories<'a> {
+    /// Whether a node's history is 0, which is told quicker than how much it is.
+    #[inline(always)]
+    pub(crate) fn is_none(&self, id: u32) -> bool
+        requires { id < length self.now }
+        ensures { IsTrue result ↔ (get_or self.now id 0 ≡ 0) }
+    {
+        narrow(self.some, id) == 0
+    }
+
+    /// The history of a node.
+    #[inline(always)]
+    pub(crate) fn get(&self, id: u32) -> u64
+        requires { id < length self.now }
+        ensures exact { result ≡ get_or self.now id 0 }
+        ensures bounded { result ≤ GREATEST_HISTORY }
+    {
+        if self.is_none(id) {
+            return 0;
+        }
+        self.histories[id as usize]
+    }
+}
+
 impl Histories {
     /// Zero for each of the nodes.
     pub fn new(alloc: Global, nodes: usize) -> Result<Histories, AllocError>
@@ -61,12 +103,23 @@ impl Histories {
         self.histories.len()
     }
 
+    /// The same histories, with what tells of them at hand.
+    #[inline(always)]
+    pub(crate) fn borrowed(&self) -> BorrowedHistories<'_>
+        ensures { result ≡ self.now }
+    {
+        BorrowedHistories {
+            histories: &self.histories,
+            some: &self.some,
+        }
+    }
+
     /// Whether a node's history is 0, which is told quicker than how much it is.
     pub fn is_none(&self, id: u32) -> bool
         requires { id < length self.now }
         ensures { IsTrue result ↔ (get_or self.now id 0 ≡ 0) }
     {
-        narrow(&self.some, id) == 0
+        self.borrowed().is_none(id)
     }
 
     /// The history of a node.
@@ -75,10 +128,7 @@ impl Histories {
         ensures exact { result ≡ get_or self.now id 0 }
         ensures bounded { result ≤ GREATEST_HISTORY }
     {
-        if self.is_none(id) {
-            return 0;
-        }
-        self.histories[id as usize]
+        self.borrowed().get(id)
     }
 
     /// Gives a node a history.

@@ -15,4 +15,4 @@ pub use counts::Counts;
 pub use entry_cost::{GREATEST_HISTORY, GREATEST_OTHERS, GREATEST_PRESENT, cost};
 pub use histories::Histories;
 pub use settings::{Range, Settings};
-pub use view::View;
+pub use view::{BorrowedView, View};

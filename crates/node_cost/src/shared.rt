@@ -4,7 +4,7 @@ ghost use Rattle.std.specs.Prelude.{◌≡◌, ℕ, ◌≤◌, ◌<◌, length, 
 ghost use Rattle.std.specs.Arc.{arc_value};
 
 use crate::entry_cost::GREATEST_HISTORY;
-use crate::histories::Histories;
+use crate::histories::{BorrowedHistories, Histories};
 use std::alloc::{AllocError, Global};
 use std::marker::Model;
 use std::sync::Arc;
@@ -49,26 +49,14 @@ impl SharedHistories {
         }
     }
 
-    /// The history of a node.
-    pub(crate) fn get(&self, id: u32) -> u64
-        requires { id < length self.now }
-        ensures exact { result ≡ get_or self.now id 0 }
-        ensures bounded { result ≤ GREATEST_HISTORY }
+    /// The histories, wherever they stand.
+    #[inline(always)]
+    pub(crate) fn borrowed(&self) -> BorrowedHistories<'_>
+        ensures { result ≡ self.now }
     {
         match &self.shared {
-            Some(shared) => shared.get(id),
-            None => self.own.get(id),
-        }
-    }
-
-    /// Whether a node's history is 0.
-    pub(crate) fn is_none(&self, id: u32) -> bool
-        requires { id < length self.now }
-        ensures { IsTrue result ↔ (get_or self.now id 0 ≡ 0) }
-    {
-        match &self.shared {
-            Some(shared) => shared.is_none(id),
-            None => self.own.is_none(id),
+            Some(shared) => shared.borrowed(),
+            None => self.own.borrowed(),
         }
     }
 

@@ -5,9 +5,9 @@ ghost use Rattle.std.specs.List.{zip};
 ghost use Rattle.std.specs.Arc.{arc_value};
 ghost use Rattle.node_cost.specs.Views.{others_in, history_in};
 
-use crate::counts::Counts;
+use crate::counts::{BorrowedCounts, Counts};
 use crate::entry_cost::{GREATEST_HISTORY, GREATEST_OTHERS};
-use crate::histories::Histories;
+use crate::histories::{BorrowedHistories, Histories};
 use crate::shared::SharedHistories;
 use std::alloc::{AllocError, Global};
 use std::marker::Model;
@@ -33,6 +33,60 @@ impl Model for View {
     ghost invariant = { λ v. length v.histories ≡ length v.others };
 }
 
+/// A view that is lent, with its tables at hand. Contracts see the list of the same pairs.
+#[derive(Drop)]
+pub struct BorrowedView<'a> {
+    others: BorrowedCounts<'a>,
+    histories: BorrowedHistories<'a>,
+}
+
+impl<'a> Model for BorrowedView<'a> {
+    ghost use Rattle.std.specs.Prelude.{List, ℕ, ◌≡◌, length};
+
+    ghost Value = { List (ℕ × ℕ) };
+
+    ghost use Rattle.node_cost.specs.kept.Fields.{lent_by};
+
+    ghost view = { lent_by };
+
+    ghost invariant = { λ v. length v.histories ≡ length v.others };
+}
+
+impl<'a> BorrowedView<'a> {
+    /// How many other nets use a node.
+    #[inline(always)]
+    #[tactic(auto, using(crate::proofs::Views::length_seen, crate::proofs::Views::others_at))]
+    pub fn others(&self, id: u32) -> u32
+        requires { id < length self.now }
+        ensures exact { result ≡ others_in self.now id }
+        ensures bounded { result ≤ GREATEST_OTHERS }
+    {
+        self.others.get(id)
+    }
+
+    /// The history of a node.
+    #[inline(always)]
+    #[tactic(auto, using(crate::proofs::Views::length_seen, crate::proofs::Views::history_at))]
+    pub fn history(&self, id: u32) -> u64
+        requires { id < length self.now }
+        ensures exact { result ≡ history_in self.now id }
+        ensures bounded { result ≤ GREATEST_HISTORY }
+    {
+        self.histories.get(id)
+    }
+
+    /// Whether no other net uses a node, and its history is 0.
+    #[inline(always)]
+    #[tactic(auto, using(crate::proofs::Views::length_seen, crate::proofs::Views::others_at, crate::proofs::Views::history_at))]
+    pub fn is_free(&self, id: u32) -> bool
+        requires { id < length self.now }
+        ensures { IsTrue result ↔
+            ((others_in self.now id ≡ 0) × (history_in self.now id ≡ 0)) }
+    {
+        self.others.get(id) == 0 && self.histories.is_none(id)
+    }
+}
+
 impl View {
     /// A view of nodes that no other net uses and that have no history.
     #[tactic(auto, using(crate::proofs::Views::none_seen))]
@@ -55,35 +109,42 @@ impl View {
         self.others.len()
     }
 
+    /// The same view, with its tables at hand: for who looks at many nodes.
+    #[inline(always)]
+    pub fn borrowed(&self) -> BorrowedView<'_>
+        ensures { result ≡ self.now }
+    {
+        BorrowedView {
+            others: self.others.borrowed(),
+            histories: self.histories.borrowed(),
+        }
+    }
+
     /// How many other nets use a node.
-    #[tactic(auto, using(crate::proofs::Views::length_seen, crate::proofs::Views::others_at))]
     pub fn others(&self, id: u32) -> u32
         requires { id < length self.now }
         ensures exact { result ≡ others_in self.now id }
         ensures bounded { result ≤ GREATEST_OTHERS }
     {
-        self.others.get(id)
+        self.borrowed().others(id)
     }
 
     /// The history of a node.
-    #[tactic(auto, using(crate::proofs::Views::length_seen, crate::proofs::Views::history_at))]
     pub fn history(&self, id: u32) -> u64
         requires { id < length self.now }
         ensures exact { result ≡ history_in self.now id }
         ensures bounded { result ≤ GREATEST_HISTORY }
     {
-        self.histories.get(id)
+        self.borrowed().history(id)
     }
 
     /// Whether no other net uses a node, and its history is 0.
-    #[inline(always)]
-    #[tactic(auto, using(crate::proofs::Views::length_seen, crate::proofs::Views::others_at, crate::proofs::Views::history_at))]
     pub fn is_free(&self, id: u32) -> bool
         requires { id < length self.now }
         ensures { IsTrue result ↔
             ((others_in self.now id ≡ 0) × (history_in self.now id ≡ 0)) }
     {
-        self.others.get(id) == 0 && self.histories.is_none(id)
+        self.borrowed().is_free(id)
     }
 
     /// Gives a node so many other nets and a history.

@@ -22,7 +22,7 @@ block_within blocks name b e =
     subst (λ n. b < n) (length-map blocks (λ b. b.name)) (subst (λ r. IfSome r (λ n. n < length (names_of_blocks blocks))) e (number_below (names_of_blocks blocks) name))
 
 -- a site of an array is in the table
-pub site_in_table : (a : Array) (kind : BlockKind) (s : Site) → IsFit a → is_site a kind s ≡ true → is_in_table s ≡ true
+pub site_in_table : (a : Array) (kind : BlockKind) (s : Site) → IsFit a → is_site a kind s ≡ true → is_in_table a s ≡ true
 unfolding is_site
 site_in_table a LogicBlock s fit e = grind (arith, nat_tests, e, fit.pads, fit.columns, fit.rows)
 site_in_table a InputPad s fit e = grind (arith, nat_tests, e, fit.pads, fit.columns, fit.rows)
@@ -30,12 +30,16 @@ site_in_table a OutputPad s fit e = grind (arith, nat_tests, e, fit.pads, fit.co
 
 -- ---- the table of sites
 
-pub entry_within : (s : Site) → is_in_table s ≡ true → entry_of s < table_size
-entry_within s e = grind (arith, nat_tests, e)
+pub entry_within : (a : Array) (s : Site) → is_in_table a s ≡ true → entry_of s < table_size a
+entry_within a s e = grind (arith, nat_tests, e)
+
+-- an entry of the table has a column, a row and a position
+pub entry_parts : (a : Array) (s : Site) → IsFit a → is_in_table a s ≡ true → (s.x < 102) × (s.y < 102) × (s.subblk < 16)
+entry_parts a s fit e = (grind (arith, nat_tests, e, fit.columns), grind (arith, nat_tests, e), grind (arith, nat_tests, e))
 
 -- different sites have different entries
-one_from_entries : (s t : Site) → is_in_table s ≡ true → is_in_table t ≡ true → entry_of s ≡ entry_of t → same_site s t ≡ true
-one_from_entries s t i j e = grind (arith, nat_tests, i, j, e)
+one_from_entries : (a : Array) (s t : Site) → is_in_table a s ≡ true → is_in_table a t ≡ true → entry_of s ≡ entry_of t → same_site s t ≡ true
+one_from_entries a s t i j e = grind (arith, nat_tests, i, j, e)
 
 entries_from_one : (s t : Site) → same_site s t ≡ true → entry_of s ≡ entry_of t
 entries_from_one s t e = grind (arith, nat_tests, e)
@@ -44,12 +48,12 @@ none_on : {X : Type 0} (s : Site) (xs : List X) → list_any (is_on s) (map (λ 
 none_on s [] = refl
 none_on s (x ∷ xs) = none_on s xs
 
-pub none_taken : {X : Type 0} (xs : List X) (taken : List Bool) → taken ≡ replicate table_size false → IsTable (map (λ _. None) xs) taken
+pub none_taken : {X : Type 0} (a : Array) (xs : List X) (taken : List Bool) → taken ≡ replicate (table_size a) false → IsTable a (map (λ _. None) xs) taken
 unfolding is_occupied
-none_taken xs taken e =
+none_taken a xs taken e =
     record {
-      size = ap length e ∙ length-replicate table_size false;
-      tells = λ s i. ap (λ t. get_or t (entry_of s) false) e ∙ get_or-replicate table_size (entry_of s) false false (entry_within s i) ∙ sym (none_on s xs);
+      size = ap length e ∙ length-replicate (table_size a) false;
+      tells = λ s i. ap (λ t. get_or t (entry_of s) false) e ∙ get_or-replicate (table_size a) (entry_of s) false false (entry_within a s i) ∙ sym (none_on s xs);
     }
 
 or_swap : (a b c : Bool) → (a || (b || c)) ≡ (b || (a || c))
@@ -65,20 +69,20 @@ any_set p (x ∷ xs) (suc b) t within free none = ap (λ r. p x || r) (any_set p
 true-false : true ≡ false → ⊥
 true-false e = absurd cc
 
-tells_more : (xs : List (Option Site)) (taken : List Bool) (t s : Site) (one : Bool) → same_site s t ≡ one → is_in_table t ≡ true → is_in_table s ≡ true → IsTable xs taken
+tells_more : (a : Array) (xs : List (Option Site)) (taken : List Bool) (t s : Site) (one : Bool) → same_site s t ≡ one → is_in_table a t ≡ true → is_in_table a s ≡ true → IsTable a xs taken
     → get_or (set taken (entry_of t) true) (entry_of s) false ≡ (one || list_any (is_on s) xs)
 unfolding is_occupied
-tells_more xs taken t s true e j i table =
-    let within : entry_of t < length taken = subst (λ n. entry_of t < n) (sym table.size) (entry_within t j) in
+tells_more a xs taken t s true e j i table =
+    let within : entry_of t < length taken = subst (λ n. entry_of t < n) (sym table.size) (entry_within a t j) in
     ap (λ n. get_or (set taken (entry_of t) true) n false) (entries_from_one s t e) ∙ get_or-set_same taken (entry_of t) true false within
-tells_more xs taken t s false e j i table =
-    let apart : entry_of s ≢ entry_of t = λ h. true-false (sym (one_from_entries s t i j h) ∙ e) in
+tells_more a xs taken t s false e j i table =
+    let apart : entry_of s ≢ entry_of t = λ h. true-false (sym (one_from_entries a s t i j h) ∙ e) in
     get_or-set_other taken (entry_of t) (entry_of s) true false apart ∙ table.tells s i
 
-pub one_taken : (xs : List (Option Site)) (taken : List Bool) (b : ℕ) (t : Site) (entry : ℕ) → entry ≡ entry_of t → IsTable xs taken → b < length xs → get_or xs b None ≡ None → is_in_table t ≡ true → IsTable (set xs b (Some t)) (set taken entry true)
+pub one_taken : (a : Array) (xs : List (Option Site)) (taken : List Bool) (b : ℕ) (t : Site) (entry : ℕ) → entry ≡ entry_of t → IsTable a xs taken → b < length xs → get_or xs b None ≡ None → is_in_table a t ≡ true → IsTable a (set xs b (Some t)) (set taken entry true)
 unfolding is_occupied
-one_taken xs taken b t entry is table within free j =
+one_taken a xs taken b t entry is table within free j =
     rw is (record {
       size = length-set taken (entry_of t) true ∙ table.size;
-      tells = λ s i. tells_more xs taken t s (same_site s t) refl j i table ∙ sym (any_set (is_on s) xs b (Some t) within free refl);
+      tells = λ s i. tells_more a xs taken t s (same_site s t) refl j i table ∙ sym (any_set (is_on s) xs b (Some t) within free refl);
     })

@@ -51,10 +51,12 @@ pub(crate) fn judge(
     words: &Words,
 ) -> Option<PlaceFault>
     requires fit { IsFit array }
-    requires count { length sites.now ≡ length netlist.now.blocks }
-    ensures exact { result ≡ row_fault array netlist.now.blocks sites.old line words.now }
-    ensures put { result ≡ None → sites.new
-        ≡ slice_set sites.old (block_on netlist.now.blocks words.now) (Some (site_on words.now)) }
+    requires array { sites.old.array ≡ array }
+    requires count { length sites.old.sites ≡ length netlist.now.blocks }
+    ensures exact { result ≡ row_fault array netlist.now.blocks sites.old.sites line words.now }
+    ensures array { sites.new.array ≡ array }
+    ensures put { result ≡ None → sites.new.sites ≡ slice_set sites.old.sites
+        (block_on netlist.now.blocks words.now) (Some (site_on words.now)) }
 {
     if !is_row(words) {
         return Some(PlaceFault::BadLine(line));

@@ -26,11 +26,11 @@ fn sites_in(
 ) -> Result<Sites, PlaceFault>
     requires fit { IsFit array }
     requires count { 2 ≤ length lines.now }
-    ensures { Gives (λ s. s) result (unless_faulty (rows_fault_from array netlist.now.blocks [] (rows_of lines.now))
+    ensures { Gives (λ s. s.sites) result (unless_faulty (rows_fault_from array netlist.now.blocks [] (rows_of lines.now))
         (Ok (sites_in netlist.now.blocks (rows_of lines.now)))) }
 {
     let blocks = netlist.blocks();
-    let mut sites = Sites::new(alloc, blocks.len())?;
+    let mut sites = Sites::new(alloc, array, blocks.len())?;
     for row in 0..lines.len() - 2 {
         let words = Words::new(lines, row + 2);
         if let Some(fault) = judge(array, netlist, &mut sites, lines.at(row + 2), &words) {
@@ -44,7 +44,7 @@ fn sites_in(
 #[tactic(auto, unfolding(crate::specs::Reading::completed))]
 fn completed(alloc: Global, array: Array, sites: &Sites) -> Result<Placement, PlaceFault>
     requires { IsFit array }
-    ensures { Gives (λ p. p) result (completed array sites.now) }
+    ensures { Gives (λ p. p) result (completed array sites.now.sites) }
 {
     if let Some(block) = sites.first_missing() {
         return Err(PlaceFault::Missing(block));

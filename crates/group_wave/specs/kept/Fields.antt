@@ -9,12 +9,12 @@ use Rattle.group_wave.specs.kept.Boxes.{AreFirstBoxes, IsWidened, boxed}
 use Rattle.group_wave.specs.kept.Grounds.{Ground}
 
 abbrev pub ground_inside : Inside → Ground
-ground_inside g = record { space = space_of g.problem.now g.net g.view.now g.present g.bb; tables = g.groups.now; drives = g.drives.now }
+ground_inside g = record { space = space_of g.problem.now g.net g.view g.present g.bb; tables = g.groups.now; drives = g.drives.now }
 
 -- the net is there, the view, the boxes and the room of wires are of the device, and the box is that of the net
 pub record IsGroundInside (g : Inside) : Type 0 where
   pub net : g.net < length g.problem.now.nets
-  pub view : length g.view.now ≡ node_count_of g.problem.now.device
+  pub view : length g.view ≡ node_count_of g.problem.now.device
   pub present : g.present ≤ 1048576
   pub boxes : AreFirstBoxes g.problem.now.device g.boxes.now
   pub inside : IsWidened g.bb (box_of_net g.problem.now.device (net_in g.problem.now.nets g.net)) (boxed g.inside)

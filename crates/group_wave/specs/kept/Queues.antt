@@ -2,7 +2,7 @@
 use Rattle.std.specs.Prelude.{ℕ, ◌≡◌, ◌≤◌, ◌<◌, Bool, List, [], length, map, get_or, All}
 use Rattle.std.specs.List.{flat_map}
 use Rattle.group_wave.specs.declared.queue.Entry.{Entry}
-use Rattle.group_wave.specs.kept.Buckets.{most_buckets, bucket_of}
+use Rattle.group_wave.specs.kept.Buckets.{bucket_of}
 
 -- wires of one group that wait
 pub record Waiting : Type 0 where
@@ -22,20 +22,17 @@ all_of rows = flat_map (λ row. row) rows
 abbrev pub entries_of : {K : Type 0} → (value : K → ℕ) → List (List (Entry K)) → List Waiting
 entries_of value rows = map (entry_of value) (all_of rows)
 
--- an entry may stand in row i: that is the bucket of its key, and one from low on and before end
-pub record IsPlaced {K : Type 0} (value : K → ℕ) (low end i : ℕ) (e : Entry K) : Type 0 where
+-- an entry may stand in row i: that is the bucket of its key, and one from low on
+pub record IsPlaced {K : Type 0} (value : K → ℕ) (low i : ℕ) (e : Entry K) : Type 0 where
   pub here : bucket_of (value e.key) ≡ i
   pub from : low ≤ i
-  pub until : i < end
 
--- all entries stand in the buckets of their keys, and none stands outside of low and end
-abbrev pub ArePlaced : {K : Type 0} → (value : K → ℕ) → (low end : ℕ) → List (List (Entry K)) → Type 0
-ArePlaced value low end rows = (i : ℕ) → All (IsPlaced value low end i) (get_or rows i [])
+-- all entries stand in the buckets of their keys, and none stands before low
+abbrev pub ArePlaced : {K : Type 0} → (value : K → ℕ) → (low : ℕ) → List (List (Entry K)) → Type 0
+ArePlaced value low rows = (i : ℕ) → All (IsPlaced value low i) (get_or rows i [])
 
-pub record IsBucketed {K : Type 0} (value : K → ℕ) (rows : List (List (Entry K))) (low end count : ℕ) : Type 0 where
-  pub whole : length rows ≡ most_buckets
-  pub within : end ≤ most_buckets
-  pub placed : ArePlaced value low end rows
+pub record IsBucketed {K : Type 0} (value : K → ℕ) (rows : List (List (Entry K))) (low count : ℕ) : Type 0 where
+  pub placed : ArePlaced value low rows
   pub counted : length (all_of rows) ≡ count
 
 -- a key stands in the lowest bucket in use, and that isn't above the bucket of a bound

@@ -333,13 +333,10 @@ impl<K: Key> Wave<K> {
         &mut self,
         ground: &Ground<'_>,
         entry: Entry<K>,
-        group: &Group,
         wires: u32,
     ) -> Result<(), AllocError>
         requires ground { IsGround ground.now }
         requires wave { IsWave ground.now self.old }
-        requires group { group.now ≡ group_at (groups_of ground.now) entry.group }
-        requires small { group.now.base + 64 * group.now.stride < 2 ^ 30 }
         requires entry { IsLive ground.now self.old (entry_of K.value entry) }
         requires fits { K.value entry.label < K.greatest }
         ensures spreads { OnOk result (Spreads ground.now self.old self.new) }
@@ -349,7 +346,7 @@ impl<K: Key> Wave<K> {
         if wires != 0 {
             return Ok(());
         }
-        self.reach_all(ground, entry, group)
+        self.reach_all(ground, entry)
     }
 
     /// Goes on from an entry that is new: to pins of sinks and to nearer neighbours. It waits again
@@ -374,7 +371,7 @@ impl<K: Key> Wave<K> {
         ensures { OnOk result
             (GoesOn ground.now self.old self.new (entry_of K.value entry)) }
     {
-        self.reach_if_beside(ground, entry, group, wires)?;
+        self.reach_if_beside(ground, entry, wires)?;
         self.relax_all_nearer(ground, entry, group, wires)?;
         self.wait(Entry {
             key: entry.label.plus(bound_over(wires)).plus(K::cut(WIRE)),
@@ -405,7 +402,7 @@ impl<K: Key> Wave<K> {
         ensures { OnOk result
             (GoesOn ground.now self.old self.new (entry_of K.value entry)) }
     {
-        self.reach_if_beside(ground, entry, group, wires)?;
+        self.reach_if_beside(ground, entry, wires)?;
         self.relax_each(ground, entry, group)
     }
 }

@@ -185,18 +185,16 @@ impl<K: Key> Wave<K> {
         self.reach_from(ground, entry.label, wire, tap)
     }
 
-    /// Offers all input pins that tap tracks of an entry the way from them.
+    /// Offers all input pins that tap tracks of an entry the way from them. It looks the group up
+    /// itself, so that one that is passed needn't stand in memory where no sink is beside.
     #[inline(never)]
     pub(super) fn reach_all(
         &mut self,
         ground: &Ground<'_>,
         entry: Entry<K>,
-        group: &Group,
     ) -> Result<(), AllocError>
         requires ground { IsGround ground.now }
         requires wave { IsWave ground.now self.old }
-        requires group { group.now ≡ group_at (groups_of ground.now) entry.group }
-        requires small { group.now.base + 64 * group.now.stride < 2 ^ 30 }
         requires entry { IsLive ground.now self.old (entry_of K.value entry) }
         requires fits { K.value entry.label < K.greatest }
         ensures spreads { OnOk result (Spreads ground.now self.old self.new) }
@@ -204,8 +202,9 @@ impl<K: Key> Wave<K> {
             (taps_of ground.now.tables entry.group)
             (length (taps_of ground.now.tables entry.group))) }
     {
+        let group = ground.group(entry.group);
         for tap in ground.taps(entry.group) {
-            self.reach(ground, entry, group, *tap)?;
+            self.reach(ground, entry, &group, *tap)?;
         }
         Ok(())
     }

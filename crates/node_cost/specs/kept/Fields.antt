@@ -5,6 +5,7 @@ use Rattle.std.specs.Arc.{arc_value}
 use Rattle.node_cost.specs.Options.{RouterOptions}
 use Rattle.node_cost.specs.declared.settings.Settings.TheInside as settings
 use Rattle.node_cost.specs.declared.shared.SharedHistories.TheInside as shared
+use Rattle.node_cost.specs.declared.view.BorrowedView.TheInside as lent
 use Rattle.node_cost.specs.declared.view.View.TheInside as view
 
 abbrev pub options_of : settings.Inside → RouterOptions
@@ -16,3 +17,6 @@ histories_of h = elim h.shared [ Some shared ↦ arc_value shared | None ↦ h.o
 
 abbrev pub seen_by : view.Inside → List (ℕ × ℕ)
 seen_by v = zip v.others v.histories
+
+abbrev pub lent_by : lent.Inside → List (ℕ × ℕ)
+lent_by v = zip v.others v.histories

@@ -14,18 +14,23 @@ pub record IsFit (a : Array) : Type 0 where
   pub some_rows : 1 ≤ a.ny
   pub rows : a.ny ≤ longest_side
 
--- the greatest array has places 0 to 101 in each dimension, with at most 16 pads each
-abbrev pub is_in_table : Site → Bool
-is_in_table s = nat_lt s.x 102 && nat_lt s.y 102 && nat_lt s.subblk 16
+-- which sites of an array the blocks have, by their numbers
+pub record SitesOn : Type 0 where
+  pub array : Array
+  pub sites : List (Option Site)
 
-abbrev pub table_size : ℕ
-table_size = 166464
+-- a column beside the array on both sides; the highest has places 0 to 101, with at most 16 pads each
+abbrev pub is_in_table : Array → Site → Bool
+is_in_table a s = nat_lt s.x (a.nx + 2) && nat_lt s.y 102 && nat_lt s.subblk 16
+
+abbrev pub table_size : Array → ℕ
+table_size a = (a.nx + 2) * 1632
 
 -- the entry of a site in the table
 abbrev pub entry_of : Site → ℕ
 entry_of s = s.x * 1632 + s.y * 16 + s.subblk
 
 -- the table tells of each site whether a block stands there
-pub record IsTable (sites : List (Option Site)) (taken : List Bool) : Type 0 where
-  pub size : length taken ≡ table_size
-  pub tells : (s : Site) → is_in_table s ≡ true → slice_index_or taken (entry_of s) false ≡ is_occupied sites s
+pub record IsTable (array : Array) (sites : List (Option Site)) (taken : List Bool) : Type 0 where
+  pub size : length taken ≡ table_size array
+  pub tells : (s : Site) → is_in_table array s ≡ true → slice_index_or taken (entry_of s) false ≡ is_occupied sites s

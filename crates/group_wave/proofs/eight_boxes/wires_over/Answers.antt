@@ -1,4 +1,4 @@
-use Rattle.std.proofs.Common.{◌+◌, arith}
+use Rattle.std.proofs.Common.{arith}
 use Rattle.group_wave.proofs.LooksAtOnce.{shared}
 use Rattle.group_wave.proofs.eight_boxes.wires_over.Goals as goal
 

@@ -6,7 +6,7 @@ use Rattle.group_wave.proofs.buckets.Buckets.clear.Given as goal
 abbrev pub invariant-loop-at : goal.invariant-loop-at
 invariant-loop-at g l = record {
   from : l.low ≤ l.at;
-  count : length l.self ≡ length l.fn.self;
+  count : length l.self ≡ l.end;
   empty : AreEmpty l.self l.low l.at;
   kept : (j : ℕ) → slice_index_or l.fn.self j [] ≡ [] → slice_index_or l.self j [] ≡ [];
 }

@@ -1,17 +1,12 @@
-use Rattle.std.proofs.Common.{◌∙◌}
 use Rattle.group_wave.proofs.Bucketed.{all_emptied, bucketed_none, entries_none}
 use Rattle.group_wave.proofs.queue.Queue.clear.Goals as goal
 
 pub invariant_of-self : goal.invariant_of-self
 invariant_of-self g c =
     let now = c.clear.new.self in
-    let emptied = c.clear.ensures in
-    let none = all_emptied g.K.Key.value c.self.inside.buckets now c.self.inside.low c.self.inside.end c.self.invariant.placed emptied.empty emptied.kept in
-    bucketed_none g.K.Key.value now 8193 (emptied.count ∙ c.self.invariant.whole) none
+    bucketed_none g.K.Key.value now 8193 (all_emptied g.K.Key.value c.self.inside.buckets now c.self.inside.low c.self.invariant.placed c.clear.ensures.empty c.clear.ensures.kept)
 
 pub returns : goal.returns
 returns g c =
     let now = c.clear.new.self in
-    let emptied = c.clear.ensures in
-    let none = all_emptied g.K.Key.value c.self.inside.buckets now c.self.inside.low c.self.inside.end c.self.invariant.placed emptied.empty emptied.kept in
-    entries_none g.K.Key.value now none
+    entries_none g.K.Key.value now (all_emptied g.K.Key.value c.self.inside.buckets now c.self.inside.low c.self.invariant.placed c.clear.ensures.empty c.clear.ensures.kept)
