@@ -1,16 +1,18 @@
 //! All calls, by their names.
 
-use crate::answer::added;
-use crate::session::Session;
-use crate::sources::BELOW;
-use crate::unanswered::Unanswered;
-use crate::words::{Call, NO_NUMBER, number};
-use crate::{
-    arch_calls, book_calls, design_calls, desk_calls, device_calls, event_calls, explain_calls,
-    fault_calls, file_calls, iteration_calls, other_calls, problem_calls, progress_calls,
-    reading_back, report_calls, route_text_calls, routing_calls, run_calls, search_calls,
-    settings_calls, text_calls, tree_calls, view_calls, walk_calls, work_calls,
+use crate::{explain_calls, fault_calls, progress_calls, run_calls, work_calls};
+use lab_book::{book_calls, event_calls, search_calls, settings_calls, view_calls};
+use lab_graph::{arch_calls, design_calls, device_calls, file_calls, text_calls, walk_calls};
+use lab_session::answer::added;
+use lab_session::session::Session;
+use lab_session::sources::BELOW;
+use lab_session::unanswered::Unanswered;
+use lab_session::words::{Call, NO_NUMBER, number};
+use lab_trees::{
+    other_calls, problem_calls, reading_back, report_calls, route_text_calls, routing_calls,
+    tree_calls,
 };
+use lab_workers::{desk_calls, iteration_calls};
 use std::alloc::Global;
 use std::rt::Runtime;
 use std::sync::Wait;

@@ -3,16 +3,16 @@
 ghost use Rattle.std.specs.Prelude.{◌≡◌, ◌≤◌, length};
 ghost use Rattle.rr_graph.specs.Fabric.{most_tracks};
 
-use crate::bounds::channel_width;
 use crate::run_calls::{
     DesignFiles, kept_design, kept_route, put_end, put_print, put_taken, source_of,
 };
-use crate::session::{DesignTexts, NO_PROBLEM, NO_ROUTING, RunFiles, RunText, Session};
-use crate::sinks::sink;
-use crate::sources::source;
-use crate::unanswered::Unanswered;
-use crate::words::{Call, mode};
 use crate::work_calls::mode_before;
+use lab_session::bounds::channel_width;
+use lab_session::session::{DesignTexts, NO_PROBLEM, NO_ROUTING, RunFiles, RunText, Session};
+use lab_session::sinks::sink;
+use lab_session::sources::source;
+use lab_session::unanswered::Unanswered;
+use lab_session::words::{Call, mode};
 use net_file::Netlist;
 use report_run::report_run;
 use route_explain::{explain, explain_run};

@@ -1,10 +1,10 @@
 //! Calls of `runs`: the lines of faults, and the statuses that they give.
 
-use crate::answer::put;
 use crate::run_calls::put_taken;
-use crate::sinks::{ShortSink, sink};
-use crate::unanswered::Unanswered;
-use crate::words::Call;
+use lab_session::answer::put;
+use lab_session::sinks::{ShortSink, sink};
+use lab_session::unanswered::Unanswered;
+use lab_session::words::Call;
 use runs::{AppFault, InputFile, print_fault, status};
 use std::alloc::Global;
 

@@ -1,52 +1,16 @@
 //! `lab`: makes the calls of the router's libraries that a script asks for, and prints their answers.
 #![tactic(auto)]
 
-mod answer;
-mod arch_calls;
-mod book_calls;
-mod book_look_ups;
-mod bounds;
 mod calls;
-mod counting;
-mod design_calls;
-mod desk_calls;
-mod device_calls;
-mod event_calls;
 mod explain_calls;
 mod fault_calls;
-mod file_calls;
-mod gates;
-mod holding;
-mod iteration_calls;
-mod meeting;
-mod node_calls;
-mod other_calls;
-mod patience;
-mod problem_calls;
 mod progress_calls;
-mod reading_back;
-mod report_calls;
-mod route_text_calls;
-mod routing_calls;
 mod run_calls;
 mod runner;
-mod search_calls;
-mod session;
-mod settings_calls;
-mod sinks;
-mod sources;
-mod text_calls;
-mod timing;
-mod told;
-mod tree_calls;
-mod unanswered;
-mod view_calls;
-mod walk_calls;
-mod words;
 mod work_calls;
 
+use lab_session::session::Session;
 use runner::run_script;
-use session::Session;
 use std::process::ExitCode;
 use std::rt::Runtime;
 use std::sync::Wait;

@@ -1,9 +1,9 @@
 //! Calls of `runs`: the progress of a negotiation, on a terminal that keeps what is written and by a clock that a script sets.
 
-use crate::answer::{added, put};
-use crate::sources::BELOW;
-use crate::unanswered::Unanswered;
-use crate::words::{Call, NO_NUMBER, NO_WORDS, number, numbers, words};
+use lab_session::answer::{added, put};
+use lab_session::sources::BELOW;
+use lab_session::unanswered::Unanswered;
+use lab_session::words::{Call, NO_NUMBER, NO_WORDS, number, numbers, words};
 use net_workers::{Gate, TrialEnd};
 use runs::Progress;
 use std::alloc::Global;

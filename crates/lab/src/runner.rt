@@ -1,10 +1,10 @@
 //! Runs a script: reads its lines, makes its calls, prints their answers and compares them.
 
-use crate::answer::added;
 use crate::calls::make_call;
-use crate::session::Session;
-use crate::unanswered::Unanswered;
-use crate::words::{Call, code_of, has_text, words};
+use lab_session::answer::added;
+use lab_session::session::Session;
+use lab_session::unanswered::Unanswered;
+use lab_session::words::{Call, code_of, has_text, words};
 use net_workers::WorkFault;
 use std::alloc::Global;
 use std::io::{BufRead, BufReader, Read, Result as IoResult};

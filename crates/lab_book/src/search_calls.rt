@@ -1,0 +1,137 @@
+//! Calls of `group_wave`: the search of a net.
+
+ghost use Rattle.std.specs.Prelude.{◌≡◌};
+ghost use Rattle.rr_graph.specs.Nodes.{node_count_of};
+
+use group_wave::{PreparedProblem, Scratch, route_net};
+use lab_session::answer::added;
+use lab_session::session::{NO_PROBLEM, NO_VIEW, Searching, Session};
+use lab_session::unanswered::Unanswered;
+use lab_session::words::{Call, NO_WORDS, numbers};
+use lab_trees::tree_calls::put_tree;
+use node_cost::{GREATEST_PRESENT, View};
+use route_tree::Tree;
+use rr_graph::Problem;
+use std::alloc::{AllocError, Global};
+use wavefront::{Found, SearchFault};
+
+/// Makes a call, and adds its answer.
+pub fn call(
+    alloc: Global,
+    session: &mut Session,
+    call: Call<'_>,
+    out: &mut String,
+) -> Result<(), Unanswered> {
+    match call.name {
+        "search" => {
+            let [net, present, bb] = numbers::<3>(call.given)?;
+            search(alloc, session, Asked { net, present, bb }, out)
+        }
+        "search_faults" => {
+            if !call.given.is_empty() {
+                return Err(NO_WORDS);
+            }
+            put_fault(SearchFault::ViewSize, out)?;
+            put_fault(SearchFault::Memory, out)
+        }
+        _ => Err(Unanswered::NoCall),
+    }
+}
+
+/// Adds a fault's name, and what it says.
+fn put_fault(fault: SearchFault, out: &mut String) -> Result<(), Unanswered> {
+    added(writeln!(out, "{fault:?}: {fault}"))
+}
+
+/// What is searched for: a net, at a present-congestion factor, so far from its terminals at most.
+#[derive(Clone, Copy)]
+struct Asked {
+    net: u32,
+    present: u32,
+    bb: u32,
+}
+
+/// Searches for the tree of a net by the session's view, and keeps and tells it, or the sink that isn't reached.
+fn search(
+    alloc: Global,
+    session: &mut Session,
+    asked: Asked,
+    out: &mut String,
+) -> Result<(), Unanswered> {
+    prepare(alloc, &session.problem, &mut session.searching)?;
+    match found(alloc, &session.books.view, &mut session.searching, asked)? {
+        Found::Tree(tree) => keep_tree(&mut session.tree, tree, out),
+        Found::NoPath(sink) => { added(writeln!(out, "no path to {sink}")) }
+    }
+}
+
+/// Tells the tree that was found, and keeps it.
+fn keep_tree(kept: &mut Option<Tree>, tree: Tree, out: &mut String) -> Result<(), Unanswered> {
+    put_tree(&tree, out)?;
+    *kept = Some(tree);
+    Ok(())
+}
+
+/// Prepares the session's problem for searches, unless that is done.
+fn prepare(
+    alloc: Global,
+    problem: &Option<Problem>,
+    searching: &mut Option<Searching>,
+) -> Result<(), Unanswered> {
+    if searching.is_some() {
+        return Ok(());
+    }
+    let Some(problem) = problem else {
+        return Err(NO_PROBLEM);
+    };
+    *searching = Some(searching_of(alloc, problem)?);
+    Ok(())
+}
+
+/// What searches of a problem go over and work in.
+fn searching_of(alloc: Global, problem: &Problem) -> Result<Searching, AllocError> {
+    let prepared = PreparedProblem::new(alloc, problem.copy(alloc)?)?;
+    let scratch = Scratch::new(alloc, &prepared)?;
+    Ok(Searching { prepared, scratch })
+}
+
+/// What the search of a net by the session's view finds.
+fn found(
+    alloc: Global,
+    view: &Option<View>,
+    searching: &mut Option<Searching>,
+    asked: Asked,
+) -> Result<Found, Unanswered> {
+    let Some(view) = view else {
+        return Err(NO_VIEW);
+    };
+    match searching {
+        Some(Searching { prepared, scratch }) if scratch.fits(prepared.problem()) => {
+            search_in(alloc, prepared, view, asked, scratch)
+        }
+        _ => Err(NO_PROBLEM),
+    }
+}
+
+/// Searches for the tree of a net.
+fn search_in(
+    alloc: Global,
+    prepared: &PreparedProblem,
+    view: &View,
+    asked: Asked,
+    scratch: &mut Scratch,
+) -> Result<Found, Unanswered>
+    requires { scratch.old ≡ node_count_of prepared.now.device }
+{
+    let Asked { net, present, bb } = asked;
+    if net >= prepared.problem().nets() {
+        return Err(Unanswered::Refused("there is no such net"));
+    }
+    if present > GREATEST_PRESENT {
+        return Err(Unanswered::Refused("a present factor is at most 2^20"));
+    }
+    if !(1..=255).contains(&bb) {
+        return Err(Unanswered::Refused("a margin is one of 1 to 255"));
+    }
+    Ok(route_net(alloc, prepared, net, view, present, bb, scratch)?)
+}

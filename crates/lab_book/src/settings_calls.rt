@@ -1,0 +1,428 @@
+//! Calls of `node_cost`: settings, costs, and counts and histories of nodes.
+
+use lab_session::answer::{added, put};
+use lab_session::session::{Choice, NO_COUNTS, NO_HISTORIES, Session};
+use lab_session::unanswered::Unanswered;
+use lab_session::words::{Call, NO_NUMBER, NO_WORDS, number, numbers};
+use node_cost::{
+    Counts, GREATEST_HISTORY, GREATEST_OTHERS, GREATEST_PRESENT, Histories, Settings, cost,
+};
+use std::alloc::Global;
+
+/// The number of a node that stands at a place.
+pub fn index_of(place: usize) -> u32 {
+    u32::try_from(place).unwrap_or(u32::MAX)
+}
+
+/// Where a word is to be a history.
+pub const NO_HISTORY: Unanswered = Unanswered::Misread("a number below 2^64 for a history");
+
+/// What a node's number must be.
+pub const NO_NODE: Unanswered = Unanswered::Refused("there is no such node");
+
+/// Makes a call, and adds its answer.
+pub fn call(
+    alloc: Global,
+    session: &mut Session,
+    call: Call<'_>,
+    out: &mut String,
+) -> Result<(), Unanswered> {
+    match call.name {
+        "settings" => {
+            let choice = chosen(session.choice, call.given)?;
+            put_choice(choice, out)?;
+            session.choice = choice;
+            Ok(())
+        }
+        "present" => {
+            let [iteration] = numbers::<1>(call.given)?;
+            put_present(session.settings(), iteration, out)
+        }
+        "cost" => put_cost(call.given, out),
+        _ => call_counts(alloc, session, call, out),
+    }
+}
+
+/// Makes a call of counts or histories, and adds its answer.
+fn call_counts(
+    alloc: Global,
+    session: &mut Session,
+    call: Call<'_>,
+    out: &mut String,
+) -> Result<(), Unanswered> {
+    match call.name {
+        "counts" => make_counts(alloc, &mut session.counts, call.given, out),
+        "count" => put_count(&session.counts, call.given, out),
+        "set_count" | "add_one" | "take_one" => match &mut session.counts {
+            Some(counts) => change_count(counts, call.name, call.given, out),
+            None => Err(NO_COUNTS),
+        },
+        "copy_counts" => {
+            if !call.given.is_empty() {
+                return Err(NO_WORDS);
+            }
+            copy_counts(&session.counts, &mut session.others.counts, out)
+        }
+        "dump_counts" => {
+            if !call.given.is_empty() {
+                return Err(NO_WORDS);
+            }
+            match &session.counts {
+                Some(counts) => dump_counts(counts, out),
+                None => Err(NO_COUNTS),
+            }
+        }
+        _ => call_histories(alloc, &mut session.histories, call, out),
+    }
+}
+
+/// Makes a call of histories, and adds its answer.
+fn call_histories(
+    alloc: Global,
+    histories: &mut Option<Histories>,
+    call: Call<'_>,
+    out: &mut String,
+) -> Result<(), Unanswered> {
+    match call.name {
+        "histories" => make_histories(alloc, histories, call.given, out),
+        "history_at" | "is_none" => {
+            let [id] = numbers::<1>(call.given)?;
+            match histories {
+                Some(histories) => look_at_history(histories, call.name, id, out),
+                None => Err(NO_HISTORIES),
+            }
+        }
+        "set_history" => match histories {
+            Some(histories) => set_history(histories, call.given, out),
+            None => Err(NO_HISTORIES),
+        },
+        "copy_histories" | "dump_histories" => {
+            if !call.given.is_empty() {
+                return Err(NO_WORDS);
+            }
+            match histories {
+                Some(histories) => look_at_histories(alloc, histories, call.name, out),
+                None => Err(NO_HISTORIES),
+            }
+        }
+        _ => Err(Unanswered::NoCall),
+    }
+}
+
+/// Adds how many nets use a node.
+fn put_count(counts: &Option<Counts>, given: &[&str], out: &mut String) -> Result<(), Unanswered> {
+    let [id] = numbers::<1>(given)?;
+    match counts {
+        Some(counts) => put(out, count(counts, id)?),
+        None => Err(NO_COUNTS),
+    }
+}
+
+/// Makes a look-up of a node's history.
+fn look_at_history(
+    histories: &Histories,
+    name: &str,
+    id: u32,
+    out: &mut String,
+) -> Result<(), Unanswered> {
+    match name {
+        "history_at" => put(out, history(histories, id)?),
+        _ => put(out, is_none(histories, id)?),
+    }
+}
+
+/// Copies all histories, or adds them.
+fn look_at_histories(
+    alloc: Global,
+    histories: &Histories,
+    name: &str,
+    out: &mut String,
+) -> Result<(), Unanswered> {
+    match name {
+        "copy_histories" => copy_histories(alloc, histories, out),
+        _ => dump_histories(histories, out),
+    }
+}
+
+/// The settings that six words give, or the standard ones; without words the old ones.
+fn chosen(old: Choice, given: &[&str]) -> Result<Choice, Unanswered> {
+    match given {
+        [] => Ok(old),
+        [word] if *word == "standard" => Ok(Choice::standard()),
+        [_, _, _, _, _, _] => within_ranges(choice_of(given)?),
+        _ => Err(Unanswered::Misread("settings FIRST INIT MULT ACC BB ITERATIONS")),
+    }
+}
+
+/// The choice that numbers give.
+fn choice_of(given: &[&str]) -> Result<Choice, Unanswered> {
+    let [first, init, mult, acc, bb, iterations] = numbers::<6>(given)?;
+    Ok(Choice {
+        first,
+        init,
+        mult,
+        acc,
+        bb,
+        iterations,
+    })
+}
+
+/// The choice, as the settings have it that it makes.
+fn within_ranges(choice: Choice) -> Result<Choice, Unanswered> {
+    let settings = choice.settings()?;
+    Ok(Choice::of(&settings))
+}
+
+fn put_choice(choice: Choice, out: &mut String) -> Result<(), Unanswered> {
+    write!(out, "first {}, init {}", choice.first, choice.init)?;
+    write!(out, ", mult {}, acc {}", choice.mult, choice.acc)?;
+    write!(out, ", bb {}", choice.bb)?;
+    added(writeln!(out, ", iterations {}", choice.iterations))
+}
+
+/// Adds the present-congestion factor of an iteration.
+fn put_present(settings: Settings, iteration: u32, out: &mut String) -> Result<(), Unanswered> {
+    if !(1..=500).contains(&iteration) {
+        return Err(Unanswered::Refused("an iteration is one of 1 to 500"));
+    }
+    put(out, settings.present(iteration))
+}
+
+/// The number of up to 64 bits that a word is.
+pub fn long_number(word: &str) -> Option<u64> {
+    match word.parse::<u64>() {
+        Ok(number) => Some(number),
+        Err(_) => None,
+    }
+}
+
+/// Adds what it costs to enter a node.
+fn put_cost(given: &[&str], out: &mut String) -> Result<(), Unanswered> {
+    let [base, history, capacity, others, present] = given else {
+        return Err(Unanswered::Misread("cost BASE HISTORY CAPACITY OTHERS PRESENT"));
+    };
+    let (Some(base), history) = (number(base), long_number(history)) else {
+        return Err(NO_NUMBER);
+    };
+    let Some(history) = history else {
+        return Err(NO_HISTORY);
+    };
+    let (Some(capacity), Some(others), Some(present)) = (
+        number(capacity),
+        number(others),
+        number(present),
+    ) else {
+        return Err(NO_NUMBER);
+    };
+    if base > 20 || history > GREATEST_HISTORY || capacity < 1 {
+        return Err(Unanswered::Refused("base cost, history or capacity is out of range"));
+    }
+    if others > GREATEST_OTHERS || present > GREATEST_PRESENT {
+        return Err(Unanswered::Refused("others or present factor is out of range"));
+    }
+    put(out, cost(base, history, capacity, others, present))
+}
+
+/// How many nodes a value is made for; a few millions more than any device has.
+fn nodes(given: &[&str]) -> Result<usize, Unanswered> {
+    let [nodes] = numbers::<1>(given)?;
+    Ok(nodes as usize)
+}
+
+fn make_counts(
+    alloc: Global,
+    kept: &mut Option<Counts>,
+    given: &[&str],
+    out: &mut String,
+) -> Result<(), Unanswered> {
+    let nodes = nodes(given)?;
+    *kept = Some(Counts::new(alloc, nodes)?);
+    added(writeln!(out, "{nodes} nodes"))
+}
+
+fn make_histories(
+    alloc: Global,
+    kept: &mut Option<Histories>,
+    given: &[&str],
+    out: &mut String,
+) -> Result<(), Unanswered> {
+    let nodes = nodes(given)?;
+    *kept = Some(Histories::new(alloc, nodes)?);
+    added(writeln!(out, "{nodes} nodes"))
+}
+
+/// How many nets use a node.
+fn count(counts: &Counts, id: u32) -> Result<u32, Unanswered> {
+    if (id as usize) < counts.len() {
+        Ok(counts.get(id))
+    } else {
+        Err(NO_NODE)
+    }
+}
+
+/// The history of a node.
+fn history(histories: &Histories, id: u32) -> Result<u64, Unanswered> {
+    if (id as usize) < histories.len() {
+        Ok(histories.get(id))
+    } else {
+        Err(NO_NODE)
+    }
+}
+
+/// Whether the history of a node is 0.
+fn is_none(histories: &Histories, id: u32) -> Result<bool, Unanswered> {
+    if (id as usize) < histories.len() {
+        Ok(histories.is_none(id))
+    } else {
+        Err(NO_NODE)
+    }
+}
+
+/// Changes how many nets use a node, and tells how many do.
+fn change_count(
+    counts: &mut Counts,
+    name: &str,
+    given: &[&str],
+    out: &mut String,
+) -> Result<(), Unanswered> {
+    let id = changed(counts, name, given)?;
+    put(out, count(counts, id)?)
+}
+
+/// Changes how many nets use a node; the node.
+fn changed(counts: &mut Counts, name: &str, given: &[&str]) -> Result<u32, Unanswered> {
+    match name {
+        "set_count" => set_count(counts, given),
+        "add_one" => add_one(counts, given),
+        _ => take_one(counts, given),
+    }
+}
+
+fn set_count(counts: &mut Counts, given: &[&str]) -> Result<u32, Unanswered> {
+    let [id, value] = numbers::<2>(given)?;
+    if id as usize >= counts.len() {
+        return Err(NO_NODE);
+    }
+    if value > 65535 {
+        return Err(Unanswered::Refused("at most 65,535 nets use a node"));
+    }
+    counts.set(id, value);
+    Ok(id)
+}
+
+fn add_one(counts: &mut Counts, given: &[&str]) -> Result<u32, Unanswered> {
+    let [id] = numbers::<1>(given)?;
+    if count(counts, id)? >= 65535 {
+        return Err(Unanswered::Refused("at most 65,535 nets use a node"));
+    }
+    if (id as usize) < counts.len() && counts.get(id) < 65535 {
+        counts.add_one(id);
+    }
+    Ok(id)
+}
+
+fn take_one(counts: &mut Counts, given: &[&str]) -> Result<u32, Unanswered> {
+    let [id] = numbers::<1>(given)?;
+    if count(counts, id)? == 0 {
+        return Err(Unanswered::Refused("no net uses the node"));
+    }
+    if (id as usize) < counts.len() && counts.get(id) > 0 {
+        counts.take_one(id);
+    }
+    Ok(id)
+}
+
+/// Gives a node a history, and tells it.
+fn set_history(
+    histories: &mut Histories,
+    given: &[&str],
+    out: &mut String,
+) -> Result<(), Unanswered> {
+    let [id, value] = given else {
+        return Err(Unanswered::Misread("set_history ID HISTORY"));
+    };
+    let (Some(id), value) = (number(id), long_number(value)) else {
+        return Err(NO_NUMBER);
+    };
+    let Some(value) = value else {
+        return Err(NO_HISTORY);
+    };
+    if id as usize >= histories.len() {
+        return Err(NO_NODE);
+    }
+    if value > GREATEST_HISTORY {
+        return Err(Unanswered::Refused("a history is at most 2^42"));
+    }
+    histories.set(id, value);
+    put(out, value)
+}
+
+/// The other counts become these, of as many nodes.
+fn copy_counts(
+    counts: &Option<Counts>,
+    other: &mut Option<Counts>,
+    out: &mut String,
+) -> Result<(), Unanswered> {
+    let Some(counts) = counts else {
+        return Err(NO_COUNTS);
+    };
+    let Some(other) = other else {
+        return Err(Unanswered::Refused("there are no other counts"));
+    };
+    if other.len() != counts.len() {
+        return Err(Unanswered::Refused("the counts are of different numbers of nodes"));
+    }
+    other.copy_from(counts);
+    added(writeln!(out, "{} nodes", other.len()))
+}
+
+/// Adds a line for each node that a net uses.
+fn dump_counts(counts: &Counts, out: &mut String) -> Result<(), Unanswered> {
+    for id in 0..counts.len() {
+        let count = count(counts, index_of(id))?;
+        if count > 0 {
+            writeln!(out, "{id}: {count}")?;
+        }
+    }
+    Ok(())
+}
+
+/// Adds a line for each node that has a history.
+fn dump_histories(histories: &Histories, out: &mut String) -> Result<(), Unanswered> {
+    for id in 0..histories.len() {
+        let history = history(histories, index_of(id))?;
+        if history > 0 {
+            writeln!(out, "{id}: {history}")?;
+        }
+    }
+    Ok(())
+}
+
+/// Whether a copy and other histories become these.
+fn copy_histories(
+    alloc: Global,
+    histories: &Histories,
+    out: &mut String,
+) -> Result<(), Unanswered> {
+    let copy = histories.copy(alloc)?;
+    let other = copied(alloc, &copy)?;
+    put(out, are_equal(histories, &other))
+}
+
+/// Others that become these histories.
+fn copied(alloc: Global, histories: &Histories) -> Result<Histories, Unanswered> {
+    let mut other = Histories::new(alloc, histories.len())?;
+    if other.len() == histories.len() {
+        other.copy_from(histories);
+    }
+    Ok(other)
+}
+
+/// Whether all nodes have the same histories in both.
+fn are_equal(one: &Histories, other: &Histories) -> bool {
+    let nodes = one.len().max(other.len());
+    (0..nodes).all(|id| match (history(one, index_of(id)), history(other, index_of(id))) {
+        (Ok(one), Ok(other)) => one == other,
+        _ => false,
+    })
+}

@@ -1,0 +1,70 @@
+//! Calls of `rr_graph`: devices, made and copied.
+
+use crate::design_calls::suits;
+use crate::node_calls::call as node_call;
+use lab_session::answer::{added, put};
+use lab_session::session::{Design, NO_DEVICE, Session};
+use lab_session::unanswered::Unanswered;
+use lab_session::words::{Call, NO_NUMBER, NO_WORDS, mode, number};
+use rr_graph::{Device, Mode};
+use std::alloc::Global;
+
+/// Makes a call, and adds its answer.
+pub fn call(
+    alloc: Global,
+    session: &mut Session,
+    call: Call<'_>,
+    out: &mut String,
+) -> Result<(), Unanswered> {
+    match call.name {
+        "device" => make(alloc, session, call.given, out),
+        "has_architecture" => {
+            if !call.given.is_empty() {
+                return Err(NO_WORDS);
+            }
+            put(out, has_architecture(&session.device, &session.design)?)
+        }
+        "suits" => {
+            if !call.given.is_empty() {
+                return Err(NO_WORDS);
+            }
+            put(out, suits(alloc, &session.design, &session.device)?)
+        }
+        _ => node_call(alloc, &session.device, call, out),
+    }
+}
+
+/// Whether the device is one of the design's architecture.
+fn has_architecture(device: &Option<Device>, design: &Design) -> Result<bool, Unanswered> {
+    match device {
+        Some(device) => Ok(*device.architecture() == *design.arch()?),
+        None => Err(NO_DEVICE),
+    }
+}
+
+/// Makes a device, and tells how many nodes it has.
+fn make(
+    alloc: Global,
+    session: &mut Session,
+    given: &[&str],
+    out: &mut String,
+) -> Result<(), Unanswered> {
+    let [nx, ny, width, rest @ ..] = given else {
+        return Err(Unanswered::Misread("device NX NY W, or with `global` behind it"));
+    };
+    let (Some(nx), Some(ny), Some(width)) = (number(nx), number(ny), number(width)) else {
+        return Err(NO_NUMBER);
+    };
+    let mode = mode(rest)?;
+    let arch = session.design.arch()?;
+    if nx < 1 || nx > 100 || ny < 1 || ny > 100 {
+        return Err(Unanswered::Refused("an array has 1 to 100 columns and rows"));
+    }
+    let device = match mode {
+        Mode::Detailed => Device::new(alloc, arch, nx, ny, width)?,
+        Mode::Global => Device::global(alloc, arch, nx, ny, width)?,
+    };
+    let nodes = device.node_count();
+    session.device = Some(device);
+    added(writeln!(out, "{nodes} nodes"))
+}

@@ -1,0 +1,101 @@
+//! Calls that keep the files of a run of the program.
+
+use lab_session::answer::{added, put};
+use lab_session::session::{RunFiles, RunText};
+use lab_session::sources::whole_source;
+use lab_session::unanswered::Unanswered;
+use lab_session::words::{Call, NO_NUMBER, NO_WORDS, number};
+use std::rt::Runtime;
+
+/// Makes a call, and adds its answer.
+pub fn call(
+    rt: &(impl Runtime + AllocGlobal),
+    files: &mut RunFiles,
+    call: Call<'_>,
+    out: &mut String,
+) -> Result<(), Unanswered> {
+    match call.name {
+        "run_arch" | "run_net" | "run_place" | "run_route" => {
+            let (bytes, failing) = whole_source(rt, call)?;
+            let count = bytes.len();
+            keep(files, call.name, RunText { bytes, failing });
+            added(writeln!(out, "{count} bytes"))
+        }
+        "route_sink" | "out_sink" | "words_sink" => {
+            keep_room(files, call.name, room(call.given, out)?);
+            Ok(())
+        }
+        "dump_files" => {
+            if !call.given.is_empty() {
+                return Err(NO_WORDS);
+            }
+            dump(files, out)
+        }
+        _ => Err(Unanswered::NoCall),
+    }
+}
+
+/// Keeps the text of the file of a call's name.
+fn keep(files: &mut RunFiles, name: &str, text: RunText) {
+    let file = match name {
+        "run_arch" => &mut files.arch,
+        "run_net" => &mut files.net,
+        "run_place" => &mut files.place,
+        _ => &mut files.route,
+    };
+    *file = Some(text);
+}
+
+/// Keeps behind how many bytes the sink of a call's name fails.
+fn keep_room(files: &mut RunFiles, name: &str, room: Option<usize>) {
+    match name {
+        "route_sink" => files.route_room = room,
+        "words_sink" => files.words_room = room,
+        _ => files.out_room = room,
+    }
+}
+
+/// Adds a line for each file, and for each sink.
+fn dump(files: &RunFiles, out: &mut String) -> Result<(), Unanswered> {
+    put_file("arch", &files.arch, out)?;
+    put_file("net", &files.net, out)?;
+    put_file("place", &files.place, out)?;
+    put_file("route", &files.route, out)?;
+    put_room("route sink", files.route_room, out)?;
+    put_room("out sink", files.out_room, out)?;
+    put_room("words sink", files.words_room, out)
+}
+
+/// Adds how many bytes a file has, or `none`, and behind how many its source fails.
+fn put_file(name: &str, file: &Option<RunText>, out: &mut String) -> Result<(), Unanswered> {
+    match file {
+        Some(text) => {
+            write!(out, "{name}: {} bytes, ", text.bytes.len())?;
+            put_room("source", text.failing, out)
+        }
+        None => { added(writeln!(out, "{name}: none")) }
+    }
+}
+
+/// Adds behind how many bytes a source or sink fails.
+fn put_room(name: &str, room: Option<usize>, out: &mut String) -> Result<(), Unanswered> {
+    match room {
+        Some(count) => writeln!(out, "{name} failing {count}")?,
+        None => writeln!(out, "{name} whole")?,
+    }
+    Ok(())
+}
+
+/// Behind how many bytes a sink is to fail, if it is.
+fn room(given: &[&str], out: &mut String) -> Result<Option<usize>, Unanswered> {
+    let room = match given {
+        [word] if *word == "whole" => None,
+        [word, count] if *word == "failing" => match number(count) {
+            Some(count) => Some(count as usize),
+            None => return Err(NO_NUMBER),
+        },
+        _ => return Err(Unanswered::Misread("the sink and `whole` or `failing N` behind it")),
+    };
+    put(out, "ok")?;
+    Ok(room)
+}

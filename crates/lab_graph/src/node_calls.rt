@@ -1,0 +1,282 @@
+//! Calls of `rr_graph`: the nodes and edges of a device, by their numbers.
+
+use lab_session::answer::{added, put, put_maybe, put_maybe_named, put_numbers};
+use lab_session::session::NO_DEVICE;
+use lab_session::unanswered::Unanswered;
+use lab_session::words::{Call, NO_NUMBER, NO_WORDS, number, number_list, numbers};
+use rr_graph::{Device, EdgeFinder, Kind, Node, NodeRange, Span};
+use smallvec::SmallVec;
+use std::alloc::Global;
+
+/// Makes a call, and adds its answer.
+pub fn call(
+    alloc: Global,
+    device: &Option<Device>,
+    call: Call<'_>,
+    out: &mut String,
+) -> Result<(), Unanswered> {
+    match call.name {
+        "id" | "edge" | "lacks_edge" | "joins" => match device {
+            Some(device) => look_for(alloc, device, call, out),
+            None => Err(NO_DEVICE),
+        },
+        "successors"
+        | "node"
+        | "kind"
+        | "label"
+        | "capacity"
+        | "span"
+        | "wire"
+        | "sink_of"
+        | "is_source"
+        | "is_sink"
+        | "pins_beside" => {
+            let [id] = numbers::<1>(call.given)?;
+            match device {
+                Some(device) => look_up(alloc, device, call.name, id, out),
+                None => Err(NO_DEVICE),
+            }
+        }
+        "node_count"
+        | "edge_count"
+        | "first_wire"
+        | "most_successors"
+        | "input_pins"
+        | "parts"
+        | "dump_device"
+        | "copy_device" => {
+            if !call.given.is_empty() {
+                return Err(NO_WORDS);
+            }
+            match device {
+                Some(device) => look_at_all(alloc, device, call.name, out),
+                None => Err(NO_DEVICE),
+            }
+        }
+        _ => Err(Unanswered::NoCall),
+    }
+}
+
+/// Looks for a node, or for edges.
+fn look_for(
+    alloc: Global,
+    device: &Device,
+    call: Call<'_>,
+    out: &mut String,
+) -> Result<(), Unanswered> {
+    match call.name {
+        "id" => put_id(device, call.given, out),
+        "edge" => put_edge(device, call.given, out),
+        "lacks_edge" => put_lacks_edge(alloc, device, call.given, out),
+        _ => put_joins(alloc, device, call.given, out),
+    }
+}
+
+/// Makes a look-up of the node of a number.
+fn look_up(
+    alloc: Global,
+    device: &Device,
+    name: &str,
+    id: u32,
+    out: &mut String,
+) -> Result<(), Unanswered> {
+    match name {
+        "successors" => put_successors(alloc, device, id, out),
+        "node" => put_node(device.node(id), out),
+        "kind" => put_maybe_named(out, device.kind(id)),
+        "label" => put_maybe_named(out, device.label(id)),
+        "capacity" => put_maybe(out, device.capacity(id)),
+        "span" => put_span(device.span(id), out),
+        "wire" => put_wire(device, id, out),
+        "sink_of" => put_maybe(out, device.sink_of(id)),
+        "is_source" => put(out, device.is_source(id)),
+        "is_sink" => put(out, device.is_sink(id)),
+        _ => put_pins(device.pins_beside(id), out),
+    }
+}
+
+/// Makes a look-up of the whole device.
+fn look_at_all(
+    alloc: Global,
+    device: &Device,
+    name: &str,
+    out: &mut String,
+) -> Result<(), Unanswered> {
+    match name {
+        "node_count" => put(out, device.node_count()),
+        "edge_count" => put(out, device.edge_count()),
+        "first_wire" => put(out, device.first_wire()),
+        "most_successors" => put(out, device.most_successors()),
+        "input_pins" => put_pins(device.input_pins(), out),
+        "parts" => put_parts(device, out),
+        "dump_device" => dump(alloc, device, out),
+        _ => copy(alloc, device, out),
+    }
+}
+
+/// Copies the device, and tells whether the copy is equal.
+fn copy(alloc: Global, device: &Device, out: &mut String) -> Result<(), Unanswered> {
+    let copy = device.copy(alloc)?;
+    put(out, copy == *device)
+}
+
+/// Adds a node: its kind, its place and its number there.
+fn put_node(node: Option<Node>, out: &mut String) -> Result<(), Unanswered> {
+    match node {
+        Some(Node { kind, x, y, number }) => { added(writeln!(out, "{kind:?} {x} {y} {number}")) }
+        None => put(out, "none"),
+    }
+}
+
+/// Adds a span: its lower end, and its upper end.
+fn put_span(span: Option<Span>, out: &mut String) -> Result<(), Unanswered> {
+    match span {
+        Some(Span { x1, y1, x2, y2 }) => { added(writeln!(out, "{x1} {y1} {x2} {y2}")) }
+        None => put(out, "none"),
+    }
+}
+
+/// Adds a wire: its kind, its span, and how many places the wires of its track pass at most.
+fn put_wire(device: &Device, id: u32, out: &mut String) -> Result<(), Unanswered> {
+    match device.wire(id) {
+        Some((kind, span, reach)) => {
+            write!(out, "{kind:?} {reach} ")?;
+            put_span(Some(span), out)
+        }
+        None => put(out, "none"),
+    }
+}
+
+fn put_pins(range: NodeRange, out: &mut String) -> Result<(), Unanswered> {
+    added(writeln!(out, "{} {}", range.first, range.end))
+}
+
+/// Adds the array, the width and the mode.
+fn put_parts(device: &Device, out: &mut String) -> Result<(), Unanswered> {
+    let (nx, ny) = (device.nx(), device.ny());
+    let (width, mode) = (device.width(), device.mode());
+    added(writeln!(out, "{nx} x {ny}, W {width}, {mode:?}"))
+}
+
+/// The kind that a word names.
+fn kind(word: &str) -> Result<Kind, Unanswered> {
+    match word {
+        "Source" => Ok(Kind::Source),
+        "Sink" => Ok(Kind::Sink),
+        "Opin" => Ok(Kind::Opin),
+        "Ipin" => Ok(Kind::Ipin),
+        "Chanx" => Ok(Kind::Chanx),
+        "Chany" => Ok(Kind::Chany),
+        _ => Err(Unanswered::Misread("id KIND X Y NUMBER")),
+    }
+}
+
+/// Adds the number of a node.
+fn put_id(device: &Device, given: &[&str], out: &mut String) -> Result<(), Unanswered> {
+    let [word, x, y, number_word] = given else {
+        return Err(Unanswered::Misread("id KIND X Y NUMBER"));
+    };
+    let kind = kind(word)?;
+    let (Some(x), Some(y), Some(number)) = (number(x), number(y), number(number_word)) else {
+        return Err(NO_NUMBER);
+    };
+    put_maybe(out, device.id(Node { kind, x, y, number }))
+}
+
+fn put_edge(device: &Device, given: &[&str], out: &mut String) -> Result<(), Unanswered> {
+    let [from, to] = numbers::<2>(given)?;
+    put(out, device.edge(from, to))
+}
+
+/// Numbers two by two.
+pub fn pairs(alloc: Global, given: &[&str]) -> Result<Vec<(u32, u32)>, Unanswered> {
+    let numbers = number_list(alloc, given)?;
+    two_by_two(alloc, numbers.as_slice())
+}
+
+fn two_by_two(alloc: Global, numbers: &[u32]) -> Result<Vec<(u32, u32)>, Unanswered> {
+    let mut pairs = Vec::with_capacity(alloc, numbers.len())?;
+    let mut rest = numbers;
+    for _ in 0..numbers.len() {
+        match rest {
+            [] => break,
+            [from, to, others @ ..] => {
+                pairs.push((*from, *to))?;
+                rest = others;
+            }
+            [_] => return Err(Unanswered::Misread("numbers two by two")),
+        }
+    }
+    Ok(pairs)
+}
+
+fn put_lacks_edge(
+    alloc: Global,
+    device: &Device,
+    given: &[&str],
+    out: &mut String,
+) -> Result<(), Unanswered> {
+    let pairs = pairs(alloc, given)?;
+    put(out, device.lacks_edge(pairs.as_slice()))
+}
+
+/// Adds, for each pair, whether one finder says that they join.
+fn put_joins(
+    alloc: Global,
+    device: &Device,
+    given: &[&str],
+    out: &mut String,
+) -> Result<(), Unanswered> {
+    let pairs = pairs(alloc, given)?;
+    put_each_join(device, pairs.as_slice(), out)
+}
+
+fn put_each_join(
+    device: &Device,
+    pairs: &[(u32, u32)],
+    out: &mut String,
+) -> Result<(), Unanswered> {
+    let mut finder = EdgeFinder::new(device);
+    for (from, to) in pairs {
+        put(out, finder.joins(*from, *to))?;
+    }
+    Ok(())
+}
+
+/// Adds the numbers of all nodes to which a node leads.
+pub fn put_successors(
+    alloc: Global,
+    device: &Device,
+    id: u32,
+    out: &mut String,
+) -> Result<(), Unanswered> {
+    let mut list: SmallVec<u32, 8> = SmallVec::new(alloc);
+    device.successors(id, &mut list)?;
+    put_numbers(out, list.as_slice())
+}
+
+/// Adds a line for each node: its number, what look-ups say of it, and where it leads.
+fn dump(alloc: Global, device: &Device, out: &mut String) -> Result<(), Unanswered> {
+    for id in 0..device.node_count() {
+        write!(out, "{id} ")?;
+        dump_node(device, id, out)?;
+        put_successors(alloc, device, id, out)?;
+    }
+    Ok(())
+}
+
+/// Adds what look-ups say of a node: kind, place, number, label, capacity and span.
+fn dump_node(device: &Device, id: u32, out: &mut String) -> Result<(), Unanswered> {
+    if let (Some(node), Some(label), Some(room)) = (
+        device.node(id),
+        device.label(id),
+        device.capacity(id),
+    ) {
+        let Node { kind, x, y, number } = node;
+        write!(out, "{kind:?} {x} {y} {number} {label:?} {room} ")?;
+    }
+    if let Some(Span { x1, y1, x2, y2 }) = device.span(id) {
+        write!(out, "{x1} {y1} {x2} {y2}: ")?;
+    }
+    Ok(())
+}

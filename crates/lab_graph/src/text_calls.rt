@@ -1,0 +1,64 @@
+//! Calls of `vpr_text`: the lines and words of a text, and numbers.
+
+use lab_session::answer::{added, put, put_maybe, put_name};
+use lab_session::sources::source;
+use lab_session::unanswered::Unanswered;
+use lab_session::words::{Call, one};
+use std::alloc::Global;
+use std::rt::Runtime;
+use vpr_text::{Lines, fixed, is_decimal, lines, number};
+
+/// Makes a call, and adds its answer.
+pub fn call(
+    rt: &(impl Runtime + AllocGlobal),
+    call: Call<'_>,
+    out: &mut String,
+) -> Result<(), Unanswered> {
+    match call.name {
+        "read" | "lines" => {
+            let text = source(rt, call)?;
+            put_text(rt.alloc(), call.name, text.as_slice(), out)
+        }
+        "number" | "fixed" | "is_decimal" => look_up(call.name, one(call.given)?.as_bytes(), out),
+        _ => Err(Unanswered::NoCall),
+    }
+}
+
+/// Adds how many bytes a text has, or its lines.
+fn put_text(alloc: Global, name: &str, text: &[u8], out: &mut String) -> Result<(), Unanswered> {
+    match name {
+        "read" => put(out, text.len()),
+        _ => put_lines(alloc, text, out),
+    }
+}
+
+/// Adds the number that a word is.
+fn look_up(name: &str, word: &[u8], out: &mut String) -> Result<(), Unanswered> {
+    match name {
+        "number" => put_maybe(out, number(word)),
+        "fixed" => put_maybe(out, fixed(word)),
+        _ => put(out, is_decimal(word)),
+    }
+}
+
+/// Adds the lines of a text, each its number and its words.
+fn put_lines(alloc: Global, text: &[u8], out: &mut String) -> Result<(), Unanswered> {
+    let lines = lines(alloc, text)?;
+    for i in 0..lines.len() {
+        put_line(&lines, i, out)?;
+    }
+    Ok(())
+}
+
+/// Adds line `i` of a text; nothing where there is none.
+fn put_line(lines: &Lines<'_>, i: usize, out: &mut String) -> Result<(), Unanswered> {
+    if i >= lines.len() {
+        return Ok(());
+    }
+    write!(out, "{}:", lines.at(i))?;
+    for j in 0..lines.words(i) {
+        out.push(' ')?;
+        put_name(out, lines.word(i, j).unwrap_or(b""))?;
+    }
+    added(out.push('\n'))
+}

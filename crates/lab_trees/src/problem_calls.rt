@@ -1,0 +1,221 @@
+//! Calls of `rr_graph`: routing problems.
+
+ghost use Rattle.std.specs.Prelude.{◌≤◌, List, ℕ};
+ghost use Rattle.net_file.specs.Reads.{ReadsBytes};
+ghost use Rattle.rr_graph.specs.Fabric.{most_tracks};
+
+use crate::route_text_calls::problem_of;
+use lab_session::answer::{added, put, put_numbers};
+use lab_session::bounds::channel_width;
+use lab_session::session::{Design, DesignTexts, NO_DEVICE, NO_PROBLEM, Session};
+use lab_session::sources::BELOW;
+use lab_session::unanswered::Unanswered;
+use lab_session::words::{
+    Call, NO_NUMBER, NO_WORDS, mode, number, number_list, numbers, text_of, words,
+};
+use net_file::Netlist;
+use rr_graph::{Device, MadeOfDesigns, Mode, Problem, Terminals};
+use std::alloc::Global;
+
+/// How a line of a problem's parts is written.
+const NET_LINE: &str = "net NUMBER: SOURCE -> SINK ..";
+
+/// Makes a call, and adds its answer.
+pub fn call(
+    alloc: Global,
+    session: &mut Session,
+    call: Call<'_>,
+    out: &mut String,
+) -> Result<(), Unanswered> {
+    match call.name {
+        "problem" => make(alloc, session, call, out),
+        "net_number" | "source" | "sinks" => {
+            let [net] = numbers::<1>(call.given)?;
+            match &session.problem {
+                Some(problem) => look_up(problem, call.name, net, out),
+                None => Err(NO_PROBLEM),
+            }
+        }
+        "nets" | "copy_problem" | "dump_problem" => {
+            if !call.given.is_empty() {
+                return Err(NO_WORDS);
+            }
+            match &session.problem {
+                Some(problem) => look_at_all(alloc, problem, call.name, out),
+                None => Err(NO_PROBLEM),
+            }
+        }
+        _ => Err(Unanswered::NoCall),
+    }
+}
+
+/// Makes a look-up of the whole problem.
+fn look_at_all(
+    alloc: Global,
+    problem: &Problem,
+    name: &str,
+    out: &mut String,
+) -> Result<(), Unanswered> {
+    match name {
+        "nets" => put(out, problem.nets()),
+        "copy_problem" => copy(alloc, problem, out),
+        _ => dump(problem, out),
+    }
+}
+
+/// Makes a problem, and tells how many nets it has.
+fn make(
+    alloc: Global,
+    session: &mut Session,
+    call: Call<'_>,
+    out: &mut String,
+) -> Result<(), Unanswered> {
+    let problem = made(alloc, &session.design, &session.device, call)?;
+    let nets = problem.nets();
+    session.problem = Some(problem);
+    session.searching = None;
+    added(writeln!(out, "{nets} nets"))
+}
+
+/// The problem for which a call asks.
+fn made(
+    alloc: Global,
+    design: &Design,
+    device: &Option<Device>,
+    call: Call<'_>,
+) -> Result<Problem, Unanswered> {
+    match call.given {
+        [] => of_design(alloc, design, device),
+        [word] if *word == BELOW => of_parts(alloc, device, call.text),
+        [width, rest @ ..] => at_width(alloc, design, channel_width(width)?, mode(rest)?),
+    }
+}
+
+/// The problem of the netlist and the placement on the device.
+fn of_design(
+    alloc: Global,
+    design: &Design,
+    device: &Option<Device>,
+) -> Result<Problem, Unanswered> {
+    let design = design.texts()?;
+    let Some(device) = device else {
+        return Err(NO_DEVICE);
+    };
+    let netlist = net_file::parse(alloc, design.net, design.arch)?;
+    of_netlist(alloc, design, device, &netlist)
+}
+
+/// The problem of a design with this netlist on a device.
+fn of_netlist(
+    alloc: Global,
+    design: DesignTexts<'_>,
+    device: &Device,
+    netlist: &Netlist<'_>,
+) -> Result<Problem, Unanswered> {
+    let placement = place_file::parse(alloc, design.place, design.arch, netlist)?;
+    problem_of(alloc, device, netlist, &placement)
+}
+
+/// The problem of the netlist and the placement on the device of their array.
+fn at_width(alloc: Global, design: &Design, width: u32, mode: Mode) -> Result<Problem, Unanswered>
+    requires width { (1 ≤ width) × (width ≤ most_tracks) }
+{
+    let design = design.texts()?;
+    let netlist = net_file::parse(alloc, design.net, design.arch)?;
+    of_netlist_at(alloc, design, &netlist, width, mode)
+}
+
+/// The problem of a design with this netlist on the device of its array.
+fn of_netlist_at(
+    alloc: Global,
+    design: DesignTexts<'_>,
+    netlist: &Netlist<'_>,
+    width: u32,
+    mode: Mode,
+) -> Result<Problem, Unanswered>
+    requires width { (1 ≤ width) × (width ≤ most_tracks) }
+    requires read { (bytes : List ℕ) × ReadsBytes design.arch.now.pins bytes netlist.now }
+{
+    let arch = design.arch;
+    let placement = place_file::parse(alloc, design.place, arch, netlist)?;
+    Ok(Problem::from_design(alloc, arch, netlist, &placement, width, mode)?)
+}
+
+/// The problem of the nets that a text tells, on a device.
+fn of_parts(alloc: Global, device: &Option<Device>, text: &[u8]) -> Result<Problem, Unanswered> {
+    let Some(device) = device else {
+        return Err(NO_DEVICE);
+    };
+    let nets = net_lines(alloc, text_of(text)?)?;
+    Ok(Problem::from_parts(device.copy(alloc)?, nets)?)
+}
+
+/// The nets that a text tells, one a line.
+fn net_lines(alloc: Global, text: &str) -> Result<Vec<Terminals>, Unanswered> {
+    let mut nets = Vec::new(alloc);
+    for line in text.lines() {
+        add_net(alloc, &mut nets, line)?;
+    }
+    Ok(nets)
+}
+
+/// Adds the net of a line, if it has words.
+fn add_net(alloc: Global, nets: &mut Vec<Terminals>, line: &str) -> Result<(), Unanswered> {
+    let words = words(alloc, line)?;
+    if words.is_empty() {
+        return Ok(());
+    }
+    let net = net_line(alloc, words.as_slice())?;
+    Ok(nets.push(net)?)
+}
+
+/// The net that the words of a line tell.
+fn net_line(alloc: Global, words: &[&str]) -> Result<Terminals, Unanswered> {
+    let [_, name, source, _, sinks @ ..] = words else {
+        return Err(Unanswered::Misread(NET_LINE));
+    };
+    let Some(name) = name.strip_suffix(':') else {
+        return Err(Unanswered::Misread(NET_LINE));
+    };
+    let (Some(number), Some(source)) = (number(name), number(source)) else {
+        return Err(NO_NUMBER);
+    };
+    let sinks = number_list(alloc, sinks)?;
+    Ok(Terminals {
+        number,
+        source,
+        sinks,
+    })
+}
+
+/// Makes a look-up of a net.
+fn look_up(problem: &Problem, name: &str, net: u32, out: &mut String) -> Result<(), Unanswered> {
+    if net >= problem.nets() {
+        return Err(Unanswered::Refused("there is no such net"));
+    }
+    match name {
+        "net_number" => put(out, problem.number(net)),
+        "source" => put(out, problem.source(net)),
+        _ => put_numbers(out, problem.sinks(net)),
+    }
+}
+
+/// Copies the problem, and tells whether the copy is equal.
+fn copy(alloc: Global, problem: &Problem, out: &mut String) -> Result<(), Unanswered> {
+    let copy = problem.copy(alloc)?;
+    put(out, copy == *problem)
+}
+
+/// Adds a line for each net.
+fn dump(problem: &Problem, out: &mut String) -> Result<(), Unanswered> {
+    for net in 0..problem.nets() {
+        write!(
+            out,
+            "net {}: {} -> ",
+            problem.number(net),
+            problem.source(net)
+        )?;
+        put_numbers(out, problem.sinks(net))?;
+    }
+    Ok(())
+}

@@ -1,0 +1,172 @@
+//! A call of `route_file` and its laws: that a routing's text is read as the routing.
+
+ghost use Rattle.std.specs.Prelude.{◌≡◌, IfOk, map, true};
+ghost use Rattle.net_file.specs.Routed.{routed_numbers};
+ghost use Rattle.route_tree.specs.Fits.{fits_problem};
+ghost use Rattle.route_file.specs.Design.{IsDesign};
+ghost use Rattle.route_file.specs.Text.{text_of};
+ghost use Rattle.route_check.specs.Routed.{IsRouted};
+
+use crate::route_text_calls::problem_of;
+use lab_session::answer::put;
+use lab_session::session::{Design, DesignTexts, NO_DEVICE, NO_ROUTING, Session};
+use lab_session::unanswered::Unanswered;
+use lab_session::words::{Call, NO_WORDS};
+use net_file::Netlist;
+use place_file::Placement;
+use route_check::check_routing;
+use route_file::laws::{one_reading, read_back};
+use route_file::{parse, write};
+use route_tree::{Routing, fits};
+use rr_graph::{Device, Problem};
+use std::alloc::Global;
+use std::rt::Runtime;
+use std::thread::Threads;
+use vpr_text::{Adapted, lines};
+
+/// Makes a call, and adds its answer.
+pub fn call(
+    rt: &(impl Runtime + Threads + Sync + AllocGlobal),
+    session: &Session,
+    call: Call<'_>,
+    out: &mut String,
+) -> Result<(), Unanswered> {
+    match call.name {
+        "read_back" => {
+            if !call.given.is_empty() {
+                return Err(NO_WORDS);
+            }
+            let is_so = is_read_back(rt, &session.design, &session.device, &session.routing)?;
+            put(out, is_so)
+        }
+        _ => Err(Unanswered::NoCall),
+    }
+}
+
+/// Whether the text of the design's routing on the device, which must be legal, is read as the routing.
+fn is_read_back(
+    rt: &(impl Runtime + Threads + Sync + AllocGlobal),
+    design: &Design,
+    device: &Option<Device>,
+    routing: &Option<Routing>,
+) -> Result<bool, Unanswered> {
+    let design = design.texts()?;
+    let Some(device) = device else {
+        return Err(NO_DEVICE);
+    };
+    let Some(routing) = routing else {
+        return Err(NO_ROUTING);
+    };
+    let netlist = net_file::parse(rt.alloc(), design.net, design.arch)?;
+    is_read_back_on(rt, design, device, &netlist, routing)
+}
+
+/// The same of a design with this netlist.
+fn is_read_back_on(
+    rt: &(impl Runtime + Threads + Sync + AllocGlobal),
+    design: DesignTexts<'_>,
+    device: &Device,
+    netlist: &Netlist<'_>,
+    routing: &Routing,
+) -> Result<bool, Unanswered> {
+    let placement = place_file::parse(rt.alloc(), design.place, design.arch, netlist)?;
+    is_placed_read_back(rt, device, netlist, &placement, routing)
+}
+
+/// The same of a placed design.
+fn is_placed_read_back(
+    rt: &(impl Runtime + Threads + Sync + AllocGlobal),
+    device: &Device,
+    netlist: &Netlist<'_>,
+    placement: &Placement,
+    routing: &Routing,
+) -> Result<bool, Unanswered> {
+    let problem = problem_of(rt.alloc(), device, netlist, placement)?;
+    is_legal_read_back(rt, netlist, placement, &problem, routing)
+}
+
+/// The same of a problem of the design.
+fn is_legal_read_back(
+    rt: &(impl Runtime + Threads + Sync + AllocGlobal),
+    netlist: &Netlist<'_>,
+    placement: &Placement,
+    problem: &Problem,
+    routing: &Routing,
+) -> Result<bool, Unanswered>
+    requires numbers { map (λ n. n.number) problem.now.nets ≡ routed_numbers netlist.now }
+    requires design { IsDesign netlist.now placement.now problem.now }
+{
+    if check_routing(rt, rt.alloc(), problem, routing)?.is_some() {
+        return Err(Unanswered::Refused("the routing is not legal"));
+    }
+    if !fits(problem, routing) {
+        return Err(Unanswered::Refused("the routing does not fit the problem"));
+    }
+    let text = text_again(rt.alloc(), netlist, placement, problem, routing)?;
+    is_again(
+        rt.alloc(),
+        netlist,
+        placement,
+        problem,
+        routing,
+        text.as_slice(),
+    )
+}
+
+/// The text of a routing.
+fn text_again(
+    alloc: Global,
+    netlist: &Netlist<'_>,
+    placement: &Placement,
+    problem: &Problem,
+    routing: &Routing,
+) -> Result<Vec<u8>, Unanswered>
+    requires design { IsDesign netlist.now placement.now problem.now }
+    requires fits { fits_problem problem.now routing.now ≡ true }
+    ensures { IfOk result (λ text.
+        text.items ≡ text_of netlist.now placement.now problem.now routing.now) }
+{
+    let mut sink = Adapted::new(Vec::new(alloc));
+    if write(netlist, placement, problem, routing, &mut sink).is_err() {
+        return Err(Unanswered::Memory);
+    }
+    Ok(sink.into_inner())
+}
+
+/// Whether the text of a legal routing is read as the routing, by law and when run.
+#[tactic(auto, using(route_file::proofs::RoutesReported::reported_routing))]
+fn is_again(
+    alloc: Global,
+    netlist: &Netlist<'_>,
+    placement: &Placement,
+    problem: &Problem,
+    routing: &Routing,
+    text: &[u8],
+) -> Result<bool, Unanswered>
+    requires numbers { map (λ n. n.number) problem.now.nets ≡ routed_numbers netlist.now }
+    requires design { IsDesign netlist.now placement.now problem.now }
+    requires fits { fits_problem problem.now routing.now ≡ true }
+    requires routed { IsRouted problem.now routing.now }
+    requires text { text.now ≡ text_of netlist.now placement.now problem.now routing.now }
+{
+    if text.len() > 1 << 24 {
+        return Err(Unanswered::Refused("the text is too long for a file"));
+    }
+    let _nets = netlist.nets().len();
+    let _columns = problem.device().nx();
+    read_back(netlist, placement, problem, routing);
+    let again = parse(alloc, text, netlist, problem)?;
+    let lines = lines(alloc, text)?;
+    one_reading(&lines, netlist, problem, routing, &again);
+    Ok(are_same(routing, &again))
+}
+
+/// Whether two routings have the same lists.
+fn are_same(one: &Routing, other: &Routing) -> bool {
+    one.lists.len() == other.lists.len()
+        && one.lists.iter().zip(&other.lists).all(|(one, other)| match (one, other) {
+            (Some(one), Some(other)) => one.items == other.items,
+            (None, None) => true,
+            _ => false,
+        })
+}

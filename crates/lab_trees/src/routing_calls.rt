@@ -1,0 +1,176 @@
+//! Calls of `route_tree` and `route_check`: routings.
+
+use crate::tree_calls::tree_of_words;
+use lab_graph::node_calls::pairs;
+use lab_session::answer::{added, put, put_named};
+use lab_session::session::{NO_PROBLEM, NO_ROUTING, Session};
+use lab_session::unanswered::Unanswered;
+use lab_session::words::{Call, NO_WORDS, text_below, words};
+use route_check::check_routing;
+use route_tree::{Pairs, Routing, Tree, fits};
+use rr_graph::Problem;
+use std::alloc::Global;
+use std::rt::Runtime;
+use std::thread::Threads;
+
+/// Makes a call, and adds its answer.
+pub fn call(
+    rt: &(impl Runtime + Threads + Sync + AllocGlobal),
+    session: &mut Session,
+    call: Call<'_>,
+    out: &mut String,
+) -> Result<(), Unanswered> {
+    match call.name {
+        "routing" => {
+            let routing = of_pairs(rt.alloc(), text_below(call)?)?;
+            keep(&mut session.routing, routing, out)
+        }
+        "routing_of_trees" => {
+            let routing = of_trees(rt.alloc(), text_below(call)?)?;
+            keep(&mut session.routing, routing, out)
+        }
+        "fits" | "check" => {
+            if !call.given.is_empty() {
+                return Err(NO_WORDS);
+            }
+            match (&session.problem, &session.routing) {
+                (Some(problem), Some(routing)) => judge(rt, problem, routing, call.name, out),
+                (None, _) => Err(NO_PROBLEM),
+                _ => Err(NO_ROUTING),
+            }
+        }
+        "dump_routing" => {
+            if !call.given.is_empty() {
+                return Err(NO_WORDS);
+            }
+            match &session.routing {
+                Some(routing) => dump(routing, out),
+                None => Err(NO_ROUTING),
+            }
+        }
+        _ => Err(Unanswered::NoCall),
+    }
+}
+
+/// Keeps a routing, and tells how many entries it has.
+pub fn keep(
+    kept: &mut Option<Routing>,
+    routing: Routing,
+    out: &mut String,
+) -> Result<(), Unanswered> {
+    let lists = routing.lists.len();
+    *kept = Some(routing);
+    added(writeln!(out, "{lists} lists"))
+}
+
+/// The pairs that the words of a line tell, or none.
+fn list_of_words(alloc: Global, words: &[&str]) -> Result<Option<Pairs>, Unanswered> {
+    match words {
+        [word] if *word == "none" => Ok(None),
+        [word, rest @ ..] if *word == "pairs" => Ok(Some(Pairs {
+            items: pairs(alloc, rest)?,
+        })),
+        _ => Ok(Some(Pairs {
+            items: pairs(alloc, words)?,
+        })),
+    }
+}
+
+/// The tree that the words of a line tell, or none.
+fn tree_or_none(alloc: Global, words: &[&str]) -> Result<Option<Tree>, Unanswered> {
+    match words {
+        [word] if *word == "none" => Ok(None),
+        _ => Ok(Some(tree_of_words(alloc, words)?)),
+    }
+}
+
+/// The routing whose lists a text tells, one a line.
+fn of_pairs(alloc: Global, text: &str) -> Result<Routing, Unanswered> {
+    let mut lists = Vec::new(alloc);
+    for line in text.lines() {
+        add_list(alloc, &mut lists, line)?;
+    }
+    Ok(Routing { lists })
+}
+
+/// Adds the list of a line, if it has words.
+fn add_list(alloc: Global, lists: &mut Vec<Option<Pairs>>, line: &str) -> Result<(), Unanswered> {
+    let words = words(alloc, line)?;
+    if words.is_empty() {
+        return Ok(());
+    }
+    let list = list_of_words(alloc, words.as_slice())?;
+    Ok(lists.push(list)?)
+}
+
+/// The routing whose trees a text tells, one a line.
+fn of_trees(alloc: Global, text: &str) -> Result<Routing, Unanswered> {
+    let trees = trees(alloc, text)?;
+    Ok(Routing::of_trees(alloc, trees.as_slice())?)
+}
+
+/// The trees that a text tells, one a line.
+fn trees(alloc: Global, text: &str) -> Result<Vec<Option<Tree>>, Unanswered> {
+    let mut trees = Vec::new(alloc);
+    for line in text.lines() {
+        add_tree(alloc, &mut trees, line)?;
+    }
+    Ok(trees)
+}
+
+/// Adds the tree of a line, if it has words.
+fn add_tree(alloc: Global, trees: &mut Vec<Option<Tree>>, line: &str) -> Result<(), Unanswered> {
+    let words = words(alloc, line)?;
+    if words.is_empty() {
+        return Ok(());
+    }
+    let tree = tree_or_none(alloc, words.as_slice())?;
+    Ok(trees.push(tree)?)
+}
+
+/// Adds whether a routing fits a problem, or what is wrong with it.
+fn judge(
+    rt: &(impl Runtime + Threads + Sync + AllocGlobal),
+    problem: &Problem,
+    routing: &Routing,
+    name: &str,
+    out: &mut String,
+) -> Result<(), Unanswered> {
+    match name {
+        "fits" => put(out, fits(problem, routing)),
+        _ => check(rt, problem, routing, out),
+    }
+}
+
+/// Judges a routing.
+fn check(
+    rt: &(impl Runtime + Threads + Sync + AllocGlobal),
+    problem: &Problem,
+    routing: &Routing,
+    out: &mut String,
+) -> Result<(), Unanswered> {
+    match check_routing(rt, rt.alloc(), problem, routing)? {
+        None => put(out, "legal"),
+        Some(fault) => put_named(out, fault),
+    }
+}
+
+/// Adds a line for each entry: the pairs, or `none`.
+fn dump(routing: &Routing, out: &mut String) -> Result<(), Unanswered> {
+    for list in routing.lists.as_slice() {
+        match list {
+            Some(pairs) => put_pairs(pairs, out)?,
+            None => put(out, "none")?,
+        }
+    }
+    Ok(())
+}
+
+/// Adds pairs to one line.
+fn put_pairs(pairs: &Pairs, out: &mut String) -> Result<(), Unanswered> {
+    out.push_str("pairs")?;
+    for (from, to) in pairs.items.as_slice() {
+        write!(out, " {from} {to}")?;
+    }
+    added(out.push('\n'))
+}

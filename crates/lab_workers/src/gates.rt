@@ -1,0 +1,155 @@
+//! The gates that a call can name.
+
+use crate::counting::Counting;
+use crate::holding::Holding;
+use crate::meeting::Meeting;
+use crate::timing::Timing;
+use congestion_book::Book;
+use lab_session::unanswered::Unanswered;
+use lab_session::words::{NO_NUMBER, number};
+use net_workers::{Gate, TrialEnd};
+use std::alloc::AllocError;
+use std::sync::Wait;
+use std::time::Clock;
+
+/// How a gate is written.
+const GATES: &str =
+    "the call and no gate, or `open`, `meeting N`, `holding W`, `counting` or `timing` behind it";
+
+/// What the last words of a call say of its gate.
+#[derive(Clone, Copy)]
+pub enum GateWords {
+    Open,
+    /// So many nets meet.
+    Meeting(u32),
+    /// This worker is held.
+    Holding(u32),
+    Counting,
+    Timing,
+}
+
+/// The gate that words name, of a call with so many workers.
+pub fn gate_words(given: &[&str], workers: u32) -> Result<GateWords, Unanswered> {
+    match given {
+        [] => Ok(GateWords::Open),
+        [word] => plain_gate(word),
+        [word, count] => match number(count) {
+            Some(count) => numbered_gate(word, count, workers),
+            None => Err(NO_NUMBER),
+        },
+        _ => Err(Unanswered::Misread(GATES)),
+    }
+}
+
+/// A gate that is named by one word.
+fn plain_gate(word: &str) -> Result<GateWords, Unanswered> {
+    match word {
+        "open" => Ok(GateWords::Open),
+        "counting" => Ok(GateWords::Counting),
+        "timing" => Ok(GateWords::Timing),
+        _ => Err(Unanswered::Misread(GATES)),
+    }
+}
+
+/// A gate that is named by a word and a number.
+fn numbered_gate(word: &str, number: u32, workers: u32) -> Result<GateWords, Unanswered> {
+    match word {
+        "meeting" if number < 1 || number > 32 => { Err(Unanswered::Refused("1 to 32 nets meet")) }
+        "meeting" => Ok(GateWords::Meeting(number)),
+        "holding" if number >= workers => {
+            Err(Unanswered::Refused("there is no such worker to hold"))
+        }
+        "holding" => Ok(GateWords::Holding(number)),
+        _ => Err(Unanswered::Misread(GATES)),
+    }
+}
+
+/// One of the gates.
+#[derive(Drop)]
+pub enum LabGate<'a, R: Wait + Clock> {
+    Open,
+    Meeting(Meeting),
+    Holding(Holding),
+    Counting(Counting<'a, R>),
+    Timing(Timing<'a, R>),
+}
+
+impl<'a, R: Wait + Clock + AllocGlobal> LabGate<'a, R> {
+    /// The gate that a call names, for so many nets.
+    pub fn new(rt: &'a R, words: GateWords, nets: u32) -> Result<LabGate<'a, R>, AllocError> {
+        match words {
+            GateWords::Open => Ok(LabGate::Open),
+            GateWords::Meeting(count) => Ok(LabGate::Meeting(Meeting::of(count))),
+            GateWords::Holding(worker) => Ok(LabGate::Holding(Holding::of(worker, nets))),
+            GateWords::Counting => Ok(LabGate::Counting(Counting::new(rt, rt.alloc()))),
+            GateWords::Timing => Ok(LabGate::Timing(Timing::new(rt, rt.alloc())?)),
+        }
+    }
+
+    /// Adds the gate's own lines.
+    pub fn put(&self, out: &mut String) -> Result<(), Unanswered> {
+        match self {
+            LabGate::Open => Ok(()),
+            LabGate::Meeting(gate) => gate.put(out),
+            LabGate::Holding(gate) => gate.put(out),
+            LabGate::Counting(gate) => gate.put(out),
+            LabGate::Timing(gate) => gate.put(out),
+        }
+    }
+}
+
+impl<R: Wait + Clock> Gate for LabGate<'_, R> {
+    fn opened(&self, iteration: u32, nets: u32) {
+        match self {
+            LabGate::Open => (),
+            LabGate::Meeting(gate) => gate.opened(iteration),
+            LabGate::Holding(gate) => gate.opened(iteration, nets),
+            LabGate::Counting(gate) => gate.opened(iteration, nets),
+            LabGate::Timing(gate) => gate.opened(),
+        }
+    }
+
+    fn between(&self, worker: u32, net: u32) {
+        match self {
+            LabGate::Open => (),
+            LabGate::Meeting(gate) => gate.between(net),
+            LabGate::Holding(gate) => gate.between(worker),
+            LabGate::Counting(gate) => gate.between(worker),
+            LabGate::Timing(gate) => gate.between(worker),
+        }
+    }
+
+    fn searched(&self, worker: u32, net: u32) {
+        match self {
+            LabGate::Open => (),
+            LabGate::Meeting(gate) => gate.searched(net),
+            LabGate::Holding(gate) => gate.searched(worker),
+            LabGate::Counting(gate) => gate.searched(worker),
+            LabGate::Timing(gate) => gate.searched(worker),
+        }
+    }
+
+    fn closed(&self, iteration: u32, book: &Book) {
+        match self {
+            LabGate::Counting(gate) => gate.closed(iteration, book.unrouted(), book.overused()),
+            LabGate::Timing(gate) => gate.closed(iteration),
+            _ => (),
+        }
+    }
+
+    fn tries(&self, width: u32) {
+        match self {
+            LabGate::Counting(gate) => gate.tries(width),
+            LabGate::Timing(gate) => gate.tries(),
+            _ => (),
+        }
+    }
+
+    fn tried(&self, width: u32, end: TrialEnd) {
+        match self {
+            LabGate::Counting(gate) => gate.tried(width, end),
+            LabGate::Timing(gate) => gate.tried(width),
+            _ => (),
+        }
+    }
+}

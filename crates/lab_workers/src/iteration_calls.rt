@@ -1,0 +1,301 @@
+//! Calls of `net_workers`: iterations of the book, and workspaces.
+
+ghost use Rattle.std.specs.Prelude.{◌≡◌, ◌≤◌, IfOk, IsTrue};
+ghost use Rattle.node_cost.specs.Options.{most_iterations, most_workers};
+ghost use Rattle.congestion_book.specs.Contents.{IsFresh};
+
+use crate::gates::{LabGate, gate_words};
+use congestion_book::Book;
+use lab_session::answer::{added, put};
+use lab_session::bounds::{iteration_number, worker_count};
+use lab_session::session::{NO_BOOK, Session};
+use lab_session::unanswered::Unanswered;
+use lab_session::words::{Call, NO_WORDS};
+use lab_trees::tree_calls::put_tree;
+use net_workers::{Entry, Report, Workspace, iterate, iterate_in};
+use node_cost::Settings;
+use std::alloc::Global;
+use std::rt::Runtime;
+use std::sync::Wait;
+use std::thread::Threads;
+use std::time::Clock;
+
+/// Makes a call, and adds its answer.
+pub fn call(
+    rt: &(impl Runtime + Threads + Wait + Sync + AllocGlobal),
+    session: &mut Session,
+    settings: &Settings,
+    call: Call<'_>,
+    out: &mut String,
+) -> Result<(), Unanswered> {
+    match call.name {
+        "iterate" | "iterate_nets" => {
+            make_iteration(rt, &mut session.books.book, settings, call, out)
+        }
+        "workspace" => make_workspace(rt.alloc(), session, call.given, out),
+        "iterate_in" | "iterate_nets_in" => {
+            let (book, workspace) = (&mut session.books.book, &mut session.workspace);
+            make_iteration_in(rt, book, workspace, settings, call, out)
+        }
+        _ => Err(Unanswered::NoCall),
+    }
+}
+
+/// Takes the book, where nothing was drawn in its open iteration; else it stays.
+pub fn take_fresh(kept: &mut Option<Book>) -> Result<Book, Unanswered>
+    ensures { IfOk result IsFresh }
+{
+    match kept {
+        Some(book) if book.fresh() => (),
+        Some(_) => return Err(Unanswered::Refused("the open iteration is begun")),
+        None => return Err(NO_BOOK),
+    }
+    match kept.take() {
+        Some(book) => Ok(book),
+        None => Err(NO_BOOK),
+    }
+}
+
+/// Makes an iteration of the book by several workers, and tells their reports, worker by worker or net by net. A fault lets the book
+/// go.
+fn make_iteration(
+    rt: &(impl Runtime + Threads + Wait + Sync + AllocGlobal),
+    book: &mut Option<Book>,
+    settings: &Settings,
+    call: Call<'_>,
+    out: &mut String,
+) -> Result<(), Unanswered> {
+    let [iteration, workers, rest @ ..] = call.given else {
+        return Err(Unanswered::Misread("iterate K WORKERS, or with a gate behind it"));
+    };
+    let iteration = iteration_number(iteration)?;
+    let workers = worker_count(workers)?;
+    let words = gate_words(rest, workers)?;
+    let gate = LabGate::new(rt, words, net_count(book)?)?;
+    let is_by_net = call.name == "iterate_nets";
+    iterate_under(
+        rt, book, settings, iteration, workers, &gate, is_by_net, out,
+    )
+}
+
+/// How many nets the book's problem has.
+fn net_count(book: &Option<Book>) -> Result<u32, Unanswered> {
+    match book {
+        Some(book) => Ok(book.problem().nets()),
+        None => Err(NO_BOOK),
+    }
+}
+
+/// Makes an iteration of the book under a gate, and tells what was done. The book is back when all is told.
+fn iterate_under<R: Runtime + Threads + Wait + Sync + AllocGlobal>(
+    rt: &R,
+    kept: &mut Option<Book>,
+    settings: &Settings,
+    iteration: u32,
+    workers: u32,
+    gate: &LabGate<'_, R>,
+    is_by_net: bool,
+    out: &mut String,
+) -> Result<(), Unanswered>
+    requires iteration { (1 ≤ iteration) × (iteration ≤ most_iterations) }
+    requires workers { (1 ≤ workers) × (workers ≤ most_workers) }
+{
+    let book = take_fresh(kept)?;
+    let book = iterated(rt, book, settings, iteration, workers, gate, is_by_net, out)?;
+    *kept = Some(book);
+    Ok(())
+}
+
+/// The book behind an iteration, of which is told what was done.
+fn iterated<R: Runtime + Threads + Wait + Sync + AllocGlobal>(
+    rt: &R,
+    book: Book,
+    settings: &Settings,
+    iteration: u32,
+    workers: u32,
+    gate: &LabGate<'_, R>,
+    is_by_net: bool,
+    out: &mut String,
+) -> Result<Book, Unanswered>
+    requires fresh { IsFresh book }
+    requires iteration { (1 ≤ iteration) × (iteration ≤ most_iterations) }
+    requires workers { (1 ≤ workers) × (workers ≤ most_workers) }
+{
+    let (book, reports) = iterate(rt, rt.alloc(), book, settings, iteration, workers, gate)?;
+    put_iteration(&book, reports.as_slice(), gate, is_by_net, out)?;
+    Ok(book)
+}
+
+/// Makes a workspace of the book's problem, and tells how many nets it has.
+fn make_workspace(
+    alloc: Global,
+    session: &mut Session,
+    given: &[&str],
+    out: &mut String,
+) -> Result<(), Unanswered> {
+    if !given.is_empty() {
+        return Err(NO_WORDS);
+    }
+    let workspace = workspace_of(alloc, &session.books.book)?;
+    let nets = workspace.problem().nets();
+    session.workspace = Some(workspace);
+    added(writeln!(out, "{nets} nets"))
+}
+
+/// A workspace of the problem of the book that is kept.
+fn workspace_of(alloc: Global, book: &Option<Book>) -> Result<Workspace, Unanswered> {
+    let Some(book) = book else {
+        return Err(NO_BOOK);
+    };
+    let problem = book.problem().copy(alloc)?;
+    Ok(Workspace::new(alloc, problem)?)
+}
+
+/// Makes an iteration of the book by several workers in the workspace, and tells their reports,
+/// worker by worker or net by net. A fault lets the book go.
+fn make_iteration_in(
+    rt: &(impl Runtime + Threads + Wait + Sync + AllocGlobal),
+    book: &mut Option<Book>,
+    workspace: &mut Option<Workspace>,
+    settings: &Settings,
+    call: Call<'_>,
+    out: &mut String,
+) -> Result<(), Unanswered> {
+    let [iteration, workers, rest @ ..] = call.given else {
+        return Err(Unanswered::Misread("iterate_in K WORKERS, or with a gate behind it"));
+    };
+    let iteration = iteration_number(iteration)?;
+    let workers = worker_count(workers)?;
+    let words = gate_words(rest, workers)?;
+    let gate = LabGate::new(rt, words, net_count(book)?)?;
+    let is_by_net = call.name == "iterate_nets_in";
+    iterate_in_under(
+        rt, book, workspace, settings, iteration, workers, &gate, is_by_net, out,
+    )
+}
+
+/// Whether a workspace is of the problem of a book.
+fn is_of(workspace: &Workspace, book: &Book) -> bool
+    ensures { IsTrue result → workspace.now ≡ book.now.problem }
+{
+    *workspace.problem() == *book.problem()
+}
+
+/// Makes an iteration of the book in the workspace under a gate, and tells what was done. The book
+/// is back when all is told.
+fn iterate_in_under<R: Runtime + Threads + Wait + Sync + AllocGlobal>(
+    rt: &R,
+    kept: &mut Option<Book>,
+    workspace: &mut Option<Workspace>,
+    settings: &Settings,
+    iteration: u32,
+    workers: u32,
+    gate: &LabGate<'_, R>,
+    is_by_net: bool,
+    out: &mut String,
+) -> Result<(), Unanswered>
+    requires iteration { (1 ≤ iteration) × (iteration ≤ most_iterations) }
+    requires workers { (1 ≤ workers) × (workers ≤ most_workers) }
+{
+    let Some(workspace) = workspace else {
+        return Err(Unanswered::Refused("there is no workspace"));
+    };
+    let book = take_fresh(kept)?;
+    if !is_of(workspace, &book) {
+        *kept = Some(book);
+        return Err(Unanswered::Refused("the workspace is of another problem"));
+    }
+    let book = iterated_in(
+        rt, workspace, book, settings, iteration, workers, gate, is_by_net, out,
+    )?;
+    *kept = Some(book);
+    Ok(())
+}
+
+/// The book after an iteration in the workspace, of which is told what was done.
+fn iterated_in<R: Runtime + Threads + Wait + Sync + AllocGlobal>(
+    rt: &R,
+    workspace: &mut Workspace,
+    book: Book,
+    settings: &Settings,
+    iteration: u32,
+    workers: u32,
+    gate: &LabGate<'_, R>,
+    is_by_net: bool,
+    out: &mut String,
+) -> Result<Book, Unanswered>
+    requires problem { workspace.old ≡ book.problem }
+    requires fresh { IsFresh book }
+    requires iteration { (1 ≤ iteration) × (iteration ≤ most_iterations) }
+    requires workers { (1 ≤ workers) × (workers ≤ most_workers) }
+{
+    let (book, reports) = iterate_in(
+        rt,
+        rt.alloc(),
+        workspace,
+        book,
+        settings,
+        iteration,
+        workers,
+        gate,
+    )?;
+    put_iteration(&book, reports.as_slice(), gate, is_by_net, out)?;
+    Ok(book)
+}
+
+/// Adds what was done in an iteration, and the gate's own lines.
+fn put_iteration<R: Wait + Clock + AllocGlobal>(
+    book: &Book,
+    reports: &[Report],
+    gate: &LabGate<'_, R>,
+    is_by_net: bool,
+    out: &mut String,
+) -> Result<(), Unanswered> {
+    if is_by_net {
+        put_nets(reports, book.problem().nets(), out)?;
+    } else {
+        put_reports(reports, out)?;
+    }
+    gate.put(out)
+}
+
+/// Adds the report of each worker.
+fn put_reports(reports: &[Report], out: &mut String) -> Result<(), Unanswered> {
+    for (worker, report) in reports.iter().enumerate() {
+        writeln!(out, "worker {worker}:")?;
+        put_entries(report.entries(), out)?;
+    }
+    Ok(())
+}
+
+/// Adds a line for each turn of a worker.
+fn put_entries(entries: &[Entry], out: &mut String) -> Result<(), Unanswered> {
+    for entry in entries {
+        put_entry(entry, out)?;
+    }
+    Ok(())
+}
+
+/// Adds the turn at each net, whoever made it.
+fn put_nets(reports: &[Report], nets: u32, out: &mut String) -> Result<(), Unanswered> {
+    for net in 0..nets {
+        match reports.iter().find_map(|report| entry_of(report, net)) {
+            Some(entry) => put_entry(entry, out)?,
+            None => writeln!(out, "net {net}: none")?,
+        }
+    }
+    Ok(())
+}
+
+/// The turn of a worker at a net.
+fn entry_of(report: &Report, net: u32) -> Option<&Entry> {
+    report.entries().iter().find(|entry| entry.net == net)
+}
+
+fn put_entry(entry: &Entry, out: &mut String) -> Result<(), Unanswered> {
+    write!(out, "net {}: ", entry.net)?;
+    match &entry.tree {
+        Some(tree) => put_tree(tree, out),
+        None => put(out, "passed"),
+    }
+}

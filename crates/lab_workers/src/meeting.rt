@@ -1,0 +1,91 @@
+//! A gate at which nets meet.
+
+use crate::patience::Patience;
+use lab_session::answer::put;
+use lab_session::unanswered::Unanswered;
+use std::sync::atomic::{AtomicBool, AtomicU32, Ordering};
+
+/// The flag of a net, or of a worker; none from 32 on.
+pub fn flag(number: u32) -> u32 {
+    1u32.checked_shl(number).unwrap_or(0)
+}
+
+/// Holds each of the first nets until all of them came as far: after their draws, and again after their searches. It does so in the
+/// first iteration of a negotiation alone, which all workers make.
+#[derive(Drop)]
+pub struct Meeting {
+    nets: u32,
+    is_awake: AtomicBool,
+    drawn: AtomicU32,
+    searched: AtomicU32,
+    /// In how many iterations they met.
+    met: AtomicU32,
+    patience: Patience,
+}
+
+impl Meeting {
+    /// That of so many nets, at most 32.
+    pub fn of(nets: u32) -> Meeting {
+        Meeting {
+            nets,
+            is_awake: AtomicBool::new(true),
+            drawn: AtomicU32::new(0),
+            searched: AtomicU32::new(0),
+            met: AtomicU32::new(0),
+            patience: Patience::new(),
+        }
+    }
+
+    /// The flags of all nets that meet.
+    fn all(&self) -> u32 {
+        match 1u32.checked_shl(self.nets) {
+            Some(above) => above.saturating_sub(1),
+            None => u32::MAX,
+        }
+    }
+
+    /// Whether a net is held.
+    fn holds(&self, net: u32) -> bool {
+        net < self.nets && self.is_awake.load(Ordering::SeqCst)
+    }
+
+    /// Sets the flag of a net; whether all stand there by this one.
+    fn completes(&self, seen: &AtomicU32, net: u32) -> bool {
+        let before = seen.fetch_or(flag(net), Ordering::SeqCst);
+        before != self.all() && before | flag(net) == self.all()
+    }
+
+    /// Tells in how many iterations the nets met, and whether one gave up.
+    pub fn put(&self, out: &mut String) -> Result<(), Unanswered> {
+        write!(out, "gate: met {} times", self.met.load(Ordering::SeqCst))?;
+        if self.patience.is_gone() {
+            out.push_str(", gave up")?;
+        }
+        put(out, "")
+    }
+}
+
+/// What it does when it is called.
+impl Meeting {
+    pub fn opened(&self, iteration: u32) {
+        self.drawn.store(0, Ordering::SeqCst);
+        self.searched.store(0, Ordering::SeqCst);
+        self.is_awake.store(iteration == 1, Ordering::SeqCst);
+    }
+
+    pub fn between(&self, net: u32) {
+        if self.holds(net) {
+            self.completes(&self.drawn, net);
+            self.patience.await_number(&self.drawn, self.all());
+        }
+    }
+
+    pub fn searched(&self, net: u32) {
+        if self.holds(net) {
+            if self.completes(&self.searched, net) && !self.patience.is_gone() {
+                self.met.fetch_add(1, Ordering::SeqCst);
+            }
+            self.patience.await_number(&self.searched, self.all());
+        }
+    }
+}

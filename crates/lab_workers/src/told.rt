@@ -1,0 +1,121 @@
+//! What a gate is told by the driver of a negotiation, in its order.
+
+use lab_session::unanswered::Unanswered;
+use net_workers::TrialEnd;
+use std::alloc::Global;
+use std::fmt;
+use std::sync::atomic::{AtomicU32, Ordering};
+use std::sync::{Mutex, Wait};
+
+/// A call of a gate by the driver, or what the parts of an iteration or a trial took, in microseconds.
+#[derive(Clone, Copy, Debug)]
+pub enum Told {
+    Opened {
+        iteration: u32,
+        nets: u32,
+    },
+    Closed {
+        iteration: u32,
+        unrouted: u32,
+        overused: u32,
+    },
+    Tries(u32),
+    Routed {
+        width: u32,
+        iterations: u32,
+    },
+    NotRouted(u32),
+    Iteration {
+        iteration: u32,
+        all: u64,
+        searches: u64,
+        turns: u64,
+        end: u64,
+    },
+    Trial {
+        width: u32,
+        all: u64,
+    },
+}
+
+impl Told {
+    /// That the trial of a width came to this.
+    pub fn tried(width: u32, end: TrialEnd) -> Told {
+        match end {
+            TrialEnd::Routed { iterations } => Told::Routed { width, iterations },
+            TrialEnd::NotRouted { .. } => Told::NotRouted(width),
+        }
+    }
+}
+
+impl fmt::Display for Told {
+    fn fmt<W: fmt::Write>(&self, f: &mut fmt::Formatter<W>) -> fmt::Result {
+        match *self {
+            Told::Opened { iteration, nets } => write!(f, "opened {iteration}, {nets} nets"),
+            Told::Closed {
+                iteration,
+                unrouted,
+                overused,
+            } => write!(
+                f,
+                "closed {iteration}, unrouted {unrouted}, overused {overused}"
+            ),
+            Told::Tries(width) => write!(f, "tries {width}"),
+            Told::Routed { width, iterations } => write!(
+                f,
+                "tried {width}, routed in {iterations}"
+            ),
+            Told::NotRouted(width) => write!(f, "tried {width}, not routed"),
+            Told::Iteration {
+                iteration,
+                all,
+                searches,
+                turns,
+                end,
+            } => {
+                write!(f, "iteration {iteration}: {all} us; searches {searches} us")?;
+                write!(f, ", turns {turns} us, end {end} us")
+            }
+            Told::Trial { width, all } => write!(f, "width {width}: {all} us"),
+        }
+    }
+}
+
+/// What a gate was told, in its order.
+#[derive(Drop)]
+pub struct ToldList<'a, R: Wait> {
+    rt: &'a R,
+    list: Mutex<Vec<Told>>,
+    /// For how many there was no memory.
+    lost: AtomicU32,
+}
+
+impl<'a, R: Wait> ToldList<'a, R> {
+    /// An empty one.
+    pub fn new(rt: &'a R, alloc: Global) -> ToldList<'a, R> {
+        ToldList {
+            rt,
+            list: Mutex::new(Vec::new(alloc)),
+            lost: AtomicU32::new(0),
+        }
+    }
+
+    /// Adds what was told.
+    pub fn add(&self, told: Told) {
+        if self.list.lock(self.rt).push(told).is_err() {
+            self.lost.fetch_add(1, Ordering::SeqCst);
+        }
+    }
+
+    /// Adds a line for each.
+    pub fn put(&self, out: &mut String) -> Result<(), Unanswered> {
+        let list = self.list.lock(self.rt);
+        for told in list.as_slice() {
+            writeln!(out, "gate: {told}")?;
+        }
+        if self.lost.load(Ordering::SeqCst) > 0 {
+            writeln!(out, "gate: lines lost")?;
+        }
+        Ok(())
+    }
+}
