@@ -1,8 +1,8 @@
 //! All calls, by their names.
 
-use crate::{explain_calls, fault_calls, progress_calls, run_calls, work_calls};
 use lab_book::{book_calls, event_calls, search_calls, settings_calls, view_calls};
 use lab_graph::{arch_calls, design_calls, device_calls, file_calls, text_calls, walk_calls};
+use lab_runs::{explain_calls, fault_calls, progress_calls, run_calls, work_calls};
 use lab_session::answer::added;
 use lab_session::session::Session;
 use lab_session::sources::BELOW;

@@ -2,12 +2,7 @@
 #![tactic(auto)]
 
 mod calls;
-mod explain_calls;
-mod fault_calls;
-mod progress_calls;
-mod run_calls;
 mod runner;
-mod work_calls;
 
 use lab_session::session::Session;
 use runner::run_script;
