@@ -113,6 +113,10 @@ class States:
             self.wanted[key] = parts_of(lines_of(answer))[1:]
         return self.wanted[key]
 
+    def forget(self, place):
+        """What should stand behind a call is found anew, by another run."""
+        self.wanted = {key: wanted for key, wanted in self.wanted.items() if key[0] != place}
+
     def compare(self, number, place, lacks):
         """Whether all stands as it should behind a call for which one of this number is refused; None where it didn't come to that."""
         run = self.run(f"refused.{place}", self.script_behind(place, [self.calls[place]]))

@@ -11,7 +11,7 @@ use Rattle.arch_file.specs.declared.parts.Direction.TheVariants.{Input, Output}
 use Rattle.arch_file.specs.declared.parts.Pin.{Pin}
 use Rattle.arch_file.specs.Lines.{same_direction, pins_of}
 use Rattle.arch_file.specs.PinLine.{mixes, is_bad_class, is_global_pin, side_words, lacks_sides, pin_in}
-use Rattle.arch_file.specs.Word.{has, number_at}
+use Rattle.line_reader.specs.Word.{has, number_in}
 use Rattle.arch_file.proofs.Faultless.{and_false, not_false, found_passes, found_fails}
 
 -- the direction of the first pin of a class
@@ -77,4 +77,4 @@ of_number test (Some n) e = e
 pub not_mixed : (before : List ArchLine) (d : Direction) (words : List (List ℕ)) → is_bad_class before d words ≡ false → lacks_sides d words ≡ false → mixes before (pin_in d words).direction (pin_in d words).class ≡ false
 unfolding is_bad_class pin_in
 not_mixed before d words class sides =
-    of_number (mixes before d) (number_at words 2) (and_false (has words 2) (option_map_or (mixes before d) (number_at words 2) true) class (class_is_there d words sides))
+    of_number (mixes before d) (number_in words 2) (and_false (has words 2) (option_map_or (mixes before d) (number_in words 2) true) class (class_is_there d words sides))

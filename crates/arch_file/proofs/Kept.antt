@@ -22,15 +22,16 @@ use Rattle.arch_file.specs.declared.parts.SegmentLength.TheVariants.{Places, Lon
 use Rattle.arch_file.specs.Architecture.{IsSegmentLength, IsWithinLimits}
 use Rattle.arch_file.specs.Faults.{first_fault}
 use Rattle.arch_file.specs.Judge.{is_passed, has_keyword, is_repeated, judge, judged, says, keyword_at}
-use Rattle.arch_file.specs.Keyword.{is_text, same_keyword}
+use Rattle.arch_file.specs.Keyword.{same_keyword}
+use Rattle.line_reader.specs.Word.{is_text, has, is_at, number_in, fixed_in}
 use Rattle.arch_file.specs.Lines.{keyword_of_pin, io_rat_of, pin_of, segment_of, pins_of, segments_of}
 use Rattle.arch_file.specs.Pairs.{pairs_of, pair_with, value_of, has_key, fixed_for}
 use Rattle.arch_file.specs.PinLine.{mixes, pin_line, pin_in, is_bad_class, lacks_sides}
-use Rattle.arch_file.specs.Reading.{◌>>=◌, at_number, entries_from, has_gap, missing_of, value_in, architecture_from}
+use Rattle.arch_file.specs.Reading.{at_number, entries_from, has_gap, missing_of, value_in, architecture_from}
+use Rattle.vpr_text.specs.Readings.{◌>>=◌}
 use Rattle.arch_file.specs.SegmentLine.{segment_line, segment_in, length_in, is_unsupported, is_too_long, has_segment_keys, has_wire_keys, has_other_keys, has_wrong_value, is_wrong_value, is_wrong_length}
 use Rattle.arch_file.specs.SwitchLine.{switch_line, switch_in, repeats_switch, has_bad_number, has_switch_keys, is_buffer_word}
 use Rattle.arch_file.specs.Values.{pads_in, is_one, is_not_fixed, is_distribution, io_rat_line, chan_width_io_line, channel_line, number_line, fixed_line, switch_block_type_line, fc_type_line}
-use Rattle.arch_file.specs.Word.{has, is_at, number_at, fixed_at}
 use Rattle.arch_file.proofs.Directions.{HaveOneDirection, direction_in, one_direction_more, not_mixed}
 use Rattle.arch_file.proofs.Faultless.{accepted, or_false, or_true, and_false, and_true, not_false, passed, not_err, found_passes, found_fails}
 
@@ -204,7 +205,7 @@ channel_suits before words given x suits e =
 
 number_suits : (before : List ArchLine) (words : List (List ℕ)) (given x : ArchLine) → Suits before given → number_line words given ≡ Ok x → Suits before x
 unfolding number_line
-number_suits before words given x suits e = subst (Suits before) (accepted (has words 1 && is_none (number_at words 1)) (not (eqb (length words) 2)) false false given x e).1 suits
+number_suits before words given x suits e = subst (Suits before) (accepted (has words 1 && is_none (number_in words 1)) (not (eqb (length words) 2)) false false given x e).1 suits
 
 fixed_suits : (before : List ArchLine) (words : List (List ℕ)) (given x : ArchLine) → Suits before given → fixed_line words given ≡ Ok x → Suits before x
 unfolding fixed_line
@@ -242,7 +243,7 @@ unfolding switch_line
 switch_suits before words x e =
     let pairs = drop 2 words in
     let bad_word = not (has_switch_keys pairs) || not (is_buffer_word pairs) in
-    let too_many = ltb 255 (unwrap_or (number_at words 1) 0) in
+    let too_many = ltb 255 (unwrap_or (number_in words 1) 0) in
     let new = not_err (repeats_switch before words) Repeated (first_fault (has_bad_number words) bad_word false too_many (line.Switch (switch_in words))) x e in
     subst (Suits before) (accepted (has_bad_number words) bad_word false too_many (line.Switch (switch_in words)) x new.1).1 tt
 
@@ -258,9 +259,9 @@ says_suits before words keyword.SubblocksPerClb x e = number_suits before words 
 says_suits before words keyword.SubblockLutSize x e = number_suits before words line.SubblockLutSize x tt e
 says_suits before words keyword.SwitchBlockType x e = switch_block_type_suits before words x e
 says_suits before words keyword.FcType x e = fc_type_suits before words x e
-says_suits before words keyword.FcOutput x e = fixed_suits before words (line.FcOutput (unwrap_or (fixed_at words 1) 0)) x tt e
-says_suits before words keyword.FcInput x e = fixed_suits before words (line.FcInput (unwrap_or (fixed_at words 1) 0)) x tt e
-says_suits before words keyword.FcPad x e = fixed_suits before words (line.FcPad (unwrap_or (fixed_at words 1) 0)) x tt e
+says_suits before words keyword.FcOutput x e = fixed_suits before words (line.FcOutput (unwrap_or (fixed_in words 1) 0)) x tt e
+says_suits before words keyword.FcInput x e = fixed_suits before words (line.FcInput (unwrap_or (fixed_in words 1) 0)) x tt e
+says_suits before words keyword.FcPad x e = fixed_suits before words (line.FcPad (unwrap_or (fixed_in words 1) 0)) x tt e
 says_suits before words keyword.Segment x e = segment_suits before words x e
 says_suits before words keyword.Switch x e = switch_suits before words x e
 

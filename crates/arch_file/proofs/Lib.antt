@@ -1,4 +1,3 @@
-pub mod Drops
 pub mod Lines
 pub mod Faultless
 pub mod Directions

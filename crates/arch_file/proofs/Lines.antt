@@ -1,5 +1,5 @@
 -- Reading line by line, as the loop does.
-use Rattle.std.proofs.Common.{◌≡◌, ℕ, ◌+◌, ◌<◌, ◌≤◌, true, false, List, [], ◌∷◌, ◌++◌, length, get_or, drop, Result, Ok, Err, refl, sym, ap, ◌∙◌, add-one}
+use Rattle.std.proofs.Common.{◌≡◌, ℕ, ◌+◌, ◌<◌, ◌≤◌, true, false, List, [], ◌∷◌, ◌++◌, length, get_or, drop, Ok, Err, refl, sym, ap, ◌∙◌, add-one}
 use Rattle.std.proofs.Math.Seq.{drop-cons}
 use Rattle.std.proofs.lemmas.List.{drop_all}
 use Rattle.vpr_text.specs.Words.{Line, no_line, number_at, words_at}
@@ -7,9 +7,7 @@ use Rattle.arch_file.specs.declared.fault.LineFault.{LineFault}
 use Rattle.arch_file.specs.declared.line.ArchLine.{ArchLine}
 use Rattle.arch_file.specs.Faults.{at_line}
 use Rattle.arch_file.specs.Judge.{is_passed, judge}
-use Rattle.arch_file.specs.declared.fault.ArchFault.{ArchFault}
-use Rattle.arch_file.specs.declared.fault.LineFault.TheVariants.{UnknownKeyword, Repeated, BadNumber, BadWord, Unsupported, TooMany}
-use Rattle.arch_file.specs.Reading.{entries_from, Fails}
+use Rattle.arch_file.specs.Reading.{entries_from}
 
 -- the lines from a place on
 lines_from : (ls : List Line) (i : ℕ) → i < length ls → drop i ls ≡ get_or ls i no_line ∷ drop (i + 1) ls
@@ -39,12 +37,3 @@ refuses before ls i fault lt e j = ap (entries_from before) (lines_from ls i lt)
 pub ends : (before : List ArchLine) (ls : List Line) (i : ℕ) → length ls ≤ i → entries_from before (drop i ls) ≡ Ok before
 unfolding entries_from
 ends before ls i le = ap (entries_from before) (drop_all i ls le)
-
--- a line's fault is the answer where reading gives it
-pub fails_at : {Y : Type 0} (fault : LineFault) (n : ℕ) (given : Result Y ArchFault) → given ≡ Err (at_line fault n) → Fails (at_line fault n) given
-fails_at UnknownKeyword n given e = e
-fails_at Repeated n given e = e
-fails_at BadNumber n given e = e
-fails_at BadWord n given e = e
-fails_at Unsupported n given e = e
-fails_at TooMany n given e = e

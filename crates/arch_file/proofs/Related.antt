@@ -1,22 +1,18 @@
 -- Reading is the relation between a text and its architecture: each gives the other.
 use Rattle.std.proofs.Common.{◌≡◌, ℕ, Bool, true, false, cond, List, [], ◌∷◌, ◌++◌, Option, Some, None, Result, Ok, Err, refl, sym, ap, ◌∙◌}
-use Rattle.std.specs.Prelude.{IfOk, MatchBool}
+use Rattle.std.specs.Prelude.{MatchBool}
+use Rattle.vpr_text.specs.Readings.{◌>>=◌, with_fault}
 use Rattle.vpr_text.specs.Words.{Line}
 use Rattle.vpr_text.specs.Text.{lines_of}
-use Rattle.vpr_text.specs.declared.fault.TextFault.{TextFault}
-use Rattle.arch_file.specs.declared.fault.ArchFault.{ArchFault}
+use Rattle.line_reader.proofs.Readings.{bind_ok, with_fault_ok}
+use Rattle.arch_file.specs.declared.fault.ArchFault.TheVariants as arch
 use Rattle.arch_file.specs.declared.fault.Entry.{Entry}
 use Rattle.arch_file.specs.declared.fault.LineFault.{LineFault}
 use Rattle.arch_file.specs.declared.line.ArchLine.{ArchLine}
 use Rattle.arch_file.specs.Architecture.{Architecture}
 use Rattle.arch_file.specs.Judge.{is_passed, judge}
-use Rattle.arch_file.specs.Reading.{◌>>=◌, Gives, at_number, entries_from, missing_of, architecture_from, completed, reading, text_of, arch_of}
+use Rattle.arch_file.specs.Reading.{at_number, entries_from, missing_of, architecture_from, completed, reading, arch_of}
 use Rattle.arch_file.specs.Reads.{AreEntries, ReadsArch, ReadsBytes}
-
--- the value of a step that did not fail
-bind_ok : {A B : Type 0} (r : Result A ArchFault) (f : A → Result B ArchFault) (y : B) → (r >>= f) ≡ Ok y → (x : A) × (r ≡ Ok x) × (f x ≡ Ok y)
-bind_ok (Ok x) f y e = (x, refl, e)
-bind_ok (Err d) f y e = absurd cc
 
 one_related : (b : Bool) (j : Result ArchLine LineFault) (n : ℕ) (before : List ArchLine) (ls : List Line) (es : List ArchLine)
     → ((front : List ArchLine) → entries_from front ls ≡ Ok es → AreEntries front ls es)
@@ -60,22 +56,14 @@ reads_given ls a h =
     let given : reading ls ≡ Ok (architecture_from h.entries) = rw (entries_given [] ls h.entries h.each_line, h.complete) refl in
     given ∙ ap Ok (sym h.value)
 
-text_ok : (r : Result (List Line) TextFault) (ls : List Line) → text_of r ≡ Ok ls → r ≡ Ok ls
-text_ok (Ok x) ls e = cc
-text_ok (Err f) ls e = absurd cc
-
 pub is_read : (bytes : List ℕ) (a : Architecture) → arch_of bytes ≡ Ok a → ReadsBytes bytes a
 unfolding arch_of
 is_read bytes a e =
-    let b = bind_ok (text_of (lines_of bytes)) reading a e in
-    record { lines = b.0; is_text = text_ok (lines_of bytes) b.0 b.1; reads = reads_related b.0 a b.2 }
+    let b = bind_ok (with_fault arch.Text (lines_of bytes)) reading a e in
+    record { lines = b.0; is_text = with_fault_ok arch.Text (lines_of bytes) b.0 b.1; reads = reads_related b.0 a b.2 }
 
 pub is_given : (bytes : List ℕ) (a : Architecture) → ReadsBytes bytes a → arch_of bytes ≡ Ok a
 unfolding arch_of
 is_given bytes a h =
     let first : arch_of bytes ≡ reading h.lines = rw h.is_text refl in
     first ∙ reads_given h.lines a h.reads
-
-pub found : (bytes : List ℕ) (r : Result Architecture ArchFault) → Gives (λ a. a) r (arch_of bytes) → IfOk r (ReadsBytes bytes)
-found bytes (Ok a) given = is_read bytes a given
-found bytes (Err f) given = tt

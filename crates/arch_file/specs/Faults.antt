@@ -1,5 +1,7 @@
 -- The faults of an architecture file (this project's profile).
-use Rattle.std.specs.Prelude.{ℕ, Bool, if◌then◌else◌, Result, Ok, Err}
+use Rattle.std.specs.Prelude.{ℕ, Bool, true, false, if◌then◌else◌, List, Result, Ok, Err, codes}
+use Rattle.vpr_text.specs.declared.fault.TextFault.TheVariants as text
+use Rattle.vpr_text.specs.Faults.{text_line, text_name}
 use Rattle.arch_file.specs.declared.fault.ArchFault.{ArchFault}
 use Rattle.arch_file.specs.declared.fault.ArchFault.TheVariants as arch
 use Rattle.arch_file.specs.declared.fault.LineFault.{LineFault}
@@ -23,3 +25,34 @@ first_fault bad_number bad_word unsupported too_many line =
     else (if unsupported then Err Unsupported
     else (if too_many then Err TooMany
     else Ok line)))
+
+-- ---- how a fault is told
+
+-- 0 is the end of the file
+abbrev pub arch_line : ArchFault → ℕ
+arch_line (arch.Text f) = text_line f
+arch_line (arch.UnknownKeyword line) = line
+arch_line (arch.Repeated line) = line
+arch_line (arch.BadNumber line) = line
+arch_line (arch.BadWord line) = line
+arch_line (arch.Unsupported line) = line
+arch_line (arch.TooMany line) = line
+arch_line (arch.Missing entry) = 0
+arch_line arch.Memory = 0
+
+abbrev pub arch_name : ArchFault → List ℕ
+arch_name (arch.Text f) = text_name f
+arch_name (arch.UnknownKeyword line) = codes "UnknownKeyword"
+arch_name (arch.Repeated line) = codes "Repeated"
+arch_name (arch.BadNumber line) = codes "BadNumber"
+arch_name (arch.BadWord line) = codes "BadWord"
+arch_name (arch.Unsupported line) = codes "Unsupported"
+arch_name (arch.TooMany line) = codes "TooMany"
+arch_name (arch.Missing entry) = codes "Missing"
+arch_name arch.Memory = codes "Memory"
+
+-- memory ran out
+abbrev pub is_arch_memory : ArchFault → Bool
+is_arch_memory arch.Memory = true
+is_arch_memory (arch.Text text.Memory) = true
+is_arch_memory _ = false

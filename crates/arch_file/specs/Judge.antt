@@ -16,7 +16,7 @@ use Rattle.arch_file.specs.PinLine.{pin_line}
 use Rattle.arch_file.specs.SegmentLine.{segment_line}
 use Rattle.arch_file.specs.SwitchLine.{switch_line}
 use Rattle.arch_file.specs.Values.{io_rat_line, chan_width_io_line, channel_line, number_line, fixed_line, switch_block_type_line, fc_type_line}
-use Rattle.arch_file.specs.Word.{fixed_at}
+use Rattle.line_reader.specs.Word.{fixed_in}
 
 -- a line that begins with a keyword of timing, `T_`, `C_` or `R_`, is passed over unread
 abbrev pub is_passed : List (List ℕ) → Bool
@@ -46,9 +46,9 @@ says before words SubblocksPerClb = number_line words line.SubblocksPerClb
 says before words SubblockLutSize = number_line words line.SubblockLutSize
 says before words SwitchBlockType = switch_block_type_line words
 says before words FcType = fc_type_line words
-says before words FcOutput = fixed_line words (line.FcOutput (unwrap_or (fixed_at words 1) 0))
-says before words FcInput = fixed_line words (line.FcInput (unwrap_or (fixed_at words 1) 0))
-says before words FcPad = fixed_line words (line.FcPad (unwrap_or (fixed_at words 1) 0))
+says before words FcOutput = fixed_line words (line.FcOutput (unwrap_or (fixed_in words 1) 0))
+says before words FcInput = fixed_line words (line.FcInput (unwrap_or (fixed_in words 1) 0))
+says before words FcPad = fixed_line words (line.FcPad (unwrap_or (fixed_in words 1) 0))
 says before words Segment = segment_line before words
 says before words Switch = switch_line before words
 

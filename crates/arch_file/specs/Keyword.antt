@@ -1,13 +1,9 @@
 -- The keywords of an architecture file (VPR and T-VPack manual 4.30, "The Architecture File Format").
 use Rattle.std.specs.Prelude.{ℕ, ◌==◌, Bool, true, false, ◌||◌, if◌then◌else◌, List, Option, Some, None, codes, nat_eq}
-use Rattle.std.specs.Str.{bytes_eq}
 use Rattle.std.specs.List.{starts_with}
+use Rattle.line_reader.specs.Word.{is_text}
 use Rattle.arch_file.specs.declared.keyword.Keyword.{Keyword}
 use Rattle.arch_file.specs.declared.keyword.Keyword.TheVariants.{IoRat, ChanWidthIo, ChanWidthX, ChanWidthY, Inpin, Outpin, SubblocksPerClb, SubblockLutSize, SwitchBlockType, FcType, FcOutput, FcInput, FcPad, Segment, Switch}
-
--- a word is this text
-unfoldable pub is_text : List ℕ → List ℕ → Bool
-is_text word text = bytes_eq word text
 
 -- a word begins with this text
 unfoldable pub begins_with : List ℕ → List ℕ → Bool

@@ -2,7 +2,6 @@ pub mod Architecture
 pub mod Keyword
 pub mod Lines
 pub mod Faults
-pub mod Word
 pub mod Pairs
 pub mod Values
 pub mod PinLine

@@ -11,9 +11,8 @@ use Rattle.arch_file.specs.declared.parts.Direction.TheVariants.{Input}
 use Rattle.arch_file.specs.declared.parts.Pin.{Pin}
 use Rattle.arch_file.specs.declared.parts.Sides.{Sides}
 use Rattle.arch_file.specs.Faults.{first_fault}
-use Rattle.arch_file.specs.Keyword.{is_text}
+use Rattle.line_reader.specs.Word.{is_text, has, is_at, number_in}
 use Rattle.arch_file.specs.Lines.{same_direction, pins_of}
-use Rattle.arch_file.specs.Word.{has, is_at, number_at}
 use Rattle.arch_file.specs.Architecture.{most_pins}
 
 -- a pin of the lines before has this class and the other direction
@@ -22,7 +21,7 @@ mixes before direction class = list_any (λ pin. (pin.class == class) && not (sa
 
 -- the class is there, and is no number or is one of the other direction
 unfoldable pub is_bad_class : List ArchLine → Direction → List (List ℕ) → Bool
-is_bad_class before direction words = has words 2 && option_map_or (mixes before direction) (number_at words 2) true
+is_bad_class before direction words = has words 2 && option_map_or (mixes before direction) (number_in words 2) true
 
 -- `global` stands right after the class of an input pin
 unfoldable pub is_global_pin : Direction → List (List ℕ) → Bool
@@ -47,7 +46,7 @@ sides_in words = record { top = names words (codes "top"); bottom = names words 
 unfoldable pub pin_in : Direction → List (List ℕ) → Pin
 pin_in direction words =
     record {
-      class = unwrap_or (number_at words 2) 0;
+      class = unwrap_or (number_in words 2) 0;
       direction = direction;
       global = is_global_pin direction words;
       sides = sides_in (side_words direction words);
@@ -64,5 +63,5 @@ pin_line before direction words =
     first_fault (is_bad_class before direction words)
     (not (is_at words 1 (codes "class:")) || lacks_sides direction words)
     false
-    (nat_le most_pins (unwrap_or (number_at words 2) 0) || nat_le most_pins (length (pins_of before)))
+    (nat_le most_pins (unwrap_or (number_in words 2) 0) || nat_le most_pins (length (pins_of before)))
     (line.Pin (pin_in direction words))

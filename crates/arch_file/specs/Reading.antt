@@ -1,10 +1,10 @@
 -- An architecture file as a list of lines, read line by line: what is read, or the first fault (VPR and T-VPack manual
 -- 4.30; the faults and their order are this project's profile).
-use Rattle.std.specs.Prelude.{◌≡◌, ℕ, ◌-◌, Bool, not, ◌&&◌, ◌||◌, ◌==◌, nat_lt, if◌then◌else◌, List, [], ◌∷◌, ◌++◌, length, Option, None, Some, unwrap_or, fold, Result, Ok, Err}
+use Rattle.std.specs.Prelude.{ℕ, ◌-◌, Bool, not, ◌&&◌, ◌||◌, ◌==◌, nat_lt, if◌then◌else◌, List, [], ◌∷◌, ◌++◌, length, Option, None, Some, unwrap_or, fold, Result, Ok, Err}
 use Rattle.std.specs.List.{list_any}
+use Rattle.vpr_text.specs.Readings.{◌>>=◌, with_fault}
 use Rattle.vpr_text.specs.Words.{Line}
 use Rattle.vpr_text.specs.Text.{lines_of}
-use Rattle.vpr_text.specs.declared.fault.TextFault.{TextFault}
 use Rattle.arch_file.specs.declared.fault.ArchFault.{ArchFault}
 use Rattle.arch_file.specs.declared.fault.ArchFault.TheVariants as arch
 use Rattle.arch_file.specs.declared.fault.Entry.{Entry}
@@ -18,11 +18,6 @@ use Rattle.arch_file.specs.Faults.{at_line}
 use Rattle.arch_file.specs.Judge.{is_passed, has_keyword, judge}
 use Rattle.arch_file.specs.Lines.{pins_of, segments_of, switches_of, io_rat_of, fc_type_of, fc_output_of, fc_input_of, fc_pad_of}
 use Rattle.arch_file.specs.SwitchLine.{has_switch}
-
-infixl 10 ◌>>=◌
-abbrev pub ◌>>=◌ : {A B : Type 0} → Result A ArchFault → (A → Result B ArchFault) → Result B ArchFault
-(Ok x) >>= f = f x
-(Err e) >>= f = Err e
 
 -- a line's fault with the number of the line
 abbrev pub at_number : ℕ → Result ArchLine LineFault → Result ArchLine ArchFault
@@ -92,27 +87,6 @@ completed lines (Some e) = Err (arch.Missing e)
 unfoldable pub reading : List Line → Result Architecture ArchFault
 reading lines = entries_from [] lines >>= λ entries. completed entries (missing_of entries)
 
--- the fault of a text is that of the architecture
-abbrev pub text_of : Result (List Line) TextFault → Result (List Line) ArchFault
-text_of (Ok lines) = Ok lines
-text_of (Err fault) = Err (arch.Text fault)
-
 -- bytes as an architecture
 unfoldable pub arch_of : List ℕ → Result Architecture ArchFault
-arch_of bytes = text_of (lines_of bytes) >>= reading
-
--- what a call returned, seen by view, is what reading gives, unless memory ran out
-abbrev pub Fails : {Y : Type 0} → ArchFault → Result Y ArchFault → Type 0
-Fails arch.Memory given = Unit {0}
-Fails (arch.Text f) given = given ≡ Err (arch.Text f)
-Fails (arch.UnknownKeyword n) given = given ≡ Err (arch.UnknownKeyword n)
-Fails (arch.Repeated n) given = given ≡ Err (arch.Repeated n)
-Fails (arch.BadNumber n) given = given ≡ Err (arch.BadNumber n)
-Fails (arch.BadWord n) given = given ≡ Err (arch.BadWord n)
-Fails (arch.Unsupported n) given = given ≡ Err (arch.Unsupported n)
-Fails (arch.TooMany n) given = given ≡ Err (arch.TooMany n)
-Fails (arch.Missing e) given = given ≡ Err (arch.Missing e)
-
-abbrev pub Gives : {X Y : Type 0} → (X → Y) → Result X ArchFault → Result Y ArchFault → Type 0
-Gives view (Ok x) given = given ≡ Ok (view x)
-Gives view (Err e) given = Fails e given
+arch_of bytes = with_fault arch.Text (lines_of bytes) >>= reading

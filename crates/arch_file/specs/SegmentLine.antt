@@ -9,7 +9,7 @@ use Rattle.arch_file.specs.declared.parts.Segment.{Segment}
 use Rattle.arch_file.specs.declared.parts.SegmentLength.{SegmentLength}
 use Rattle.arch_file.specs.declared.parts.SegmentLength.TheVariants.{Places, Longline}
 use Rattle.arch_file.specs.Faults.{first_fault}
-use Rattle.arch_file.specs.Keyword.{is_text}
+use Rattle.line_reader.specs.Word.{is_text}
 use Rattle.arch_file.specs.Lines.{segments_of}
 use Rattle.vpr_text.specs.Numbers.{number_of, fixed_of, is_decimal}
 use Rattle.arch_file.specs.Pairs.{pairs_of, has_key, is_value, number_for, fixed_for}

@@ -9,11 +9,10 @@ use Rattle.arch_file.specs.declared.line.ArchLine.{ArchLine}
 use Rattle.arch_file.specs.declared.line.ArchLine.TheVariants as line
 use Rattle.arch_file.specs.declared.parts.Switch.{Switch}
 use Rattle.arch_file.specs.Faults.{first_fault}
-use Rattle.arch_file.specs.Keyword.{is_text}
+use Rattle.line_reader.specs.Word.{is_text, has, number_in}
 use Rattle.arch_file.specs.Lines.{switches_of}
 use Rattle.vpr_text.specs.Numbers.{is_decimal}
 use Rattle.arch_file.specs.Pairs.{pairs_of, has_key, is_value}
-use Rattle.arch_file.specs.Word.{has, number_at}
 
 -- a line gives the switch of this number
 unfoldable pub has_switch : List ArchLine → ℕ → Bool
@@ -21,7 +20,7 @@ has_switch lines number = list_any (λ switch. switch.number == number) (switche
 
 -- a line before gives the switch of this number
 abbrev pub repeats_switch : List ArchLine → List (List ℕ) → Bool
-repeats_switch before words = option_map_or (has_switch before) (number_at words 1) false
+repeats_switch before words = option_map_or (has_switch before) (number_in words 1) false
 
 -- the value isn't the number that the key wants; of an unknown key nothing is wanted
 unfoldable pub is_wrong_value : List ℕ × List ℕ → Bool
@@ -33,7 +32,7 @@ has_wrong_value pairs = list_any is_wrong_value (pairs_of pairs)
 
 -- the switch's number is there and is none, or a value isn't the number that is wanted
 unfoldable pub has_bad_number : List (List ℕ) → Bool
-has_bad_number words = (has words 1 && is_none (number_at words 1)) || has_wrong_value (drop 2 words)
+has_bad_number words = (has words 1 && is_none (number_in words 1)) || has_wrong_value (drop 2 words)
 
 -- the words are the five pairs: with as many words and each key among them, no key is unknown, repeated or left out
 unfoldable pub has_switch_keys : List (List ℕ) → Bool
@@ -51,7 +50,7 @@ is_buffer_word pairs = is_value pairs (codes "buffered:") (codes "yes") || is_va
 
 -- the switch that the line describes
 abbrev pub switch_in : List (List ℕ) → Switch
-switch_in words = record { number = unwrap_or (number_at words 1) 0; buffered = is_value (drop 2 words) (codes "buffered:") (codes "yes") }
+switch_in words = record { number = unwrap_or (number_in words 1) 0; buffered = is_value (drop 2 words) (codes "buffered:") (codes "yes") }
 
 -- `switch n` and its five pairs, n at most 255
 unfoldable pub switch_line : List ArchLine → List (List ℕ) → Result ArchLine LineFault
@@ -60,5 +59,5 @@ switch_line before words =
     else first_fault (has_bad_number words)
     (not (has_switch_keys (drop 2 words)) || not (is_buffer_word (drop 2 words)))
     false
-    (nat_lt 255 (unwrap_or (number_at words 1) 0))
+    (nat_lt 255 (unwrap_or (number_in words 1) 0))
     (line.Switch (switch_in words))

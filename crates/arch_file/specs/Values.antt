@@ -7,12 +7,12 @@ use Rattle.arch_file.specs.declared.line.ArchLine.{ArchLine}
 use Rattle.arch_file.specs.declared.line.ArchLine.TheVariants as line
 use Rattle.arch_file.specs.declared.parts.FcType.TheVariants.{Absolute, Fractional}
 use Rattle.arch_file.specs.Faults.{first_fault}
-use Rattle.arch_file.specs.Word.{has, is_at, number_at, fixed_at}
+use Rattle.line_reader.specs.Word.{has, is_at, number_in, fixed_in}
 use Rattle.arch_file.specs.Architecture.{most_pads}
 
 -- the number of pads, or 0 where there is none
 abbrev pub pads_in : List (List ℕ) → ℕ
-pads_in words = unwrap_or (number_at words 1) 0
+pads_in words = unwrap_or (number_in words 1) 0
 
 -- `io_rat n`: pads at each place of the perimeter, 1 to 16
 unfoldable pub io_rat_line : List (List ℕ) → Result ArchLine LineFault
@@ -20,11 +20,11 @@ io_rat_line words = first_fault (has words 1 && pads_in words == 0) (not (length
 
 -- the word at this place is the number 1
 abbrev pub is_one : List (List ℕ) → ℕ → Bool
-is_one words j = unwrap_or (fixed_at words j) 0 == 1000000000
+is_one words j = unwrap_or (fixed_in words j) 0 == 1000000000
 
 -- the word at this place is there and is no number with decimals
 abbrev pub is_not_fixed : List (List ℕ) → ℕ → Bool
-is_not_fixed words j = has words j && is_none (fixed_at words j)
+is_not_fixed words j = has words j && is_none (fixed_in words j)
 
 -- `chan_width_io 1`
 unfoldable pub chan_width_io_line : List (List ℕ) → Result ArchLine LineFault
@@ -42,7 +42,7 @@ channel_line words line =
 
 -- a keyword and a number
 unfoldable pub number_line : List (List ℕ) → ArchLine → Result ArchLine LineFault
-number_line words line = first_fault (has words 1 && is_none (number_at words 1)) (not (length words == 2)) false false line
+number_line words line = first_fault (has words 1 && is_none (number_in words 1)) (not (length words == 2)) false false line
 
 -- a keyword and a number with decimals
 unfoldable pub fixed_line : List (List ℕ) → ArchLine → Result ArchLine LineFault

@@ -2,7 +2,7 @@
 
 ghost use Rattle.std.specs.Prelude.{◌≡◌};
 ghost use Rattle.arch_file.specs.declared.fault.ArchFault.TheVariants.{Memory};
-ghost use Rattle.arch_file.specs.Faults.{at_line};
+ghost use Rattle.arch_file.specs.Faults.{at_line, arch_line, arch_name, is_arch_memory};
 
 use std::alloc::{AllocError, AllocFailed};
 use thiserror::Error;
@@ -78,8 +78,50 @@ impl<T: Drop> From<AllocFailed<T>> for ArchFault {
     }
 }
 
+impl ArchFault {
+    /// The line of the fault; 0 where it has none.
+    pub fn line(self) -> u32
+        ensures { result ≡ arch_line self }
+    {
+        match self {
+            ArchFault::Text(fault) => fault.line(),
+            ArchFault::UnknownKeyword(line)
+            | ArchFault::Repeated(line)
+            | ArchFault::BadNumber(line)
+            | ArchFault::BadWord(line)
+            | ArchFault::Unsupported(line)
+            | ArchFault::TooMany(line) => line,
+            ArchFault::Missing(_) | ArchFault::Memory => 0,
+        }
+    }
+
+    /// The name of the fault; that of a text is its own.
+    pub fn name(self) -> &'static [u8]
+        ensures { result.now ≡ arch_name self }
+    {
+        match self {
+            ArchFault::Text(fault) => fault.name(),
+            ArchFault::UnknownKeyword(_) => b"UnknownKeyword",
+            ArchFault::Repeated(_) => b"Repeated",
+            ArchFault::BadNumber(_) => b"BadNumber",
+            ArchFault::BadWord(_) => b"BadWord",
+            ArchFault::Unsupported(_) => b"Unsupported",
+            ArchFault::TooMany(_) => b"TooMany",
+            ArchFault::Missing(_) => b"Missing",
+            ArchFault::Memory => b"Memory",
+        }
+    }
+
+    /// Whether memory ran out.
+    pub fn is_memory(self) -> bool
+        ensures { result ≡ is_arch_memory self }
+    {
+        matches!(self, ArchFault::Memory | ArchFault::Text(TextFault::Memory))
+    }
+}
+
 /// What is wrong with one line.
-#[derive(Clone, Copy, Debug, PartialEq, Eq)]
+#[derive(Clone, Copy)]
 pub(crate) enum LineFault {
     UnknownKeyword,
     Repeated,

@@ -14,13 +14,13 @@ use crate::values::{
     chan_width_io_line, channel_line, fc_type_line, fixed_line, io_rat_line, number_line,
     switch_block_type_line,
 };
-use crate::words::Words;
+use line_reader::Words;
 
 /// Whether a line is passed over unread.
 pub(crate) fn is_passed(words: &Words) -> bool
     ensures { result ≡ is_passed words.now }
 {
-    match words.word(0) {
+    match words.get(0) {
         Some(word) => is_unread(word),
         None => false,
     }
@@ -45,7 +45,7 @@ fn is_repeated(before: &[ArchLine], keyword: Keyword) -> bool
 fn keyword_at(words: &Words) -> Option<Keyword>
     ensures { result ≡ keyword_at words.now }
 {
-    Keyword::of(words.word(0)?)
+    Keyword::of(words.get(0)?)
 }
 
 /// What a line with this keyword says.

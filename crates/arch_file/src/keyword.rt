@@ -1,10 +1,12 @@
 //! The keywords of an architecture file.
 
 ghost use Rattle.std.specs.Prelude.{◌≡◌};
-ghost use Rattle.arch_file.specs.Keyword.{is_text, begins_with, keyword_of, stands_once, same_keyword, is_unread};
+ghost use Rattle.arch_file.specs.Keyword.{begins_with, keyword_of, stands_once, same_keyword, is_unread};
+
+use line_reader::is_text;
 
 /// The word that a line begins with (VPR and T-VPack manual 4.30).
-#[derive(Clone, Copy, Debug, PartialEq, Eq)]
+#[derive(Clone, Copy)]
 pub(crate) enum Keyword {
     IoRat,
     ChanWidthIo,
@@ -21,14 +23,6 @@ pub(crate) enum Keyword {
     FcPad,
     Segment,
     Switch,
-}
-
-/// Whether a word is this text.
-#[tactic(auto, unfolding(crate::specs::Keyword::is_text))]
-pub(crate) fn is(word: &[u8], text: &str) -> bool
-    ensures { result ≡ is_text word.now text.now }
-{
-    word == text.as_bytes()
 }
 
 #[tactic(auto, unfolding(crate::specs::Keyword::begins_with))]
@@ -51,49 +45,49 @@ impl Keyword {
     pub(crate) fn of(word: &[u8]) -> Option<Keyword>
         ensures { result ≡ keyword_of word.now }
     {
-        if is(word, "io_rat") {
+        if is_text(word, "io_rat") {
             return Some(Keyword::IoRat);
         }
-        if is(word, "chan_width_io") {
+        if is_text(word, "chan_width_io") {
             return Some(Keyword::ChanWidthIo);
         }
-        if is(word, "chan_width_x") {
+        if is_text(word, "chan_width_x") {
             return Some(Keyword::ChanWidthX);
         }
-        if is(word, "chan_width_y") {
+        if is_text(word, "chan_width_y") {
             return Some(Keyword::ChanWidthY);
         }
-        if is(word, "inpin") {
+        if is_text(word, "inpin") {
             return Some(Keyword::Inpin);
         }
-        if is(word, "outpin") {
+        if is_text(word, "outpin") {
             return Some(Keyword::Outpin);
         }
-        if is(word, "subblocks_per_clb") {
+        if is_text(word, "subblocks_per_clb") {
             return Some(Keyword::SubblocksPerClb);
         }
-        if is(word, "subblock_lut_size") {
+        if is_text(word, "subblock_lut_size") {
             return Some(Keyword::SubblockLutSize);
         }
-        if is(word, "switch_block_type") {
+        if is_text(word, "switch_block_type") {
             return Some(Keyword::SwitchBlockType);
         }
-        if is(word, "Fc_type") {
+        if is_text(word, "Fc_type") {
             return Some(Keyword::FcType);
         }
-        if is(word, "Fc_output") {
+        if is_text(word, "Fc_output") {
             return Some(Keyword::FcOutput);
         }
-        if is(word, "Fc_input") {
+        if is_text(word, "Fc_input") {
             return Some(Keyword::FcInput);
         }
-        if is(word, "Fc_pad") {
+        if is_text(word, "Fc_pad") {
             return Some(Keyword::FcPad);
         }
-        if is(word, "segment") {
+        if is_text(word, "segment") {
             return Some(Keyword::Segment);
         }
-        if is(word, "switch") {
+        if is_text(word, "switch") {
             return Some(Keyword::Switch);
         }
         None

@@ -14,7 +14,6 @@ mod same;
 mod segments;
 mod switches;
 mod values;
-mod words;
 
 pub use arch::Arch;
 pub use fault::{ArchFault, Entry};

@@ -7,7 +7,7 @@ use crate::keyword::Keyword;
 use crate::parts::{Direction, FcType, Pin, Segment, Switch};
 
 /// An accepted line. Lines that are passed over unread give none.
-#[derive(Clone, Copy, Debug, PartialEq, Eq)]
+#[derive(Clone, Copy)]
 pub(crate) enum ArchLine {
     IoRat(u32),
     ChanWidthIo,

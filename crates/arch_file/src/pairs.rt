@@ -4,8 +4,7 @@ ghost use Rattle.std.specs.Prelude.{◌≡◌};
 ghost use Rattle.std.specs.Option.{option_copied, option_map};
 ghost use Rattle.arch_file.specs.Pairs.{pairs_of, pair_with, value_of, has_key, is_value, number_for, fixed_for};
 
-use crate::keyword::is;
-use crate::words::Words;
+use line_reader::{Words, is_text};
 use vpr_text::{fixed, number};
 
 /// Each key with the word after it, in the order of the line. A last key without a value gives no pair.
@@ -44,7 +43,7 @@ pub(crate) fn pairs_in<'t, 'a>(words: &Words<'t, 'a>) -> Pairs<'t, 'a>
 fn pair_with<'a>(words: &Words<'_, 'a>, key: &str) -> Option<(&'a [u8], &'a [u8])>
     ensures { option_map (λ pair. (pair.0.now, pair.1.now)) result ≡ pair_with words.now key.now }
 {
-    pairs_in(words).find(|pair| is(pair.0, key))
+    pairs_in(words).find(|pair| is_text(pair.0, key))
 }
 
 /// The value of a key, if the words have it: that of the first pair with this key.
@@ -68,7 +67,7 @@ pub(crate) fn is_value(words: &Words, key: &str, text: &str) -> bool
     ensures { result ≡ is_value words.now key.now text.now }
 {
     match value(words, key) {
-        Some(word) => is(word, text),
+        Some(word) => is_text(word, text),
         None => false,
     }
 }

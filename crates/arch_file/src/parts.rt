@@ -1,22 +1,10 @@
 //! The entries of an architecture.
 
-ghost use Rattle.std.specs.Prelude.{◌≡◌};
-
 /// Whether a pin of a logic block takes a signal in or gives one out.
 #[derive(Clone, Copy, Debug, PartialEq, Eq)]
 pub enum Direction {
     Input,
     Output,
-}
-
-impl Direction {
-    ghost use Rattle.arch_file.specs.Lines.{same_direction};
-
-    pub(crate) fn is(self, other: Direction) -> bool
-        ensures { result ≡ same_direction self other }
-    {
-        self == other
-    }
 }
 
 /// The sides of a logic block on which a pin is reached.

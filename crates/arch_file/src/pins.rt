@@ -2,15 +2,14 @@
 
 ghost use Rattle.std.specs.Prelude.{◌≡◌, length};
 ghost use Rattle.std.specs.List.{list_any, list_all};
-ghost use Rattle.arch_file.specs.Keyword.{is_text};
+ghost use Rattle.line_reader.specs.Word.{is_text};
 ghost use Rattle.arch_file.specs.Lines.{pins_of};
 ghost use Rattle.arch_file.specs.PinLine.{mixes, is_bad_class, is_global_pin, side_words, is_side, sides_in, pin_in, pin_line};
 
 use crate::fault::LineFault;
-use crate::keyword::is;
 use crate::line::ArchLine;
 use crate::parts::{Direction, Pin, Sides};
-use crate::words::Words;
+use line_reader::{Words, is_text};
 
 /// The greatest number of pins of a logic block.
 const MOST_PINS: usize = 64;
@@ -33,7 +32,7 @@ fn mixes(before: &[ArchLine], direction: Direction, class: u32) -> bool
     before
         .iter()
         .filter_map(|line| line.pin())
-        .any(|pin| pin.class == class && !pin.direction.is(direction))
+        .any(|pin| pin.class == class && pin.direction != direction)
 }
 
 /// Whether the class is there and is no number, or mixes inputs and outputs.
@@ -55,7 +54,7 @@ fn is_bad_class(before: &[ArchLine], direction: Direction, words: &Words) -> boo
 fn is_global_pin(direction: Direction, words: &Words) -> bool
     ensures { result ≡ is_global_pin direction words.now }
 {
-    direction.is(Direction::Input) && words.is(3, "global")
+    direction == Direction::Input && words.is(3, "global")
 }
 
 /// The words that name the sides.
@@ -74,7 +73,10 @@ fn side_words<'t, 'a>(direction: Direction, words: &Words<'t, 'a>) -> Words<'t, 
 fn is_side(word: &[u8]) -> bool
     ensures { result ≡ is_side word.now }
 {
-    is(word, "top") || is(word, "bottom") || is(word, "left") || is(word, "right")
+    is_text(word, "top")
+        || is_text(word, "bottom")
+        || is_text(word, "left")
+        || is_text(word, "right")
 }
 
 /// Whether each word is a side.
@@ -88,7 +90,7 @@ fn are_sides(words: &Words) -> bool
 fn names(words: &Words, side: &str) -> bool
     ensures { result ≡ list_any (λ word. is_text word side.now) words.now }
 {
-    words.rest(0).any(|word| is(word, side))
+    words.rest(0).any(|word| is_text(word, side))
 }
 
 /// The sides that the words name.

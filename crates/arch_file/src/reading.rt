@@ -1,9 +1,11 @@
 //! The reader of an architecture file.
 
 ghost use Rattle.std.specs.Prelude.{◌≡◌, [], IfOk, Ok};
+ghost use Rattle.vpr_text.specs.Readings.{Gives};
+ghost use Rattle.arch_file.specs.declared.fault.ArchFault.TheVariants.{Memory};
 ghost use Rattle.arch_file.specs.Architecture.{Architecture, IsWithinLimits};
 ghost use Rattle.arch_file.specs.Lines.{pins_of, segments_of, switches_of, io_rat_of, fc_type_of, fc_output_of, fc_input_of, fc_pad_of};
-ghost use Rattle.arch_file.specs.Reading.{Gives, entries_from, has_class, has_gap, lacks_switch, missing_of, value_in, architecture_from, reading, arch_of};
+ghost use Rattle.arch_file.specs.Reading.{entries_from, has_class, has_gap, lacks_switch, missing_of, value_in, architecture_from, reading, arch_of};
 ghost use Rattle.arch_file.specs.Reads.{ReadsBytes};
 
 use crate::arch::Arch;
@@ -15,13 +17,13 @@ use crate::parts::{FcType, Pin, Segment, Switch};
 use crate::pins::pin_count;
 use crate::segments::segment_count;
 use crate::switches::has_switch;
-use crate::words::Words;
+use line_reader::Words;
 use std::alloc::{AllocError, Global};
 use vpr_text::{Lines, TextFault, lines};
 
 /// What the lines say, line by line.
 fn entries(alloc: Global, lines: &Lines) -> Result<Vec<ArchLine>, ArchFault>
-    ensures { Gives (λ v. v.items) result (entries_from [] lines.now) }
+    ensures { Gives Memory (λ v. v.items) result (entries_from [] lines.now) }
 {
     let mut entries = Vec::new(alloc);
     for i in 0..lines.len() {
@@ -201,7 +203,7 @@ fn architecture(alloc: Global, lines: &[ArchLine]) -> Result<Arch, AllocError>
 /// Lines as an architecture.
 #[tactic(auto, unfolding(crate::specs::Reading::reading))]
 fn read(alloc: Global, lines: &Lines) -> Result<Arch, ArchFault>
-    ensures { Gives (λ a. a) result (reading lines.now) }
+    ensures { Gives Memory (λ a. a) result (reading lines.now) }
 {
     let entries = entries(alloc, lines)?;
     if let Some(entry) = missing(&entries) {
@@ -214,7 +216,7 @@ fn read(alloc: Global, lines: &Lines) -> Result<Arch, ArchFault>
 /// Bytes as an architecture.
 #[tactic(auto, unfolding(crate::specs::Reading::arch_of))]
 fn arch_in(alloc: Global, source: &[u8]) -> Result<Arch, ArchFault>
-    ensures { Gives (λ a. a) result (arch_of source.now) }
+    ensures { Gives Memory (λ a. a) result (arch_of source.now) }
 {
     match lines(alloc, source) {
         Ok(lines) => read(alloc, &lines),
@@ -233,9 +235,10 @@ pub fn parse(alloc: Global, source: &[u8]) -> Result<Arch, ArchFault>
     // What is read is the architecture of the text.
     ensures found { IfOk result (λ a. ReadsBytes source.now a) }
     // A text has no other architecture, and one that has an architecture is read, unless memory runs out.
-    ensures only { (a : Architecture) → ReadsBytes source.now a → Gives (λ b. b) result (Ok a) }
+    ensures only { (a : Architecture) → ReadsBytes source.now a
+        → Gives Memory (λ b. b) result (Ok a) }
     // Which fault it is.
-    ensures exact { Gives (λ a. a) result (arch_of source.now) }
+    ensures exact { Gives Memory (λ a. a) result (arch_of source.now) }
 {
     arch_in(alloc, source)
 }

@@ -2,17 +2,11 @@
 
 ghost use Rattle.std.specs.Prelude.{◌≡◌, ◌↔◌, true};
 ghost use Rattle.std.specs.Cmp.Lexicographic.{pointwise};
-ghost use Rattle.arch_file.specs.Same.{same_fc_type, same_pin, same_segment, same_switch, is_same_architecture};
+ghost use Rattle.arch_file.specs.Same.{same_pin, same_segment, same_switch, is_same_architecture};
 ghost use Rattle.arch_file.specs.SameLaws.{same_architecture_symmetric, same_architecture_equivalence};
 
 use crate::arch::Arch;
-use crate::parts::{FcType, Pin, Segment, Switch};
-
-fn is_same_fc_type(a: FcType, b: FcType) -> bool
-    ensures { result ≡ same_fc_type a b }
-{
-    a == b
-}
+use crate::parts::{Pin, Segment, Switch};
 
 fn are_same_pins(a: &[Pin], b: &[Pin]) -> bool
     ensures { result ≡ pointwise same_pin a.now b.now }
@@ -40,7 +34,7 @@ impl Arch {
     {
         self.io_rat == other.io_rat
             && are_same_pins(&self.pins, &other.pins)
-            && is_same_fc_type(self.fc_type, other.fc_type)
+            && self.fc_type == other.fc_type
             && self.fc_output == other.fc_output
             && self.fc_input == other.fc_input
             && self.fc_pad == other.fc_pad

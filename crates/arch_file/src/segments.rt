@@ -5,12 +5,11 @@ ghost use Rattle.arch_file.specs.Lines.{segments_of};
 ghost use Rattle.arch_file.specs.SegmentLine.{is_wrong_length, wants_fixed, wants_number, wants_decimal, is_wrong_value, has_wrong_value, has_wire_keys, has_other_keys, has_segment_keys, length_in, is_unsupported, segment_in, segment_line};
 
 use crate::fault::LineFault;
-use crate::keyword::is;
 use crate::line::ArchLine;
 use crate::pairs::{fixed_for, has_key, is_value, number_for, pairs_in};
 use crate::parts::{Segment, SegmentLength};
 use crate::values::ONE;
-use crate::words::Words;
+use line_reader::{Words, is_text};
 use vpr_text::{fixed, is_decimal, number};
 
 /// The greatest number of segments.
@@ -30,7 +29,7 @@ pub(crate) fn segment_count(before: &[ArchLine]) -> usize
 fn is_wrong_length(word: &[u8]) -> bool
     ensures { result ≡ is_wrong_length word.now }
 {
-    !is(word, "longline") && number(word).unwrap_or(0) == 0
+    !is_text(word, "longline") && number(word).unwrap_or(0) == 0
 }
 
 /// Whether the key wants a number with decimals.
@@ -38,7 +37,7 @@ fn is_wrong_length(word: &[u8]) -> bool
 fn wants_fixed(key: &[u8]) -> bool
     ensures { result ≡ wants_fixed key.now }
 {
-    is(key, "frequency:") || is(key, "Frac_cb:") || is(key, "Frac_sb:")
+    is_text(key, "frequency:") || is_text(key, "Frac_cb:") || is_text(key, "Frac_sb:")
 }
 
 /// Whether the key wants the number of a switch.
@@ -46,7 +45,7 @@ fn wants_fixed(key: &[u8]) -> bool
 fn wants_number(key: &[u8]) -> bool
     ensures { result ≡ wants_number key.now }
 {
-    is(key, "wire_switch:") || is(key, "opin_switch:")
+    is_text(key, "wire_switch:") || is_text(key, "opin_switch:")
 }
 
 /// Whether the key wants a decimal, which isn't used.
@@ -54,7 +53,7 @@ fn wants_number(key: &[u8]) -> bool
 fn wants_decimal(key: &[u8]) -> bool
     ensures { result ≡ wants_decimal key.now }
 {
-    is(key, "Rmetal:") || is(key, "Cmetal:")
+    is_text(key, "Rmetal:") || is_text(key, "Cmetal:")
 }
 
 /// Whether the value isn't the number that the key wants. Of an unknown key nothing is wanted.
@@ -62,7 +61,7 @@ fn wants_decimal(key: &[u8]) -> bool
 fn is_wrong_value(key: &[u8], value: &[u8]) -> bool
     ensures { result ≡ is_wrong_value (key.now, value.now) }
 {
-    if is(key, "length:") {
+    if is_text(key, "length:") {
         is_wrong_length(value)
     } else if wants_fixed(key) {
         fixed(value).is_none()

@@ -4,11 +4,10 @@ ghost use Rattle.std.specs.Prelude.{◌≡◌};
 ghost use Rattle.arch_file.specs.SwitchLine.{has_switch, repeats_switch, is_wrong_value, has_wrong_value, has_bad_number, has_switch_keys, is_buffer_word, switch_line};
 
 use crate::fault::LineFault;
-use crate::keyword::is;
 use crate::line::ArchLine;
 use crate::pairs::{has_key, is_value, pairs_in};
 use crate::parts::Switch;
-use crate::words::Words;
+use line_reader::{Words, is_text};
 use vpr_text::is_decimal;
 
 /// The greatest number of a switch.
@@ -40,7 +39,11 @@ fn repeats_switch(before: &[ArchLine], words: &Words) -> bool
 fn is_wrong_value(key: &[u8], value: &[u8]) -> bool
     ensures { result ≡ is_wrong_value (key.now, value.now) }
 {
-    if is(key, "R:") || is(key, "Cin:") || is(key, "Cout:") || is(key, "Tdel:") {
+    if is_text(key, "R:")
+        || is_text(key, "Cin:")
+        || is_text(key, "Cout:")
+        || is_text(key, "Tdel:")
+    {
         return !is_decimal(value);
     }
     false

@@ -6,7 +6,7 @@ ghost use Rattle.arch_file.specs.Values.{io_rat_line, is_one, chan_width_io_line
 use crate::fault::LineFault;
 use crate::line::ArchLine;
 use crate::parts::FcType;
-use crate::words::Words;
+use line_reader::Words;
 
 /// The greatest number of pads at one place of the perimeter.
 const MOST_PADS: u32 = 16;

@@ -56,7 +56,8 @@ impl Layout {
     #[tactic(auto, using(crate::proofs::Ranges::mapped_next))]
     fn types(&self, alloc: Global) -> Result<Vec<usize>, AllocError>
         ensures { IfOk result
-            (λ v. v.items ≡ map (type_of self.now.architecture.segments self.now.width) (numbers_below self.now.width)) }
+            (λ v. v.items ≡ map (type_of self.now.architecture.segments self.now.width)
+            (numbers_below self.now.width)) }
     {
         let mut types = Vec::with_capacity(alloc, self.width() as usize)?;
         for track in 0..self.width() {
@@ -68,7 +69,8 @@ impl Layout {
     /// A track's rank among the tracks of its type.
     #[tactic(auto, using(crate::proofs::Ranges::length_below, crate::proofs::Ranges::get_below), unfolding(crate::specs::Wires::rank_of))]
     fn rank_of(&self, types: &[usize], track: u32) -> u32
-        requires types { types.now ≡ map (type_of self.now.architecture.segments self.now.width) (numbers_below self.now.width) }
+        requires types { types.now ≡ map (type_of self.now.architecture.segments self.now.width)
+            (numbers_below self.now.width) }
         requires within { track < self.now.width }
         ensures { result ≡ rank_of self.now.architecture.segments self.now.width track }
     {
@@ -84,7 +86,8 @@ impl Layout {
     /// How the wires of a track are shifted, in a channel of `places` places.
     fn stagger_by(&self, types: &[usize], places: u32, track: u32) -> Stagger
         requires some { 1 ≤ places }
-        requires types { types.now ≡ map (type_of self.now.architecture.segments self.now.width) (numbers_below self.now.width) }
+        requires types { types.now ≡ map (type_of self.now.architecture.segments self.now.width)
+            (numbers_below self.now.width) }
         requires within { track < self.now.width }
         ensures { result ≡ stagger_of self.now places track }
     {
@@ -99,7 +102,8 @@ impl Layout {
     fn staggers(&self, alloc: Global, places: u32) -> Result<Vec<Stagger>, AllocError>
         requires { 1 ≤ places }
         ensures { IfOk result
-            (λ v. v.items ≡ map (stagger_of self.now places) (numbers_below (tracks_in self.now.mode self.now.width))) }
+            (λ v. v.items ≡ map (stagger_of self.now places)
+            (numbers_below (tracks_in self.now.mode self.now.width))) }
     {
         let types = self.types(alloc)?;
         let mut staggers = Vec::with_capacity(alloc, self.tracks() as usize)?;
@@ -112,7 +116,8 @@ impl Layout {
     /// How the wires of a track are shifted.
     #[tactic(auto, using(crate::proofs::Ranges::length_below, crate::proofs::Ranges::get_below))]
     fn stagger(&self, staggers: &[Stagger], places: u32, track: u32) -> Stagger
-        requires staggers { staggers.now ≡ map (stagger_of self.now places) (numbers_below (tracks_in self.now.mode self.now.width)) }
+        requires staggers { staggers.now ≡ map (stagger_of self.now places)
+            (numbers_below (tracks_in self.now.mode self.now.width)) }
         requires within { track < tracks_in self.now.mode self.now.width }
         ensures { result ≡ stagger_of self.now places track }
     {
@@ -123,7 +128,8 @@ impl Layout {
     #[tactic(auto, using(crate::proofs::WireTables::small_rank, crate::proofs::WireTables::some_length), unfolding(crate::specs::Wires::begins))]
     fn begins_at(&self, staggers: &[Stagger], places: u32, track: u32, place: u32) -> bool
         requires some { 1 ≤ places }
-        requires staggers { staggers.now ≡ map (stagger_of self.now places) (numbers_below (tracks_in self.now.mode self.now.width)) }
+        requires staggers { staggers.now ≡ map (stagger_of self.now places)
+            (numbers_below (tracks_in self.now.mode self.now.width)) }
         requires within { track < tracks_in self.now.mode self.now.width }
         ensures begins { result ≡ begins self.now places track place }
         ensures first { place ≡ 1 → result ≡ true }
@@ -138,7 +144,8 @@ impl Layout {
     #[tactic(auto, using(crate::proofs::WireTables::count_next))]
     fn starting_count(&self, staggers: &[Stagger], places: u32, place: u32) -> u32
         requires some { 1 ≤ places }
-        requires staggers { staggers.now ≡ map (stagger_of self.now places) (numbers_below (tracks_in self.now.mode self.now.width)) }
+        requires staggers { staggers.now ≡ map (stagger_of self.now places)
+            (numbers_below (tracks_in self.now.mode self.now.width)) }
         ensures count { result ≡ length (starting_at self.now places place) }
         ensures few { result ≤ most_tracks }
     {
@@ -161,8 +168,10 @@ impl Layout {
         places: u32,
     ) -> Result<Vec<u32>, AllocError>
         requires some { (1 ≤ places) × (places ≤ longest_side) }
-        requires staggers { staggers.now ≡ map (stagger_of self.now places) (numbers_below (tracks_in self.now.mode self.now.width)) }
-        ensures { IfOk result (λ v. v.items ≡ map (wires_before self.now places) (numbers_below (places + 2))) }
+        requires staggers { staggers.now ≡ map (stagger_of self.now places)
+            (numbers_below (tracks_in self.now.mode self.now.width)) }
+        ensures { IfOk result (λ v. v.items ≡ map (wires_before self.now places)
+            (numbers_below (places + 2))) }
     {
         let mut before = Vec::with_capacity(alloc, places as usize + 2)?;
         let mut count = 0;
@@ -183,9 +192,11 @@ impl Layout {
         place: u32,
     ) -> Result<(), AllocError>
         requires some { (1 ≤ places) × (places ≤ longest_side) }
-        requires staggers { staggers.now ≡ map (stagger_of self.now places) (numbers_below (tracks_in self.now.mode self.now.width)) }
+        requires staggers { staggers.now ≡ map (stagger_of self.now places)
+            (numbers_below (tracks_in self.now.mode self.now.width)) }
         ensures { OnOk result
-            (beginnings.new.items ≡ beginnings.old.items ++ map (beginning_of place) (starting_at self.now places place)) }
+            (beginnings.new.items ≡ beginnings.old.items
+            ++ map (beginning_of place) (starting_at self.now places place)) }
     {
         if place == 0 || place > places {
             return Ok(());
@@ -211,7 +222,8 @@ impl Layout {
         count: usize,
     ) -> Result<Vec<Beginning>, AllocError>
         requires some { (1 ≤ places) × (places ≤ longest_side) }
-        requires staggers { staggers.now ≡ map (stagger_of self.now places) (numbers_below (tracks_in self.now.mode self.now.width)) }
+        requires staggers { staggers.now ≡ map (stagger_of self.now places)
+            (numbers_below (tracks_in self.now.mode self.now.width)) }
         ensures { IfOk result (λ v. v.items ≡ beginnings_of self.now places) }
     {
         let mut beginnings = Vec::with_capacity(alloc, count)?;
@@ -225,7 +237,8 @@ impl Layout {
     #[tactic(auto, using(crate::proofs::Ranges::first_in_range), unfolding(crate::specs::Wires::steps_of))]
     fn steps_from(&self, staggers: &[Stagger], places: u32, track: u32, place: u32) -> u32
         requires some { 1 ≤ places }
-        requires staggers { staggers.now ≡ map (stagger_of self.now places) (numbers_below (tracks_in self.now.mode self.now.width)) }
+        requires staggers { staggers.now ≡ map (stagger_of self.now places)
+            (numbers_below (tracks_in self.now.mode self.now.width)) }
         requires within { track < tracks_in self.now.mode self.now.width }
         ensures steps { result ≡ steps_of self.now places track place }
         ensures within { result ≤ places - place }
@@ -252,12 +265,14 @@ impl Layout {
     ) -> Wire
         requires some { (1 ≤ places) × (places ≤ longest_side) }
         requires place { (1 ≤ place) × (place ≤ places) }
-        requires staggers { staggers.now ≡ map (stagger_of self.now places) (numbers_below (tracks_in self.now.mode self.now.width)) }
+        requires staggers { staggers.now ≡ map (stagger_of self.now places)
+            (numbers_below (tracks_in self.now.mode self.now.width)) }
         requires within { track < tracks_in self.now.mode self.now.width }
         requires number { number ≡ wire_number self.now places place track }
         requires small { number < 65536 }
         requires earlier { 2 ≤ place
-            → slice_get wires.now ((place - 2) * tracks_in self.now.mode self.now.width + track) ≡ Some (wire_at self.now places (place - 1) track) }
+            → slice_get wires.now ((place - 2) * tracks_in self.now.mode self.now.width + track)
+            ≡ Some (wire_at self.now places (place - 1) track) }
         ensures { result ≡ wire_at self.now places place track }
     {
         if self.begins_at(staggers, places, track, place) {
@@ -283,10 +298,13 @@ impl Layout {
     ) -> Result<(), AllocError>
         requires some { (1 ≤ places) × (places ≤ longest_side) }
         requires place { (1 ≤ place) × (place ≤ places) }
-        requires staggers { staggers.now ≡ map (stagger_of self.now places) (numbers_below (tracks_in self.now.mode self.now.width)) }
+        requires staggers { staggers.now ≡ map (stagger_of self.now places)
+            (numbers_below (tracks_in self.now.mode self.now.width)) }
         requires before { before ≡ wire_number self.now places place 0 }
-        requires earlier { wires.old.items ≡ flat_map (λ m. wires_at self.now places (m + 1)) (numbers_below (place - 1)) }
-        ensures { OnOk result (wires.new.items ≡ wires.old.items ++ wires_at self.now places place) }
+        requires earlier { wires.old.items ≡ flat_map (λ m. wires_at self.now places (m + 1))
+            (numbers_below (place - 1)) }
+        ensures { OnOk result (wires.new.items
+            ≡ wires.old.items ++ wires_at self.now places place) }
     {
         let _ = &self.arch;
         let mut number = before;
@@ -308,9 +326,12 @@ impl Layout {
         before: &[u32],
     ) -> Result<Vec<Wire>, AllocError>
         requires some { (1 ≤ places) × (places ≤ longest_side) }
-        requires staggers { staggers.now ≡ map (stagger_of self.now places) (numbers_below (tracks_in self.now.mode self.now.width)) }
-        requires before { before.now ≡ map (wires_before self.now places) (numbers_below (places + 2)) }
-        ensures { IfOk result (λ v. v.items ≡ flat_map (λ m. wires_at self.now places (m + 1)) (numbers_below places)) }
+        requires staggers { staggers.now ≡ map (stagger_of self.now places)
+            (numbers_below (tracks_in self.now.mode self.now.width)) }
+        requires before { before.now ≡ map (wires_before self.now places)
+            (numbers_below (places + 2)) }
+        ensures { IfOk result (λ v. v.items ≡ flat_map (λ m. wires_at self.now places (m + 1))
+            (numbers_below places)) }
     {
         let mut wires = Vec::with_capacity(alloc, (places * self.tracks()) as usize)?;
         for earlier in 0..places {
@@ -357,7 +378,8 @@ impl Layout {
         requires few { places ≤ longest_side }
         requires within { (1 ≤ place) × (place ≤ places) }
         requires track { track < tracks_in self.now.mode self.now.width }
-        requires wires { wires.now ≡ flat_map (λ m. wires_at self.now places (m + 1)) (numbers_below places) }
+        requires wires { wires.now ≡ flat_map (λ m. wires_at self.now places (m + 1))
+            (numbers_below places) }
         ensures { result ≡ wire_at self.now places place track }
     {
         wires[((place - 1) * self.tracks() + track) as usize]

@@ -60,7 +60,14 @@ impl Layout {
         requires rows { (1 ≤ ny) × (ny ≤ longest_side) }
         requires tracks { (1 ≤ width) × (width ≤ most_tracks) }
         ensures made { IfOk result
-            (λ l. l ≡ record { architecture = arch.now; nx = nx; ny = ny; width = width; mode = mode }) }
+            (λ l. l ≡ record {
+              architecture = arch.now;
+              nx = nx;
+              ny = ny;
+              width = width;
+              mode =
+                  mode;
+            }) }
         ensures limits { IfOk result IsFabric }
     {
         let _limits = arch.io_rat();

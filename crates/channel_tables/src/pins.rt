@@ -124,7 +124,8 @@ impl Layout {
     pub fn taps_by_count(&self, count: u32, number: u32, track: u32) -> bool
         requires some { 1 ≤ count }
         requires few { count ≤ most_tracks }
-        ensures { result ≡ list_any (λ t. t == track) (tracks_by self.now.mode count self.now.width number) }
+        ensures { result ≡ list_any (λ t. t == track)
+            (tracks_by self.now.mode count self.now.width number) }
     {
         match self.mode() {
             Mode::Global => track == 0,
@@ -146,7 +147,8 @@ impl Layout {
     /// How many tracks a node of kind Opin or Ipin taps.
     fn count_at(&self, counts: TapCounts, pin: Node) -> u32
         requires { IsTapCounts self.now counts }
-        ensures count { result ≡ tap_count self.now.architecture.fc_type (fc_at self.now pin) self.now.width }
+        ensures count { result ≡ tap_count self.now.architecture.fc_type
+            (fc_at self.now pin) self.now.width }
         ensures some { 1 ≤ result }
         ensures few { result ≤ most_tracks }
     {

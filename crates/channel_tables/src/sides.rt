@@ -101,7 +101,8 @@ impl Layout {
     /// Whether an input pin on a side, or a pad, taps the track, where `count` is how many tracks it taps.
     #[tactic(auto, unfolding(crate::specs::Pins::tapped_tracks))]
     fn taps_from(&self, side: Side, count: u32, track: u32, pin: u32) -> bool
-        requires { count ≡ tap_count self.now.architecture.fc_type (fc_on side self.now) self.now.width }
+        requires { count ≡ tap_count self.now.architecture.fc_type
+            (fc_on side self.now) self.now.width }
         ensures { result ≡ taps_from side self.now track pin }
     {
         let _limits = self.width();
@@ -126,8 +127,10 @@ impl Layout {
         track: u32,
     ) -> Result<(), AllocError>
         requires few { length pins.now ≤ most_pins }
-        requires count { count ≡ tap_count self.now.architecture.fc_type (fc_on side self.now) self.now.width }
-        ensures places { OnOk result (places.new.items ≡ places.old.items ++ picks (taps_from side self.now track) 0 pins.now) }
+        requires count { count ≡ tap_count self.now.architecture.fc_type
+            (fc_on side self.now) self.now.width }
+        ensures places { OnOk result (places.new.items
+            ≡ places.old.items ++ picks (taps_from side self.now track) 0 pins.now) }
         ensures few { OnOk result (vec_len places.new ≤ vec_len places.old + most_pins) }
     {
         for (place, pin) in pins.iter().enumerate() {
@@ -141,7 +144,8 @@ impl Layout {
     /// The table of a side.
     fn tapping(&self, alloc: Global, side: Side, pins: &[u32]) -> Result<Tapping, AllocError>
         requires { length pins.now ≤ most_pins }
-        ensures { IfOk result (IsTapping (λ t. picks (taps_from side self.now t) 0 pins.now) (tracks_in self.now.mode self.now.width)) }
+        ensures { IfOk result (IsTapping (λ t. picks (taps_from side self.now t) 0 pins.now)
+            (tracks_in self.now.mode self.now.width)) }
     {
         let count = self.tap_count(self.fc_on(side));
         let mut starts = Vec::with_capacity(alloc, self.tracks() as usize + 1)?;

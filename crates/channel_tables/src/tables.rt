@@ -40,7 +40,8 @@ impl Model for ChannelTables {
 
     ghost view = { λ t. t.layout };
 
-    ghost invariant = { λ t. IsFabric t.layout × IsTabled t.layout t.rows t.columns t.sides t.counts t.reaches.items };
+    ghost invariant = { λ t. IsFabric t.layout
+        × IsTabled t.layout t.rows t.columns t.sides t.counts t.reaches.items };
 }
 
 impl ChannelTables {

@@ -26,8 +26,10 @@ impl Layout {
     ) -> Result<(), AllocError>
         requires few { places ≤ longest_side }
         requires within { (1 ≤ place) × (place ≤ places) }
-        requires wires { wires.now ≡ flat_map (λ m. wires_at self.now places (m + 1)) (numbers_below places) }
-        ensures { OnOk result (order.new.items ≡ order.old.items ++ tracks_from self.now places place first) }
+        requires wires { wires.now ≡ flat_map (λ m. wires_at self.now places (m + 1))
+            (numbers_below places) }
+        ensures { OnOk result (order.new.items
+            ≡ order.old.items ++ tracks_from self.now places place first) }
     {
         for track in 0..self.tracks() {
             let wire = self.wire_among(wires, places, place, track);
@@ -49,8 +51,10 @@ impl Layout {
     ) -> Result<(), AllocError>
         requires few { places ≤ longest_side }
         requires within { place ≤ places }
-        requires wires { wires.now ≡ flat_map (λ m. wires_at self.now places (m + 1)) (numbers_below places) }
-        ensures { OnOk result (order.new.items ≡ order.old.items ++ tracks_through self.now places place) }
+        requires wires { wires.now ≡ flat_map (λ m. wires_at self.now places (m + 1))
+            (numbers_below places) }
+        ensures { OnOk result (order.new.items
+            ≡ order.old.items ++ tracks_through self.now places place) }
     {
         for before in 0..place {
             self.push_tracks_from(order, wires, places, place, 1 + before)?;
@@ -67,8 +71,10 @@ impl Layout {
         places: u32,
     ) -> Result<Vec<u8>, AllocError>
         requires few { places ≤ longest_side }
-        requires wires { wires.now ≡ flat_map (λ m. wires_at self.now places (m + 1)) (numbers_below places) }
-        ensures { IfOk result (λ v. v.items ≡ flat_map (tracks_through self.now places) (numbers_below (places + 1))) }
+        requires wires { wires.now ≡ flat_map (λ m. wires_at self.now places (m + 1))
+            (numbers_below places) }
+        ensures { IfOk result (λ v. v.items ≡ flat_map (tracks_through self.now places)
+            (numbers_below (places + 1))) }
     {
         let mut order = Vec::with_capacity(alloc, (places * self.tracks()) as usize)?;
         for place in 0..places + 1 {
@@ -119,7 +125,8 @@ impl ChannelTables {
     fn count_begun(&self, tracks: &[u8], column: u32, first: u32) -> usize
         requires column { (1 ≤ column) × (column ≤ self.now.nx) }
         requires tracks { All (λ t. t < tracks_in self.now.mode self.now.width) tracks.now }
-        ensures { result ≡ prefix_len (λ t. first_of self.now self.now.nx t column == first) tracks.now }
+        ensures { result ≡ prefix_len (λ t. first_of self.now self.now.nx t column == first)
+            tracks.now }
     {
         for (count, track) in tracks.iter().enumerate() {
             if u32::from(self.wire_above(u32::from(*track), column).first) != first {

@@ -4,7 +4,7 @@ use Rattle.std.specs.Prelude.{not, ◌&&◌, ◌||◌}
 use Rattle.std.specs.Option.{option_map}
 use Rattle.std.specs.List.{list_any}
 use Rattle.std.proofs.lemmas.Bool.Decides.{nat_tests}
-use Rattle.std.proofs.lemmas.Option.{slice_get_cases, none-some}
+use Rattle.std.proofs.lemmas.Option.{slice_get_cases, slice_get_past, none-some}
 use Rattle.routing_problem.specs.Fabric.{Fabric}
 use Rattle.routing_problem.specs.parts.Node.{Node}
 use Rattle.routing_problem.specs.Nodes.{node_at, nodes_of, node_count_of, capacity_of}
@@ -39,6 +39,14 @@ module _ (p : RoutingProblem) (i : ℕ) (list : Option (List Pair)) (counts : Li
   not_filled e =
       let none = no_room p.device (node_at p.device a) e in
       grind (arith, nat_tests, none)
+
+  pub outside : node_count_of p.device ≤ a → false ≡ filled_by p i list counts view a
+  outside past = not_filled (sym (ap (option_map (capacity_of p.device)) (slice_get_past (nodes_of p.device) a past)))
+
+  -- where no more others use the node than the view shows
+  pub none_came : get_or counts a 0 - use_by (net_in p.nets i) list a ≤ others_in view a → false ≡ filled_by p i list counts view a
+  unfolding filled_by
+  none_came few = grind (arith, nat_tests, few)
 
   module _ (room : ℕ) (is : Some room ≡ option_map (capacity_of p.device) (node_at p.device a)) where
     pub few_there : get_or counts a 0 < room → false ≡ filled_by p i list counts view a

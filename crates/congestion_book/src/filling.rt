@@ -1,12 +1,13 @@
 //! Whether the others have filled a node since a net looked.
 
-ghost use Rattle.std.specs.Prelude.{◌≡◌, length, Some};
+ghost use Rattle.std.specs.Prelude.{◌≡◌, ◌<◌, ◌≤◌, ◌-◌, get_or, length, true, Some};
 ghost use Rattle.std.specs.List.{list_any};
 ghost use Rattle.routing_problem.specs.Nodes.{node_count_of};
 ghost use Rattle.routing_problem.specs.Problems.{net_in};
 ghost use Rattle.route_tree.specs.Rows.{node_in, pairs_of};
 ghost use Rattle.route_tree.specs.TreeLists.{list_of_tree};
 ghost use Rattle.route_tree.specs.Usage.{covers, use_by};
+ghost use Rattle.node_cost.specs.Views.{others_in};
 ghost use Rattle.congestion_book.specs.kept.Counts.{RoutesOrNone, IsCounted};
 ghost use Rattle.congestion_book.specs.kept.Views.{filled_by, HasCapacity};
 
@@ -15,16 +16,20 @@ use node_cost::{Counts, View};
 use route_tree::{Row, Tree};
 use routing_problem::Problem;
 
-/// Whether a node is in a tree, in which it stands in this row more often than not.
+/// Whether a node stands in this row of a tree.
 #[tactic(auto, using(crate::proofs::Covering::row_covers))]
+fn stands_in(tree: &Tree, row: usize, id: u32) -> bool
+    ensures { result ≡ true → covers (node_in tree.now 0) (pairs_of tree.now) id ≡ true }
+{
+    let rows = tree.as_slice();
+    row < rows.len() && rows[row].node == id
+}
+
+/// Whether a node is in a tree, in which it stands in this row more often than not.
 fn covers_at(tree: &Tree, row: usize, id: u32) -> bool
     ensures { result ≡ covers (node_in tree.now 0) (pairs_of tree.now) id }
 {
-    let rows = tree.as_slice();
-    if row < rows.len() && rows[row].node == id {
-        return true;
-    }
-    tree.covers(id)
+    stands_in(tree, row, id) || tree.covers(id)
 }
 
 /// What a net with the tree adds to the use of a node, which may stand in this row of it.
@@ -47,6 +52,51 @@ fn own_use(problem: &Problem, net: u32, tree: &Option<Tree>, row: usize, id: u32
         None => 0,
         Some(tree) => use_of_tree(problem, net, tree, row, id),
     }
+}
+
+/// Whether a node stands in this row of the tree of a net, which uses it then.
+fn uses_in(problem: &Problem, net: u32, tree: &Tree, row: usize, id: u32) -> bool
+    requires { RoutesOrNone problem.now net (Some (pairs_of tree.now)) }
+    ensures { result ≡ true
+        → use_by (net_in problem.now.nets net) (Some (pairs_of tree.now)) id ≡ 1 }
+{
+    let _tree = tree.as_slice();
+    stands_in(tree, row, id)
+}
+
+/// The same of a net that may have no tree.
+fn uses_at(problem: &Problem, net: u32, tree: &Option<Tree>, row: usize, id: u32) -> bool
+    requires { RoutesOrNone problem.now net (list_of_tree tree.now) }
+    ensures { result ≡ true
+        → use_by (net_in problem.now.nets net) (list_of_tree tree.now) id ≡ 1 }
+{
+    match tree {
+        None => false,
+        Some(tree) => uses_in(problem, net, tree, row, id),
+    }
+}
+
+/// Whether no more other nets use a node than the view shows, as far as that is seen without going
+/// over the tree, in which the node may stand in this row.
+fn none_came(
+    view: &View,
+    problem: &Problem,
+    net: u32,
+    tree: &Option<Tree>,
+    counts: &Counts,
+    row: usize,
+    id: u32,
+) -> bool
+    requires routes { RoutesOrNone problem.now net (list_of_tree tree.now) }
+    requires size { length view.now ≡ node_count_of problem.now.device }
+    requires counts { length counts.now ≡ node_count_of problem.now.device }
+    requires there { id < node_count_of problem.now.device }
+    ensures { result ≡ true → get_or counts.now id 0
+        - use_by (net_in problem.now.nets net) (list_of_tree tree.now) id ≤ others_in view.now id }
+{
+    let count = counts.get(id);
+    let others = view.others(id);
+    count <= others || (count - 1 <= others && uses_at(problem, net, tree, row, id))
 }
 
 /// Whether a node with so much room is full by these counts without the net's own, and was not by
@@ -83,7 +133,7 @@ fn fills_room(
 
 /// Whether a node is full by these counts without the net's own, and was not by the view. It may
 /// stand in this row of the tree.
-#[tactic(auto, using(crate::proofs::Filled::not_filled))]
+#[tactic(auto, using(crate::proofs::Filled::not_filled, crate::proofs::Filled::outside, crate::proofs::Filled::none_came))]
 fn is_filled(
     view: &View,
     problem: &Problem,
@@ -100,6 +150,12 @@ fn is_filled(
     ensures { result ≡
         filled_by problem.now net (list_of_tree tree.now) counts.now view.now id }
 {
+    if id >= problem.device().node_count() {
+        return false;
+    }
+    if none_came(view, problem, net, tree, counts, row, id) {
+        return false;
+    }
     match problem.device().capacity(id) {
         None => false,
         Some(room) => fills_room(view, problem, net, tree, counts, row, id, room),

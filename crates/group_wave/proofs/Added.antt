@@ -7,7 +7,7 @@ use Rattle.wavefront.specs.Space.{IsWanted}
 use Rattle.wavefront.specs.Growth.{Covers, IsStart, IsTarget, IsLeastExtension, IsGrown}
 use Rattle.wavefront.specs.Growth.IsGrown.{grown}
 use Rattle.wavefront.proofs.Added.{ends_left, ends_right, ends_cases, grown_entered, no_source}
-use Rattle.group_wave.specs.kept.Grounds.{Ground, IsGround}
+use Rattle.wave_ground.specs.kept.Grounds.{Ground, IsGround}
 use Rattle.group_wave.specs.kept.Growing.{IsGrowth, Matches, StartsAnew}
 use Rattle.group_wave.specs.kept.WaveState.{Wave}
 use Rattle.group_wave.specs.kept.Wave.{IsBest, IsComplete, IsOrigin, IsOpen, IsWave}

@@ -12,20 +12,19 @@ use Rattle.routing_problem.specs.parts.Kind.TheVariants.{Source, Sink, Opin, Ipi
 use Rattle.routing_problem.specs.parts.Node.{Node}
 use Rattle.routing_problem.specs.Fabric.{Fabric}
 use Rattle.routing_problem.specs.Nodes.{span_by, span_of}
-use Rattle.wavefront.specs.Boxes.{BoundingBox}
-use Rattle.wavefront.specs.Boxes.{box_of_node, box_of_span}
+use Rattle.wavefront.specs.Boxes.{BoundingBox, box_of_node, box_of_span}
 use Rattle.wavefront.specs.kept.Bounds.{IsInsideBox, Surrounds}
 use Rattle.wavefront.specs.kept.Spaces.{node_count}
 use Rattle.wavefront.specs.Space.{IsWanted}
 use Rattle.wavefront.proofs.Lists.{contains_cases, contains_later, contains_none}
-use Rattle.group_wave.specs.kept.Boxes.{SinkBox, box_shared}
-use Rattle.group_wave.specs.kept.Grounds.{Ground, groups_of}
+use Rattle.wave_ground.specs.kept.Boxes.{SinkBox, box_shared, wire_of}
+use Rattle.wave_ground.specs.kept.Grounds.{Ground, groups_of}
 use Rattle.group_wave.specs.kept.WaveState.{FAR, Label, Wave}
-use Rattle.group_wave.specs.kept.Wave.{AreKnown, IsBest, IsComplete, IsOpen, IsServed, IsWave, Serves, WentOn, cost_at, label_at, unreached, wire_of}
+use Rattle.group_wave.specs.kept.Wave.{AreKnown, IsBest, IsComplete, IsOpen, IsServed, IsWave, Serves, WentOn, cost_at, label_at, unreached}
 use Rattle.group_wave.specs.kept.Steps.{NoOrigins, SameOrigins}
 use Rattle.group_wave.specs.kept.Starts.{HasNoBoxes, IsAimed, IsBestPut, IsCleared, IsLeastCost, IsAroundLeft, IsBoxPut, IsNarrowed, IsNearerOf, IsWithin, IsWithout, ServesMore}
 use Rattle.track_groups.specs.Groups.{group_at}
-use Rattle.group_wave.proofs.Narrower.{told_within}
+use Rattle.wave_ground.proofs.Narrower.{told_within}
 use Rattle.group_wave.proofs.Lower.{entered_same, keeps, same_origins, still_covered, still_dead, still_open, still_serves}
 
 pub blank_at : {X : Type 0} (d : X) (n k : ℕ) → get_or (replicate n d) k d ≡ d

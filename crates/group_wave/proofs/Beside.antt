@@ -5,15 +5,15 @@ use Rattle.std.proofs.lemmas.Bool.{cases_eq, cases_lt, false≢true}
 use Rattle.std.proofs.lemmas.Nat.Bits.{bit_at-zero}
 use Rattle.std.proofs.lemmas.List.Elements.{All-contains}
 use Rattle.track_groups.specs.declared.group.Group.{Group}
-use Rattle.track_groups.specs.Groups.{IsOn, group_at, on_track, wire_on}
+use Rattle.track_groups.specs.Groups.{IsOn, group_at, on_track}
 use Rattle.track_groups.specs.Joints.{IsBeside, neighbours_of, taps_of, wire_beside}
 use Rattle.track_groups.proofs.OnTracks.{on_within}
 use Rattle.wavefront.specs.Boxes.{box_of_net, touches}
 use Rattle.wavefront.specs.Space.{IsInside}
 use Rattle.wavefront.proofs.Lists.{contains_none, contains_first, contains_later, contains_cases}
-use Rattle.group_wave.specs.kept.Bits.{PutsBit, TakesBit}
-use Rattle.group_wave.specs.kept.Grounds.{Ground, IsGround, groups_of}
-use Rattle.group_wave.specs.kept.Queues.{Waiting}
+use Rattle.wave_queue.specs.kept.Bits.{PutsBit, TakesBit}
+use Rattle.wave_ground.specs.kept.Grounds.{Ground, IsGround, groups_of}
+use Rattle.wave_queue.specs.kept.Queues.{Waiting}
 use Rattle.group_wave.specs.kept.WaveState.{FAR, Wave}
 use Rattle.group_wave.specs.kept.Wave.{AreTracks}
 use Rattle.group_wave.specs.kept.Steps.{IsLive, IsOffer, IsStep, Spreads, TookBefore, TookBut, TookNearer, TookNearerBefore, TookPins, TookWires}
@@ -28,14 +28,6 @@ in_map f (y ∷ ys) x h = elim (contains_cases y x ys h) [
 ]
 
 module _ (g : Ground) (e : Waiting) where
-  -- labels only go down
-  pub still_live : (s t : Wave) → Spreads g s t → IsLive g s e → IsLive g t e
-  still_live s t step live = record {
-    tracks = live.tracks;
-    labels = λ j one. let was = live.labels j one in let down = step.lowers.down (wire_on (groups_of g) (on_track e.group j)) in omega (arith, was, down);
-    some = live.some;
-  }
-
   pub took_then : (s t : Wave) (h : ℕ) → Spreads g s t → TookWires g s e h → TookWires g t e h
   took_then s t h step took j one inside = went_lower g s t (λ v. ⊥) e.label (wire_beside (groups_of g) j h) step.lowers (took j one inside)
 

@@ -4,7 +4,7 @@ use Rattle.std.proofs.lemmas.Grind.{common_steps}
 use Rattle.std.proofs.lemmas.Bool.{false≢true}
 use Rattle.wavefront.specs.Space.{IsWanted}
 use Rattle.wavefront.proofs.Counted.{count_less}
-use Rattle.group_wave.specs.kept.Grounds.{Ground}
+use Rattle.wave_ground.specs.kept.Grounds.{Ground}
 use Rattle.group_wave.specs.kept.Growing.{is_origin, open_count}
 use Rattle.group_wave.specs.kept.WaveState.{Wave}
 use Rattle.group_wave.specs.kept.Wave.{IsOrigin}

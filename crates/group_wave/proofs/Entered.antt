@@ -6,12 +6,13 @@ use Rattle.routing_problem.specs.InputPins.{IsPinOf}
 use Rattle.wavefront.specs.Space.{HasEdge, IsInside, entry_cost}
 use Rattle.wavefront.specs.kept.Spaces.{LeadsOnlyTo}
 use Rattle.wavefront.proofs.Spaces.{pin_leads}
+use Rattle.track_groups.specs.declared.group.Group.{Group}
 use Rattle.track_groups.specs.Groups.{on_track, wire_on}
-use Rattle.group_wave.specs.kept.Grounds.{Ground, IsGround, groups_of}
-use Rattle.group_wave.specs.kept.Queues.{Waiting}
+use Rattle.wave_ground.specs.kept.Grounds.{Ground, IsGround, groups_of}
+use Rattle.wave_queue.specs.kept.Queues.{Waiting}
 use Rattle.group_wave.specs.kept.WaveState.{FAR, Wave}
 use Rattle.group_wave.specs.kept.Wave.{IsBest, IsDead, IsOpen, IsWave, WentOn, cost_at, weight_of}
-use Rattle.group_wave.specs.kept.Steps.{Enters, IsEntering, IsFrom, IsLabelled, IsLive, IsNoted, KeepsLabel, Lowers, LowersPin, LowersSink, SameOrigins, Spreads}
+use Rattle.group_wave.specs.kept.Steps.{Enters, IsEntering, IsFrom, IsLabelled, IsLive, IsNoted, IsOut, KeepsLabel, Lowers, LowersPin, LowersSink, SameOrigins, Spreads}
 use Rattle.group_wave.proofs.Lower.{keeps, label_here, label_there, lowers_refl, lowers_then, set_enters, set_keeps, set_lowers, set_same_work, set_wave, set_work, still_open, went_up}
 use Rattle.group_wave.proofs.Noted.{noted_lowers, noted_sinks, noted_wave, noted_work}
 use Rattle.group_wave.proofs.Sinks.{sinks_best}
@@ -33,6 +34,17 @@ live_down g s t e spreads live = record {
   tracks = live.tracks;
   labels = λ j one. let d = spreads.lowers.down (wire_on (groups_of g) (on_track e.group j)) in let l = live.labels j one in omega (arith, d, l);
   some = live.some;
+}
+
+-- an entry that is out still is
+pub still_out : (g : Ground) (s t : Wave) (e : Waiting) (greatest : ℕ) (is : Group) → Spreads g s t → IsOut g s e greatest is → IsOut g t e greatest is
+still_out g s t e greatest is spreads out = record {
+  ground = out.ground;
+  wave = spreads.wave;
+  group = out.group;
+  small = out.small;
+  live = live_down g s t e spreads out.live;
+  fits = out.fits;
 }
 
 -- what is known of groups changes

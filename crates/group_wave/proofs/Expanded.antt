@@ -14,13 +14,13 @@ use Rattle.track_groups.proofs.EdgesTold.{edge_told}
 use Rattle.wavefront.specs.Space.{HasEdge, IsInside}
 use Rattle.wavefront.specs.Ways.{IsWay}
 use Rattle.wavefront.specs.kept.Bounds.{left_over}
-use Rattle.group_wave.specs.kept.Boxes.{IsLow}
+use Rattle.wave_ground.specs.kept.Boxes.{IsLow, wire_of}
 use Rattle.wavefront.proofs.Lists.{contains_none, contains_cases}
 use Rattle.wavefront.proofs.WaysLeft.{wire_paid}
-use Rattle.group_wave.specs.kept.Grounds.{Ground, IsGround, groups_of}
-use Rattle.group_wave.specs.kept.Queues.{Waiting}
+use Rattle.wave_ground.specs.kept.Grounds.{Ground, IsGround, groups_of}
+use Rattle.wave_queue.specs.kept.Queues.{Waiting}
 use Rattle.group_wave.specs.kept.WaveState.{Wave}
-use Rattle.group_wave.specs.kept.Wave.{AreTracks, Holds, IsCompleteBut, IsEdgeCovered, IsOf, IsWave, WentAlong, WentOn, cost_at, wire_of}
+use Rattle.group_wave.specs.kept.Wave.{AreTracks, Holds, IsCompleteBut, IsEdgeCovered, IsOf, IsWave, WentAlong, WentOn, cost_at}
 use Rattle.group_wave.specs.kept.Steps.{GoesOn, IsPushed, Settles, Spreads, TookNearer, TookTaps, TookWires}
 use Rattle.group_wave.proofs.Grouped.{far_pin, group_bound, is_wire_here}
 use Rattle.group_wave.proofs.Lower.{complete_lower, complete_went, origins_then, still_of, went_lower}

@@ -14,7 +14,7 @@ use Rattle.wavefront.specs.Growth.IsGrown.{alone, grown}
 use Rattle.wavefront.proofs.Added.{ends_cases, ends_right, no_source}
 use Rattle.wavefront.proofs.Lists.{contains_none, contains_first, contains_later, contains_cases}
 use Rattle.wavefront.proofs.WayNodes.{way_cost_more, way_entered}
-use Rattle.group_wave.specs.kept.Grounds.{Ground, IsGround}
+use Rattle.wave_ground.specs.kept.Grounds.{Ground, IsGround}
 use Rattle.group_wave.specs.kept.Growing.{IsAlone, IsGrowth, IsOnlyOutput, Matches}
 use Rattle.group_wave.specs.kept.WaveState.{FAR, Wave}
 use Rattle.group_wave.specs.kept.Wave.{IsBest, IsComplete, IsOpen, IsOrigin, IsWave}

@@ -5,8 +5,8 @@ use Rattle.std.specs.List.Sorted.{IsPermutation}
 use Rattle.std.specs.List.{AllByRecursion}
 use Rattle.std.proofs.lemmas.List.Sorted.{All-permutation}
 use Rattle.std.proofs.lemmas.List.Elements.{All-from_recursion, recursion_from_All}
-use Rattle.group_wave.specs.declared.queue.Entry.{Entry}
-use Rattle.group_wave.specs.kept.Queues.{IsPast, Waiting, entry_of}
+use Rattle.wave_queue.specs.declared.queue.Entry.{Entry}
+use Rattle.wave_queue.specs.kept.Queues.{IsPast, Waiting, entry_of}
 use Rattle.group_wave.specs.kept.WaveFields.{IsFitting}
 
 module _ {K : Type 0} (value : K → ℕ) (greatest : ℕ) (old new : List Waiting) (fits : All (IsFitting greatest) old) where

@@ -2,11 +2,11 @@
 use Rattle.std.proofs.Common.{◌≡◌, ℕ, ◌+◌, ◌≤◌, cond, inl, inr, refl, sym, ap, ◌∙◌, arith}
 use Rattle.std.specs.Int.{bit_at}
 use Rattle.track_groups.specs.Groups.{group_at, on_track}
-use Rattle.group_wave.specs.kept.Boxes.{IsLow}
-use Rattle.group_wave.specs.kept.Grounds.{Ground, IsGround, groups_of}
-use Rattle.group_wave.specs.kept.Queues.{Waiting}
+use Rattle.wave_ground.specs.kept.Boxes.{IsLow, wire_of}
+use Rattle.wave_ground.specs.kept.Grounds.{Ground, IsGround, groups_of}
+use Rattle.wave_queue.specs.kept.Queues.{Waiting}
 use Rattle.group_wave.specs.kept.WaveState.{Wave}
-use Rattle.group_wave.specs.kept.Wave.{AreTracks, IsComplete, IsCompleteBut, IsOf, IsWave, cost_at, wire_of, work_of}
+use Rattle.group_wave.specs.kept.Wave.{AreTracks, IsComplete, IsCompleteBut, IsOf, IsWave, cost_at, work_of}
 use Rattle.group_wave.specs.kept.Steps.{AreTracksLeft, IsLive, IsNoted, IsPopped, Settles, Spreads, WaitsAgain}
 use Rattle.group_wave.proofs.Entered.{noted_spreads}
 use Rattle.group_wave.proofs.Expanded.{pushed_settles}

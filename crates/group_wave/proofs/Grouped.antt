@@ -12,17 +12,16 @@ use Rattle.track_groups.specs.declared.group.Group.{Group}
 use Rattle.track_groups.specs.declared.group.GroupTrack.{GroupTrack}
 use Rattle.track_groups.specs.Groups.{IsOn, group_at, wire_on}
 use Rattle.track_groups.proofs.WiresTold.{track_is_wire}
-use Rattle.wavefront.specs.Boxes.{BoundingBox}
-use Rattle.wavefront.specs.Boxes.{box_of_net, is_in_box, touches}
+use Rattle.wavefront.specs.Boxes.{BoundingBox, box_of_net, is_in_box, touches}
 use Rattle.wavefront.specs.Space.{HasEdge, IsWanted}
 use Rattle.wavefront.specs.kept.Bounds.{IsWireAt, Surrounds, left_over, steps_within, wires_by_kind, wires_to}
-use Rattle.group_wave.specs.kept.Boxes.{IsLow, SinkBox}
+use Rattle.wave_ground.specs.kept.Boxes.{IsLow, SinkBox, wire_of}
 use Rattle.wavefront.specs.kept.Spaces.{node_count}
 use Rattle.wavefront.proofs.WaysLeft.{edge_nodes, pin_left, way_left, wire_leads}
-use Rattle.group_wave.specs.kept.Grounds.{Ground, IsGround, groups_of}
+use Rattle.wave_ground.specs.kept.Grounds.{Ground, IsGround, groups_of}
 use Rattle.group_wave.specs.kept.WaveState.{Wave}
-use Rattle.group_wave.specs.kept.Wave.{IsBound, IsDead, IsOpen, Serves, wire_of}
-use Rattle.group_wave.proofs.Opened.{inside_is}
+use Rattle.group_wave.specs.kept.Wave.{IsBound, IsDead, IsOpen, Serves}
+use Rattle.wave_ground.proofs.Opened.{inside_is}
 
 reported_wire : (f : Fabric) (v : ℕ) (group : Group) → wire_in f (node_at f v) ≡ Some (group.kind, group.span, group.reach) → IsWireAt f v (wire_of group)
 unfolding wire_in

@@ -3,9 +3,9 @@ use Rattle.std.proofs.Common.{◌≡◌, ℕ, inl, inr, sym, ap, ◌∙◌, subs
 use Rattle.std.specs.Int.{bit_at}
 use Rattle.std.proofs.lemmas.Bool.{cases_eq}
 use Rattle.track_groups.specs.Groups.{on_track, wire_on}
-use Rattle.group_wave.specs.kept.Bits.{PutsBit, TakesBit}
-use Rattle.group_wave.specs.kept.Grounds.{Ground, groups_of}
-use Rattle.group_wave.specs.kept.Queues.{Waiting}
+use Rattle.wave_queue.specs.kept.Bits.{PutsBit, TakesBit}
+use Rattle.wave_ground.specs.kept.Grounds.{Ground, groups_of}
+use Rattle.wave_queue.specs.kept.Queues.{Waiting}
 use Rattle.group_wave.specs.kept.WaveState.{Wave}
 use Rattle.group_wave.specs.kept.Wave.{cost_at}
 use Rattle.group_wave.specs.kept.Steps.{AreTracksLeft}

@@ -1,15 +1,4 @@
-pub mod KeysInOrder
-mod Rows
-mod Marked
-mod Bucketed
-mod TrackBits
 mod LabelRows
-mod SightRows
-mod LooksAtOnce
-mod SideBySide
-mod Around
-mod Narrower
-pub mod Opened
 pub mod Kept
 pub mod Fitting
 pub mod Waited
@@ -24,7 +13,6 @@ pub mod Sinks
 pub mod Grouped
 pub mod Relaxed
 pub mod RelaxedTracks
-pub mod PinsInside
 pub mod Entered
 pub mod Tapped
 mod Offered

@@ -4,12 +4,11 @@ use Rattle.std.specs.Prelude.{Contains}
 use Rattle.std.proofs.lemmas.List.Sums.{sum_by-set}
 use Rattle.std.proofs.lemmas.List.{length-set}
 use Rattle.std.proofs.lemmas.Bool.{cases_eq}
-use Rattle.group_wave.specs.kept.WaveState.{FAR}
+use Rattle.group_wave.specs.kept.WaveState.{FAR, Label, Wave}
 use Rattle.wavefront.specs.Space.{HasEdge, IsInside, entry_cost}
 use Rattle.wavefront.proofs.WayNodes.{way_cost_more}
-use Rattle.group_wave.specs.kept.Grounds.{Ground}
-use Rattle.group_wave.specs.kept.Queues.{Waiting}
-use Rattle.group_wave.specs.kept.WaveState.{Label, Wave}
+use Rattle.wave_ground.specs.kept.Grounds.{Ground}
+use Rattle.wave_queue.specs.kept.Queues.{Waiting}
 use Rattle.group_wave.specs.kept.Wave.{IsBound, IsCompleteBut, IsComplete, IsDead, IsEdgeCovered, IsEntered, IsOf, IsOpen, IsOrigin, IsSettled, IsWaiting, IsWave, Serves, WentAlong, WentOn, cost_at, label_at, parent_of, unreached}
 use Rattle.group_wave.specs.kept.Steps.{IsLabelled, KeepsOrigins, Lowers, SameOrigins}
 

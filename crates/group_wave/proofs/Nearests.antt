@@ -4,7 +4,7 @@ use Rattle.std.specs.Prelude.{IfNone}
 use Rattle.std.proofs.lemmas.Bool.{cases_lt}
 use Rattle.std.proofs.lemmas.List.{get_or_default}
 use Rattle.wavefront.specs.Space.{IsWanted}
-use Rattle.group_wave.specs.kept.Grounds.{Ground}
+use Rattle.wave_ground.specs.kept.Grounds.{Ground}
 use Rattle.group_wave.specs.kept.WaveState.{FAR, Wave}
 use Rattle.group_wave.specs.kept.Wave.{IsBest}
 use Rattle.group_wave.specs.kept.Steps.{IsNearest}

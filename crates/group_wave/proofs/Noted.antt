@@ -1,6 +1,6 @@
 -- What stands where no label and no entry changes.
 use Rattle.std.proofs.Common.{◌≡◌, ℕ, length, slice_index_or, inl, ap, ◌∙◌, arith, sum_by}
-use Rattle.group_wave.specs.kept.Grounds.{Ground, groups_of}
+use Rattle.wave_ground.specs.kept.Grounds.{Ground, groups_of}
 use Rattle.group_wave.specs.kept.WaveState.{Wave}
 use Rattle.group_wave.specs.kept.Wave.{AreKnown, IsWave, cost_at, label_at, unreached, weight_of, work_of}
 use Rattle.group_wave.specs.kept.Steps.{IsNoted, KeepsSinks, Lowers}

@@ -7,12 +7,12 @@ use Rattle.track_groups.specs.declared.group.Group.{Group}
 use Rattle.track_groups.specs.Groups.{IsOn, group_at, on_track, wire_on}
 use Rattle.wavefront.specs.Space.{HasEdge, IsInside}
 use Rattle.wavefront.specs.kept.Bounds.{left_over}
-use Rattle.group_wave.specs.kept.Boxes.{IsLow}
-use Rattle.group_wave.specs.kept.Bits.{PutsBit}
-use Rattle.group_wave.specs.kept.Grounds.{Ground, IsGround, groups_of}
-use Rattle.group_wave.specs.kept.Queues.{Waiting}
+use Rattle.wave_ground.specs.kept.Boxes.{IsLow, wire_of}
+use Rattle.wave_queue.specs.kept.Bits.{PutsBit}
+use Rattle.wave_ground.specs.kept.Grounds.{Ground, IsGround, groups_of}
+use Rattle.wave_queue.specs.kept.Queues.{Waiting}
 use Rattle.group_wave.specs.kept.WaveState.{FAR, Wave}
-use Rattle.group_wave.specs.kept.Wave.{AreTracks, IsBound, IsOf, IsWave, wire_of}
+use Rattle.group_wave.specs.kept.Wave.{AreTracks, IsBound, IsOf, IsWave}
 use Rattle.group_wave.specs.kept.Steps.{IsOffer, IsNoted, IsStep, IsTarget, Relaxes, RelaxesSome, WaitsFresh, fresh_entry}
 use Rattle.group_wave.proofs.Lower.{lowers_then, still_of, went_lower}
 use Rattle.group_wave.proofs.Noted.{noted_lowers, noted_sinks, noted_work}

@@ -26,7 +26,7 @@ use Rattle.route_tree.specs.Usage.{room_of}
 use Rattle.node_cost.specs.Views.{history_in, others_in}
 use Rattle.wavefront.specs.Space.{HasEdge, IsInside, Space, base_cost, entry_cost}
 use Rattle.wavefront.proofs.Lists.{contains_none, contains_cases}
-use Rattle.group_wave.specs.kept.Grounds.{Ground, IsGround, groups_of}
+use Rattle.wave_ground.specs.kept.Grounds.{Ground, IsGround, groups_of}
 use Rattle.group_wave.specs.kept.WaveState.{FAR, Label, Wave}
 use Rattle.group_wave.specs.kept.Wave.{IsOrigin, IsWave, WentAlong, WentOn, cost_at, weight_of}
 use Rattle.group_wave.specs.kept.Steps.{Enters, IsFrom, IsLabelled, IsOffer, Lowers, Relaxes, Spreads}

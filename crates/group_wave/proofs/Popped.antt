@@ -2,14 +2,13 @@
 use Rattle.std.proofs.Common.{◌≡◌, ℕ, ◌+◌, ◌<◌, ◌≤◌, List, [], ◌∷◌, length, Contains, slice_index_or, ◌⊎◌, inl, inr, sym, ap, ◌∙◌, arith, sum_by, min}
 use Rattle.std.proofs.lemmas.List.Sorted.{Contains-permutation, IsPermutation-sym, sum_by_popped}
 use Rattle.std.proofs.lemmas.Bool.{cases_lt}
-use Rattle.group_wave.specs.kept.WaveState.{FAR}
+use Rattle.group_wave.specs.kept.WaveState.{FAR, Wave}
 use Rattle.wavefront.specs.Space.{entry_cost}
 use Rattle.wavefront.specs.Ways.{IsWay, way_cost}
 use Rattle.wavefront.proofs.Lists.{contains_later, contains_first, contains_cases}
 use Rattle.wavefront.proofs.WayNodes.{way_cost_more, way_cost_none}
-use Rattle.group_wave.specs.kept.Grounds.{Ground}
-use Rattle.group_wave.specs.kept.Queues.{Waiting}
-use Rattle.group_wave.specs.kept.WaveState.{Wave}
+use Rattle.wave_ground.specs.kept.Grounds.{Ground}
+use Rattle.wave_queue.specs.kept.Queues.{Waiting}
 use Rattle.group_wave.specs.kept.Wave.{AreTracks, IsBest, IsComplete, IsCompleteBut, IsOf, IsOpen, IsWave, WentOn, cost_at, label_at, unreached, weight_of, work_of}
 use Rattle.group_wave.specs.kept.Steps.{IsAbove, IsLeastKey, IsPopped, IsTaken, SameOrigins}
 use Rattle.group_wave.proofs.Lower.{keeps, entered_same, same_origins, still_bound, still_dead, still_of, still_open, still_serves}

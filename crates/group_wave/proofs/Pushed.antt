@@ -3,8 +3,8 @@ use Rattle.std.proofs.Common.{◌≡◌, ℕ, ◌+◌, ◌-◌, length, slice_in
 use Rattle.std.specs.Prelude.{Contains}
 use Rattle.std.proofs.lemmas.List.Sorted.{Contains-permutation, IsPermutation-sym, sum_by_pushed}
 use Rattle.wavefront.proofs.Lists.{contains_first, contains_later, contains_cases}
-use Rattle.group_wave.specs.kept.Grounds.{Ground}
-use Rattle.group_wave.specs.kept.Queues.{Waiting}
+use Rattle.wave_ground.specs.kept.Grounds.{Ground}
+use Rattle.wave_queue.specs.kept.Queues.{Waiting}
 use Rattle.group_wave.specs.kept.WaveState.{Wave}
 use Rattle.group_wave.specs.kept.Wave.{AreTracks, IsBound, IsOf, IsWaiting, IsWave, cost_at, label_at, unreached, weight_of, work_of}
 use Rattle.group_wave.specs.kept.Steps.{IsPushed, Lowers}

@@ -2,12 +2,11 @@
 use Rattle.std.proofs.Common.{◌≡◌, ℕ, ◌+◌, ◌-◌, ◌<◌, ◌≤◌, true, false, length, sum_by, inl, inr, refl, ap, ◌∙◌, arith}
 use Rattle.std.proofs.lemmas.Bool.{false≢true}
 use Rattle.std.specs.Prelude.{cond, min}
-use Rattle.group_wave.specs.kept.WaveState.{FAR}
+use Rattle.group_wave.specs.kept.WaveState.{FAR, Wave}
 use Rattle.wavefront.specs.Space.{entry_cost}
 use Rattle.wavefront.proofs.WaysLeft.{wire_paid}
-use Rattle.group_wave.specs.kept.Grounds.{Ground, IsGround}
-use Rattle.group_wave.specs.kept.Queues.{Waiting}
-use Rattle.group_wave.specs.kept.WaveState.{Wave}
+use Rattle.wave_ground.specs.kept.Grounds.{Ground, IsGround}
+use Rattle.wave_queue.specs.kept.Queues.{Waiting}
 use Rattle.group_wave.specs.kept.Wave.{AreTracks, IsBound, IsOf, IsWave, WentOn, cost_at, weight_of, work_of}
 use Rattle.group_wave.specs.kept.Steps.{IsLabelled, IsNoted, IsPushed, IsStep, KeepsLabel, KeepsSinks, Lowers, RelaxesTrack, Spreads}
 use Rattle.group_wave.proofs.Lower.{label_here, label_there, lowers_then, set_enters, set_keeps, set_lowers, set_same_work, set_wave, set_work}

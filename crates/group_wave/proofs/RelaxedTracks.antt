@@ -4,9 +4,9 @@ use Rattle.std.proofs.lemmas.Bool.{cases_eq, false≢true}
 use Rattle.std.specs.Int.{bit_at}
 use Rattle.std.proofs.lemmas.Nat.Bits.{bit_at-zero}
 use Rattle.track_groups.specs.Groups.{IsOn, on_track, wire_on}
-use Rattle.group_wave.specs.kept.Bits.{PutsBit, TakesBit}
-use Rattle.group_wave.specs.kept.Grounds.{Ground, groups_of}
-use Rattle.group_wave.specs.kept.Queues.{Waiting}
+use Rattle.wave_queue.specs.kept.Bits.{PutsBit, TakesBit}
+use Rattle.wave_ground.specs.kept.Grounds.{Ground, groups_of}
+use Rattle.wave_queue.specs.kept.Queues.{Waiting}
 use Rattle.group_wave.specs.kept.WaveState.{Wave}
 use Rattle.group_wave.specs.kept.Wave.{Holds, IsBound, IsOf, IsWave, WentOn, cost_at}
 use Rattle.group_wave.specs.kept.Steps.{IsPushed, Relaxes, RelaxesSome, RelaxesTrack, fresh_entry}

@@ -12,7 +12,7 @@ use Rattle.wavefront.specs.Ways.{AreDistinct, IsWay, way_cost}
 use Rattle.wavefront.specs.Growth.{IsShut}
 use Rattle.wavefront.proofs.Lists.{contains_none, contains_first, contains_later, contains_cases}
 use Rattle.wavefront.proofs.WayNodes.{way_cost_more, way_cost_none, way_in}
-use Rattle.group_wave.specs.kept.Grounds.{Ground, IsGround}
+use Rattle.wave_ground.specs.kept.Grounds.{Ground, IsGround}
 use Rattle.group_wave.specs.kept.Growing.{Matches}
 use Rattle.group_wave.specs.kept.Steps.{IsLeastKey, SameOrigins}
 use Rattle.group_wave.specs.kept.WaveState.{FAR, Wave}

@@ -8,7 +8,7 @@ use Rattle.routing_problem.specs.parts.Node.{Node}
 use Rattle.routing_problem.specs.Fabric.{Fabric}
 use Rattle.routing_problem.specs.Nodes.{node_at, is_wire, is_wire_at}
 use Rattle.routing_problem.specs.Problems.{any_node, is_sink, is_sink_kind}
-use Rattle.group_wave.specs.kept.Grounds.{Ground}
+use Rattle.wave_ground.specs.kept.Grounds.{Ground}
 use Rattle.group_wave.specs.kept.WaveState.{Wave}
 use Rattle.group_wave.specs.kept.Wave.{IsBest}
 use Rattle.group_wave.specs.kept.Steps.{KeepsSinks, SameOrigins}

@@ -13,7 +13,7 @@ use Rattle.wavefront.specs.Ways.{IsWay}
 use Rattle.wavefront.specs.kept.Spaces.{LeadsOnlyTo, node_count}
 use Rattle.wavefront.proofs.Lists.{contains_none, contains_first, contains_later, contains_cases}
 use Rattle.wavefront.proofs.Spaces.{pin_leads}
-use Rattle.group_wave.specs.kept.Grounds.{Ground, IsGround}
+use Rattle.wave_ground.specs.kept.Grounds.{Ground, IsGround}
 use Rattle.group_wave.specs.kept.WaveState.{Wave}
 use Rattle.group_wave.specs.kept.Wave.{IsComplete, IsDead, IsOrigin, IsWave}
 use Rattle.group_wave.specs.kept.Steps.{IsStarted, LeadsToSink}

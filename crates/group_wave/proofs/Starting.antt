@@ -8,13 +8,13 @@ use Rattle.track_groups.specs.declared.group.GroupTrack.{GroupTrack}
 use Rattle.track_groups.specs.Groups.{HasPlace, group_at, on_track, place_of, wire_on}
 use Rattle.wavefront.specs.Space.{IsWanted}
 use Rattle.wavefront.specs.kept.Bounds.{left_over}
-use Rattle.group_wave.specs.kept.Boxes.{IsLow}
+use Rattle.wave_ground.specs.kept.Boxes.{IsLow, wire_of}
 use Rattle.wavefront.specs.kept.Spaces.{node_count}
-use Rattle.group_wave.specs.kept.Bits.{PutsBit}
-use Rattle.group_wave.specs.kept.Grounds.{Ground, IsGround, groups_of}
-use Rattle.group_wave.specs.kept.Queues.{Waiting}
+use Rattle.wave_queue.specs.kept.Bits.{PutsBit}
+use Rattle.wave_ground.specs.kept.Grounds.{Ground, IsGround, groups_of}
+use Rattle.wave_queue.specs.kept.Queues.{Waiting}
 use Rattle.group_wave.specs.kept.WaveState.{FAR, Label, Wave}
-use Rattle.group_wave.specs.kept.Wave.{AreTracks, IsBest, IsComplete, IsCompleteBut, IsOf, IsOrigin, IsSettled, IsWave, WentAlong, WentOn, cost_at, label_at, wire_of}
+use Rattle.group_wave.specs.kept.Wave.{AreTracks, IsBest, IsComplete, IsCompleteBut, IsOf, IsOrigin, IsSettled, IsWave, WentAlong, WentOn, cost_at, label_at}
 use Rattle.group_wave.specs.kept.Steps.{IsLabelled, IsNoted, IsPushed, KeepsOrigins, MoreOrigins, Spreads}
 use Rattle.group_wave.specs.kept.Starts.{IsEnd, StartsAt}
 use Rattle.group_wave.proofs.Lower.{complete_lower, complete_went, entered_lower, label_here, label_there, same_origin, set_down, still_covered, still_dead, still_open, still_serves, waiting_settled, went_up}

@@ -1,7 +1,7 @@
 -- The sink that is taken when a wave has spread.
 use Rattle.std.proofs.Common.{◌≡◌, ◌<◌, ◌≤◌, ℕ, Option, Some, None}
 use Rattle.std.specs.Prelude.{IfNone, IfSome}
-use Rattle.group_wave.specs.kept.Grounds.{Ground}
+use Rattle.wave_ground.specs.kept.Grounds.{Ground}
 use Rattle.group_wave.specs.kept.WaveState.{FAR, Wave}
 use Rattle.group_wave.specs.kept.Wave.{IsBest}
 use Rattle.group_wave.specs.kept.Steps.{IsAbove, IsLeastKey, IsNearest, IsTaken, Settles}

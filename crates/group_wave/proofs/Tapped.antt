@@ -13,8 +13,8 @@ use Rattle.track_groups.specs.declared.group.Tap.{Tap}
 use Rattle.track_groups.specs.Groups.{group_at, node_on, on_track, wire_on}
 use Rattle.track_groups.specs.Joints.{IsTap, tap_on, taps_of, taps_track}
 use Rattle.wavefront.specs.Space.{IsInside}
-use Rattle.group_wave.specs.kept.Grounds.{Ground, IsGround, groups_of}
-use Rattle.group_wave.specs.kept.Queues.{Waiting}
+use Rattle.wave_ground.specs.kept.Grounds.{Ground, IsGround, groups_of}
+use Rattle.wave_queue.specs.kept.Queues.{Waiting}
 use Rattle.group_wave.specs.kept.WaveState.{Wave}
 use Rattle.group_wave.specs.kept.Wave.{WentOn}
 use Rattle.group_wave.specs.kept.Steps.{IsTapOf, Spreads, TookTap, TookTaps}

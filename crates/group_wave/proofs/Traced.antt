@@ -5,7 +5,7 @@ use Rattle.std.proofs.lemmas.List.{get_or_past, reverse-append}
 use Rattle.group_wave.specs.kept.WaveState.{FAR, Label, Wave}
 use Rattle.wavefront.specs.Space.{HasEdge, IsWanted, entry_cost}
 use Rattle.wavefront.specs.Ways.{AreDistinct, IsWay, way_cost}
-use Rattle.group_wave.specs.kept.Grounds.{Ground, IsGround}
+use Rattle.wave_ground.specs.kept.Grounds.{Ground, IsGround}
 use Rattle.group_wave.specs.kept.Wave.{IsWave, IsOrigin, IsOpen, IsEntered, cost_at, parent_of, unreached}
 use Rattle.group_wave.specs.kept.Steps.{IsTraced}
 use Rattle.wavefront.proofs.Lists.{contains_none, contains_cases}

@@ -12,8 +12,8 @@ use Rattle.wavefront.specs.Space.{Space, IsWanted}
 use Rattle.wavefront.specs.kept.Spaces.{IsSpace}
 use Rattle.wavefront.specs.Growth.{IsGrown, IsPart, IsRouteSoFar, IsShut, IsStuck, IsWhole, net_reached}
 use Rattle.wavefront.specs.Growth.IsGrown.{alone}
-use Rattle.wavefront.proofs.Wanted.{is_sink_at}
-use Rattle.group_wave.specs.kept.Grounds.{Ground, IsGround}
+use Rattle.wavefront.proofs.Wanted.{is_sink_at, rises}
+use Rattle.wave_ground.specs.kept.Grounds.{Ground, IsGround}
 use Rattle.group_wave.specs.kept.Growing.{IsGrowth, Matches}
 use Rattle.group_wave.specs.kept.WaveState.{Wave}
 use Rattle.group_wave.specs.kept.Wave.{IsBest, IsComplete, IsOrigin, IsWave}
@@ -22,7 +22,6 @@ use Rattle.group_wave.proofs.Added.{open_target, target_open}
 use Rattle.wavefront.proofs.Grown.{grown_legal, grown_inside, grown_wants}
 use Rattle.wavefront.proofs.Lists.{contains_none, contains_first, contains_later, contains_cases}
 use Rattle.wavefront.proofs.Orderly.{grown_listed}
-use Rattle.wavefront.proofs.Wanted.{rises}
 
 pub begun : (g : Ground) (s t : Wave) (rows : List Row) → rows ≡ record { node = g.space.net.source; parent = 0 } ∷ [] → IsWave g t → IsComplete g t → IsBest g t → NoOrigins s → MoreOrigins s t g.space.net.source → IsGrowth g rows t
 unfolding pairs_of

@@ -1,17 +1,7 @@
-pub mod Buckets
-pub mod Queues
 pub mod WaveState
-pub mod Grounds
-pub mod Boxes
-pub mod EightBoxes
 pub mod Wave
-pub mod Bits
-pub mod Marks
 pub mod Labels
-pub mod Nearest
-pub mod Fields
 pub mod Steps
 pub mod Starts
 pub mod Growing
 pub mod WaveFields
-pub mod Tables

@@ -5,9 +5,9 @@ ghost use Rattle.group_wave.specs.kept.Wave.{unreached};
 ghost use Rattle.group_wave.specs.kept.WaveState.{FAR};
 ghost use Rattle.group_wave.specs.kept.Labels.{AreNoted, Notes, label_of};
 
-use crate::keys::Key;
 use std::alloc::{AllocError, Global};
 use std::marker::Model;
+use wave_queue::Key;
 
 /// The cost of a way to a node, which is the greatest that there is where none was found, and the
 /// node before it on that way. At a start the cost is 0, and it is itself that node.

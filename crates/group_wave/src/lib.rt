@@ -2,21 +2,10 @@
 //! of them at once (McMurchie and Ebeling 1995; Dijkstra 1959).
 #![tactic(auto)]
 
-mod bits;
-mod boxes;
-mod buckets;
-mod eight_boxes;
-mod ground;
-mod keys;
 mod labels;
-mod marks;
-mod nearest;
-mod queue;
 mod route;
 mod scratch;
-mod tables;
 mod wave;
 
 pub use route::route_net;
 pub use scratch::Scratch;
-pub use tables::PreparedProblem;

@@ -8,21 +8,20 @@ ghost use Rattle.wavefront.specs.Growth.{IsAnswer, IsShut, RoutesIfFound, space_
 ghost use Rattle.wavefront.specs.declared.found.SearchFault.TheVariants.{ViewSize};
 ghost use Rattle.wavefront.specs.Space.{IsWanted};
 ghost use Rattle.wavefront.specs.declared.found.Found.TheVariants.{NoPath};
-ghost use Rattle.group_wave.specs.kept.Grounds.{IsGround};
+ghost use Rattle.wave_ground.specs.kept.Grounds.{IsGround};
 ghost use Rattle.group_wave.specs.kept.Growing.{IsAlone, IsGrowth, IsOnlyOutput, IsSized, StartsAnew, open_count};
 ghost use Rattle.group_wave.specs.kept.Wave.{IsBest, IsComplete, IsOrigin, IsWave};
 ghost use Rattle.group_wave.specs.kept.Steps.{IsTaken, NoOrigins};
 ghost use Rattle.group_wave.specs.kept.WaveState.{FAR};
 
-use crate::ground::Ground;
-use crate::keys::Key;
 use crate::scratch::{Scratch, WaveScratch, make_fit};
-use crate::tables::PreparedProblem;
 use crate::wave::Wave;
 use node_cost::{GREATEST_PRESENT, View};
 use route_tree::{Row, Tree};
 use smallvec::SmallVec;
 use std::alloc::{AllocError, Global};
+use wave_ground::{Ground, PreparedProblem};
+use wave_queue::Key;
 use wavefront::{Found, SearchFault};
 
 /// A tree from a net's source to all of its sinks inside its box, each way added to it one of least

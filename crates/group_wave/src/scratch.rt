@@ -3,13 +3,13 @@
 ghost use Rattle.std.specs.Prelude.{◌≡◌, ◌==◌, IfOk, OnOk, length};
 ghost use Rattle.routing_problem.specs.Nodes.{node_count_of};
 
-use crate::keys::Key;
-use crate::tables::PreparedProblem;
 use crate::wave::Wave;
 use routing_problem::Problem;
 use smallvec::SmallVec;
 use std::alloc::{AllocError, Global};
 use std::marker::Model;
+use wave_ground::PreparedProblem;
+use wave_queue::Key;
 
 /// What a search with keys of one width works in. It may be used again, whatever an earlier search
 /// left in it.

@@ -10,13 +10,11 @@ mod spreading;
 mod starting;
 mod tracing;
 
-use crate::ground::{Ground, PIN};
-use crate::keys::Key;
 use crate::labels::{Labels, Row};
-use crate::nearest::Nearest;
-use crate::queue::{Entry, Queue};
 use std::alloc::{AllocError, Global};
 use std::marker::Model;
+use wave_ground::{Ground, Nearest, PIN};
+use wave_queue::{Entry, Key, Queue};
 
 /// What a wire costs at least.
 pub(crate) const WIRE: u128 = 320;
@@ -55,12 +53,12 @@ fn bound_over<K: Key>(wires: u32) -> K
 impl<K: Key> Wave<K> {
     ghost use Rattle.std.specs.Prelude.{length, OnOk};
     ghost use Rattle.track_groups.specs.Groups.{group_at};
-    ghost use Rattle.group_wave.specs.kept.Boxes.{IsLow};
-    ghost use Rattle.group_wave.specs.kept.Grounds.{groups_of};
-    ghost use Rattle.group_wave.specs.kept.Queues.{entry_of};
+    ghost use Rattle.wave_ground.specs.kept.Boxes.{IsLow, wire_of};
+    ghost use Rattle.wave_ground.specs.kept.Grounds.{groups_of};
+    ghost use Rattle.wave_queue.specs.kept.Queues.{entry_of};
     ghost use Rattle.group_wave.specs.kept.WaveState.{FAR};
     ghost use Rattle.group_wave.specs.kept.Labels.{label_of};
-    ghost use Rattle.group_wave.specs.kept.Wave.{IsWave, cost_at, label_at, wire_of};
+    ghost use Rattle.group_wave.specs.kept.Wave.{IsWave, cost_at, label_at};
     ghost use Rattle.group_wave.specs.kept.Steps.{IsLabelled, IsNoted, IsPushed, KeepsLabel};
 
     /// Puts a label on a node.

@@ -125,6 +125,20 @@ impl Negotiation {
             Outcome::NotRouted { .. } => gate.left(&self.book),
         }
     }
+
+    /// What it comes to where it ends here, told to the gate.
+    fn end<R: Threads + Wait + Sync, G: Gate>(
+        &self,
+        rt: &R,
+        alloc: Global,
+        gate: &G,
+    ) -> Result<Outcome, WorkFault>
+        ensures { IfOk result (IsOutcomeOf self.now) }
+    {
+        let outcome = self.outcome(rt, alloc)?;
+        self.tell(&outcome, gate);
+        Ok(outcome)
+    }
 }
 
 /// The routing of a book in which each net has a tree and no node is overused, judged anew on a copy of its problem.
@@ -184,9 +198,7 @@ fn outcome_of<R: Threads + Wait + Sync, G: Gate + Sync>(
 {
     gate.begins(&problem);
     let negotiation = run(rt, alloc, problem, settings, workers, gate)?;
-    let outcome = negotiation.outcome(rt, alloc)?;
-    negotiation.tell(&outcome, gate);
-    Ok(outcome)
+    negotiation.end(rt, alloc, gate)
 }
 
 /// Negotiates a routing of the problem. Iteration by iteration each net is routed anew by so many workers, on one congestion book, and the

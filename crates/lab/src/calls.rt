@@ -1,8 +1,9 @@
 //! All calls, by their names.
 
 use lab_book::{book_calls, event_calls, search_calls, settings_calls, view_calls};
+use lab_explain::explain_calls;
 use lab_graph::{arch_calls, design_calls, device_calls, file_calls, text_calls, walk_calls};
-use lab_runs::{explain_calls, fault_calls, progress_calls, run_calls, work_calls};
+use lab_runs::{fault_calls, progress_calls, run_calls};
 use lab_session::answer::added;
 use lab_session::session::Session;
 use lab_session::sources::BELOW;
@@ -12,7 +13,7 @@ use lab_trees::{
     other_calls, problem_calls, reading_back, report_calls, route_text_calls, routing_calls,
     tree_calls,
 };
-use lab_workers::{desk_calls, iteration_calls};
+use lab_workers::{desk_calls, iteration_calls, work_calls};
 use std::alloc::Global;
 use std::rt::Runtime;
 use std::sync::Wait;

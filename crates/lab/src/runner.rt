@@ -5,7 +5,6 @@ use lab_session::answer::added;
 use lab_session::session::Session;
 use lab_session::unanswered::Unanswered;
 use lab_session::words::{Call, code_of, has_text, words};
-use net_workers::WorkFault;
 use std::alloc::Global;
 use std::io::{BufRead, BufReader, Read, Result as IoResult};
 use std::rt::Runtime;
@@ -262,7 +261,7 @@ impl<R: Runtime + Threads + Wait + Sync + AllocGlobal, I: BufRead> Run<'_, R, I>
             }
             Err(why) => {
                 self.refuse(&why)?;
-                Ok(lacks(&why))
+                Ok(why.is_for_want())
             }
         }
     }
@@ -279,15 +278,6 @@ impl<R: Runtime + Threads + Wait + Sync + AllocGlobal, I: BufRead> Run<'_, R, I>
     /// Prints the answer.
     fn print(&mut self) -> IoResult<()> {
         print!(self.rt; "{}", self.answer.text.as_str())
-    }
-}
-
-/// Whether a call lacked memory or a thread.
-fn lacks(why: &Unanswered) -> bool {
-    match why {
-        Unanswered::Memory | Unanswered::Stopped(_) => true,
-        Unanswered::Work(fault) => matches!(fault, WorkFault::NoThread),
-        _ => false,
     }
 }
 

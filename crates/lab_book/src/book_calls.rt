@@ -1,12 +1,13 @@
 //! Calls of `congestion_book`: the book, and the events that change it.
 
 use crate::book_look_ups::{dump, look_at, look_up};
-use congestion_book::{Book, CloseFault, CommitFault, DrawFault, PassFault};
-use lab_session::answer::{added, put, put_maybe, put_named};
+use congestion_book::{Book, CloseFault, CommitFault};
+use lab_session::answer::{added, put, put_named};
+use lab_session::events::{put_drawn, put_passed};
 use lab_session::session::{Books, NO_BOOK, NO_PROBLEM, NO_TREE, NO_VIEW, Session};
+use lab_session::trees::tree_of_words;
 use lab_session::unanswered::Unanswered;
 use lab_session::words::{Call, NO_NUMBER, NO_WORDS, number, numbers};
-use lab_trees::tree_calls::tree_of_words;
 use node_cost::View;
 use route_tree::Tree;
 use rr_graph::Problem;
@@ -295,36 +296,6 @@ fn put_refused(
         put_named(out, fault)
     } else {
         put(out, "another tree came back")
-    }
-}
-
-/// Adds the answer to a draw.
-pub fn put_drawn(
-    drawn: Result<Option<u32>, DrawFault>,
-    out: &mut String,
-) -> Result<(), Unanswered> {
-    match drawn {
-        Ok(net) => put_maybe(out, net),
-        Err(fault) => put_named(out, fault),
-    }
-}
-
-/// Adds the answer to a commit.
-pub fn put_committed(
-    committed: Result<(), CommitFault>,
-    out: &mut String,
-) -> Result<(), Unanswered> {
-    match committed {
-        Ok(()) => put(out, "committed"),
-        Err(fault) => put_named(out, fault),
-    }
-}
-
-/// Adds the answer to a pass.
-pub fn put_passed(passed: Result<(), PassFault>, out: &mut String) -> Result<(), Unanswered> {
-    match passed {
-        Ok(()) => put(out, "passed"),
-        Err(fault) => put_named(out, fault),
     }
 }
 

@@ -3,8 +3,8 @@
 use crate::settings_calls::NO_NODE;
 use congestion_book::{Book, OveruseRow, Turn};
 use lab_session::answer::{added, put};
+use lab_session::trees::put_tree;
 use lab_session::unanswered::Unanswered;
-use lab_trees::tree_calls::put_tree;
 
 /// Makes a look-up of the whole book.
 pub fn look_up(book: &Book, name: &str, out: &mut String) -> Result<(), Unanswered> {

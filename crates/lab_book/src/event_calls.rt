@@ -1,13 +1,14 @@
 //! Calls of `congestion_book`: lists of events.
 
-use crate::book_calls::{COMMIT, put_closed, put_committed, put_drawn, put_passed};
+use crate::book_calls::{COMMIT, put_closed};
 use congestion_book::{Event, Reply, RunFault};
 use lab_session::answer::added;
+use lab_session::events::{put_committed, put_drawn, put_passed};
 use lab_session::session::{Books, NO_BOOK, NO_VIEW};
 use lab_session::sources::BELOW;
+use lab_session::trees::tree_of_words;
 use lab_session::unanswered::Unanswered;
 use lab_session::words::{Call, NO_NUMBER, NO_WORDS, number, numbers, text_of, words};
-use lab_trees::tree_calls::tree_of_words;
 use std::alloc::Global;
 use std::rt::{Clock, Runtime};
 use std::time::Instant;

@@ -3,16 +3,17 @@
 ghost use Rattle.std.specs.Prelude.{◌≡◌};
 ghost use Rattle.rr_graph.specs.Nodes.{node_count_of};
 
-use group_wave::{PreparedProblem, Scratch, route_net};
+use group_wave::{Scratch, route_net};
 use lab_session::answer::added;
 use lab_session::session::{NO_PROBLEM, NO_VIEW, Searching, Session};
+use lab_session::trees::put_tree;
 use lab_session::unanswered::Unanswered;
 use lab_session::words::{Call, NO_WORDS, numbers};
-use lab_trees::tree_calls::put_tree;
 use node_cost::{GREATEST_PRESENT, View};
 use route_tree::Tree;
 use rr_graph::Problem;
 use std::alloc::{AllocError, Global};
+use wave_ground::PreparedProblem;
 use wavefront::{Found, SearchFault};
 
 /// Makes a call, and adds its answer.

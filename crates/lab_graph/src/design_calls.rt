@@ -2,13 +2,14 @@
 
 use arch_file::Arch;
 use lab_session::answer::{added, put, put_maybe, put_name};
+use lab_session::designs::are_suited;
 use lab_session::session::{Design, DesignTexts, NO_DEVICE, NO_NETLIST};
 use lab_session::sources::source;
 use lab_session::unanswered::Unanswered;
 use lab_session::words::{Call, NO_WORDS, numbers, one};
 use net_file::{Block, Net, Netlist, Terminal};
 use place_file::Site;
-use rr_graph::{Device, SuitsDesigns};
+use rr_graph::Device;
 use std::alloc::Global;
 use std::rt::Runtime;
 
@@ -246,16 +247,4 @@ pub fn suits(alloc: Global, design: &Design, device: &Option<Device>) -> Result<
     };
     let netlist = net_file::parse(alloc, design.net, design.arch)?;
     are_suited(alloc, design, device, &netlist, &netlist)
-}
-
-/// Whether a device suits a netlist, and the placement of a design as it is read for a netlist.
-pub fn are_suited(
-    alloc: Global,
-    design: DesignTexts<'_>,
-    device: &Device,
-    netlist: &Netlist<'_>,
-    placed: &Netlist<'_>,
-) -> Result<bool, Unanswered> {
-    let placement = place_file::parse(alloc, design.place, design.arch, placed)?;
-    Ok(device.suits(netlist, &placement))
 }

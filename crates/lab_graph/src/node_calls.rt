@@ -3,7 +3,7 @@
 use lab_session::answer::{added, put, put_maybe, put_maybe_named, put_numbers};
 use lab_session::session::NO_DEVICE;
 use lab_session::unanswered::Unanswered;
-use lab_session::words::{Call, NO_NUMBER, NO_WORDS, number, number_list, numbers};
+use lab_session::words::{Call, NO_NUMBER, NO_WORDS, number, numbers, pairs};
 use rr_graph::{Device, EdgeFinder, Kind, Node, NodeRange, Span};
 use smallvec::SmallVec;
 use std::alloc::Global;
@@ -186,28 +186,6 @@ fn put_id(device: &Device, given: &[&str], out: &mut String) -> Result<(), Unans
 fn put_edge(device: &Device, given: &[&str], out: &mut String) -> Result<(), Unanswered> {
     let [from, to] = numbers::<2>(given)?;
     put(out, device.edge(from, to))
-}
-
-/// Numbers two by two.
-pub fn pairs(alloc: Global, given: &[&str]) -> Result<Vec<(u32, u32)>, Unanswered> {
-    let numbers = number_list(alloc, given)?;
-    two_by_two(alloc, numbers.as_slice())
-}
-
-fn two_by_two(alloc: Global, numbers: &[u32]) -> Result<Vec<(u32, u32)>, Unanswered> {
-    let mut pairs = Vec::with_capacity(alloc, numbers.len())?;
-    let mut rest = numbers;
-    for _ in 0..numbers.len() {
-        match rest {
-            [] => break,
-            [from, to, others @ ..] => {
-                pairs.push((*from, *to))?;
-                rest = others;
-            }
-            [_] => return Err(Unanswered::Misread("numbers two by two")),
-        }
-    }
-    Ok(pairs)
 }
 
 fn put_lacks_edge(

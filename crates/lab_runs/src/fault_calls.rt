@@ -5,7 +5,7 @@ use lab_session::answer::put;
 use lab_session::sinks::{ShortSink, sink};
 use lab_session::unanswered::Unanswered;
 use lab_session::words::Call;
-use runs::{AppFault, InputFile, print_fault, status};
+use run_inputs::{AppFault, InputFile, print_fault, status};
 use std::alloc::Global;
 
 /// How the call is written.

@@ -5,7 +5,7 @@ use lab_session::sources::BELOW;
 use lab_session::unanswered::Unanswered;
 use lab_session::words::{Call, NO_NUMBER, NO_WORDS, number, numbers, words};
 use net_workers::{Gate, TrialEnd};
-use runs::Progress;
+use run_log::Progress;
 use std::alloc::Global;
 use std::fmt;
 use std::fmt::{Display, Write};

@@ -4,21 +4,21 @@ ghost use Rattle.std.specs.Prelude.{◌≤◌};
 ghost use Rattle.rr_graph.specs.Fabric.{most_tracks};
 ghost use Rattle.node_cost.specs.Options.{most_workers};
 
-use crate::work_calls::mode_before;
+use lab_gates::lab_gate::{LabGate, gate_words};
 use lab_session::answer::{added, put_name};
 use lab_session::bounds::{array_side, channel_width, worker_count};
 use lab_session::session::{RunFiles, RunText};
 use lab_session::sinks::{ShortSink, sink};
 use lab_session::sources::{Failing, failing_source};
 use lab_session::unanswered::Unanswered;
-use lab_session::words::{Call, mode};
-use lab_workers::gates::{LabGate, gate_words};
+use lab_session::words::{Call, mode, mode_before};
 use net_workers::WorkFault;
 use node_cost::Settings;
 use rr_graph::Mode;
+use run_inputs::{AppFault, print_fault, status};
 use runs::{
-    AppFault, NoFiles, check_run, graph_run, outcome_status, print_fault, report_status, route_run,
-    status, verdict_status, width_run,
+    NoFiles, check_run, graph_run, outcome_status, report_status, route_run, verdict_status,
+    width_run,
 };
 use std::alloc::Global;
 use std::rt::Runtime;

@@ -3,8 +3,11 @@
 
 pub mod answer;
 pub mod bounds;
+pub mod designs;
+pub mod events;
 pub mod session;
 pub mod sinks;
 pub mod sources;
+pub mod trees;
 pub mod unanswered;
 pub mod words;

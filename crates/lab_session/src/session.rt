@@ -3,11 +3,12 @@
 use crate::unanswered::Unanswered;
 use arch_file::Arch;
 use congestion_book::Book;
-use group_wave::{PreparedProblem, Scratch};
+use group_wave::Scratch;
 use net_workers::Workspace;
 use node_cost::{Counts, Histories, Range, Settings, View};
 use route_tree::{Marks, Routing, Tree};
 use rr_graph::{Device, Problem};
+use wave_ground::PreparedProblem;
 
 /// Where a call wants an architecture.
 pub const NO_ARCHITECTURE: Unanswered = Unanswered::Refused("there is no architecture");

@@ -58,6 +58,17 @@ pub enum Unanswered {
     Clock,
 }
 
+impl Unanswered {
+    /// Whether it is for want of memory or of a thread: then the same call may be answered later.
+    pub fn is_for_want(&self) -> bool {
+        match self {
+            Unanswered::Memory | Unanswered::Stopped(_) => true,
+            Unanswered::Work(fault) => matches!(fault, WorkFault::NoThread),
+            _ => false,
+        }
+    }
+}
+
 impl From<AllocError> for Unanswered {
     fn from(_error: AllocError) -> Unanswered {
         Unanswered::Memory

@@ -104,3 +104,33 @@ pub fn mode(given: &[&str]) -> Result<Mode, Unanswered> {
         _ => Err(Unanswered::Misread("the call with no more words, or with `global`")),
     }
 }
+
+/// The mode that stands before other words, and those: `global`, or none for `detailed`.
+pub fn mode_before<'a, 'b>(given: &'a [&'b str]) -> (Mode, &'a [&'b str]) {
+    match given {
+        [word, rest @ ..] if *word == "global" => (Mode::Global, rest),
+        _ => (Mode::Detailed, given),
+    }
+}
+
+/// Numbers two by two.
+pub fn pairs(alloc: Global, given: &[&str]) -> Result<Vec<(u32, u32)>, Unanswered> {
+    let numbers = number_list(alloc, given)?;
+    two_by_two(alloc, numbers.as_slice())
+}
+
+fn two_by_two(alloc: Global, numbers: &[u32]) -> Result<Vec<(u32, u32)>, Unanswered> {
+    let mut pairs = Vec::with_capacity(alloc, numbers.len())?;
+    let mut rest = numbers;
+    for _ in 0..numbers.len() {
+        match rest {
+            [] => break,
+            [from, to, others @ ..] => {
+                pairs.push((*from, *to))?;
+                rest = others;
+            }
+            [_] => return Err(Unanswered::Misread("numbers two by two")),
+        }
+    }
+    Ok(pairs)
+}

@@ -1,7 +1,7 @@
 //! Calls that exchange a value with another one of its kind, or compare the two.
 
-use lab_graph::design_calls::are_suited;
 use lab_session::answer::put;
+use lab_session::designs::are_suited;
 use lab_session::session::{
     Design, DesignTexts, NO_ARCHITECTURE, NO_DEVICE, NO_PROBLEM, NO_TREE, Session,
 };

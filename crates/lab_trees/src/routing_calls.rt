@@ -1,11 +1,10 @@
 //! Calls of `route_tree` and `route_check`: routings.
 
-use crate::tree_calls::tree_of_words;
-use lab_graph::node_calls::pairs;
 use lab_session::answer::{added, put, put_named};
 use lab_session::session::{NO_PROBLEM, NO_ROUTING, Session};
+use lab_session::trees::tree_of_words;
 use lab_session::unanswered::Unanswered;
-use lab_session::words::{Call, NO_WORDS, text_below, words};
+use lab_session::words::{Call, NO_WORDS, pairs, text_below, words};
 use route_check::check_routing;
 use route_tree::{Pairs, Routing, Tree, fits};
 use rr_graph::Problem;

@@ -5,13 +5,13 @@ ghost use Rattle.congestion_book.specs.Contents.{IsFresh};
 
 use crate::iteration_calls::take_fresh;
 use congestion_book::Book;
-use lab_book::book_calls::{put_committed, put_drawn, put_passed};
 use lab_session::bounds::worker_count;
+use lab_session::events::{put_committed, put_drawn, put_passed};
 use lab_session::session::NO_BOOK;
 use lab_session::sources::BELOW;
+use lab_session::trees::tree_of_words;
 use lab_session::unanswered::Unanswered;
 use lab_session::words::{Call, NO_NUMBER, number, text_of, words};
-use lab_trees::tree_calls::tree_of_words;
 use net_workers::{Desk, Round, Share};
 use node_cost::View;
 use route_tree::Tree;

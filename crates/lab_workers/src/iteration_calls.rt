@@ -4,14 +4,14 @@ ghost use Rattle.std.specs.Prelude.{◌≡◌, ◌≤◌, IfOk, IsTrue};
 ghost use Rattle.node_cost.specs.Options.{most_iterations, most_workers};
 ghost use Rattle.congestion_book.specs.Contents.{IsFresh};
 
-use crate::gates::{LabGate, gate_words};
 use congestion_book::Book;
+use lab_gates::lab_gate::{LabGate, gate_words};
 use lab_session::answer::{added, put};
 use lab_session::bounds::{iteration_number, worker_count};
 use lab_session::session::{NO_BOOK, Session};
+use lab_session::trees::put_tree;
 use lab_session::unanswered::Unanswered;
 use lab_session::words::{Call, NO_WORDS};
-use lab_trees::tree_calls::put_tree;
 use net_workers::{Entry, Report, Workspace, iterate, iterate_in};
 use node_cost::Settings;
 use std::alloc::Global;

@@ -1,12 +1,6 @@
-//! The calls of desks and iterations by several workers, and the gates that hold them.
+//! The calls of desks, of iterations by several workers, of negotiations and of searches of widths.
 #![tactic(auto)]
 
-pub mod counting;
 pub mod desk_calls;
-pub mod gates;
-pub mod holding;
 pub mod iteration_calls;
-pub mod meeting;
-pub mod patience;
-pub mod timing;
-pub mod told;
+pub mod work_calls;

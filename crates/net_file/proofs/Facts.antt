@@ -23,7 +23,8 @@ use Rattle.net_file.specs.Judge.{is_logic_block}
 use Rattle.net_file.specs.Lines.{is_open, block_name_on, net_names_on, block_names, net_names, global_names}
 use Rattle.net_file.specs.Names.{number_among, AreDifferent}
 use Rattle.net_file.specs.Netlist.{Netlist, Block}
-use Rattle.net_file.specs.Reading.{unless_faulty, line_fault_from, net_from, nets_of, rows_of}
+use Rattle.net_file.specs.Reading.{line_fault_from, net_from, nets_of, rows_of}
+use Rattle.vpr_text.specs.Readings.{unless_faulty}
 use Rattle.net_file.specs.Reading as reading
 use Rattle.net_file.specs.Reads.{ReadsNet}
 use Rattle.net_file.specs.kept.LinesSeen.{seen_of}

@@ -1,5 +1,4 @@
 pub mod Numbered
-pub mod Drops
 pub mod Judging
 pub mod Ranges
 pub mod Filing

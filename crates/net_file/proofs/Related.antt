@@ -1,20 +1,22 @@
 -- Reading is the relation between a text and its netlist: each gives the other.
 use Rattle.std.proofs.Common.{◌≡◌, ℕ, zero, suc, ◌<◌, ◌≤◌, cond, List, [], ◌∷◌, ◌++◌, length, fold, Option, Some, None, Result, Ok, Err, inl, inr, refl, sym, ap, ◌∙◌, add-one, arith, eq-or-lt_of_le}
-use Rattle.std.specs.Prelude.{IfOk, is_some}
+use Rattle.std.specs.Prelude.{is_some}
 use Rattle.std.specs.List.{range_with_len}
 use Rattle.std.specs.Option.{option_or}
 use Rattle.std.proofs.lemmas.List.{append-nil, append_assoc}
+use Rattle.vpr_text.specs.Readings.{with_fault}
 use Rattle.vpr_text.specs.Words.{Line}
 use Rattle.vpr_text.specs.Text.{lines_of}
-use Rattle.vpr_text.specs.declared.fault.TextFault.{TextFault}
+use Rattle.line_reader.proofs.Readings.{bind_ok, not_faulty, with_fault_ok}
 use Rattle.arch_file.specs.declared.parts.Pin.{Pin}
 use Rattle.net_file.specs.declared.fault.LineFault.{LineFault}
 use Rattle.net_file.specs.declared.fault.NetFault.{NetFault}
+use Rattle.net_file.specs.declared.fault.NetFault.TheVariants as net
 use Rattle.net_file.specs.declared.parts.BlockKind.{BlockKind}
 use Rattle.net_file.specs.Judge.{fault_of_next}
 use Rattle.net_file.specs.Lines.{net_names, global_names, opened}
 use Rattle.net_file.specs.Netlist.{Netlist}
-use Rattle.net_file.specs.Reading.{◌>>=◌, Gives, or_else, line_fault_from, unless_faulty, rows_of, completed, reading, text_of, netlist_of}
+use Rattle.net_file.specs.Reading.{or_else, line_fault_from, rows_of, completed, reading, netlist_of}
 use Rattle.net_file.specs.Reads.{AreAccepted, ReadsNet, ReadsBytes}
 use Rattle.net_file.specs.WholeFile.{fault_at, whole_fault}
 use Rattle.net_file.proofs.Ranges.{fold_next}
@@ -70,10 +72,6 @@ all_none f (suc n) h = first_next f n ∙ rw (all_none f n (λ k lt. h k (omega 
 
 -- ---- the netlist
 
-good : {X : Type 0} (f : Option NetFault) (r : Result X NetFault) (x : X) → unless_faulty f r ≡ Ok x → (f ≡ None) × (r ≡ Ok x)
-good None r x e = (refl, e)
-good (Some y) r x e = absurd cc
-
 abbrev read_as : {X : Type 0} → X → Result X NetFault
 read_as a = Ok a
 
@@ -83,8 +81,8 @@ same_value a b e = cc
 reads_related : (pins : List Pin) (ls : List Line) (n : Netlist) → reading pins ls ≡ Ok n → ReadsNet pins ls n
 unfolding reading completed whole_fault
 reads_related pins ls n e =
-    let lined = good (line_fault_from (length pins) [] ls) _ n e in
-    let whole = good (whole_fault (net_names ls) (global_names ls) (rows_of pins (net_names ls) ls)) _ n lined.1 in
+    let lined = not_faulty (line_fault_from (length pins) [] ls) _ n e in
+    let whole = not_faulty (whole_fault (net_names ls) (global_names ls) (rows_of pins (net_names ls) ls)) _ n lined.1 in
     let lines = accepted (length pins) [] ls lined.0 in
     record {
       each_line = lines.0;
@@ -102,26 +100,14 @@ reads_given pins ls n h =
 
 -- ---- the bytes
 
-bind_ok : {A B : Type 0} (r : Result A NetFault) (f : A → Result B NetFault) (y : B) → (r >>= f) ≡ Ok y → (x : A) × (r ≡ Ok x) × (f x ≡ Ok y)
-bind_ok (Ok x) f y e = (x, refl, e)
-bind_ok (Err d) f y e = absurd cc
-
-text_ok : (r : Result (List Line) TextFault) (ls : List Line) → text_of r ≡ Ok ls → r ≡ Ok ls
-text_ok (Ok x) ls e = cc
-text_ok (Err f) ls e = absurd cc
-
-is_read : (pins : List Pin) (bytes : List ℕ) (n : Netlist) → netlist_of pins bytes ≡ Ok n → ReadsBytes pins bytes n
+pub is_read : (pins : List Pin) (bytes : List ℕ) (n : Netlist) → netlist_of pins bytes ≡ Ok n → ReadsBytes pins bytes n
 unfolding netlist_of
 is_read pins bytes n e =
-    let b = bind_ok (text_of (lines_of bytes)) (reading pins) n e in
-    record { lines = b.0; is_text = text_ok (lines_of bytes) b.0 b.1; reads = reads_related pins b.0 n b.2 }
+    let b = bind_ok (with_fault net.Text (lines_of bytes)) (reading pins) n e in
+    record { lines = b.0; is_text = with_fault_ok net.Text (lines_of bytes) b.0 b.1; reads = reads_related pins b.0 n b.2 }
 
 pub is_given : (pins : List Pin) (bytes : List ℕ) (n : Netlist) → ReadsBytes pins bytes n → netlist_of pins bytes ≡ Ok n
 unfolding netlist_of
 is_given pins bytes n h =
     let first : netlist_of pins bytes ≡ reading pins h.lines = rw h.is_text refl in
     first ∙ reads_given pins h.lines n h.reads
-
-pub found : (pins : List Pin) (bytes : List ℕ) (r : Result Netlist NetFault) → Gives (λ n. n) r (netlist_of pins bytes) → IfOk r (ReadsBytes pins bytes)
-found pins bytes (Ok n) given = is_read pins bytes n given
-found pins bytes (Err f) given = tt

@@ -1,17 +1,16 @@
 -- Reading line by line, as the loop does.
-use Rattle.std.proofs.Common.{◌≡◌, ℕ, ◌+◌, ◌<◌, ◌≤◌, Bool, cond, List, [], ◌∷◌, length, get_or, take, drop, Option, Some, None, Result, Err, sym, ap, subst, ◌∙◌, add-one}
+use Rattle.std.proofs.Common.{◌≡◌, ℕ, ◌+◌, ◌<◌, ◌≤◌, Bool, cond, List, [], ◌∷◌, length, get_or, take, drop, Option, Some, None, sym, ap, subst, ◌∙◌, add-one}
 use Rattle.std.specs.Prelude.{is_some}
 use Rattle.std.proofs.Math.Seq.{drop-cons}
 use Rattle.std.proofs.lemmas.List.{drop_all, take_all}
 use Rattle.vpr_text.specs.Words.{Line, no_line, number_at, words_at}
 use Rattle.net_file.specs.declared.fault.LineFault.{LineFault}
-use Rattle.net_file.specs.declared.fault.LineFault.TheVariants.{BadLine, PinCount, DoubleName, TooMany}
 use Rattle.net_file.specs.declared.fault.NetFault.{NetFault}
 use Rattle.net_file.specs.declared.fault.NetFault.TheVariants as net
 use Rattle.net_file.specs.declared.seen.Seen.{Seen}
 use Rattle.net_file.specs.Judge.{fault_of_next}
 use Rattle.net_file.specs.Lines as lines
-use Rattle.net_file.specs.Reading.{at_line, or_else, line_fault_from, Fails}
+use Rattle.net_file.specs.Reading.{at_line, or_else, line_fault_from}
 use Rattle.net_file.specs.kept.LinesSeen.{IsSeen, Judges, seen_of}
 use Rattle.net_file.proofs.Judging.{fault_is, seen_more}
 use Rattle.net_file.proofs.Ranges.{take_next}
@@ -60,10 +59,3 @@ module _ (pins : ℕ) (ls : List Line) where
         sym h.1 ∙ end ∙ ap (λ t. cond t (Some (net.BadLine 0)) None) waits,
         λ k. record { opened = all.opened k; latest = all.latest k; blocks = all.blocks k; nets = all.nets k; globals = all.globals k },
       )
-
--- a line's fault is the answer where reading gives it
-pub fails_at : {Y : Type 0} (fault : LineFault) (n : ℕ) (given : Result Y NetFault) → given ≡ Err (at_line fault n) → Fails (at_line fault n) given
-fails_at BadLine n given e = e
-fails_at PinCount n given e = e
-fails_at DoubleName n given e = e
-fails_at TooMany n given e = e

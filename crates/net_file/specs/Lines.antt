@@ -1,9 +1,8 @@
 -- What the lines of a netlist are (VPR and T-VPack manual 4.30). Words are counted from 0.
-use Rattle.std.specs.Prelude.{ℕ, Bool, not, if◌then◌else◌, List, [], ◌∷◌, drop, filter, Option, None, Some, option_and_then, unwrap_or, is_some, slice_get, codes, fold}
+use Rattle.std.specs.Prelude.{ℕ, Bool, not, if◌then◌else◌, List, [], ◌∷◌, drop, filter, Option, None, Some, option_and_then, is_some, slice_get, codes, fold}
 use Rattle.std.specs.List.{flat_map}
 use Rattle.vpr_text.specs.Words.{Line}
-use Rattle.arch_file.specs.Keyword.{is_text}
-use Rattle.arch_file.specs.Word.{is_at}
+use Rattle.line_reader.specs.Word.{is_text, word_at, is_at}
 use Rattle.net_file.specs.declared.parts.BlockKind.{BlockKind}
 use Rattle.net_file.specs.declared.parts.BlockKind.TheVariants.{InputPad, OutputPad, LogicBlock}
 use Rattle.net_file.specs.Names.{distinct}
@@ -34,7 +33,7 @@ is_global words = is_at words 0 (codes ".global")
 
 -- the name that an element gives its block
 abbrev pub name_in : List (List ℕ) → List ℕ
-name_in words = unwrap_or (slice_get words 1) []
+name_in words = word_at words 1
 
 -- a pin that is connected to no net
 abbrev pub is_open : List ℕ → Bool

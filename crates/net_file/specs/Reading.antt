@@ -1,10 +1,10 @@
 -- A netlist file as a list of lines, read line by line: what is read, or the first fault (VPR and T-VPack manual 4.30; the
 -- faults and their order are this project's profile).
-use Rattle.std.specs.Prelude.{◌≡◌, ℕ, Bool, if◌then◌else◌, List, [], ◌∷◌, ◌++◌, length, map, filter, find, Option, None, Some, unwrap_or, is_some, slice_index_or, Result, Ok, Err}
+use Rattle.std.specs.Prelude.{ℕ, Bool, if◌then◌else◌, List, [], ◌∷◌, ◌++◌, length, map, filter, find, Option, None, Some, unwrap_or, is_some, slice_index_or, Result, Ok}
 use Rattle.std.specs.Option.{option_map}
+use Rattle.vpr_text.specs.Readings.{◌>>=◌, unless_faulty, with_fault}
 use Rattle.vpr_text.specs.Words.{Line}
 use Rattle.vpr_text.specs.Text.{lines_of}
-use Rattle.vpr_text.specs.declared.fault.TextFault.{TextFault}
 use Rattle.arch_file.specs.declared.parts.Pin.{Pin}
 use Rattle.net_file.specs.declared.connection.Connection.{Connection}
 use Rattle.net_file.specs.declared.fault.LineFault.{LineFault}
@@ -53,11 +53,6 @@ net_at nets globals rows n = net_from (slice_index_or nets n []) (is_global_net 
 unfoldable pub nets_of : List (List ℕ) → List (List ℕ) → List (List Connection) → List Net
 nets_of nets globals rows = map (net_at nets globals rows) (numbers_below (length nets))
 
--- the netlist, or the fault that was found
-abbrev pub unless_faulty : {X : Type 0} → Option NetFault → Result X NetFault → Result X NetFault
-unless_faulty (Some fault) rest = Err fault
-unless_faulty None rest = rest
-
 -- the connections of each net of the lines
 unfoldable pub rows_of : List Pin → List (List ℕ) → List Line → List (List Connection)
 rows_of pins nets lines = by_net (connections pins (pinlist_numbers lines) (blocks_of nets lines)) (length nets)
@@ -72,34 +67,6 @@ reading pins lines =
     unless_faulty (line_fault_from (length pins) [] lines)
     (completed (net_names lines) (global_names lines) (blocks_of (net_names lines) lines) (rows_of pins (net_names lines) lines))
 
-infixl 10 ◌>>=◌
-abbrev pub ◌>>=◌ : {A B : Type 0} → Result A NetFault → (A → Result B NetFault) → Result B NetFault
-(Ok x) >>= f = f x
-(Err e) >>= f = Err e
-
--- the fault of a text is that of the netlist
-abbrev pub text_of : Result (List Line) TextFault → Result (List Line) NetFault
-text_of (Ok lines) = Ok lines
-text_of (Err fault) = Err (net.Text fault)
-
 -- bytes as a netlist, for an architecture with these pins
 unfoldable pub netlist_of : List Pin → List ℕ → Result Netlist NetFault
-netlist_of pins bytes = text_of (lines_of bytes) >>= reading pins
-
--- the fault is the one that reading gives, unless memory ran out
-abbrev pub Fails : {Y : Type 0} → NetFault → Result Y NetFault → Type 0
-Fails net.Memory given = Unit {0}
-Fails (net.Text f) given = given ≡ Err (net.Text f)
-Fails (net.BadLine n) given = given ≡ Err (net.BadLine n)
-Fails (net.PinCount n) given = given ≡ Err (net.PinCount n)
-Fails (net.DoubleName n) given = given ≡ Err (net.DoubleName n)
-Fails (net.NoDriver n) given = given ≡ Err (net.NoDriver n)
-Fails (net.TwoDrivers n) given = given ≡ Err (net.TwoDrivers n)
-Fails (net.DoubleSink n) given = given ≡ Err (net.DoubleSink n)
-Fails (net.GlobalPin n) given = given ≡ Err (net.GlobalPin n)
-Fails (net.TooMany n) given = given ≡ Err (net.TooMany n)
-
--- what a call returned, seen by view, is what reading gives, unless memory ran out
-abbrev pub Gives : {X Y : Type 0} → (X → Y) → Result X NetFault → Result Y NetFault → Type 0
-Gives view (Ok x) given = given ≡ Ok (view x)
-Gives view (Err e) given = Fails e given
+netlist_of pins bytes = with_fault net.Text (lines_of bytes) >>= reading pins

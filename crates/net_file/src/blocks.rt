@@ -5,9 +5,10 @@ ghost use Rattle.net_file.specs.Blocks.{net_of, block_of, block_at, pinlists, bl
 ghost use Rattle.vpr_text.specs.Words.{number_at};
 
 use crate::block::Block;
+use crate::line::{is_open, is_pinlist, kind_at, name_in};
 use crate::names::Names;
 use crate::parts::BlockKind;
-use crate::words::{Words, is_open, line_number};
+use line_reader::{Words, line_number};
 use std::alloc::{AllocError, Global};
 use vpr_text::Lines;
 
@@ -17,7 +18,7 @@ pub(crate) fn pinlists(alloc: Global, lines: &Lines) -> Result<Vec<usize>, Alloc
     ensures { IfOk result (λ v. v.items ≡ pinlists lines.now) }
 {
     (0..lines.len())
-        .filter(|i| Words::new(lines, *i).is_pinlist())
+        .filter(|i| is_pinlist(&Words::new(lines, *i)))
         .collect(alloc)
 }
 
@@ -73,8 +74,8 @@ fn block_of<'a>(
 {
     let nets = nets_at(alloc, nets, pinlist.rest(1))?;
     Ok(Block {
-        kind: element.kind().unwrap_or(BlockKind::InputPad),
-        name: element.name(),
+        kind: kind_at(element).unwrap_or(BlockKind::InputPad),
+        name: name_in(element),
         nets,
     })
 }

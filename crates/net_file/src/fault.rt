@@ -2,6 +2,7 @@
 
 ghost use Rattle.std.specs.Prelude.{◌≡◌};
 ghost use Rattle.net_file.specs.declared.fault.NetFault.TheVariants.{Memory};
+ghost use Rattle.net_file.specs.Faults.{net_line, net_name, is_net_memory};
 ghost use Rattle.net_file.specs.Reading.{at_line};
 
 use std::alloc::{AllocError, AllocFailed};
@@ -57,6 +58,51 @@ impl<T: Drop> From<AllocFailed<T>> for NetFault {
 
     fn from(_e: AllocFailed<T>) -> NetFault {
         NetFault::Memory
+    }
+}
+
+impl NetFault {
+    /// The line of the fault; 0 where it has none.
+    pub fn line(self) -> u32
+        ensures { result ≡ net_line self }
+    {
+        match self {
+            NetFault::Text(fault) => fault.line(),
+            NetFault::BadLine(line)
+            | NetFault::PinCount(line)
+            | NetFault::DoubleName(line)
+            | NetFault::NoDriver(line)
+            | NetFault::TwoDrivers(line)
+            | NetFault::DoubleSink(line)
+            | NetFault::GlobalPin(line)
+            | NetFault::TooMany(line) => line,
+            NetFault::Memory => 0,
+        }
+    }
+
+    /// The name of the fault; that of a text is its own.
+    pub fn name(self) -> &'static [u8]
+        ensures { result.now ≡ net_name self }
+    {
+        match self {
+            NetFault::Text(fault) => fault.name(),
+            NetFault::BadLine(_) => b"BadLine",
+            NetFault::PinCount(_) => b"PinCount",
+            NetFault::DoubleName(_) => b"DoubleName",
+            NetFault::NoDriver(_) => b"NoDriver",
+            NetFault::TwoDrivers(_) => b"TwoDrivers",
+            NetFault::DoubleSink(_) => b"DoubleSink",
+            NetFault::GlobalPin(_) => b"GlobalPin",
+            NetFault::TooMany(_) => b"TooMany",
+            NetFault::Memory => b"Memory",
+        }
+    }
+
+    /// Whether memory ran out.
+    pub fn is_memory(self) -> bool
+        ensures { result ≡ is_net_memory self }
+    {
+        matches!(self, NetFault::Memory | NetFault::Text(TextFault::Memory))
     }
 }
 

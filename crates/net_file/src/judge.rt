@@ -6,10 +6,11 @@ ghost use Rattle.net_file.specs.Judge.{pin_count, is_logic_block, stands, is_bad
 ghost use Rattle.net_file.specs.kept.LinesSeen.{Judges};
 
 use crate::fault::LineFault;
+use crate::line::{is_element, is_global, is_pinlist, is_subblock, name_in};
 use crate::names::Names;
 use crate::parts::BlockKind;
 use crate::seen::Seen;
-use crate::words::Words;
+use line_reader::Words;
 use std::alloc::AllocError;
 
 /// The greatest number of blocks.
@@ -53,9 +54,9 @@ fn has_subblocks(block: Option<BlockKind>) -> bool
 fn stands(block: Option<BlockKind>, words: &Words) -> bool
     ensures { result ≡ stands block words.now }
 {
-    (words.is_element() && words.len() == 2)
-        || (words.is_global() && words.len() >= 2)
-        || (words.is_subblock() && has_subblocks(block))
+    (is_element(words) && words.len() == 2)
+        || (is_global(words) && words.len() >= 2)
+        || (is_subblock(words) && has_subblocks(block))
 }
 
 /// Whether the line can't stand after those before it.
@@ -64,7 +65,7 @@ fn is_bad_line(element: Option<BlockKind>, block: Option<BlockKind>, words: &Wor
     ensures { result ≡ is_bad_line element block words.now }
 {
     if element.is_some() {
-        !words.is_pinlist()
+        !is_pinlist(words)
     } else {
         !stands(block, words)
     }
@@ -86,7 +87,7 @@ fn is_bad_count(pins: usize, element: Option<BlockKind>, words: &Words) -> bool
 fn is_double<'a>(names: &Names<'a>, words: &Words<'_, 'a>) -> bool
     ensures { result ≡ is_double names.now words.now }
 {
-    words.is_element() && names.has(words.name())
+    is_element(words) && names.has(name_in(words))
 }
 
 /// Whether there are more blocks or nets than a netlist may have.

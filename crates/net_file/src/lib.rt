@@ -6,6 +6,7 @@ mod blocks;
 mod connection;
 mod fault;
 mod judge;
+mod line;
 mod names;
 mod net;
 mod netlist;
@@ -14,7 +15,6 @@ mod reading;
 mod rows;
 mod seen;
 mod whole_file;
-mod words;
 
 pub use block::Block;
 pub use fault::NetFault;

@@ -27,7 +27,13 @@ impl<'a> Model for Net<'a> {
 
     ghost Value = { netlist.Net };
 
-    ghost view = { λ n. record { name = n.name.now; global = n.global; driver = n.driver; sinks = n.sinks.items } };
+    ghost view = { λ n. record {
+      name = n.name.now;
+      global = n.global;
+      driver = n.driver;
+      sinks =
+          n.sinks.items;
+    } };
 }
 
 impl<'a> Net<'a> {

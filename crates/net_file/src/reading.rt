@@ -1,13 +1,15 @@
 //! The reader of a netlist file.
 
 ghost use Rattle.std.specs.Prelude.{◌≡◌, [], IfOk, Ok, None, length};
+ghost use Rattle.vpr_text.specs.Readings.{Gives, unless_faulty};
 ghost use Rattle.vpr_text.specs.kept.Split.{HaveWords};
-ghost use Rattle.net_file.specs.Blocks.{blocks_of, pinlist_numbers};
+ghost use Rattle.net_file.specs.declared.fault.NetFault.TheVariants.{Memory};
+ghost use Rattle.net_file.specs.Blocks.{blocks_of, pinlists, pinlist_numbers};
 ghost use Rattle.net_file.specs.Facts.{names_of_blocks, IsNetlist};
 ghost use Rattle.net_file.specs.Netlist as netlist;
 ghost use Rattle.net_file.specs.Reads.{ReadsBytes};
 ghost use Rattle.net_file.specs.kept.LinesSeen.{seen_of};
-ghost use Rattle.net_file.specs.Reading.{Gives, unless_faulty, line_fault_from, nets_of, completed, rows_of, reading, netlist_of};
+ghost use Rattle.net_file.specs.Reading.{line_fault_from, nets_of, completed, rows_of, reading, netlist_of};
 ghost use Rattle.net_file.specs.WholeFile.{whole_fault};
 
 use crate::block::Block;
@@ -20,14 +22,15 @@ use crate::netlist::Netlist;
 use crate::rows::{Row, by_net};
 use crate::seen::Seen;
 use crate::whole_file::whole_fault;
-use crate::words::Words;
 use arch_file::{Arch, Pin};
+use line_reader::Words;
 use std::alloc::{AllocError, Global};
 use vpr_text::{Lines, TextFault, lines};
 
 /// What the lines say, judged line by line; a logic block has `pins` pins.
 fn seen_in<'a>(alloc: Global, pins: usize, lines: &Lines<'a>) -> Result<Seen<'a>, NetFault>
-    ensures { Gives (λ s. s) result (unless_faulty (line_fault_from pins [] lines.now) (Ok (seen_of lines.now))) }
+    ensures { Gives Memory (λ s. s) result
+        (unless_faulty (line_fault_from pins [] lines.now) (Ok (seen_of lines.now))) }
 {
     let mut seen = Seen::new(alloc);
     for i in 0..lines.len() {
@@ -43,26 +46,27 @@ fn seen_in<'a>(alloc: Global, pins: usize, lines: &Lines<'a>) -> Result<Seen<'a>
     Ok(seen)
 }
 
-/// The blocks of the lines.
+/// The blocks of the lines, whose pinlists are at these places.
 #[tactic(auto, unfolding(crate::specs::Blocks::blocks_of))]
 fn blocks_of<'a>(
     alloc: Global,
     nets: &Names<'a>,
     lines: &Lines<'a>,
+    places: &[usize],
 ) -> Result<Vec<Block<'a>>, AllocError>
+    requires { places.now ≡ pinlists lines.now }
     ensures { IfOk result (λ v. v.items ≡ blocks_of nets.now lines.now) }
 {
-    let places = pinlists(alloc, lines)?;
-    blocks_at(alloc, nets, lines, &places)
+    blocks_at(alloc, nets, lines, places)
 }
 
-/// The numbers of the lines that are pinlists.
+/// The numbers of the lines that are pinlists, at these places.
 #[tactic(auto, unfolding(crate::specs::Blocks::pinlist_numbers))]
-fn pinlist_numbers(alloc: Global, lines: &Lines) -> Result<Vec<u32>, AllocError>
+fn pinlist_numbers(alloc: Global, lines: &Lines, places: &[usize]) -> Result<Vec<u32>, AllocError>
+    requires { places.now ≡ pinlists lines.now }
     ensures { IfOk result (λ v. v.items ≡ pinlist_numbers lines.now) }
 {
-    let places = pinlists(alloc, lines)?;
-    line_numbers(alloc, lines, &places)
+    line_numbers(alloc, lines, places)
 }
 
 /// The netlist of blocks and nets with these connections, where the lines say what was seen.
@@ -75,8 +79,12 @@ fn completed<'a>(
 ) -> Result<Netlist<'a>, NetFault>
     requires names { seen.blocks ≡ names_of_blocks blocks.items }
     requires facts { whole_fault seen.nets seen.globals rows.now ≡ None
-        → IsNetlist (record { blocks = blocks.items; nets = nets_of seen.nets seen.globals rows.now }) }
-    ensures { Gives (λ n. n) result (completed seen.entry.nets seen.entry.globals blocks.entry.items rows.now) }
+        → IsNetlist (record {
+          blocks = blocks.items;
+          nets = nets_of seen.nets seen.globals rows.now;
+        }) }
+    ensures { Gives Memory (λ n. n) result
+        (completed seen.entry.nets seen.entry.globals blocks.entry.items rows.now) }
 {
     if let Some(fault) = whole_fault(&seen.nets, &seen.globals, rows) {
         return Err(fault);
@@ -94,11 +102,12 @@ fn completed<'a>(
 #[tactic(auto, unfolding(crate::specs::Reading::reading, crate::specs::Reading::rows_of))]
 fn read<'a>(alloc: Global, pins: &[Pin], lines: &Lines<'a>) -> Result<Netlist<'a>, NetFault>
     requires words { HaveWords lines.now }
-    ensures { Gives (λ n. n) result (reading pins.now lines.now) }
+    ensures { Gives Memory (λ n. n) result (reading pins.now lines.now) }
 {
     let seen = seen_in(alloc, pins.len(), lines)?;
-    let blocks = blocks_of(alloc, &seen.nets, lines)?;
-    let numbers = pinlist_numbers(alloc, lines)?;
+    let places = pinlists(alloc, lines)?;
+    let blocks = blocks_of(alloc, &seen.nets, lines, &places)?;
+    let numbers = pinlist_numbers(alloc, lines, &places)?;
     let rows = by_net(alloc, pins, &numbers, &blocks, seen.nets.len())?;
     completed(alloc, seen, blocks, &rows)
 }
@@ -106,7 +115,7 @@ fn read<'a>(alloc: Global, pins: &[Pin], lines: &Lines<'a>) -> Result<Netlist<'a
 /// Bytes as a netlist.
 #[tactic(auto, unfolding(crate::specs::Reading::netlist_of))]
 fn netlist_in<'a>(alloc: Global, source: &'a [u8], pins: &[Pin]) -> Result<Netlist<'a>, NetFault>
-    ensures { Gives (λ n. n) result (netlist_of pins.now source.now) }
+    ensures { Gives Memory (λ n. n) result (netlist_of pins.now source.now) }
 {
     match lines(alloc, source) {
         Ok(lines) => read(alloc, pins, &lines),
@@ -124,9 +133,10 @@ pub fn parse<'a>(alloc: Global, source: &'a [u8], arch: &Arch) -> Result<Netlist
     // What is read is the netlist of the text.
     ensures found { IfOk result (λ n. ReadsBytes arch.now.pins source.now n) }
     // A text has no other netlist, and one that has a netlist is read, unless memory runs out.
-    ensures only { (n : netlist.Netlist) → ReadsBytes arch.now.pins source.now n → Gives (λ m. m) result (Ok n) }
+    ensures only { (n : netlist.Netlist)
+        → ReadsBytes arch.now.pins source.now n → Gives Memory (λ m. m) result (Ok n) }
     // Which fault it is.
-    ensures exact { Gives (λ n. n) result (netlist_of arch.now.pins source.now) }
+    ensures exact { Gives Memory (λ n. n) result (netlist_of arch.now.pins source.now) }
 {
     netlist_in(alloc, source, arch.pins())
 }

@@ -117,7 +117,8 @@ pub(crate) fn by_net(
     blocks: &[Block],
     count: usize,
 ) -> Result<Vec<Row>, AllocError>
-    ensures { IfOk result (λ v. v.items ≡ by_net (connections pins.now numbers.now blocks.now) count) }
+    ensures { IfOk result (λ v. v.items ≡ by_net
+        (connections pins.now numbers.now blocks.now) count) }
 {
     let mut rows = empty_rows(alloc, count)?;
     for b in 0..blocks.len() {

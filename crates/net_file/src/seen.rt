@@ -5,9 +5,10 @@ ghost use Rattle.net_file.specs.Lines.{is_open, net_names_on, global_names_on, b
 ghost use Rattle.net_file.specs.Names.{with_names};
 ghost use Rattle.net_file.specs.kept.LinesSeen.{IsSeen, latest_after, Notes};
 
+use crate::line::{is_element, is_global, is_open, is_pinlist, kind_at, name_in};
 use crate::names::Names;
 use crate::parts::BlockKind;
-use crate::words::{Words, is_open};
+use line_reader::Words;
 use std::alloc::{AllocError, Global};
 
 /// What the lines so far say, as far as later lines depend on it.
@@ -36,7 +37,8 @@ fn add_words<'a>(names: &mut Names<'a>, words: Words<'_, 'a>) -> Result<(), Allo
 
 /// Adds the net, if the word names one.
 fn add_net<'a>(names: &mut Names<'a>, word: &'a [u8]) -> Result<(), AllocError>
-    ensures { OnOk result (names.new ≡ with_names names.old (filter (λ w. not (is_open w)) (word.now ∷ []))) }
+    ensures { OnOk result (names.new ≡ with_names names.old
+        (filter (λ w. not (is_open w)) (word.now ∷ []))) }
 {
     if !is_open(word) {
         names.add(word)?;
@@ -46,7 +48,8 @@ fn add_net<'a>(names: &mut Names<'a>, word: &'a [u8]) -> Result<(), AllocError>
 
 /// Adds the nets of a pinlist that are new.
 fn add_nets<'a>(names: &mut Names<'a>, words: Words<'_, 'a>) -> Result<(), AllocError>
-    ensures { OnOk result (names.new ≡ with_names names.old (filter (λ word. not (is_open word)) words.entry)) }
+    ensures { OnOk result (names.new ≡ with_names names.old
+        (filter (λ word. not (is_open word)) words.entry)) }
 {
     for word in words {
         add_net(names, word)?;
@@ -58,8 +61,8 @@ fn add_nets<'a>(names: &mut Names<'a>, words: Words<'_, 'a>) -> Result<(), Alloc
 fn note_block<'a>(names: &mut Names<'a>, words: &Words<'_, 'a>) -> Result<(), AllocError>
     ensures { OnOk result (names.new ≡ with_names names.old (block_name_on words.now)) }
 {
-    if words.is_element() {
-        names.add(words.name())?;
+    if is_element(words) {
+        names.add(name_in(words))?;
     }
     Ok(())
 }
@@ -68,7 +71,7 @@ fn note_block<'a>(names: &mut Names<'a>, words: &Words<'_, 'a>) -> Result<(), Al
 fn note_nets<'a>(names: &mut Names<'a>, words: &Words<'_, 'a>) -> Result<(), AllocError>
     ensures { OnOk result (names.new ≡ with_names names.old (net_names_on words.now)) }
 {
-    if words.is_pinlist() {
+    if is_pinlist(words) {
         add_nets(names, words.rest(1))?;
     }
     Ok(())
@@ -78,7 +81,7 @@ fn note_nets<'a>(names: &mut Names<'a>, words: &Words<'_, 'a>) -> Result<(), All
 fn note_globals<'a>(names: &mut Names<'a>, words: &Words<'_, 'a>) -> Result<(), AllocError>
     ensures { OnOk result (names.new ≡ with_names names.old (global_names_on words.now)) }
 {
-    if words.is_global() {
+    if is_global(words) {
         add_words(names, words.rest(1))?;
     }
     Ok(())
@@ -88,8 +91,8 @@ fn note_globals<'a>(names: &mut Names<'a>, words: &Words<'_, 'a>) -> Result<(), 
 fn latest_after(latest: Option<BlockKind>, words: &Words) -> Option<BlockKind>
     ensures { result ≡ latest_after latest words.now }
 {
-    if words.is_element() {
-        words.kind()
+    if is_element(words) {
+        kind_at(words)
     } else {
         latest
     }
@@ -117,7 +120,7 @@ impl<'a> Seen<'a> {
         note_nets(&mut self.nets, words)?;
         note_globals(&mut self.globals, words)?;
         self.latest = latest_after(self.latest, words);
-        self.opened = words.kind();
+        self.opened = kind_at(words);
         Ok(())
     }
 }

@@ -11,20 +11,20 @@ ghost use Rattle.net_workers.specs.Searches.{AreFound};
 use crate::comparison::{all_begin, is_done};
 use crate::desk::Desk;
 use crate::fault::WorkFault;
-use crate::gate::Gate;
 use crate::report::Report;
 use crate::share::{Round, Share};
 use crate::threads::run_all;
 use crate::worker::{Finished, SearchOptions};
 use crate::workspace::{Tools, Workspace};
 use congestion_book::Book;
-use group_wave::PreparedProblem;
+use gates::Gate;
 use node_cost::Settings;
 use std::alloc::{AllocError, Global};
 use std::marker::Brand;
 use std::sync::ledger::Blank;
 use std::sync::{Mutex, Wait};
 use std::thread::Threads;
+use wave_ground::PreparedProblem;
 
 /// The first of a fault and those that were met before.
 fn first_of(met: Option<WorkFault>, fault: WorkFault) -> WorkFault

@@ -4,7 +4,6 @@
 mod comparison;
 mod desk;
 mod fault;
-mod gate;
 mod iteration;
 mod report;
 mod share;
@@ -15,7 +14,7 @@ mod workspace;
 
 pub use desk::Desk;
 pub use fault::WorkFault;
-pub use gate::{BothGates, Gate, OpenGate, TrialEnd};
+pub use gates::{BothGates, Gate, OpenGate, TrialEnd};
 pub use iteration::{iterate, iterate_in};
 pub use report::{Entry, Report};
 pub use share::{Round, Share};

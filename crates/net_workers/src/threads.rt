@@ -4,15 +4,15 @@ ghost use Rattle.std.specs.Prelude.{◌≡◌, All};
 
 use crate::desk::Desk;
 use crate::fault::WorkFault;
-use crate::gate::Gate;
 use crate::share::{Round, Share};
 use crate::worker::{Finished, SearchOptions, work_through};
 use crate::workspace::Tools;
-use group_wave::PreparedProblem;
+use gates::Gate;
 use std::alloc::{AllocError, Global};
 use std::sync::{Mutex, Wait};
 use std::thread;
 use std::thread::Threads;
+use wave_ground::PreparedProblem;
 
 /// Starts a thread for each share but the last, works with that one itself, and joins them all.
 /// Each worker takes tools that were left, as long as there are any. The results are those of the

@@ -12,18 +12,19 @@ ghost use Rattle.congestion_book.specs.Contents.{net_count};
 
 use crate::desk::Desk;
 use crate::fault::WorkFault;
-use crate::gate::Gate;
 use crate::report::{Entry, Report};
 use crate::share::{Round, Share};
 use crate::turn_or_look::TurnOrLook;
 use crate::workspace::Tools;
 use congestion_book::DrawFault;
-use group_wave::{PreparedProblem, Scratch, route_net};
+use gates::Gate;
+use group_wave::{Scratch, route_net};
 use node_cost::{Settings, View};
 use route_tree::Tree;
 use std::alloc::{AllocError, Global};
 use std::marker::Model;
 use std::sync::{Mutex, Wait};
+use wave_ground::PreparedProblem;
 use wavefront::{Found, SearchFault};
 
 /// How many times a worker may look again at a net that it holds, in an iteration after the first.

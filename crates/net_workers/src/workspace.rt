@@ -3,11 +3,12 @@
 ghost use Rattle.std.specs.Prelude.{◌≡◌, IfOk, IsTrue};
 ghost use Rattle.routing_problem.specs.Nodes.{node_count_of};
 
-use group_wave::{PreparedProblem, Scratch};
+use group_wave::Scratch;
 use node_cost::View;
 use routing_problem::Problem;
 use std::alloc::{AllocError, Global};
 use std::marker::Model;
+use wave_ground::PreparedProblem;
 
 /// What a worker searches with. It may be used again, whatever an earlier iteration left in it.
 #[derive(Drop)]

@@ -50,7 +50,15 @@ impl Model for Settings {
 
     ghost view = { options_of };
 
-    ghost inverse = { λ o. record { first = o.first; init = o.init; mult = o.mult; acc = o.acc; bb = o.bb; iterations = o.iterations } };
+    ghost inverse = { λ o. record {
+      first = o.first;
+      init = o.init;
+      mult = o.mult;
+      acc = o.acc;
+      bb =
+          o.bb;
+      iterations = o.iterations;
+    } };
 
     ghost invariant = { λ s. AreWithinLimits (options_of s) };
 }

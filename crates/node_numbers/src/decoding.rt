@@ -114,8 +114,10 @@ fn is_row_of_blocks(layout: &Layout, y: u32) -> bool
 /// The number of what stands behind `index` others at row `y` of a column of blocks.
 fn inner_number(layout: &Layout, block: &Block, kind: Kind, y: u32, index: u32) -> u32
     requires block { IsBlock layout.now block.now }
-    requires within { index < inner_place_length layout.now (length (block_numbers layout.now kind)) y }
-    ensures block { is_between 1 layout.now.ny y ≡ true → slice_get (block_numbers layout.now kind) index ≡ Some result }
+    requires within { index < inner_place_length layout.now
+        (length (block_numbers layout.now kind)) y }
+    ensures block { is_between 1 layout.now.ny y ≡ true
+        → slice_get (block_numbers layout.now kind) index ≡ Some result }
     ensures pad { is_between 1 layout.now.ny y ≡ false → result ≡ index }
     ensures few { is_between 1 layout.now.ny y ≡ false → index < layout.now.architecture.io_rat }
 {
@@ -132,7 +134,8 @@ fn in_block_column(layout: &Layout, block: &Block, kind: Kind, x: u32, rest: u32
     requires block { IsBlock layout.now block.now }
     requires terminal { is_terminal kind ≡ true }
     requires inside { is_between 1 layout.now.nx x ≡ true }
-    requires within { rest < 2 * layout.now.architecture.io_rat + layout.now.ny * length (block_numbers layout.now kind) }
+    requires within { rest < 2 * layout.now.architecture.io_rat
+        + layout.now.ny * length (block_numbers layout.now kind) }
     ensures { node_at layout.now (column_start layout.now kind x + rest) ≡ Some result }
 {
     let row = inner_row_found(layout, count_at_block(layout, block, kind), rest);
@@ -170,8 +173,10 @@ fn column_of(layout: &Layout, block: &Block, kind: Kind, at: u32) -> LinePlace
     requires terminal { is_terminal kind ≡ true }
     requires within { at < kind_length layout.now kind }
     ensures within { result.line ≤ layout.now.nx + 1 }
-    ensures before { column_start layout.now kind result.line + result.rest ≡ kind_start layout.now kind + at }
-    ensures rest { result.rest < column_length layout.now (length (block_numbers layout.now kind)) result.line }
+    ensures before { column_start layout.now kind result.line + result.rest
+        ≡ kind_start layout.now kind + at }
+    ensures rest { result.rest < column_length layout.now
+        (length (block_numbers layout.now kind)) result.line }
 {
     column_found(layout, count_at_block(layout, block, kind), at)
 }

@@ -42,7 +42,9 @@ impl NodeNumbers {
     /// Whether (x, y, track) is a wire above a row, at its first place.
     fn is_above(&self, x: u32, y: u32, track: u32) -> bool
         ensures { result
-            ≡ ((is_between 1 self.now.nx x && (nat_le y self.now.ny && nat_lt track (tracks_in self.now.mode self.now.width))) && begins self.now self.now.nx track x) }
+            ≡ ((is_between 1 self.now.nx x &&
+            (nat_le y self.now.ny && nat_lt track (tracks_in self.now.mode self.now.width))) &&
+            begins self.now self.now.nx track x) }
     {
         let is_inside = (1 <= x && x <= self.layout().nx())
             && (y <= self.layout().ny() && track < self.layout().tracks());
@@ -52,7 +54,9 @@ impl NodeNumbers {
     /// Whether (x, y, track) is a wire right of a column, at its first place.
     fn is_right(&self, x: u32, y: u32, track: u32) -> bool
         ensures { result
-            ≡ ((is_between 1 self.now.ny y && (nat_le x self.now.nx && nat_lt track (tracks_in self.now.mode self.now.width))) && begins self.now self.now.ny track y) }
+            ≡ ((is_between 1 self.now.ny y &&
+            (nat_le x self.now.nx && nat_lt track (tracks_in self.now.mode self.now.width))) &&
+            begins self.now self.now.ny track y) }
     {
         let is_inside = (1 <= y && y <= self.layout().ny())
             && (x <= self.layout().nx() && track < self.layout().tracks());

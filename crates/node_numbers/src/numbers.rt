@@ -87,7 +87,8 @@ impl NodeNumbers {
     /// The number of the first wire: all nodes from there on are wires, and none before is one.
     #[tactic(auto, using(crate::proofs::FirstWire::wires_from, crate::proofs::FirstWire::few_before_wires))]
     pub fn first_wire(&self) -> u32
-        ensures wires { (i : ℕ) → i < node_count_of self.now → is_wire_at self.now i ≡ nat_le result i }
+        ensures wires { (i : ℕ) → i < node_count_of self.now
+            → is_wire_at self.now i ≡ nat_le result i }
         ensures within { result ≤ node_count_of self.now }
     {
         self.kind_start(Kind::Chanx)

@@ -38,7 +38,8 @@ fn place_stride(tables: &ChannelTables, place: u32) -> Divisor
 /// The divisor of each place of a channel above a row.
 #[tactic(auto, using(channel_tables::proofs::Ranges::mapped_next))]
 fn place_strides(alloc: Global, tables: &ChannelTables) -> Result<Vec<Divisor>, AllocError>
-    ensures { IfOk result (λ v. v.items ≡ map (stride_at tables.now) (numbers_below (tables.now.nx + 1))) }
+    ensures { IfOk result (λ v. v.items ≡ map (stride_at tables.now)
+        (numbers_below (tables.now.nx + 1))) }
 {
     let nx = tables.layout().nx();
     let mut strides = Vec::with_capacity(alloc, nx as usize + 1)?;

@@ -3,7 +3,7 @@
 ghost use Rattle.std.specs.Prelude.{◌≤◌, IfOk, length};
 
 use crate::warning::is_free;
-use runs::Progress;
+use run_log::Progress;
 use std::fs;
 use std::io::{Eprint, Result, Write};
 use std::time::Clock;

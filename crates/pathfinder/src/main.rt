@@ -1,11 +1,7 @@
 //! `pathfinder`: routes placed designs in the text formats of VPR 4.30.
 #![tactic(auto)]
 
-mod advice;
-mod command;
 mod files;
-mod help;
-mod refusal;
 mod side;
 mod terminal;
 mod warning;
@@ -16,18 +12,20 @@ ghost use Rattle.node_cost.specs.Options.{most_workers};
 
 use clap::error::ErrorKind;
 use clap::{ArgMatches, Error as ClapError};
-use command::{CheckWords, GraphWords, ReportWords, RouteWords, WidthWords};
+use command_line::command::{CheckWords, GraphWords, ReportWords, RouteWords, WidthWords};
+use command_line::{command, help};
 use files::{BehindProgress, SharedOutputs, Writer};
 use iteration::Outcome;
 use net_workers::BothGates;
-use refusal::{Paths, tell_refusal};
+use refusals::{Paths, tell_refusal};
 use report_run::report_run;
 use route_check::RouteFault;
 use route_explain::explain_run;
 use rr_graph::Mode;
+use run_inputs::{AppFault, InputFile, print_fault, status};
+use run_log::{Log, Progress};
 use runs::{
-    AppFault, InputFile, Log, Progress, check_run, graph_run, outcome_status, print_fault,
-    report_status, route_run, status, verdict_status, width_run,
+    check_run, graph_run, outcome_status, report_status, route_run, verdict_status, width_run,
 };
 use side::{RestFile, TrialFiles, log_sink, others_of, rest_name};
 use std::io::{IsTerminal, Write};

@@ -2,7 +2,8 @@
 
 use crate::files::{SharedOutputs, Writer};
 use crate::warning::is_free;
-use runs::{Progress, SideFiles};
+use run_log::Progress;
+use runs::SideFiles;
 use std::io::Eprint;
 use std::rt::Runtime;
 use std::time::Clock;

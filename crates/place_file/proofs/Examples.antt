@@ -3,7 +3,8 @@
 use Rattle.std.proofs.Common.{◌≡◌, ℕ, true, false, List, [], ◌∷◌, Some, None, Ok, refl}
 use Rattle.std.specs.Prelude.{codes}
 use Rattle.vpr_text.specs.Words.{Line}
-use Rattle.arch_file.specs.Keyword.{is_text}
+use Rattle.line_reader.specs.ArraySize.{begins_size_line}
+use Rattle.line_reader.specs.Word.{is_text}
 use Rattle.net_file.specs.declared.parts.BlockKind.{BlockKind}
 use Rattle.net_file.specs.declared.parts.BlockKind.TheVariants.{InputPad, LogicBlock}
 use Rattle.net_file.specs.Names.{number_among}
@@ -71,7 +72,7 @@ abbrev as_placed : Placement
 as_placed = record { nx = 1; ny = 1; sites = site 0 1 1 ∷ site 0 1 0 ∷ site 1 1 0 ∷ [] }
 
 whole_read : reading 2 blocks whole_file ≡ Ok as_placed
-unfolding reading header_fault is_title is_size_line placing rows_fault_from row_fault completed is_row is_site sites_in site_in is_occupied number_among is_text
+unfolding reading header_fault is_title is_size_line begins_size_line placing rows_fault_from row_fault completed is_row is_site sites_in site_in is_occupied number_among is_text
 whole_read = refl
 
 pub whole_related : ReadsPlace 2 blocks whole_file as_placed

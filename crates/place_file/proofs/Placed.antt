@@ -12,6 +12,7 @@ use Rattle.std.proofs.lemmas.Option.{slice_get_within, get_or_from_slice_get}
 use Rattle.vpr_text.specs.Words.{Line}
 use Rattle.vpr_text.specs.Text.{lines_of}
 use Rattle.vpr_text.specs.declared.fault.TextFault.{TextFault}
+use Rattle.line_reader.proofs.Readings.{given_ok, not_faulty}
 use Rattle.net_file.specs.Netlist.{Block}
 use Rattle.place_file.specs.declared.fault.PlaceFault.{PlaceFault}
 use Rattle.place_file.specs.declared.fault.PlaceFault.TheVariants as place
@@ -20,7 +21,8 @@ use Rattle.place_file.specs.declared.site.Site.{Site}
 use Rattle.place_file.specs.Judge.{rows_fault_from, header_fault}
 use Rattle.place_file.specs.Lines.{array_on, block_on, site_on, rows_of}
 use Rattle.place_file.specs.Placement.{Placement, IsPlaced, is_site, kind_at}
-use Rattle.place_file.specs.Reading.{unless_faulty, first_missing, completed, placing, reading, placement_of, Gives}
+use Rattle.place_file.specs.Reading.{first_missing, completed, placing, reading, placement_of}
+use Rattle.vpr_text.specs.Readings.{unless_faulty, Gives}
 use Rattle.place_file.specs.Sites.{site_in, sites_in, site_at, is_on, is_occupied, same_site}
 use Rattle.place_file.proofs.Steps.{IsGood, good_row, good_within, site_more, site_here, count_sites}
 
@@ -104,10 +106,6 @@ all_some k [] e = refl
 all_some k (None ∷ xs) e = absurd cc
 all_some k (Some x ∷ xs) e = ap (λ ys. Some x ∷ ys) (all_some (k + 1) xs e)
 
-pub not_faulty : {X : Type 0} (fault : Option PlaceFault) (r : Result X PlaceFault) (p : X) → unless_faulty fault r ≡ Ok p → (fault ≡ None) × (r ≡ Ok p)
-not_faulty None r p e = (refl, e)
-not_faulty (Some f) r p e = absurd cc
-
 pub not_missing : (r : Option ℕ) → option_map place.Missing r ≡ None → r ≡ None
 not_missing None e = refl
 not_missing (Some b) e = absurd cc
@@ -156,6 +154,5 @@ placed_by io_rat blocks bytes p (Ok lines) is e = placed_lines io_rat blocks lin
 placed_by io_rat blocks bytes p (Err fault) is e = absurd cc
 
 -- what a reader gave is placed
-pub placed_given : (io_rat : ℕ) (blocks : List Block) (bytes : List ℕ) (r : Result Placement PlaceFault) → Gives (λ p. p) r (placement_of io_rat blocks bytes) → IfOk r (λ p. IsPlaced io_rat blocks p)
-placed_given io_rat blocks bytes (Ok p) e = placed_by io_rat blocks bytes p (lines_of bytes) refl e
-placed_given io_rat blocks bytes (Err fault) e = tt
+pub placed_given : (io_rat : ℕ) (blocks : List Block) (bytes : List ℕ) (r : Result Placement PlaceFault) → Gives place.Memory (λ p. p) r (placement_of io_rat blocks bytes) → IfOk r (λ p. IsPlaced io_rat blocks p)
+placed_given io_rat blocks bytes r given = given_ok place.Memory (IsPlaced io_rat blocks) r (placement_of io_rat blocks bytes) given (λ p e. placed_by io_rat blocks bytes p (lines_of bytes) refl e)

@@ -5,22 +5,24 @@ use Rattle.std.specs.Option.{option_map}
 use Rattle.std.specs.List.{filter_map, position_from}
 use Rattle.std.proofs.lemmas.Bool.Decides.{nat_tests}
 use Rattle.std.proofs.lemmas.Iterator.Adapters.{position_from-zero}
+use Rattle.vpr_text.specs.Readings.{Gives, with_fault}
 use Rattle.vpr_text.specs.Words.{Line}
 use Rattle.vpr_text.specs.Text.{lines_of}
-use Rattle.vpr_text.specs.declared.fault.TextFault.{TextFault}
+use Rattle.line_reader.specs.Word.{number_or_0}
+use Rattle.line_reader.proofs.Readings.{bind_ok, given_ok, given_only, not_faulty, with_fault_ok}
 use Rattle.net_file.specs.Netlist.{Block}
 use Rattle.place_file.specs.declared.fault.PlaceFault.{PlaceFault}
 use Rattle.place_file.specs.declared.fault.PlaceFault.TheVariants as place
 use Rattle.place_file.specs.declared.site.Array.{Array}
 use Rattle.place_file.specs.declared.site.Site.{Site}
 use Rattle.place_file.specs.Judge.{header_fault, rows_fault_from, is_size}
-use Rattle.place_file.specs.Lines.{is_title, is_size_line, number_on, array_on}
+use Rattle.place_file.specs.Lines.{is_title, is_size_line, array_on}
 use Rattle.place_file.specs.Placement.{Placement, IsPlaced, IsWithinLimits, array_of}
-use Rattle.place_file.specs.Reading.{◌>>=◌, Gives, first_missing, completed, placing, reading, text_of, placement_of}
+use Rattle.place_file.specs.Reading.{first_missing, completed, placing, reading, placement_of}
 use Rattle.place_file.specs.Reads.{AreRows, ReadsPlace, ReadsBytes}
 use Rattle.place_file.specs.Sites.{sites_in}
 use Rattle.place_file.proofs.OneRowEach.{rows_faultless, rows_give, rows_are}
-use Rattle.place_file.proofs.Placed.{all_some, not_faulty, not_missing, ok_from, placed_rows}
+use Rattle.place_file.proofs.Placed.{all_some, not_missing, ok_from, placed_rows}
 use Rattle.place_file.proofs.Steps.{header_good, header_faultless}
 
 -- ---- the rows
@@ -94,7 +96,7 @@ reads_related io_rat blocks (t ∷ s ∷ rows) p e =
       placed = placed_rows array blocks rows p good.1;
     }
 
-given_by : (io_rat : ℕ) (blocks : List Block) (t s : Line) (rows : List Line) (p : Placement) → is_title t.words ≡ true → is_size_line s.words ≡ true → p.nx ≡ number_on s.words 2 → p.ny ≡ number_on s.words 4
+given_by : (io_rat : ℕ) (blocks : List Block) (t s : Line) (rows : List Line) (p : Placement) → is_title t.words ≡ true → is_size_line s.words ≡ true → p.nx ≡ number_or_0 s.words 2 → p.ny ≡ number_or_0 s.words 4
     → IsWithinLimits p → AreRows blocks p rows → IsPlaced io_rat blocks p → reading io_rat blocks (t ∷ s ∷ rows) ≡ Ok p
 unfolding reading
 given_by io_rat blocks t s rows p title size_line nx ny limits once placed =
@@ -114,19 +116,11 @@ reads_given io_rat blocks lines p h =
 
 -- ---- the bytes
 
-bind_ok : {A B : Type 0} (r : Result A PlaceFault) (f : A → Result B PlaceFault) (y : B) → (r >>= f) ≡ Ok y → (x : A) × (r ≡ Ok x) × (f x ≡ Ok y)
-bind_ok (Ok x) f y e = (x, refl, e)
-bind_ok (Err d) f y e = absurd cc
-
-text_ok : (r : Result (List Line) TextFault) (ls : List Line) → text_of r ≡ Ok ls → r ≡ Ok ls
-text_ok (Ok x) ls e = cc
-text_ok (Err f) ls e = absurd cc
-
 is_read : (io_rat : ℕ) (blocks : List Block) (bytes : List ℕ) (p : Placement) → placement_of io_rat blocks bytes ≡ Ok p → ReadsBytes io_rat blocks bytes p
 unfolding placement_of
 is_read io_rat blocks bytes p e =
-    let b = bind_ok (text_of (lines_of bytes)) (reading io_rat blocks) p e in
-    record { lines = b.0; is_text = text_ok (lines_of bytes) b.0 b.1; reads = reads_related io_rat blocks b.0 p b.2 }
+    let b = bind_ok (with_fault place.Text (lines_of bytes)) (reading io_rat blocks) p e in
+    record { lines = b.0; is_text = with_fault_ok place.Text (lines_of bytes) b.0 b.1; reads = reads_related io_rat blocks b.0 p b.2 }
 
 -- a text that is a placement gives it
 pub is_given : (io_rat : ℕ) (blocks : List Block) (bytes : List ℕ) (p : Placement) → ReadsBytes io_rat blocks bytes p → placement_of io_rat blocks bytes ≡ Ok p
@@ -136,10 +130,9 @@ is_given io_rat blocks bytes p h =
     first ∙ reads_given io_rat blocks h.lines p h.reads
 
 -- what a reader gave is the placement of the text
-pub found : (io_rat : ℕ) (blocks : List Block) (bytes : List ℕ) (r : Result Placement PlaceFault) → Gives (λ p. p) r (placement_of io_rat blocks bytes) → IfOk r (ReadsBytes io_rat blocks bytes)
-found io_rat blocks bytes (Ok p) given = is_read io_rat blocks bytes p given
-found io_rat blocks bytes (Err f) given = tt
+pub found : (io_rat : ℕ) (blocks : List Block) (bytes : List ℕ) (r : Result Placement PlaceFault) → Gives place.Memory (λ p. p) r (placement_of io_rat blocks bytes) → IfOk r (ReadsBytes io_rat blocks bytes)
+found io_rat blocks bytes r given = given_ok place.Memory (ReadsBytes io_rat blocks bytes) r (placement_of io_rat blocks bytes) given (is_read io_rat blocks bytes)
 
 -- and a text that is a placement is read as it
-pub only : (io_rat : ℕ) (blocks : List Block) (bytes : List ℕ) (r : Result Placement PlaceFault) → Gives (λ p. p) r (placement_of io_rat blocks bytes) → (p : Placement) → ReadsBytes io_rat blocks bytes p → Gives (λ q. q) r (Ok p)
-only io_rat blocks bytes r given p reads = subst (Gives (λ q. q) r) (is_given io_rat blocks bytes p reads) given
+pub only : (io_rat : ℕ) (blocks : List Block) (bytes : List ℕ) (r : Result Placement PlaceFault) → Gives place.Memory (λ p. p) r (placement_of io_rat blocks bytes) → (p : Placement) → ReadsBytes io_rat blocks bytes p → Gives place.Memory (λ q. q) r (Ok p)
+only io_rat blocks bytes r given p reads = given_only place.Memory r (placement_of io_rat blocks bytes) p given (is_given io_rat blocks bytes p reads)

@@ -1,5 +1,5 @@
 -- Rows judged one by one.
-use Rattle.std.proofs.Common.{◌≡◌, ℕ, ◌+◌, ◌<◌, ◌≤◌, Bool, true, false, cond, not, ◌&&◌, eqb, ltb, List, [], ◌∷◌, ◌++◌, length, map, get_or, set, take, drop, Option, None, Some, Result, Err, refl, sym, ap, subst, ◌∙◌, arith, zero-add, add-one}
+use Rattle.std.proofs.Common.{◌≡◌, ℕ, ◌+◌, ◌<◌, ◌≤◌, Bool, true, false, cond, not, ◌&&◌, eqb, ltb, List, [], ◌∷◌, ◌++◌, length, map, get_or, set, take, drop, Option, None, Some, refl, sym, ap, subst, ◌∙◌, arith, zero-add, add-one}
 use Rattle.std.specs.Prelude.{is_some, find}
 use Rattle.std.specs.Option.{option_or, option_map}
 use Rattle.std.specs.List.{range_with_len}
@@ -20,7 +20,6 @@ use Rattle.place_file.specs.Judge.{is_size, first_fault, row_fault, rows_fault_f
 use Rattle.place_file.specs.kept.OccupiedSites.{IsFit}
 use Rattle.place_file.specs.Lines.{is_title, is_size_line, array_on, is_row, block_named, block_on, site_on}
 use Rattle.place_file.specs.Placement.{is_site, kind_at}
-use Rattle.place_file.specs.Reading.{Fails}
 use Rattle.place_file.specs.Sites.{is_row_of, site_in, sites_in, site_at, is_occupied}
 use Rattle.net_file.proofs.Ranges.{take_next}
 use Rattle.place_file.proofs.Placing.{block_within}
@@ -173,19 +172,6 @@ module _ (array : Array) (blocks : List Block) (rows : List Line) where
     sym h.1 ∙ ap (rows_fault_from array blocks (take i rows)) (drop_all i rows past),
     h.0 ∙ ap (sites_in blocks) (take_all i rows past),
   )
-
--- ---- a fault that was found
-
-pub fails_is : {Y : Type 0} (fault : PlaceFault) (given : Result Y PlaceFault) → given ≡ Err fault → Fails fault given
-fails_is (place.Text f) given e = e
-fails_is (place.BadLine n) given e = e
-fails_is (place.ArraySize n) given e = e
-fails_is (place.UnknownBlock n) given e = e
-fails_is (place.PlacedTwice n) given e = e
-fails_is (place.OffSite n) given e = e
-fails_is (place.Occupied n) given e = e
-fails_is (place.Missing b) given e = e
-fails_is place.Memory given e = tt
 
 -- ---- what the first two lines tell
 

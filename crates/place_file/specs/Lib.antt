@@ -1,3 +1,4 @@
+pub mod Faults
 pub mod Placement
 pub mod Lines
 pub mod Sites

@@ -1,11 +1,11 @@
 -- A placement file as a list of lines: what is read, or the first fault (VPR and T-VPack manual 4.30; the faults and their
 -- order are this project's profile).
-use Rattle.std.specs.Prelude.{◌≡◌, ℕ, not, List, [], Option, None, Some, is_some, Result, Ok, Err}
+use Rattle.std.specs.Prelude.{ℕ, not, List, [], Option, is_some, Result, Ok}
 use Rattle.std.specs.Option.{option_map}
 use Rattle.std.specs.List.{position, filter_map}
+use Rattle.vpr_text.specs.Readings.{◌>>=◌, unless_faulty, with_fault}
 use Rattle.vpr_text.specs.Words.{Line}
 use Rattle.vpr_text.specs.Text.{lines_of}
-use Rattle.vpr_text.specs.declared.fault.TextFault.{TextFault}
 use Rattle.net_file.specs.Netlist.{Block}
 use Rattle.place_file.specs.declared.fault.PlaceFault.{PlaceFault}
 use Rattle.place_file.specs.declared.fault.PlaceFault.TheVariants as place
@@ -15,11 +15,6 @@ use Rattle.place_file.specs.Judge.{header_fault, rows_fault_from}
 use Rattle.place_file.specs.Lines.{array_on, rows_of}
 use Rattle.place_file.specs.Placement.{Placement}
 use Rattle.place_file.specs.Sites.{sites_in}
-
--- the value, or the fault that was found
-abbrev pub unless_faulty : {X : Type 0} → Option PlaceFault → Result X PlaceFault → Result X PlaceFault
-unless_faulty (Some fault) rest = Err fault
-unless_faulty None rest = rest
 
 -- the least block without a site
 abbrev pub first_missing : List (Option Site) → Option ℕ
@@ -38,33 +33,6 @@ placing array blocks rows = unless_faulty (rows_fault_from array blocks [] rows)
 unfoldable pub reading : ℕ → List Block → List Line → Result Placement PlaceFault
 reading io_rat blocks lines = unless_faulty (header_fault io_rat lines) (placing (array_on io_rat lines) blocks (rows_of lines))
 
-infixl 10 ◌>>=◌
-abbrev pub ◌>>=◌ : {A B : Type 0} → Result A PlaceFault → (A → Result B PlaceFault) → Result B PlaceFault
-(Ok x) >>= f = f x
-(Err e) >>= f = Err e
-
--- the fault of a text is that of the placement
-abbrev pub text_of : Result (List Line) TextFault → Result (List Line) PlaceFault
-text_of (Ok lines) = Ok lines
-text_of (Err fault) = Err (place.Text fault)
-
 -- bytes as a placement
 unfoldable pub placement_of : ℕ → List Block → List ℕ → Result Placement PlaceFault
-placement_of io_rat blocks bytes = text_of (lines_of bytes) >>= reading io_rat blocks
-
--- the fault is the one that reading gives, unless memory ran out
-abbrev pub Fails : {Y : Type 0} → PlaceFault → Result Y PlaceFault → Type 0
-Fails place.Memory given = Unit {0}
-Fails (place.Text f) given = given ≡ Err (place.Text f)
-Fails (place.BadLine n) given = given ≡ Err (place.BadLine n)
-Fails (place.ArraySize n) given = given ≡ Err (place.ArraySize n)
-Fails (place.UnknownBlock n) given = given ≡ Err (place.UnknownBlock n)
-Fails (place.PlacedTwice n) given = given ≡ Err (place.PlacedTwice n)
-Fails (place.OffSite n) given = given ≡ Err (place.OffSite n)
-Fails (place.Occupied n) given = given ≡ Err (place.Occupied n)
-Fails (place.Missing b) given = given ≡ Err (place.Missing b)
-
--- what a call returned, seen by view, is what reading gives, unless memory ran out
-abbrev pub Gives : {X Y : Type 0} → (X → Y) → Result X PlaceFault → Result Y PlaceFault → Type 0
-Gives view (Ok x) given = given ≡ Ok (view x)
-Gives view (Err e) given = Fails e given
+placement_of io_rat blocks bytes = with_fault place.Text (lines_of bytes) >>= reading io_rat blocks

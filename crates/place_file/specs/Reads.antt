@@ -3,8 +3,9 @@
 use Rattle.std.specs.Prelude.{◌≡◌, ℕ, ◌<◌, true, List, ◌∷◌, length, Some, Ok, slice_get}
 use Rattle.vpr_text.specs.Words.{Line, words_at}
 use Rattle.vpr_text.specs.Text.{lines_of}
+use Rattle.line_reader.specs.Word.{number_or_0}
 use Rattle.net_file.specs.Netlist.{Block}
-use Rattle.place_file.specs.Lines.{is_title, is_size_line, number_on, is_row, block_named, site_on}
+use Rattle.place_file.specs.Lines.{is_title, is_size_line, is_row, block_named, site_on}
 use Rattle.place_file.specs.Placement.{Placement, IsWithinLimits, IsPlaced}
 
 -- row i is that of block b: the block's name, and the numbers of the site on which it is placed
@@ -28,8 +29,8 @@ pub record ReadsPlace (io_rat : ℕ) (blocks : List Block) (lines : List Line) (
   pub whole : lines ≡ title ∷ size ∷ rows
   pub title_line : is_title title.words ≡ true
   pub size_line : is_size_line size.words ≡ true
-  pub nx : p.nx ≡ number_on size.words 2
-  pub ny : p.ny ≡ number_on size.words 4
+  pub nx : p.nx ≡ number_or_0 size.words 2
+  pub ny : p.ny ≡ number_or_0 size.words 4
   pub limits : IsWithinLimits p
   pub one_row_each : AreRows blocks p rows
   pub placed : IsPlaced io_rat blocks p

@@ -2,6 +2,7 @@
 
 ghost use Rattle.std.specs.Prelude.{◌≡◌};
 ghost use Rattle.place_file.specs.declared.fault.PlaceFault.TheVariants.{Memory};
+ghost use Rattle.place_file.specs.Faults.{place_line, place_name, is_place_memory};
 
 use std::alloc::{AllocError, AllocFailed};
 use thiserror::Error;
@@ -53,5 +54,50 @@ impl<T: Drop> From<AllocFailed<T>> for PlaceFault {
 
     fn from(_e: AllocFailed<T>) -> PlaceFault {
         PlaceFault::Memory
+    }
+}
+
+impl PlaceFault {
+    /// The line of the fault; 0 where it has none.
+    pub fn line(self) -> u32
+        ensures { result ≡ place_line self }
+    {
+        match self {
+            PlaceFault::Text(fault) => fault.line(),
+            PlaceFault::BadLine(line)
+            | PlaceFault::ArraySize(line)
+            | PlaceFault::UnknownBlock(line)
+            | PlaceFault::PlacedTwice(line)
+            | PlaceFault::OffSite(line)
+            | PlaceFault::Occupied(line) => line,
+            PlaceFault::Missing(_) | PlaceFault::Memory => 0,
+        }
+    }
+
+    /// The name of the fault; that of a text is its own.
+    pub fn name(self) -> &'static [u8]
+        ensures { result.now ≡ place_name self }
+    {
+        match self {
+            PlaceFault::Text(fault) => fault.name(),
+            PlaceFault::BadLine(_) => b"BadLine",
+            PlaceFault::ArraySize(_) => b"ArraySize",
+            PlaceFault::UnknownBlock(_) => b"UnknownBlock",
+            PlaceFault::PlacedTwice(_) => b"PlacedTwice",
+            PlaceFault::OffSite(_) => b"OffSite",
+            PlaceFault::Occupied(_) => b"Occupied",
+            PlaceFault::Missing(_) => b"Missing",
+            PlaceFault::Memory => b"Memory",
+        }
+    }
+
+    /// Whether memory ran out.
+    pub fn is_memory(self) -> bool
+        ensures { result ≡ is_place_memory self }
+    {
+        matches!(
+            self,
+            PlaceFault::Memory | PlaceFault::Text(TextFault::Memory)
+        )
     }
 }

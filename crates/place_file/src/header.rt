@@ -6,7 +6,7 @@ ghost use Rattle.place_file.specs.Lines.{is_title, is_size_line, array_on};
 
 use crate::fault::PlaceFault;
 use crate::site::{Array, is_size};
-use crate::words::Words;
+use line_reader::{Words, begins_size_line};
 use vpr_text::Lines;
 
 /// Whether the line names a netlist and an architecture.
@@ -26,14 +26,7 @@ fn is_title(words: &Words) -> bool
 fn is_size_line(words: &Words) -> bool
     ensures { result ≡ is_size_line words.now }
 {
-    words.len() == 7
-        && words.is(0, "Array")
-        && words.is(1, "size:")
-        && words.is_number(2)
-        && words.is(3, "x")
-        && words.is_number(4)
-        && words.is(5, "logic")
-        && words.is(6, "blocks")
+    begins_size_line(words) && words.is(6, "blocks")
 }
 
 /// The array whose size the second line tells, with `io_rat` pads at a place.
@@ -44,8 +37,8 @@ pub(crate) fn array_on(io_rat: u32, lines: &Lines) -> Array
     let words = Words::new(lines, 1);
     Array {
         io_rat,
-        nx: words.number_on(2),
-        ny: words.number_on(4),
+        nx: words.number_or_0(2),
+        ny: words.number_or_0(4),
     }
 }
 

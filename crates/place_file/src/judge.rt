@@ -9,7 +9,7 @@ ghost use Rattle.place_file.specs.Placement.{kind_at};
 use crate::fault::PlaceFault;
 use crate::site::{Array, Site, is_site};
 use crate::sites::Sites;
-use crate::words::Words;
+use line_reader::Words;
 use net_file::{BlockKind, Netlist};
 
 /// Whether the line is a name and three numbers.
@@ -25,9 +25,9 @@ fn site_on(words: &Words) -> Site
     ensures { result ≡ site_on words.now }
 {
     Site {
-        x: words.number_on(1),
-        y: words.number_on(2),
-        subblk: words.number_on(3),
+        x: words.number_or_0(1),
+        y: words.number_or_0(2),
+        subblk: words.number_or_0(3),
     }
 }
 
@@ -61,7 +61,7 @@ pub(crate) fn judge(
     if !is_row(words) {
         return Some(PlaceFault::BadLine(line));
     }
-    let Some(block) = netlist.block_named(words.name()) else {
+    let Some(block) = netlist.block_named(words.word(0)) else {
         return Some(PlaceFault::UnknownBlock(line));
     };
     if sites.at(block).is_some() {

@@ -9,7 +9,6 @@ mod reading;
 mod rows;
 mod site;
 mod sites;
-mod words;
 
 pub use fault::PlaceFault;
 pub use placement::Placement;

@@ -2,9 +2,11 @@
 
 ghost use Rattle.std.specs.Prelude.{◌≡◌, ◌≤◌, IfOk, Ok};
 ghost use Rattle.arch_file.specs.Architecture.{most_pads};
+ghost use Rattle.vpr_text.specs.Readings.{Gives};
+ghost use Rattle.place_file.specs.declared.fault.PlaceFault.TheVariants.{Memory};
 ghost use Rattle.place_file.specs.Placement as placement;
 ghost use Rattle.place_file.specs.Placement.{IsPlaced};
-ghost use Rattle.place_file.specs.Reading.{Gives, reading, placement_of};
+ghost use Rattle.place_file.specs.Reading.{reading, placement_of};
 ghost use Rattle.place_file.specs.Reads.{ReadsBytes};
 
 use crate::fault::PlaceFault;
@@ -25,7 +27,7 @@ fn read(
     lines: &Lines,
 ) -> Result<Placement, PlaceFault>
     requires { io_rat ≤ most_pads }
-    ensures { Gives (λ p. p) result (reading io_rat netlist.now.blocks lines.now) }
+    ensures { Gives Memory (λ p. p) result (reading io_rat netlist.now.blocks lines.now) }
 {
     if let Some(fault) = header_fault(io_rat, lines) {
         return Err(fault);
@@ -42,7 +44,7 @@ fn placement_in(
     netlist: &Netlist,
 ) -> Result<Placement, PlaceFault>
     requires { io_rat ≤ most_pads }
-    ensures { Gives (λ p. p) result (placement_of io_rat netlist.now.blocks source.now) }
+    ensures { Gives Memory (λ p. p) result (placement_of io_rat netlist.now.blocks source.now) }
 {
     match lines(alloc, source) {
         Ok(lines) => read(alloc, io_rat, netlist, &lines),
@@ -67,9 +69,10 @@ pub fn parse(
     ensures found { IfOk result (λ p. ReadsBytes arch.now.io_rat netlist.now.blocks source.now p) }
     // A text has no other placement, and one that has a placement is read, unless memory runs out.
     ensures only { (p : placement.Placement)
-        → ReadsBytes arch.now.io_rat netlist.now.blocks source.now p → Gives (λ q. q) result (Ok p) }
+        → ReadsBytes arch.now.io_rat netlist.now.blocks source.now p
+        → Gives Memory (λ q. q) result (Ok p) }
     // Which fault it is.
-    ensures exact { Gives (λ p. p) result
+    ensures exact { Gives Memory (λ p. p) result
         (placement_of arch.now.io_rat netlist.now.blocks source.now) }
     // All blocks stand on sites of their kind, and different blocks on different sites.
     ensures placed { IfOk result (λ p. IsPlaced arch.now.io_rat netlist.now.blocks p) }

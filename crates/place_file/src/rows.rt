@@ -1,10 +1,12 @@
 //! The rows of a placement.
 
 ghost use Rattle.std.specs.Prelude.{◌≡◌, ◌≤◌, [], Ok, length};
+ghost use Rattle.vpr_text.specs.Readings.{Gives, unless_faulty};
+ghost use Rattle.place_file.specs.declared.fault.PlaceFault.TheVariants.{Memory};
 ghost use Rattle.place_file.specs.Judge.{rows_fault_from};
 ghost use Rattle.place_file.specs.kept.OccupiedSites.{IsFit};
 ghost use Rattle.place_file.specs.Lines.{rows_of};
-ghost use Rattle.place_file.specs.Reading.{Gives, unless_faulty, completed, placing};
+ghost use Rattle.place_file.specs.Reading.{completed, placing};
 ghost use Rattle.place_file.specs.Sites.{sites_in};
 
 use crate::fault::PlaceFault;
@@ -12,7 +14,7 @@ use crate::judge::judge;
 use crate::placement::Placement;
 use crate::site::Array;
 use crate::sites::Sites;
-use crate::words::Words;
+use line_reader::Words;
 use net_file::Netlist;
 use std::alloc::Global;
 use vpr_text::Lines;
@@ -26,7 +28,8 @@ fn sites_in(
 ) -> Result<Sites, PlaceFault>
     requires fit { IsFit array }
     requires count { 2 ≤ length lines.now }
-    ensures { Gives (λ s. s.sites) result (unless_faulty (rows_fault_from array netlist.now.blocks [] (rows_of lines.now))
+    ensures { Gives Memory (λ s. s.sites) result (unless_faulty
+        (rows_fault_from array netlist.now.blocks [] (rows_of lines.now))
         (Ok (sites_in netlist.now.blocks (rows_of lines.now)))) }
 {
     let blocks = netlist.blocks();
@@ -44,7 +47,7 @@ fn sites_in(
 #[tactic(auto, unfolding(crate::specs::Reading::completed))]
 fn completed(alloc: Global, array: Array, sites: &Sites) -> Result<Placement, PlaceFault>
     requires { IsFit array }
-    ensures { Gives (λ p. p) result (completed array sites.now.sites) }
+    ensures { Gives Memory (λ p. p) result (completed array sites.now.sites) }
 {
     if let Some(block) = sites.first_missing() {
         return Err(PlaceFault::Missing(block));
@@ -67,7 +70,7 @@ pub(crate) fn placing(
 ) -> Result<Placement, PlaceFault>
     requires fit { IsFit array }
     requires count { 2 ≤ length lines.now }
-    ensures { Gives (λ p. p) result (placing array netlist.now.blocks (rows_of lines.now)) }
+    ensures { Gives Memory (λ p. p) result (placing array netlist.now.blocks (rows_of lines.now)) }
 {
     let sites = sites_in(alloc, array, netlist, lines)?;
     completed(alloc, array, &sites)

@@ -9,12 +9,14 @@ use Rattle.rr_graph.specs.parts.Mode.{Mode}
 use Rattle.rr_graph.specs.Problems.{RoutingProblem}
 use Rattle.route_tree.specs.Usage.{Lists}
 use Rattle.route_file.specs.declared.fault.RouteFileFault.{RouteFileFault}
-use Rattle.route_file.specs.Reading.{◌>>=◌, lines_or_fault, reading, routing_of}
-use Rattle.runs.specs.declared.fault.AppFault.TheVariants.{Route}
-use Rattle.runs.specs.declared.fault.AppFault.{AppFault}
-use Rattle.runs.specs.declared.fault.InputFile.TheVariants as file
-use Rattle.runs.specs.Inputs.{PlacedDesign, design_in, routing_from}
-use Rattle.runs.specs.Runs.{DesignFiles, Input, bytes_in, with_fault}
+use Rattle.route_file.specs.declared.fault.RouteFileFault.TheVariants as route
+use Rattle.route_file.specs.Reading.{reading, routing_of}
+use Rattle.vpr_text.specs.Readings.{◌>>=◌, with_fault}
+use Rattle.run_inputs.specs.declared.fault.AppFault.TheVariants.{Route}
+use Rattle.run_inputs.specs.declared.fault.AppFault.{AppFault}
+use Rattle.run_inputs.specs.declared.fault.InputFile.TheVariants as file
+use Rattle.run_inputs.specs.Inputs.{PlacedDesign, design_in, routing_from}
+use Rattle.run_inputs.specs.Runs.{DesignFiles, Input, bytes_in}
 use Rattle.report_run.specs.ReportRun.{reported_in, reported_of, reported_on, reported_with}
 
 module _ (d : PlacedDesign) (bytes : List ℕ) where
@@ -47,7 +49,7 @@ module _ (width : ℕ) (mode : Mode) (files : DesignFiles) (route : Input) where
 -- ---- the lines of a routing file
 
 lines_by : (text : Result (List Line) TextFault) (rest : List Line → Result Lists RouteFileFault) (r : Lists)
-    → with_fault Route (lines_or_fault text >>= rest) ≡ Ok r → IsOk text
+    → with_fault Route (with_fault route.Text text >>= rest) ≡ Ok r → IsOk text
 lines_by (Ok lines) rest r e = refl
 lines_by (Err f) rest r e = absurd cc
 

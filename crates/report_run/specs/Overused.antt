@@ -5,7 +5,7 @@ use Rattle.net_file.specs.Netlist.{Netlist}
 use Rattle.rr_graph.specs.Nodes.{node_at}
 use Rattle.rr_graph.specs.Problems.{RoutingProblem}
 use Rattle.route_report.specs.Overused.{Overuse}
-use Rattle.runs.specs.Verdict.{text_of_node}
+use Rattle.text_output.specs.NodeTexts.{text_of_node}
 use Rattle.report_run.specs.Texts.{name_text, share_text}
 
 -- the names of nets of the problem

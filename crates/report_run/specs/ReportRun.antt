@@ -5,10 +5,11 @@ use Rattle.vpr_text.specs.Text.{lines_of}
 use Rattle.vpr_text.specs.Words.{Line}
 use Rattle.rr_graph.specs.parts.Mode.{Mode}
 use Rattle.route_tree.specs.Usage.{Lists}
-use Rattle.runs.specs.declared.fault.AppFault.{AppFault}
-use Rattle.runs.specs.declared.fault.InputFile.TheVariants as file
-use Rattle.runs.specs.Inputs.{PlacedDesign, design_in, routing_from}
-use Rattle.runs.specs.Runs.{DesignFiles, Input, PrintsText, StopsOrGoesOn, TakesNothing, Writing, bytes_in, ◌>>=◌}
+use Rattle.run_inputs.specs.declared.fault.AppFault.{AppFault}
+use Rattle.run_inputs.specs.declared.fault.InputFile.TheVariants as file
+use Rattle.run_inputs.specs.Inputs.{PlacedDesign, design_in, routing_from}
+use Rattle.run_inputs.specs.Runs.{DesignFiles, Input, PrintsText, StopsOrGoesOn, TakesNothing, Writing, bytes_in}
+use Rattle.vpr_text.specs.Readings.{◌>>=◌}
 use Rattle.report_run.specs.Report.{route_report_on, route_report_text}
 
 -- a routing, the lines of its file, and the design that it is meant for

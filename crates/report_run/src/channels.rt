@@ -1,14 +1,13 @@
 //! The lines on the channels.
 
 ghost use Rattle.std.specs.Prelude.{◌≡◌};
-ghost use Rattle.vpr_text.specs.Output.{Sends, stream};
+ghost use Rattle.vpr_text.specs.Output.{SendsTo};
 ghost use Rattle.report_run.specs.Channels.{axis_text, occupancy_line, channel_lines, places_of_channel};
 
 use crate::text::put_mean;
-use route_file::text::put_number;
 use route_report::ChannelUse;
 use rr_graph::{Device, Kind};
-use vpr_text::{ByteSink, OutputBuffer};
+use text_output::{ByteSink, OutputBuffer, put_number};
 
 /// The axis along which a channel runs, before its number.
 fn axis_name(kind: Kind) -> &'static [u8]
@@ -37,8 +36,7 @@ fn put_channel<W: ByteSink>(
     device: &Device,
     channel: &ChannelUse,
 )
-    ensures { Sends (stream (W.taken sink.old) (W.failed sink.old) out.old)
-        (stream (W.taken sink.new) (W.failed sink.new) out.new)
+    ensures { SendsTo W.taken W.failed sink.old sink.new out.old out.new
         (occupancy_line device.now channel.now) }
 {
     out.push(sink, b"channel ");
@@ -63,8 +61,7 @@ pub(crate) fn put_channels<W: ByteSink>(
     device: &Device,
     channels: &[ChannelUse],
 )
-    ensures { Sends (stream (W.taken sink.old) (W.failed sink.old) out.old)
-        (stream (W.taken sink.new) (W.failed sink.new) out.new)
+    ensures { SendsTo W.taken W.failed sink.old sink.new out.old out.new
         (channel_lines device.now channels.now) }
 {
     for channel in channels {

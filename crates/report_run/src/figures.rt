@@ -1,22 +1,20 @@
 //! The lines on the device, and those on the whole routing.
 
 ghost use Rattle.std.specs.Prelude.{◌≡◌};
-ghost use Rattle.vpr_text.specs.Output.{Sends, stream};
+ghost use Rattle.vpr_text.specs.Output.{SendsTo};
 ghost use Rattle.report_run.specs.Figures.{device_lines, length_lines, longest_text, net_count_lines, use_lines};
 ghost use Rattle.report_run.specs.Report.{figure_lines};
 
 use crate::device::{global_nets, places_in, wires_in};
 use crate::text::{put_mean, put_name, put_share};
 use net_file::Netlist;
-use route_file::text::put_number;
 use route_report::Figures;
 use rr_graph::{Device, Problem};
-use vpr_text::{ByteSink, OutputBuffer};
+use text_output::{ByteSink, OutputBuffer, put_number};
 
 /// Prints the lines on the device.
 fn put_device<W: ByteSink>(out: &mut OutputBuffer, sink: &mut W, device: &Device)
-    ensures { Sends (stream (W.taken sink.old) (W.failed sink.old) out.old)
-        (stream (W.taken sink.new) (W.failed sink.new) out.new) (device_lines device.now) }
+    ensures { SendsTo W.taken W.failed sink.old sink.new out.old out.new (device_lines device.now) }
 {
     out.push(sink, b"array ");
     put_number(out, sink, device.nx());
@@ -34,8 +32,7 @@ fn put_nets<W: ByteSink>(
     netlist: &Netlist<'_>,
     figures: &Figures,
 )
-    ensures { Sends (stream (W.taken sink.old) (W.failed sink.old) out.old)
-        (stream (W.taken sink.new) (W.failed sink.new) out.new)
+    ensures { SendsTo W.taken W.failed sink.old sink.new out.old out.new
         (net_count_lines netlist.now figures.now) }
 {
     out.push(sink, b"nets ");
@@ -54,8 +51,7 @@ fn put_nets<W: ByteSink>(
 
 /// Prints the lines on the wires that are used, and their places.
 fn put_uses<W: ByteSink>(out: &mut OutputBuffer, sink: &mut W, device: &Device, figures: &Figures)
-    ensures { Sends (stream (W.taken sink.old) (W.failed sink.old) out.old)
-        (stream (W.taken sink.new) (W.failed sink.new) out.new)
+    ensures { SendsTo W.taken W.failed sink.old sink.new out.old out.new
         (use_lines device.now figures.now) }
 {
     out.push(sink, b"wires ");
@@ -73,8 +69,7 @@ fn put_longest<W: ByteSink>(
     problem: &Problem,
     longest: Option<u32>,
 )
-    ensures { Sends (stream (W.taken sink.old) (W.failed sink.old) out.old)
-        (stream (W.taken sink.new) (W.failed sink.new) out.new)
+    ensures { SendsTo W.taken W.failed sink.old sink.new out.old out.new
         (longest_text netlist.now problem.now longest) }
 {
     if let Some(net) = longest {
@@ -90,8 +85,7 @@ fn put_lengths<W: ByteSink>(
     problem: &Problem,
     figures: &Figures,
 )
-    ensures { Sends (stream (W.taken sink.old) (W.failed sink.old) out.old)
-        (stream (W.taken sink.new) (W.failed sink.new) out.new)
+    ensures { SendsTo W.taken W.failed sink.old sink.new out.old out.new
         (length_lines netlist.now problem.now figures.now) }
 {
     out.push(sink, b"wirelength ");
@@ -112,8 +106,7 @@ pub(crate) fn put_figures<W: ByteSink>(
     problem: &Problem,
     figures: &Figures,
 )
-    ensures { Sends (stream (W.taken sink.old) (W.failed sink.old) out.old)
-        (stream (W.taken sink.new) (W.failed sink.new) out.new)
+    ensures { SendsTo W.taken W.failed sink.old sink.new out.old out.new
         (figure_lines netlist.now problem.now figures.now) }
 {
     let device = problem.device();

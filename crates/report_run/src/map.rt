@@ -2,14 +2,13 @@
 
 ghost use Rattle.std.specs.Prelude.{◌≡◌, ◌<◌, get_or};
 ghost use Rattle.std.specs.List.{flat_map};
-ghost use Rattle.vpr_text.specs.Output.{Sends, stream};
+ghost use Rattle.vpr_text.specs.Output.{SendsTo};
 ghost use Rattle.rr_graph.specs.Fabric.{numbers_below};
 ghost use Rattle.report_run.specs.Map.{blanks_before, block_cells_at, blocks_line, cell_text, crossing_at, crossing_line, map_text, occupied_at, right_of, row_lines};
 
-use route_file::text::put_number;
 use route_report::ChannelUse;
 use rr_graph::Device;
-use vpr_text::{ByteSink, OutputBuffer};
+use text_output::{ByteSink, OutputBuffer, put_number};
 
 /// The number at an index; 0 past the last one.
 fn number_at(numbers: &[u64], index: u32) -> u64
@@ -54,8 +53,7 @@ fn blanks_before(number: u64) -> &'static [u8]
 
 /// Prints a number of the map.
 fn put_cell<W: ByteSink>(out: &mut OutputBuffer, sink: &mut W, number: u64)
-    ensures { Sends (stream (W.taken sink.old) (W.failed sink.old) out.old)
-        (stream (W.taken sink.new) (W.failed sink.new) out.new) (cell_text number) }
+    ensures { SendsTo W.taken W.failed sink.old sink.new out.old out.new (cell_text number) }
 {
     out.push(sink, blanks_before(number));
     put_number(out, sink, number);
@@ -69,8 +67,7 @@ fn put_crossing_at<W: ByteSink>(
     row: u32,
     place: u32,
 )
-    ensures { Sends (stream (W.taken sink.old) (W.failed sink.old) out.old)
-        (stream (W.taken sink.new) (W.failed sink.new) out.new)
+    ensures { SendsTo W.taken W.failed sink.old sink.new out.old out.new
         (crossing_at channels.now row place) }
 {
     put_cell(out, sink, occupied_at(channels, row, place));
@@ -85,8 +82,7 @@ fn put_crossings<W: ByteSink>(
     row: u32,
     places: u32,
 )
-    ensures { Sends (stream (W.taken sink.old) (W.failed sink.old) out.old)
-        (stream (W.taken sink.new) (W.failed sink.new) out.new)
+    ensures { SendsTo W.taken W.failed sink.old sink.new out.old out.new
         (flat_map (crossing_at channels.now row) (numbers_below places)) }
 {
     for place in 0..places {
@@ -102,8 +98,7 @@ fn put_crossing_line<W: ByteSink>(
     channels: &[ChannelUse],
     row: u32,
 )
-    ensures { Sends (stream (W.taken sink.old) (W.failed sink.old) out.old)
-        (stream (W.taken sink.new) (W.failed sink.new) out.new)
+    ensures { SendsTo W.taken W.failed sink.old sink.new out.old out.new
         (crossing_line device.now channels.now row) }
 {
     out.push(sink, b"   +");
@@ -121,8 +116,7 @@ fn put_block_cells<W: ByteSink>(
     column: u32,
 )
     requires { column < 65536 }
-    ensures { Sends (stream (W.taken sink.old) (W.failed sink.old) out.old)
-        (stream (W.taken sink.new) (W.failed sink.new) out.new)
+    ensures { SendsTo W.taken W.failed sink.old sink.new out.old out.new
         (block_cells_at device.now channels.now place column) }
 {
     put_cell(
@@ -143,8 +137,7 @@ fn put_blocks<W: ByteSink>(
     columns: u32,
 )
     requires { columns < 65536 }
-    ensures { Sends (stream (W.taken sink.old) (W.failed sink.old) out.old)
-        (stream (W.taken sink.new) (W.failed sink.new) out.new)
+    ensures { SendsTo W.taken W.failed sink.old sink.new out.old out.new
         (flat_map (block_cells_at device.now channels.now place) (numbers_below columns)) }
 {
     for column in 0..columns {
@@ -160,8 +153,7 @@ fn put_blocks_line<W: ByteSink>(
     channels: &[ChannelUse],
     place: u32,
 )
-    ensures { Sends (stream (W.taken sink.old) (W.failed sink.old) out.old)
-        (stream (W.taken sink.new) (W.failed sink.new) out.new)
+    ensures { SendsTo W.taken W.failed sink.old sink.new out.old out.new
         (blocks_line device.now channels.now place) }
 {
     let columns = device.nx();
@@ -182,8 +174,7 @@ fn put_row<W: ByteSink>(
     channels: &[ChannelUse],
     above: u32,
 )
-    ensures { Sends (stream (W.taken sink.old) (W.failed sink.old) out.old)
-        (stream (W.taken sink.new) (W.failed sink.new) out.new)
+    ensures { SendsTo W.taken W.failed sink.old sink.new out.old out.new
         (row_lines device.now channels.now above) }
 {
     let row = device.ny().saturating_sub(1).saturating_sub(above);
@@ -199,8 +190,7 @@ fn put_rows<W: ByteSink>(
     channels: &[ChannelUse],
     rows: u32,
 )
-    ensures { Sends (stream (W.taken sink.old) (W.failed sink.old) out.old)
-        (stream (W.taken sink.new) (W.failed sink.new) out.new)
+    ensures { SendsTo W.taken W.failed sink.old sink.new out.old out.new
         (flat_map (row_lines device.now channels.now) (numbers_below rows)) }
 {
     for above in 0..rows {
@@ -215,8 +205,7 @@ pub(crate) fn put_map<W: ByteSink>(
     device: &Device,
     channels: &[ChannelUse],
 )
-    ensures { Sends (stream (W.taken sink.old) (W.failed sink.old) out.old)
-        (stream (W.taken sink.new) (W.failed sink.new) out.new)
+    ensures { SendsTo W.taken W.failed sink.old sink.new out.old out.new
         (map_text device.now channels.now) }
 {
     let rows = device.ny();

@@ -1,19 +1,18 @@
 //! The lines on the lines of the routing file that name what is overused.
 
 ghost use Rattle.std.specs.Prelude.{◌≡◌, ◌<◌, length, option_copied};
-ghost use Rattle.vpr_text.specs.Output.{Sends, stream};
+ghost use Rattle.vpr_text.specs.Output.{SendsTo};
 ghost use Rattle.report_run.specs.Named.{named_at, named_text, naming_line, naming_lines, overused_on};
 
 use route_file::node_named;
-use route_file::text::put_number;
 use route_report::is_over;
 use rr_graph::Device;
-use vpr_text::{ByteSink, Lines, OutputBuffer};
+use text_output::{ByteSink, OutputBuffer, put_number};
+use vpr_text::Lines;
 
 /// Prints that a line names a node.
 fn put_naming<W: ByteSink>(out: &mut OutputBuffer, sink: &mut W, line: u32, node: u32)
-    ensures { Sends (stream (W.taken sink.old) (W.failed sink.old) out.old)
-        (stream (W.taken sink.new) (W.failed sink.new) out.new) (naming_line line node) }
+    ensures { SendsTo W.taken W.failed sink.old sink.new out.old out.new (naming_line line node) }
 {
     out.push(sink, b"line ");
     put_number(out, sink, line);
@@ -38,8 +37,7 @@ pub fn overused_on(lines: &Lines<'_>, device: &Device, uses: &[u16], index: usiz
 
 /// Prints that a line names an overused node, if it does.
 fn put_named<W: ByteSink>(out: &mut OutputBuffer, sink: &mut W, line: u32, node: Option<u32>)
-    ensures { Sends (stream (W.taken sink.old) (W.failed sink.old) out.old)
-        (stream (W.taken sink.new) (W.failed sink.new) out.new) (named_text line node) }
+    ensures { SendsTo W.taken W.failed sink.old sink.new out.old out.new (named_text line node) }
 {
     if let Some(node) = node {
         put_naming(out, sink, line, node);
@@ -56,8 +54,7 @@ fn put_named_at<W: ByteSink>(
     index: usize,
 )
     requires { index < length lines.now }
-    ensures { Sends (stream (W.taken sink.old) (W.failed sink.old) out.old)
-        (stream (W.taken sink.new) (W.failed sink.new) out.new)
+    ensures { SendsTo W.taken W.failed sink.old sink.new out.old out.new
         (named_at device.now uses.now lines.now index) }
 {
     let node = overused_on(lines, device, uses, index);
@@ -72,8 +69,7 @@ pub(crate) fn put_naming_lines<W: ByteSink>(
     uses: &[u16],
     lines: &Lines<'_>,
 )
-    ensures { Sends (stream (W.taken sink.old) (W.failed sink.old) out.old)
-        (stream (W.taken sink.new) (W.failed sink.new) out.new)
+    ensures { SendsTo W.taken W.failed sink.old sink.new out.old out.new
         (naming_lines device.now uses.now lines.now) }
 {
     for index in 0..lines.len() {

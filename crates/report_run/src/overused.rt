@@ -2,16 +2,14 @@
 
 ghost use Rattle.std.specs.Prelude.{◌≡◌};
 ghost use Rattle.std.specs.List.{flat_map};
-ghost use Rattle.vpr_text.specs.Output.{Sends, stream};
+ghost use Rattle.vpr_text.specs.Output.{SendsTo};
 ghost use Rattle.report_run.specs.Overused.{names_text, overuse_line, overuse_lines, overused_line};
 
 use crate::text::{put_name, put_share};
 use net_file::Netlist;
-use route_file::text::put_number;
 use route_report::OverusedNode;
 use rr_graph::Problem;
-use runs::put_node_of;
-use vpr_text::{ByteSink, OutputBuffer};
+use text_output::{ByteSink, OutputBuffer, put_node_of, put_number};
 
 /// Prints the names of nets of the problem.
 fn put_names<W: ByteSink>(
@@ -21,8 +19,7 @@ fn put_names<W: ByteSink>(
     problem: &Problem,
     nets: &[u32],
 )
-    ensures { Sends (stream (W.taken sink.old) (W.failed sink.old) out.old)
-        (stream (W.taken sink.new) (W.failed sink.new) out.new)
+    ensures { SendsTo W.taken W.failed sink.old sink.new out.old out.new
         (names_text netlist.now problem.now nets.now) }
 {
     for net in nets {
@@ -38,8 +35,7 @@ fn put_overuse<W: ByteSink>(
     problem: &Problem,
     overuse: &OverusedNode,
 )
-    ensures { Sends (stream (W.taken sink.old) (W.failed sink.old) out.old)
-        (stream (W.taken sink.new) (W.failed sink.new) out.new)
+    ensures { SendsTo W.taken W.failed sink.old sink.new out.old out.new
         (overuse_line netlist.now problem.now overuse.now) }
 {
     out.push(sink, b"node ");
@@ -60,8 +56,7 @@ fn put_overuse<W: ByteSink>(
 
 /// Prints the line of how many nodes are overused.
 fn put_count<W: ByteSink>(out: &mut OutputBuffer, sink: &mut W, count: usize)
-    ensures { Sends (stream (W.taken sink.old) (W.failed sink.old) out.old)
-        (stream (W.taken sink.new) (W.failed sink.new) out.new) (overused_line count) }
+    ensures { SendsTo W.taken W.failed sink.old sink.new out.old out.new (overused_line count) }
 {
     out.push(sink, b"overused ");
     put_number(out, sink, count);
@@ -76,8 +71,7 @@ fn put_each<W: ByteSink>(
     problem: &Problem,
     nodes: &[OverusedNode],
 )
-    ensures { Sends (stream (W.taken sink.old) (W.failed sink.old) out.old)
-        (stream (W.taken sink.new) (W.failed sink.new) out.new)
+    ensures { SendsTo W.taken W.failed sink.old sink.new out.old out.new
         (flat_map (overuse_line netlist.now problem.now) nodes.now) }
 {
     for overuse in nodes {
@@ -93,8 +87,7 @@ pub fn put_overused<W: ByteSink>(
     problem: &Problem,
     nodes: &[OverusedNode],
 )
-    ensures { Sends (stream (W.taken sink.old) (W.failed sink.old) out.old)
-        (stream (W.taken sink.new) (W.failed sink.new) out.new)
+    ensures { SendsTo W.taken W.failed sink.old sink.new out.old out.new
         (overuse_lines netlist.now problem.now nodes.now) }
 {
     put_count(out, sink, nodes.len());

@@ -1,7 +1,7 @@
 //! What a report says of a routing, and its text.
 
 ghost use Rattle.std.specs.Prelude.{◌≡◌, IfOk};
-ghost use Rattle.vpr_text.specs.Output.{Sends, stream};
+ghost use Rattle.vpr_text.specs.Output.{SendsTo};
 ghost use Rattle.report_run.specs.Report.{counted_lines, map_if, route_report_on, route_report_text};
 
 use crate::channels::put_channels;
@@ -19,7 +19,8 @@ use route_tree::Routing;
 use rr_graph::{Device, Problem};
 use std::alloc::{AllocError, Global};
 use std::marker::Model;
-use vpr_text::{ByteSink, Lines, OutputBuffer};
+use text_output::{ByteSink, OutputBuffer};
+use vpr_text::Lines;
 
 /// What a report says of a routing.
 #[derive(Drop)]
@@ -73,8 +74,7 @@ impl RouteReport {
         netlist: &Netlist<'_>,
         problem: &Problem,
     )
-        ensures { Sends (stream (W.taken sink.old) (W.failed sink.old) out.old)
-            (stream (W.taken sink.new) (W.failed sink.new) out.new)
+        ensures { SendsTo W.taken W.failed sink.old sink.new out.old out.new
             (counted_lines netlist.now problem.now self.now) }
     {
         put_figures(out, sink, netlist, problem, &self.figures);
@@ -91,8 +91,7 @@ impl RouteReport {
         device: &Device,
         is_map: bool,
     )
-        ensures { Sends (stream (W.taken sink.old) (W.failed sink.old) out.old)
-            (stream (W.taken sink.new) (W.failed sink.new) out.new)
+        ensures { SendsTo W.taken W.failed sink.old sink.new out.old out.new
             (map_if is_map device.now self.now) }
     {
         if is_map {
@@ -110,8 +109,7 @@ impl RouteReport {
         lines: &Lines<'_>,
         is_map: bool,
     )
-        ensures { Sends (stream (W.taken sink.old) (W.failed sink.old) out.old)
-            (stream (W.taken sink.new) (W.failed sink.new) out.new)
+        ensures { SendsTo W.taken W.failed sink.old sink.new out.old out.new
             (route_report_text is_map netlist.now problem.now lines.now self.now) }
     {
         self.put_lines(out, sink, netlist, problem);

@@ -3,17 +3,18 @@
 ghost use Rattle.std.specs.Prelude.{◌≡◌, ◌≢◌, ◌≤◌, true, false, Err, IsOk};
 ghost use Rattle.vpr_text.specs.Text.{lines_of};
 ghost use Rattle.rr_graph.specs.Fabric.{most_tracks};
-ghost use Rattle.runs.specs.Inputs.{ends_before};
-ghost use Rattle.runs.specs.Runs.{Meets, MeetsDesign, PrintsText, TakesNothing, reading, writing};
+ghost use Rattle.run_inputs.specs.Inputs.{ends_before};
+ghost use Rattle.run_inputs.specs.Runs.{Meets, MeetsDesign, PrintsText, TakesNothing, reading, writing_to};
 ghost use Rattle.report_run.specs.Report.{route_report_text};
 ghost use Rattle.report_run.specs.ReportRun.{PrintsReport, RunsReport, reported_in, reported_of, reported_on, reported_with};
 
 use crate::report::RouteReport;
 use route_tree::Routing;
 use rr_graph::Mode;
-use runs::{AppFault, Design, InputFile, NetlistText, parse_routing, read_input};
+use run_inputs::{AppFault, Design, InputFile, NetlistText, parse_routing, read_input};
 use std::alloc::Global;
-use vpr_text::{ByteSink, ByteSource, Lines, OutputBuffer, TextFault, lines};
+use text_output::{ByteSink, OutputBuffer};
+use vpr_text::{ByteSource, Lines, TextFault, lines};
 
 /// Prints the text of a report of a routing whose file has these lines.
 fn print_report<W: ByteSink>(
@@ -23,7 +24,7 @@ fn print_report<W: ByteSink>(
     out: &mut W,
     is_map: bool,
 ) -> Result<(), AppFault>
-    ensures { PrintsText (writing (W.taken out.old) (W.taken out.new) (W.failed out.new))
+    ensures { PrintsText (writing_to W.taken W.failed out.old out.new)
         (route_report_text is_map design.now.netlist design.now.problem lines.now report.now)
         tt result }
 {
@@ -47,10 +48,10 @@ fn report_lines<W: ByteSink>(
     is_map: bool,
 ) -> Result<(), AppFault>
     ensures reports { result ≢ Err AppFault.Memory
-        → PrintsReport is_map (writing (W.taken out.old) (W.taken out.new) (W.failed out.new))
+        → PrintsReport is_map (writing_to W.taken W.failed out.old out.new)
         (record { design = design.now; lines = lines.now; routing = routing.now }) result }
     ensures memory { result ≡ Err AppFault.Memory
-        → TakesNothing (writing (W.taken out.old) (W.taken out.new) (W.failed out.new)) }
+        → TakesNothing (writing_to W.taken W.failed out.old out.new) }
     ensures late { ends_before InputFile.Route result ≡ false }
 {
     let report = match RouteReport::new(alloc, design.problem(), routing) {
@@ -72,10 +73,10 @@ fn report_routing<W: ByteSink>(
 ) -> Result<(), AppFault>
     requires { IsOk (lines_of bytes.now) }
     ensures reports { result ≢ Err AppFault.Memory
-        → PrintsReport is_map (writing (W.taken out.old) (W.taken out.new) (W.failed out.new))
+        → PrintsReport is_map (writing_to W.taken W.failed out.old out.new)
         (reported_with design.now bytes.now routing.now) result }
     ensures memory { result ≡ Err AppFault.Memory
-        → TakesNothing (writing (W.taken out.old) (W.taken out.new) (W.failed out.new)) }
+        → TakesNothing (writing_to W.taken W.failed out.old out.new) }
     ensures late { ends_before InputFile.Route result ≡ false }
 {
     let lines = match lines(alloc, bytes) {
@@ -95,18 +96,15 @@ fn report_bytes<W: ByteSink>(
     is_map: bool,
 ) -> Result<(), AppFault>
     ensures runs { result ≢ Err AppFault.Memory
-        → RunsReport is_map (writing (W.taken out.old) (W.taken out.new) (W.failed out.new))
+        → RunsReport is_map (writing_to W.taken W.failed out.old out.new)
         (reported_of design.now bytes.now) result }
     ensures memory { result ≡ Err AppFault.Memory
-        → TakesNothing (writing (W.taken out.old) (W.taken out.new) (W.failed out.new)) }
+        → TakesNothing (writing_to W.taken W.failed out.old out.new) }
     ensures late { ends_before InputFile.Route result ≡ false }
 {
     let netlist = design.netlist();
     let problem = design.problem();
-    let routing = match parse_routing(alloc, bytes, netlist, problem) {
-        Ok(routing) => routing,
-        Err(fault) => return Err(fault),
-    };
+    let routing = parse_routing(alloc, bytes, netlist, problem)?;
     report_routing(alloc, design, &routing, bytes, out, is_map)
 }
 
@@ -120,16 +118,13 @@ fn report_design<R: ByteSource, W: ByteSink>(
 ) -> Result<(), AppFault>
     ensures runs { result ≢ Err AppFault.Memory
         → Meets (reading (R.remaining route.old) (R.failed route.new))
-        (λ r. RunsReport is_map (writing (W.taken out.old) (W.taken out.new) (W.failed out.new))
+        (λ r. RunsReport is_map (writing_to W.taken W.failed out.old out.new)
         (reported_on design.now r) result) }
     ensures memory { result ≡ Err AppFault.Memory
-        → TakesNothing (writing (W.taken out.old) (W.taken out.new) (W.failed out.new)) }
+        → TakesNothing (writing_to W.taken W.failed out.old out.new) }
     ensures late { ends_before InputFile.Route result ≡ false }
 {
-    let bytes = match read_input(alloc, route, InputFile::Route) {
-        Ok(bytes) => bytes,
-        Err(fault) => return Err(fault),
-    };
+    let bytes = read_input(alloc, route, InputFile::Route)?;
     report_bytes(alloc, design, &bytes, out, is_map)
 }
 
@@ -158,23 +153,17 @@ pub fn report_run<N: ByteSource, A: ByteSource, P: ByteSource, R: ByteSource, W:
         (reading (N.remaining net.old) (N.failed net.new))
         (reading (P.remaining place.old) (P.failed place.new))
         (λ files. Meets (reading (R.remaining route.old) (R.failed route.new))
-        (λ r. RunsReport is_map (writing (W.taken out.old) (W.taken out.new) (W.failed out.new))
+        (λ r. RunsReport is_map (writing_to W.taken W.failed out.old out.new)
         (reported_in width mode files r) result)) }
     // Nothing is written where memory runs out.
     ensures memory { result ≡ Err AppFault.Memory
-        → TakesNothing (writing (W.taken out.old) (W.taken out.new) (W.failed out.new)) }
+        → TakesNothing (writing_to W.taken W.failed out.old out.new) }
     // A file is not read where the run ended at one before it.
     ensures net { ends_before InputFile.Net result ≡ true → net.new ≡ net.old }
     ensures place { ends_before InputFile.Place result ≡ true → place.new ≡ place.old }
     ensures route { ends_before InputFile.Route result ≡ true → route.new ≡ route.old }
 {
-    let text = match NetlistText::read(alloc, arch, net) {
-        Ok(text) => text,
-        Err(fault) => return Err(fault),
-    };
-    let design = match Design::read(alloc, &text, place, width, mode) {
-        Ok(design) => design,
-        Err(fault) => return Err(fault),
-    };
+    let text = NetlistText::read(alloc, arch, net)?;
+    let design = Design::read(alloc, &text, place, width, mode)?;
     report_design(alloc, &design, route, out, is_map)
 }

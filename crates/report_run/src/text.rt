@@ -1,19 +1,17 @@
 //! Pieces of a report's lines, printed through a buffer.
 
 ghost use Rattle.std.specs.Prelude.{◌≡◌, ◌≤◌, ◌<◌, ◌^◌, max};
-ghost use Rattle.vpr_text.specs.Output.{Sends, stream};
+ghost use Rattle.vpr_text.specs.Output.{SendsTo};
 ghost use Rattle.report_run.specs.Texts.{hundredths_left, mean_text, name_text, quotient_text, share_text};
 
 use net_file::Netlist;
-use route_file::text::put_number;
 use rr_graph::Problem;
-use runs::{net_name, number_of_net};
-use vpr_text::{ByteSink, OutputBuffer};
+use run_inputs::{net_name, number_of_net};
+use text_output::{ByteSink, OutputBuffer, put_number};
 
 /// Prints how many of what there is.
 pub(crate) fn put_share<W: ByteSink>(out: &mut OutputBuffer, sink: &mut W, part: u64, whole: u64)
-    ensures { Sends (stream (W.taken sink.old) (W.failed sink.old) out.old)
-        (stream (W.taken sink.new) (W.failed sink.new) out.new) (share_text part whole) }
+    ensures { SendsTo W.taken W.failed sink.old sink.new out.old out.new (share_text part whole) }
 {
     put_number(out, sink, part);
     out.push(sink, b" of ");
@@ -33,8 +31,7 @@ fn hundredths_left(number: u64, by: u64) -> u64
 fn put_quotient<W: ByteSink>(out: &mut OutputBuffer, sink: &mut W, number: u64, by: u64)
     requires some { 1 ≤ by }
     requires few { by < 2 ^ 32 }
-    ensures { Sends (stream (W.taken sink.old) (W.failed sink.old) out.old)
-        (stream (W.taken sink.new) (W.failed sink.new) out.new) (quotient_text number by) }
+    ensures { SendsTo W.taken W.failed sink.old sink.new out.old out.new (quotient_text number by) }
 {
     let hundredths = hundredths_left(number, by);
     put_number(out, sink, number / by);
@@ -54,8 +51,7 @@ fn some_of(count: u32) -> u64
 
 /// Prints the mean of so many numbers with this sum.
 pub(crate) fn put_mean<W: ByteSink>(out: &mut OutputBuffer, sink: &mut W, sum: u64, count: u32)
-    ensures { Sends (stream (W.taken sink.old) (W.failed sink.old) out.old)
-        (stream (W.taken sink.new) (W.failed sink.new) out.new) (mean_text sum count) }
+    ensures { SendsTo W.taken W.failed sink.old sink.new out.old out.new (mean_text sum count) }
 {
     put_quotient(out, sink, sum, some_of(count));
 }
@@ -68,8 +64,7 @@ pub fn put_name<W: ByteSink>(
     problem: &Problem,
     net: u32,
 )
-    ensures { Sends (stream (W.taken sink.old) (W.failed sink.old) out.old)
-        (stream (W.taken sink.new) (W.failed sink.new) out.new)
+    ensures { SendsTo W.taken W.failed sink.old sink.new out.old out.new
         (name_text netlist.now problem.now net) }
 {
     let number = number_of_net(problem, net);

@@ -1,18 +1,17 @@
 //! The lines on the types of wire.
 
 ghost use Rattle.std.specs.Prelude.{◌≡◌, ◌<◌, get_or, length};
-ghost use Rattle.vpr_text.specs.Output.{Sends, stream};
+ghost use Rattle.vpr_text.specs.Output.{SendsTo};
 ghost use Rattle.report_run.specs.WireTypes.{no_type, type_line, type_line_at, type_lines};
 
 use crate::text::put_share;
-use route_file::text::put_number;
 use route_report::WireTypeUse;
-use vpr_text::{ByteSink, OutputBuffer};
+use text_output::{ByteSink, OutputBuffer, put_number};
 
 /// Prints the line of a type.
 fn put_type<W: ByteSink>(out: &mut OutputBuffer, sink: &mut W, number: usize, kind: &WireTypeUse)
-    ensures { Sends (stream (W.taken sink.old) (W.failed sink.old) out.old)
-        (stream (W.taken sink.new) (W.failed sink.new) out.new) (type_line number kind.now) }
+    ensures { SendsTo W.taken W.failed sink.old sink.new out.old out.new
+        (type_line number kind.now) }
 {
     out.push(sink, b"type ");
     put_number(out, sink, number);
@@ -34,16 +33,15 @@ fn put_type_at<W: ByteSink>(
     number: usize,
 )
     requires { number < length types.now }
-    ensures { Sends (stream (W.taken sink.old) (W.failed sink.old) out.old)
-        (stream (W.taken sink.new) (W.failed sink.new) out.new) (type_line_at types.now number) }
+    ensures { SendsTo W.taken W.failed sink.old sink.new out.old out.new
+        (type_line_at types.now number) }
 {
     put_type(out, sink, number, &types[number]);
 }
 
 /// Prints the lines of the types.
 pub(crate) fn put_types<W: ByteSink>(out: &mut OutputBuffer, sink: &mut W, types: &[WireTypeUse])
-    ensures { Sends (stream (W.taken sink.old) (W.failed sink.old) out.old)
-        (stream (W.taken sink.new) (W.failed sink.new) out.new) (type_lines types.now) }
+    ensures { SendsTo W.taken W.failed sink.old sink.new out.old out.new (type_lines types.now) }
 {
     for number in 0..types.len() {
         put_type_at(out, sink, types, number);

@@ -87,7 +87,7 @@ module _ (f : Fabric) (source : ℕ) (sinks : List ℕ) (pairs : List Pair) wher
   last true = refl
   last false = refl
 
-  by_tests : (dangles : Bool) → or_else (early_fault_of f source sinks pairs) (late_fault_of dangles f source sinks pairs) ≡ find (test_of dangles) all_faults
+  by_tests : (dangles : Bool) → or_else (early_fault_of f source sinks pairs) (late_fault_of dangles (is_listed f (net_of source sinks) pairs) sinks pairs) ≡ find (test_of dangles) all_faults
   unfolding early_fault_of late_fault_of
   by_tests dangles =
       let a = begins_elsewhere source pairs in
@@ -95,7 +95,7 @@ module _ (f : Fabric) (source : ℕ) (sinks : List ℕ) (pairs : List Pair) wher
       let c = reaches_twice source pairs in
       let d = leaves_twice source pairs in
       let e = has_foreign_sink f sinks pairs in
-      let late = late_fault_of dangles f source sinks pairs in
+      let late = late_fault_of dangles (is_listed f (net_of source sinks) pairs) sinks pairs in
       behind a WrongSource _ late
       ∙ ap (λ r. if a then Some WrongSource else r) (behind b NoSwitch _ late
       ∙ ap (λ r. if b then Some NoSwitch else r) (behind c NodeTwice _ late
@@ -103,6 +103,14 @@ module _ (f : Fabric) (source : ℕ) (sinks : List ℕ) (pairs : List Pair) wher
       ∙ ap (λ r. if d then Some SecondOutput else r) (behind e ForeignSink None late
       ∙ ap (λ r. if e then Some ForeignSink else (if dangles then Some Dangling else (if misses_sink sinks pairs then Some MissingSink else r)))
       (last (is_listed f (net_of source sinks) pairs))))))
+
+  -- the answer where no early test failed
+  pub reported_late : (dangles listed : Bool) (reported : Option TreeFault) → early_fault_of f source sinks pairs ≡ None →
+      TellsDangling dangles source sinks pairs → listed ≡ is_listed f (net_of source sinks) pairs → reported ≡ late_fault_of dangles listed sinks pairs →
+      IsReportedBy f source sinks pairs reported
+  reported_late dangles listed reported early tells order e =
+      subst (λ x. MatchOption x (IsReportedLate f source sinks pairs reported) (λ fault. reported ≡ Some fault)) (sym early)
+      (dangles, tells, e ∙ ap (λ l. late_fault_of dangles l sinks pairs) order)
 
 -- ---- what the tests say of a net of a problem
 module _ (p : RoutingProblem) (i : ℕ) (there : i < length p.nets) (pairs : List Pair) where
@@ -206,10 +214,10 @@ module _ (p : RoutingProblem) (i : ℕ) (there : i < length p.nets) (pairs : Lis
   judged_by : IsProblem p → (answer seen : Option TreeFault) → early_fault_of p.device n.source n.sinks pairs ≡ seen →
       MatchOption seen (IsReportedLate p.device n.source n.sinks pairs answer) (λ fault. answer ≡ Some fault) → Judges p i pairs answer
   judged_by keeps answer (Some fault) e reported =
-      let found = sym (by_tests p.device n.source n.sinks pairs false) ∙ ap (λ x. or_else x (late_fault_of false p.device n.source n.sinks pairs)) e in
+      let found = sym (by_tests p.device n.source n.sinks pairs false) ∙ ap (λ x. or_else x (late_fault_of false (is_listed p.device (net_of n.source n.sinks) pairs) n.sinks pairs)) e in
       subst (Judges p i pairs) (sym reported) (early fault found (early_low p.device n.source n.sinks pairs fault e))
   judged_by keeps answer None e reported =
-      let found = sym (by_tests p.device n.source n.sinks pairs reported.0) ∙ ap (λ x. or_else x (late_fault_of reported.0 p.device n.source n.sinks pairs)) e
+      let found = sym (by_tests p.device n.source n.sinks pairs reported.0) ∙ ap (λ x. or_else x (late_fault_of reported.0 (is_listed p.device (net_of n.source n.sinks) pairs) n.sinks pairs)) e
       ∙ sym reported.2 in
       late reported.0 reported.1 keeps answer found
 

@@ -13,7 +13,7 @@ use Rattle.routing_problem.proofs.Ranges.{get_below, length_below, list_any-map,
 use Rattle.route_tree.specs.Paths.{Pair, ends_of}
 use Rattle.route_tree.specs.Legality.{is_among, has_twice}
 use Rattle.route_tree.proofs.Members.{among_contains, among_ends, once_each, some_place}
-use Rattle.route_check.specs.declared.ends.End.{End}
+use Rattle.route_check.specs.declared.listing.End.{End}
 use Rattle.route_check.specs.kept.Ends.{no_end, end_in, end_at, AreEnds, IsRowOf, IsPlaceOf, is_repeated_at, is_repeated}
 use Rattle.route_check.proofs.Twice.{two_places, twice_permuted}
 

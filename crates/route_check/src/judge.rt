@@ -6,6 +6,7 @@ ghost use Rattle.route_check.specs.Nets.{JudgesNet};
 
 use crate::fault::RouteFault;
 use crate::ladder::list_fault;
+use crate::terminals::BorrowedTerminals;
 use route_tree::{Pairs, TreeFault};
 use routing_problem::Problem;
 use std::alloc::{AllocError, Global};
@@ -21,9 +22,11 @@ fn tree_fault(
     ensures { IfOk result (Judges problem.now net pairs.now) }
 {
     let _limits = problem.nets();
-    let source = problem.source(net);
-    let sinks = problem.sinks(net);
-    list_fault(alloc, problem.device(), source, sinks, pairs)
+    let net = BorrowedTerminals {
+        source: problem.source(net),
+        sinks: problem.sinks(net),
+    };
+    list_fault(alloc, problem.device(), &net, pairs)
 }
 
 /// What is wrong with a net of a routing that has an entry for each net.

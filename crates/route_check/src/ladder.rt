@@ -8,11 +8,12 @@ ghost use Rattle.routing_problem.specs.Problems.{is_sink};
 ghost use Rattle.route_tree.specs.Paths.{ends_of};
 ghost use Rattle.route_tree.specs.Legality.{is_among, is_listed};
 ghost use Rattle.route_tree.specs.Faults.{begins_elsewhere, lacks_switch, reaches_twice, leaves_twice, has_foreign_sink, misses_sink};
-ghost use Rattle.route_check.specs.kept.Ends.{AreEnds, no_end};
+ghost use Rattle.route_check.specs.kept.Ends.{no_end};
 ghost use Rattle.route_check.specs.kept.Judged.{net_of, is_foreign, early_fault_of, late_fault_of, TellsDangling, IsReportedBy};
 
-use crate::ends::{End, reaches_twice, row_at, sorted_ends};
+use crate::listing::{End, Listing};
 use crate::order::is_listed;
+use crate::terminals::BorrowedTerminals;
 use crate::walks::dangles;
 use route_tree::TreeFault;
 use routing_problem::Device;
@@ -84,34 +85,30 @@ fn has_foreign_end(device: &Device, sinks: &[u32], ends: &[End]) -> bool
 }
 
 /// Whether among the nodes in which pairs end there is a sink of the device that is none of these.
-fn has_foreign_sink(device: &Device, sinks: &[u32], pairs: &[(u32, u32)], ends: &[End]) -> bool
-    requires ends { AreEnds pairs.now ends.now }
-    requires ascending { IsStrictlyIncreasing sinks.now }
-    ensures { result ≡ has_foreign_sink device.now sinks.now pairs.now }
+fn has_foreign_sink(device: &Device, sinks: &[u32], listing: &Listing<'_>) -> bool
+    requires { IsStrictlyIncreasing sinks.now }
+    ensures { result ≡ has_foreign_sink device.now sinks.now listing.now }
 {
-    let _ = pairs;
-    has_foreign_end(device, sinks, ends)
+    has_foreign_end(device, sinks, listing.ends())
 }
 
 /// Whether no pair ends in the sink of this place.
-fn is_missed(sinks: &[u32], pairs: &[(u32, u32)], ends: &[End], place: usize) -> bool
-    requires ends { AreEnds pairs.now ends.now }
-    requires there { place < length sinks.now }
-    ensures { result ≡ not (is_among (ends_of pairs.now) (get_or sinks.now place 0)) }
+fn is_missed(sinks: &[u32], listing: &Listing<'_>, place: usize) -> bool
+    requires { place < length sinks.now }
+    ensures { result ≡ not (is_among (ends_of listing.now) (get_or sinks.now place 0)) }
 {
-    match row_at(pairs, ends, place, sinks[place]) {
+    match listing.row_at(place, sinks[place]) {
         None => true,
         Some(_) => false,
     }
 }
 
 /// Whether at one of the sinks no pair ends.
-fn misses_sink(sinks: &[u32], pairs: &[(u32, u32)], ends: &[End]) -> bool
-    requires { AreEnds pairs.now ends.now }
-    ensures { result ≡ misses_sink sinks.now pairs.now }
+fn misses_sink(sinks: &[u32], listing: &Listing<'_>) -> bool
+    ensures { result ≡ misses_sink sinks.now listing.now }
 {
     for place in 0..sinks.len() {
-        if is_missed(sinks, pairs, ends, place) {
+        if is_missed(sinks, listing, place) {
             return true;
         }
     }
@@ -122,28 +119,26 @@ fn misses_sink(sinks: &[u32], pairs: &[(u32, u32)], ends: &[End]) -> bool
 #[tactic(auto, unfolding(crate::specs::kept::Judged::early_fault_of))]
 fn early_fault(
     device: &Device,
-    source: u32,
-    sinks: &[u32],
-    pairs: &[(u32, u32)],
-    ends: &[End],
+    net: &BorrowedTerminals<'_>,
+    listing: &Listing<'_>,
 ) -> Option<TreeFault>
-    requires ends { AreEnds pairs.now ends.now }
-    requires ascending { IsStrictlyIncreasing sinks.now }
-    ensures { result ≡ early_fault_of device.now source sinks.now pairs.now }
+    requires { IsStrictlyIncreasing net.now.sinks.now }
+    ensures { result ≡ early_fault_of device.now net.now.source net.now.sinks.now listing.now }
 {
-    if begins_elsewhere(source, pairs) {
+    let pairs = listing.pairs();
+    if begins_elsewhere(net.source, pairs) {
         return Some(TreeFault::WrongSource);
     }
     if lacks_switch(device, pairs) {
         return Some(TreeFault::NoSwitch);
     }
-    if reaches_twice(source, pairs, ends) {
+    if listing.reaches_twice(net.source) {
         return Some(TreeFault::NodeTwice);
     }
-    if leaves_twice(source, pairs) {
+    if leaves_twice(net.source, pairs) {
         return Some(TreeFault::SecondOutput);
     }
-    if has_foreign_sink(device, sinks, pairs, ends) {
+    if has_foreign_sink(device, net.sinks, listing) {
         return Some(TreeFault::ForeignSink);
     }
     None
@@ -154,22 +149,15 @@ fn early_fault(
 fn late_fault(
     dangles: bool,
     listed: bool,
-    device: &Device,
-    source: u32,
     sinks: &[u32],
-    pairs: &[(u32, u32)],
-    ends: &[End],
+    listing: &Listing<'_>,
 ) -> Option<TreeFault>
-    requires ends { AreEnds pairs.now ends.now }
-    requires listed { listed ≡ is_listed device.now (net_of source sinks.now) pairs.now }
-    ensures { result ≡ late_fault_of dangles device.now source sinks.now pairs.now }
+    ensures { result ≡ late_fault_of dangles listed sinks.now listing.now }
 {
-    let _ = device;
-    let _ = source;
     if dangles {
         return Some(TreeFault::Dangling);
     }
-    if misses_sink(sinks, pairs, ends) {
+    if misses_sink(sinks, listing) {
         return Some(TreeFault::MissingSink);
     }
     if !listed {
@@ -178,24 +166,23 @@ fn late_fault(
     None
 }
 
-/// The first fault of a list for a net of this source and these sinks.
+/// The first fault of a list for a net.
 pub(crate) fn list_fault(
     alloc: Global,
     device: &Device,
-    source: u32,
-    sinks: &[u32],
+    net: &BorrowedTerminals<'_>,
     pairs: &[(u32, u32)],
 ) -> Result<Option<TreeFault>, AllocError>
-    requires { IsStrictlyIncreasing sinks.now }
-    ensures { IfOk result (IsReportedBy device.now source sinks.now pairs.now) }
+    requires { IsStrictlyIncreasing net.now.sinks.now }
+    ensures { IfOk result (IsReportedBy device.now net.now.source net.now.sinks.now pairs.now) }
 {
-    let ends = sorted_ends(alloc, pairs)?;
-    match early_fault(device, source, sinks, pairs, &ends) {
+    let listing = Listing::new(alloc, pairs)?;
+    match early_fault(device, net, &listing) {
         Some(fault) => Ok(Some(fault)),
         None => {
-            let listed = is_listed(device, source, sinks, pairs, &ends);
-            let reported = dangles(alloc, listed, device, source, sinks, pairs, &ends)?;
-            Ok(late_fault(reported, listed, device, source, sinks, pairs, &ends))
+            let listed = is_listed(device, net, &listing);
+            let reported = dangles(alloc, listed, device, net, &listing)?;
+            Ok(late_fault(reported, listed, net.sinks, &listing))
         }
     }
 }

@@ -2,11 +2,12 @@
 #![tactic(auto)]
 
 mod check;
-mod ends;
 mod fault;
 mod judge;
 mod ladder;
+mod listing;
 mod order;
+mod terminals;
 mod usage;
 mod walks;
 

@@ -5,41 +5,40 @@ ghost use Rattle.std.specs.Bool.{MatchBool};
 ghost use Rattle.std.specs.List.{list_any};
 ghost use Rattle.route_tree.specs.Legality.{is_listed};
 ghost use Rattle.route_tree.specs.Faults.{reaches_twice, has_foreign_sink};
-ghost use Rattle.route_check.specs.kept.Ends.{AreEnds, end_in};
+ghost use Rattle.route_check.specs.kept.Ends.{end_in};
 ghost use Rattle.route_check.specs.kept.Judged.{net_of, Dangles, TellsDangling};
 ghost use Rattle.route_check.specs.kept.Walks.{AreWalked, IsWalkedFrom, AreAllWalked};
 
-use crate::ends::{End, parent_of, row_of};
+use crate::listing::Listing;
 use crate::order::ends_in_sink;
+use crate::terminals::BorrowedTerminals;
 use routing_problem::Device;
 use std::alloc::{AllocError, Global};
 
 /// Walks from a pair up to the source, or to what an earlier walk met, and writes the walk's number to each pair that it meets.
 /// Whether it comes there: else it goes in a circle, or ends at a node that is not the source.
 fn climb(
-    source: u32,
-    sinks: &[u32],
-    pairs: &[(u32, u32)],
-    ends: &[End],
+    net: &BorrowedTerminals<'_>,
+    listing: &Listing<'_>,
     walks: &mut [usize],
     start: usize,
     walk: usize,
 ) -> bool
-    requires ends { AreEnds pairs.now ends.now }
-    requires once { reaches_twice source pairs.now ≡ false }
-    requires walked { AreWalked source sinks.now pairs.now walk walks.old }
-    requires there { start < length pairs.now }
-    requires sink { Contains sinks.now (end_in pairs.now start) }
+    requires once { reaches_twice net.now.source listing.now ≡ false }
+    requires walked { AreWalked net.now.source net.now.sinks.now listing.now walk walks.old }
+    requires there { start < length listing.now }
+    requires sink { Contains net.now.sinks.now (end_in listing.now start) }
     requires numbered { 0 < walk }
-    ensures { MatchBool result (IsWalkedFrom source sinks.now pairs.now walk (end_in pairs.now start) walks.old walks.new) (Dangles source sinks.now pairs.now) }
+    ensures { MatchBool result (IsWalkedFrom net.now.source net.now.sinks.now listing.now walk
+        (end_in listing.now start) walks.old walks.new)
+        (Dangles net.now.source net.now.sinks.now listing.now) }
 {
-    let _ = sinks;
     let mut row = start;
     while walks[row] == 0 {
         walks[row] = walk;
-        match parent_of(pairs, ends, row) {
+        match listing.parent_of(row) {
             Some(parent) => row = parent,
-            None => return pairs[row].0 == source,
+            None => return listing.begin(row) == net.source,
         }
     }
     walks[row] != walk
@@ -47,40 +46,33 @@ fn climb(
 
 /// Walks from a sink, where a pair ends there.
 fn climb_from(
-    source: u32,
-    sinks: &[u32],
-    pairs: &[(u32, u32)],
-    ends: &[End],
+    net: &BorrowedTerminals<'_>,
+    listing: &Listing<'_>,
     walks: &mut [usize],
     index: usize,
 ) -> bool
-    requires ends { AreEnds pairs.now ends.now }
-    requires once { reaches_twice source pairs.now ≡ false }
-    requires walked { AreWalked source sinks.now pairs.now (index + 1) walks.old }
-    requires there { index < length sinks.now }
-    ensures { MatchBool result (IsWalkedFrom source sinks.now pairs.now (index + 1) (get_or sinks.now index 0) walks.old walks.new) (Dangles source sinks.now pairs.now) }
+    requires once { reaches_twice net.now.source listing.now ≡ false }
+    requires walked { AreWalked net.now.source net.now.sinks.now listing.now (index + 1) walks.old }
+    requires there { index < length net.now.sinks.now }
+    ensures { MatchBool result (IsWalkedFrom net.now.source net.now.sinks.now listing.now
+        (index + 1) (get_or net.now.sinks.now index 0) walks.old walks.new)
+        (Dangles net.now.source net.now.sinks.now listing.now) }
 {
-    match row_of(pairs, ends, sinks[index]) {
+    match listing.row_of(net.sinks[index]) {
         None => true,
-        Some(row) => climb(source, sinks, pairs, ends, walks, row, index + 1),
+        Some(row) => climb(net, listing, walks, row, index + 1),
     }
 }
 
 /// Walks from each sink.
-fn climb_from_all(
-    source: u32,
-    sinks: &[u32],
-    pairs: &[(u32, u32)],
-    ends: &[End],
-    walks: &mut [usize],
-) -> bool
-    requires ends { AreEnds pairs.now ends.now }
-    requires once { reaches_twice source pairs.now ≡ false }
-    requires none { walks.old ≡ replicate (length pairs.now) 0 }
-    ensures { MatchBool result (AreAllWalked source sinks.now pairs.now walks.new) (Dangles source sinks.now pairs.now) }
+fn climb_from_all(net: &BorrowedTerminals<'_>, listing: &Listing<'_>, walks: &mut [usize]) -> bool
+    requires once { reaches_twice net.now.source listing.now ≡ false }
+    requires none { walks.old ≡ replicate (length listing.now) 0 }
+    ensures { MatchBool result (AreAllWalked net.now.source net.now.sinks.now listing.now walks.new)
+        (Dangles net.now.source net.now.sinks.now listing.now) }
 {
-    for index in 0..sinks.len() {
-        if !climb_from(source, sinks, pairs, ends, walks, index) {
+    for index in 0..net.sinks.len() {
+        if !climb_from(net, listing, walks, index) {
             return false;
         }
     }
@@ -96,19 +88,12 @@ fn is_one_unmet(walks: &[usize]) -> bool
 
 /// Whether a pair is on no way from the source to a sink. No pair was met before.
 #[tactic(auto, using(crate::proofs::Walked::reported))]
-fn has_unmet(
-    source: u32,
-    sinks: &[u32],
-    pairs: &[(u32, u32)],
-    ends: &[End],
-    walks: &mut [usize],
-) -> bool
-    requires ends { AreEnds pairs.now ends.now }
-    requires once { reaches_twice source pairs.now ≡ false }
-    requires none { walks.old ≡ replicate (length pairs.now) 0 }
-    ensures { TellsDangling result source sinks.now pairs.now }
+fn has_unmet(net: &BorrowedTerminals<'_>, listing: &Listing<'_>, walks: &mut [usize]) -> bool
+    requires once { reaches_twice net.now.source listing.now ≡ false }
+    requires none { walks.old ≡ replicate (length listing.now) 0 }
+    ensures { TellsDangling result net.now.source net.now.sinks.now listing.now }
 {
-    if !climb_from_all(source, sinks, pairs, ends, walks) {
+    if !climb_from_all(net, listing, walks) {
         return true;
     }
     is_one_unmet(walks)
@@ -117,17 +102,15 @@ fn has_unmet(
 /// Whether a pair is on no way from the source to a sink, by walks.
 fn is_unmet(
     alloc: Global,
-    source: u32,
-    sinks: &[u32],
-    pairs: &[(u32, u32)],
-    ends: &[End],
+    net: &BorrowedTerminals<'_>,
+    listing: &Listing<'_>,
 ) -> Result<bool, AllocError>
-    requires ends { AreEnds pairs.now ends.now }
-    requires once { reaches_twice source pairs.now ≡ false }
-    ensures { IfOk result (λ reported. TellsDangling reported source sinks.now pairs.now) }
+    requires once { reaches_twice net.now.source listing.now ≡ false }
+    ensures { IfOk result
+        (λ reported. TellsDangling reported net.now.source net.now.sinks.now listing.now) }
 {
-    let mut walks = vec![in alloc; 0; pairs.len()]?;
-    Ok(has_unmet(source, sinks, pairs, ends, &mut walks))
+    let mut walks = vec![in alloc; 0; listing.len()]?;
+    Ok(has_unmet(net, listing, &mut walks))
 }
 
 /// Whether a pair is on no way from the source to a sink, where it is known whether the pairs are in order. Of those that are, each is on
@@ -136,20 +119,19 @@ pub(crate) fn dangles(
     alloc: Global,
     listed: bool,
     device: &Device,
-    source: u32,
-    sinks: &[u32],
-    pairs: &[(u32, u32)],
-    ends: &[End],
+    net: &BorrowedTerminals<'_>,
+    listing: &Listing<'_>,
 ) -> Result<bool, AllocError>
-    requires ends { AreEnds pairs.now ends.now }
-    requires once { reaches_twice source pairs.now ≡ false }
-    requires own { has_foreign_sink device.now sinks.now pairs.now ≡ false }
-    requires some { 1 ≤ length pairs.now }
-    requires listed { listed ≡ is_listed device.now (net_of source sinks.now) pairs.now }
-    ensures { IfOk result (λ reported. TellsDangling reported source sinks.now pairs.now) }
+    requires once { reaches_twice net.now.source listing.now ≡ false }
+    requires own { has_foreign_sink device.now net.now.sinks.now listing.now ≡ false }
+    requires some { 1 ≤ length listing.now }
+    requires listed { listed
+        ≡ is_listed device.now (net_of net.now.source net.now.sinks.now) listing.now }
+    ensures { IfOk result
+        (λ reported. TellsDangling reported net.now.source net.now.sinks.now listing.now) }
 {
-    if listed && ends_in_sink(device, pairs) {
+    if listed && ends_in_sink(device, listing) {
         return Ok(false);
     }
-    is_unmet(alloc, source, sinks, pairs, ends)
+    is_unmet(alloc, net, listing)
 }

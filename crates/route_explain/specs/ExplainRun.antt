@@ -1,10 +1,10 @@
 -- What a run of `check` that explains its verdict answers and prints (ours).
 use Rattle.std.specs.Prelude.{◌≡◌, ◌≢◌, ℕ, List, Option, Result, Ok, Err}
 use Rattle.route_check.specs.declared.fault.RouteFault.{RouteFault}
-use Rattle.runs.specs.declared.fault.AppFault.{AppFault}
-use Rattle.runs.specs.declared.fault.AppFault.TheVariants.{Memory}
+use Rattle.run_inputs.specs.declared.fault.AppFault.{AppFault}
+use Rattle.run_inputs.specs.declared.fault.AppFault.TheVariants.{Memory}
 use Rattle.runs.specs.CheckRun.{Judged, PrintsVerdict}
-use Rattle.runs.specs.Runs.{StopsOrGoesOn, TakesNothing, Writing}
+use Rattle.run_inputs.specs.Runs.{StopsOrGoesOn, TakesNothing, Writing}
 use Rattle.report_run.specs.ReportRun.{Reported}
 use Rattle.route_explain.specs.Explanation.{PrintsExplanation}
 

@@ -13,8 +13,8 @@ use Rattle.route_check.specs.declared.fault.RouteFault.TheVariants.{Tree}
 use Rattle.route_check.specs.Nets.{AreJudged}
 use Rattle.route_report.specs.Covered.{uses_of}
 use Rattle.route_report.specs.Overused.{overused_nodes}
-use Rattle.runs.specs.declared.fault.AppFault.{AppFault}
-use Rattle.runs.specs.Runs.{PrintsText, Writing}
+use Rattle.run_inputs.specs.declared.fault.AppFault.{AppFault}
+use Rattle.run_inputs.specs.Runs.{PrintsText, Writing}
 use Rattle.runs.specs.Verdict.{tree_fault_text}
 use Rattle.report_run.specs.Overused.{overuse_lines}
 use Rattle.report_run.specs.Texts.{name_text}

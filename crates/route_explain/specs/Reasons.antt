@@ -6,7 +6,7 @@ use Rattle.rr_graph.specs.Nodes.{node_at}
 use Rattle.route_tree.specs.declared.fault.TreeFault.{TreeFault}
 use Rattle.route_tree.specs.declared.fault.TreeFault.TheVariants.{NoNet, WrongSource, NoSwitch, NodeTwice, SecondOutput, ForeignSink, Dangling, MissingSink, Order}
 use Rattle.route_tree.specs.Paths.{Pair}
-use Rattle.runs.specs.Verdict.{text_of_node}
+use Rattle.text_output.specs.NodeTexts.{text_of_node}
 use Rattle.route_explain.specs.Steps.{ends_at, pair_at, row_cut_off, row_out_of_order, row_that_ends_again, row_to_dead_end, row_to_foreign_sink, row_without_switch}
 use Rattle.route_explain.specs.Switches.{switch_reason}
 

@@ -1,8 +1,8 @@
 //! The explanation of what is wrong with a routing.
 
 ghost use Rattle.std.specs.Prelude.{◌≡◌, ◌≢◌, Err, length};
-ghost use Rattle.vpr_text.specs.Output.{Sends, stream};
-ghost use Rattle.runs.specs.Runs.{PrintsText, TakesNothing, writing};
+ghost use Rattle.vpr_text.specs.Output.{SendsTo};
+ghost use Rattle.run_inputs.specs.Runs.{PrintsText, TakesNothing, writing_to};
 ghost use Rattle.route_explain.specs.Explanation.{PrintsExplanation, explanation_text};
 ghost use Rattle.route_explain.specs.kept.Findings.{AreFindings};
 
@@ -13,10 +13,11 @@ use net_file::Netlist;
 use report_run::put_overused;
 use route_tree::{Pairs, Routing};
 use rr_graph::Problem;
-use runs::AppFault;
+use run_inputs::AppFault;
 use std::alloc::AllocGlobal;
 use std::thread::Threads;
-use vpr_text::{ByteSink, Lines, OutputBuffer};
+use text_output::{ByteSink, OutputBuffer};
+use vpr_text::Lines;
 
 /// Prints an explanation through a buffer.
 fn put_explanation<W: ByteSink>(
@@ -30,8 +31,7 @@ fn put_explanation<W: ByteSink>(
     found: &Findings,
 )
     requires { AreFindings netlist.now problem.now lines.now lists.now found.now }
-    ensures { Sends (stream (W.taken sink.old) (W.failed sink.old) out.old)
-        (stream (W.taken sink.new) (W.failed sink.new) out.new)
+    ensures { SendsTo W.taken W.failed sink.old sink.new out.old out.new
         (explanation_text path.now netlist.now problem.now lines.now lists.now
         found.now.faults.items) }
 {
@@ -59,7 +59,7 @@ fn print_explanation<W: ByteSink>(
     out: &mut W,
 ) -> Result<(), AppFault>
     requires { AreFindings netlist.now problem.now lines.now lists.now found.now }
-    ensures { PrintsText (writing (W.taken out.old) (W.taken out.new) (W.failed out.new))
+    ensures { PrintsText (writing_to W.taken W.failed out.old out.new)
         (explanation_text path.now netlist.now problem.now lines.now lists.now
         found.now.faults.items) tt result }
 {
@@ -101,11 +101,11 @@ pub fn explain<W: ByteSink>(
     requires { length routing.now ≡ length problem.now.nets }
     // The explanation is that of each net's first fault.
     ensures prints { result ≢ Err AppFault.Memory
-        → PrintsExplanation (writing (W.taken out.old) (W.taken out.new) (W.failed out.new))
+        → PrintsExplanation (writing_to W.taken W.failed out.old out.new)
         path.now netlist.now problem.now lines.now routing.now result }
     // Nothing is written where memory runs out.
     ensures memory { result ≡ Err AppFault.Memory
-        → TakesNothing (writing (W.taken out.old) (W.taken out.new) (W.failed out.new)) }
+        → TakesNothing (writing_to W.taken W.failed out.old out.new) }
 {
     let found = match Findings::new(rt, netlist, problem, lines, routing) {
         Ok(found) => found,

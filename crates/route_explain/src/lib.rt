@@ -4,6 +4,7 @@
 mod explanation;
 mod findings;
 mod index;
+mod indexed_list;
 pub mod laws;
 mod lines;
 mod nets;

@@ -5,7 +5,8 @@ ghost use Rattle.std.specs.Option.{option_or};
 ghost use Rattle.route_explain.specs.Lines.{ends_step, first_node_line, left_after, line_of_spot, spot_line, step_line};
 
 use crate::spots::Spot;
-use route_file::{begins_section, line_number, node_named};
+use line_reader::line_number;
+use route_file::{begins_section, node_named};
 use rr_graph::Device;
 use vpr_text::Lines;
 

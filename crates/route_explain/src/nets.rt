@@ -1,7 +1,7 @@
 //! The lines on the nets that have a fault.
 
 ghost use Rattle.std.specs.Prelude.{◌≡◌, ◌<◌, None, Some, get_or, length};
-ghost use Rattle.vpr_text.specs.Output.{Sends, stream};
+ghost use Rattle.vpr_text.specs.Output.{SendsTo};
 ghost use Rattle.rr_graph.specs.Problems.{net_in};
 ghost use Rattle.route_tree.specs.Usage.{list_in};
 ghost use Rattle.route_explain.specs.Explanation.{fault_line, fault_text, fault_words, net_lines, net_text, net_text_at, pairs_in, tree_fault_in, tree_fault_words};
@@ -11,6 +11,7 @@ ghost use Rattle.route_explain.specs.kept.Places.{IsIndex};
 
 use crate::findings::Findings;
 use crate::index::NetIndex;
+use crate::indexed_list::IndexedList;
 use crate::lines::line_of_spot;
 use crate::reasons::put_reason;
 use crate::spots::fault_spot;
@@ -21,8 +22,10 @@ use report_run::put_name;
 use route_check::RouteFault;
 use route_tree::{Pairs, TreeFault};
 use rr_graph::Problem;
-use runs::{number_of_net, tree_fault_name};
-use vpr_text::{ByteSink, Lines, OutputBuffer};
+use run_inputs::number_of_net;
+use runs::tree_fault_name;
+use text_output::{ByteSink, OutputBuffer};
+use vpr_text::Lines;
 
 /// Prints the name of a fault of a net's list, and what it means.
 fn put_tree_fault<W: ByteSink>(
@@ -36,8 +39,7 @@ fn put_tree_fault<W: ByteSink>(
 )
     requires there { net < length problem.now.nets }
     requires index { IsIndex (net_in problem.now.nets net).sinks pairs.now index.now }
-    ensures { Sends (stream (W.taken sink.old) (W.failed sink.old) out.old)
-        (stream (W.taken sink.new) (W.failed sink.new) out.new)
+    ensures { SendsTo W.taken W.failed sink.old sink.new out.old out.new
         (tree_fault_words problem.now.device (net_in problem.now.nets net) pairs.now fault) }
 {
     let device = problem.device();
@@ -45,7 +47,8 @@ fn put_tree_fault<W: ByteSink>(
     let sinks = problem.sinks(net);
     out.push(sink, tree_fault_name(fault));
     out.push(sink, b": ");
-    put_reason(out, sink, index, device, source, sinks, pairs, fault);
+    let list = IndexedList::new(sinks, pairs, index);
+    put_reason(out, sink, &list, device, source, fault);
 }
 
 /// Prints the name of a net's fault, and what it means.
@@ -60,8 +63,7 @@ fn put_fault_words<W: ByteSink>(
 )
     requires there { net < length problem.now.nets }
     requires index { IsIndex (net_in problem.now.nets net).sinks pairs.now index.now }
-    ensures { Sends (stream (W.taken sink.old) (W.failed sink.old) out.old)
-        (stream (W.taken sink.new) (W.failed sink.new) out.new)
+    ensures { SendsTo W.taken W.failed sink.old sink.new out.old out.new
         (fault_words problem.now.device (net_in problem.now.nets net) pairs.now fault) }
 {
     match fault {
@@ -134,8 +136,7 @@ fn put_fault<W: ByteSink>(
 )
     requires there { net < length problem.now.nets }
     requires index { IsIndexOf problem.now lists.now net index.now }
-    ensures { Sends (stream (W.taken sink.old) (W.failed sink.old) out.old)
-        (stream (W.taken sink.new) (W.failed sink.new) out.new)
+    ensures { SendsTo W.taken W.failed sink.old sink.new out.old out.new
         (fault_text netlist.now problem.now lists.now net fault) }
 {
     let pairs = pairs_at(lists, net);
@@ -164,33 +165,12 @@ fn put_fault_line<W: ByteSink>(
     requires there { net < length problem.now.nets }
     requires index { IsIndexOf problem.now lists.now net index.now }
     requires starts { found.now.starts.items ≡ starts_of netlist.now lines.now }
-    ensures { Sends (stream (W.taken sink.old) (W.failed sink.old) out.old)
-        (stream (W.taken sink.new) (W.failed sink.new) out.new)
+    ensures { SendsTo W.taken W.failed sink.old sink.new out.old out.new
         (fault_line path.now netlist.now problem.now lines.now lists.now net fault) }
 {
     let line = fault_line_number(problem, lines, lists, found, index, net, fault);
     put_where(out, sink, path, line);
     put_fault(out, sink, netlist, problem, lists, index, net, fault);
-}
-
-/// The index of a net's list, of a net that has a fault.
-fn index_at<'a>(
-    problem: &Problem,
-    lists: &[Option<Pairs>],
-    found: &'a Findings,
-    net: u32,
-    fault: RouteFault,
-) -> &'a NetIndex
-    requires there { net < length problem.now.nets }
-    requires indexed { AreIndexes problem.now lists.now found.now.faults.items
-        (length problem.now.nets) found.now.indexes.items }
-    requires faulty { Some fault ≡ get_or found.now.faults.items net None }
-    ensures { IsIndexOf problem.now lists.now net result.now }
-{
-    let _ = problem;
-    let _ = lists;
-    let _ = fault;
-    &found.indexes[net as usize]
 }
 
 /// Prints the line of a net, if it has a fault.
@@ -209,12 +189,11 @@ fn put_net<W: ByteSink>(
     requires there { net < length problem.now.nets }
     requires found { AreFindings netlist.now problem.now lines.now lists.now found.now }
     requires fault { fault ≡ get_or found.now.faults.items net None }
-    ensures { Sends (stream (W.taken sink.old) (W.failed sink.old) out.old)
-        (stream (W.taken sink.new) (W.failed sink.new) out.new)
+    ensures { SendsTo W.taken W.failed sink.old sink.new out.old out.new
         (net_text path.now netlist.now problem.now lines.now lists.now net fault) }
 {
     if let Some(fault) = fault {
-        let index = index_at(problem, lists, found, net, fault);
+        let index = &found.indexes[net as usize];
         put_fault_line(
             out, sink, path, netlist, problem, lines, lists, found, index, net, fault,
         );
@@ -235,10 +214,9 @@ fn put_net_at<W: ByteSink>(
 )
     requires there { net < length problem.now.nets }
     requires found { AreFindings netlist.now problem.now lines.now lists.now found.now }
-    ensures { Sends (stream (W.taken sink.old) (W.failed sink.old) out.old)
-        (stream (W.taken sink.new) (W.failed sink.new) out.new)
-        (net_text_at path.now netlist.now problem.now lines.now lists.now
-        found.now.faults.items net) }
+    ensures { SendsTo W.taken W.failed sink.old sink.new out.old out.new
+        (net_text_at path.now netlist.now problem.now lines.now lists.now found.now.faults.items
+        net) }
 {
     let fault = fault_at(&found.faults, net);
     put_net(
@@ -258,10 +236,8 @@ pub(crate) fn put_nets<W: ByteSink>(
     found: &Findings,
 )
     requires { AreFindings netlist.now problem.now lines.now lists.now found.now }
-    ensures { Sends (stream (W.taken sink.old) (W.failed sink.old) out.old)
-        (stream (W.taken sink.new) (W.failed sink.new) out.new)
-        (net_lines path.now netlist.now problem.now lines.now lists.now
-        found.now.faults.items) }
+    ensures { SendsTo W.taken W.failed sink.old sink.new out.old out.new
+        (net_lines path.now netlist.now problem.now lines.now lists.now found.now.faults.items) }
 {
     for net in 0..problem.nets() {
         put_net_at(out, sink, path, netlist, problem, lines, lists, found, net);

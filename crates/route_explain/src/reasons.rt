@@ -2,22 +2,20 @@
 
 ghost use Rattle.std.specs.Prelude.{◌≡◌, ◌++◌, codes};
 ghost use Rattle.std.specs.List.{flat_map};
-ghost use Rattle.vpr_text.specs.Output.{Sends, stream};
-ghost use Rattle.route_explain.specs.kept.Places.{IsIndex};
+ghost use Rattle.vpr_text.specs.Output.{SendsTo};
 ghost use Rattle.route_explain.specs.Reasons.{apart_text, beginning_text, dangling_text, foreign_sink_text, leaving_text, loose_text, met_again_text, missing_sinks_text, missing_text, no_switch_text, other_beginning_text, out_of_order_text, outputs_text, reason_text, why_text};
 
-use crate::index::NetIndex;
+use crate::indexed_list::IndexedList;
 use crate::order::row_out_of_order;
 use crate::steps::{
-    ends_at, pair_at, row_cut_off, row_that_ends_again, row_to_dead_end, row_to_foreign_sink,
+    pair_at, row_cut_off, row_that_ends_again, row_to_dead_end, row_to_foreign_sink,
     row_without_switch,
 };
 use crate::switches::switch_reason;
 use crate::text::{put_after, put_end, put_step};
 use route_tree::TreeFault;
 use rr_graph::Device;
-use runs::put_node_of;
-use vpr_text::{ByteSink, OutputBuffer};
+use text_output::{ByteSink, OutputBuffer, put_node_of};
 
 /// Prints at which node a list begins, and at which it should.
 fn put_other_beginning<W: ByteSink>(
@@ -27,8 +25,7 @@ fn put_other_beginning<W: ByteSink>(
     source: u32,
     node: u32,
 )
-    ensures { Sends (stream (W.taken sink.old) (W.failed sink.old) out.old)
-        (stream (W.taken sink.new) (W.failed sink.new) out.new)
+    ensures { SendsTo W.taken W.failed sink.old sink.new out.old out.new
         (other_beginning_text device.now source node) }
 {
     out.push(sink, b"the first step leaves ");
@@ -45,8 +42,7 @@ fn put_beginning<W: ByteSink>(
     source: u32,
     pairs: &[(u32, u32)],
 )
-    ensures { Sends (stream (W.taken sink.old) (W.failed sink.old) out.old)
-        (stream (W.taken sink.new) (W.failed sink.new) out.new)
+    ensures { SendsTo W.taken W.failed sink.old sink.new out.old out.new
         (beginning_text device.now source pairs.now) }
 {
     if pairs.is_empty() {
@@ -57,8 +53,8 @@ fn put_beginning<W: ByteSink>(
 
 /// Prints a reason.
 fn put_because<W: ByteSink>(out: &mut OutputBuffer, sink: &mut W, reason: &[u8])
-    ensures { Sends (stream (W.taken sink.old) (W.failed sink.old) out.old)
-        (stream (W.taken sink.new) (W.failed sink.new) out.new) (codes ": " ++ reason.now) }
+    ensures { SendsTo W.taken W.failed sink.old sink.new out.old out.new
+        (codes ": " ++ reason.now) }
 {
     out.push(sink, b": ");
     out.push(sink, reason);
@@ -72,8 +68,7 @@ fn put_why<W: ByteSink>(
     pairs: &[(u32, u32)],
     row: Option<usize>,
 )
-    ensures { Sends (stream (W.taken sink.old) (W.failed sink.old) out.old)
-        (stream (W.taken sink.new) (W.failed sink.new) out.new)
+    ensures { SendsTo W.taken W.failed sink.old sink.new out.old out.new
         (why_text device.now pairs.now row) }
 {
     if let Some(row) = row {
@@ -88,8 +83,7 @@ fn put_no_switch<W: ByteSink>(
     device: &Device,
     pairs: &[(u32, u32)],
 )
-    ensures { Sends (stream (W.taken sink.old) (W.failed sink.old) out.old)
-        (stream (W.taken sink.new) (W.failed sink.new) out.new)
+    ensures { SendsTo W.taken W.failed sink.old sink.new out.old out.new
         (no_switch_text device.now pairs.now) }
 {
     let row = row_without_switch(device, pairs);
@@ -102,20 +96,16 @@ fn put_no_switch<W: ByteSink>(
 fn put_met_again<W: ByteSink>(
     out: &mut OutputBuffer,
     sink: &mut W,
-    index: &NetIndex,
+    list: &IndexedList<'_>,
     device: &Device,
     source: u32,
-    sinks: &[u32],
-    pairs: &[(u32, u32)],
 )
-    requires { IsIndex sinks.now pairs.now index.now }
-    ensures { Sends (stream (W.taken sink.old) (W.failed sink.old) out.old)
-        (stream (W.taken sink.new) (W.failed sink.new) out.new)
-        (met_again_text device.now source pairs.now) }
+    ensures { SendsTo W.taken W.failed sink.old sink.new out.old out.new
+        (met_again_text device.now source list.now.pairs) }
 {
-    let row = row_that_ends_again(index, source, sinks, pairs);
+    let row = row_that_ends_again(list, source);
     out.push(sink, b"the steps come again to ");
-    put_end(out, sink, device, pairs, row);
+    put_end(out, sink, device, list.pairs(), row);
 }
 
 /// Prints the node to which a step leads, if it leaves the source.
@@ -126,8 +116,7 @@ fn put_leaving<W: ByteSink>(
     source: u32,
     pair: (u32, u32),
 )
-    ensures { Sends (stream (W.taken sink.old) (W.failed sink.old) out.old)
-        (stream (W.taken sink.new) (W.failed sink.new) out.new)
+    ensures { SendsTo W.taken W.failed sink.old sink.new out.old out.new
         (leaving_text device.now source pair) }
 {
     if pair.0 == source {
@@ -143,8 +132,7 @@ fn put_all_leaving<W: ByteSink>(
     source: u32,
     pairs: &[(u32, u32)],
 )
-    ensures { Sends (stream (W.taken sink.old) (W.failed sink.old) out.old)
-        (stream (W.taken sink.new) (W.failed sink.new) out.new)
+    ensures { SendsTo W.taken W.failed sink.old sink.new out.old out.new
         (flat_map (leaving_text device.now source) pairs.now) }
 {
     for pair in pairs {
@@ -160,8 +148,7 @@ fn put_outputs<W: ByteSink>(
     source: u32,
     pairs: &[(u32, u32)],
 )
-    ensures { Sends (stream (W.taken sink.old) (W.failed sink.old) out.old)
-        (stream (W.taken sink.new) (W.failed sink.new) out.new)
+    ensures { SendsTo W.taken W.failed sink.old sink.new out.old out.new
         (outputs_text device.now source pairs.now) }
 {
     out.push(sink, b"more than one step leaves ");
@@ -173,19 +160,15 @@ fn put_outputs<W: ByteSink>(
 fn put_foreign_sink<W: ByteSink>(
     out: &mut OutputBuffer,
     sink: &mut W,
-    index: &NetIndex,
+    list: &IndexedList<'_>,
     device: &Device,
-    sinks: &[u32],
-    pairs: &[(u32, u32)],
 )
-    requires { IsIndex sinks.now pairs.now index.now }
-    ensures { Sends (stream (W.taken sink.old) (W.failed sink.old) out.old)
-        (stream (W.taken sink.new) (W.failed sink.new) out.new)
-        (foreign_sink_text device.now sinks.now pairs.now) }
+    ensures { SendsTo W.taken W.failed sink.old sink.new out.old out.new
+        (foreign_sink_text device.now list.now.sinks list.now.pairs) }
 {
-    let row = row_to_foreign_sink(index, device, sinks, pairs);
+    let row = row_to_foreign_sink(list, device);
     out.push(sink, b"no sink of the net is ");
-    put_end(out, sink, device, pairs, row);
+    put_end(out, sink, device, list.pairs(), row);
 }
 
 /// Prints the node to which nothing leads, if a step begins at one, else that there is a circle.
@@ -196,8 +179,7 @@ fn put_apart<W: ByteSink>(
     pairs: &[(u32, u32)],
     row: Option<usize>,
 )
-    ensures { Sends (stream (W.taken sink.old) (W.failed sink.old) out.old)
-        (stream (W.taken sink.new) (W.failed sink.new) out.new)
+    ensures { SendsTo W.taken W.failed sink.old sink.new out.old out.new
         (apart_text device.now pairs.now row) }
 {
     match row {
@@ -216,32 +198,22 @@ fn put_apart<W: ByteSink>(
 fn put_loose<W: ByteSink>(
     out: &mut OutputBuffer,
     sink: &mut W,
-    index: &NetIndex,
+    list: &IndexedList<'_>,
     device: &Device,
     source: u32,
-    sinks: &[u32],
-    pairs: &[(u32, u32)],
     row: Option<usize>,
 )
-    requires { IsIndex sinks.now pairs.now index.now }
-    ensures { Sends (stream (W.taken sink.old) (W.failed sink.old) out.old)
-        (stream (W.taken sink.new) (W.failed sink.new) out.new)
-        (loose_text device.now source pairs.now row) }
+    ensures { SendsTo W.taken W.failed sink.old sink.new out.old out.new
+        (loose_text device.now source list.now.pairs row) }
 {
     match row {
-        None => put_apart(
-            out,
-            sink,
-            device,
-            pairs,
-            row_cut_off(index, source, sinks, pairs),
-        ),
+        None => put_apart(out, sink, device, list.pairs(), row_cut_off(list, source)),
         Some(row) => put_after(
             out,
             sink,
             device,
             b"no step goes on from ",
-            pair_at(pairs, row).1,
+            list.pair_at(row).1,
         ),
     }
 }
@@ -250,37 +222,29 @@ fn put_loose<W: ByteSink>(
 fn put_dangling<W: ByteSink>(
     out: &mut OutputBuffer,
     sink: &mut W,
-    index: &NetIndex,
+    list: &IndexedList<'_>,
     device: &Device,
     source: u32,
-    sinks: &[u32],
-    pairs: &[(u32, u32)],
 )
-    requires { IsIndex sinks.now pairs.now index.now }
-    ensures { Sends (stream (W.taken sink.old) (W.failed sink.old) out.old)
-        (stream (W.taken sink.new) (W.failed sink.new) out.new)
-        (dangling_text device.now source sinks.now pairs.now) }
+    ensures { SendsTo W.taken W.failed sink.old sink.new out.old out.new
+        (dangling_text device.now source list.now.sinks list.now.pairs) }
 {
-    let row = row_to_dead_end(index, sinks, pairs);
-    put_loose(out, sink, index, device, source, sinks, pairs, row);
+    let row = row_to_dead_end(list);
+    put_loose(out, sink, list, device, source, row);
 }
 
 /// Prints a sink, unless a step leads there.
 fn put_missing<W: ByteSink>(
     out: &mut OutputBuffer,
     sink: &mut W,
-    index: &NetIndex,
+    list: &IndexedList<'_>,
     device: &Device,
-    sinks: &[u32],
-    pairs: &[(u32, u32)],
     node: u32,
 )
-    requires { IsIndex sinks.now pairs.now index.now }
-    ensures { Sends (stream (W.taken sink.old) (W.failed sink.old) out.old)
-        (stream (W.taken sink.new) (W.failed sink.new) out.new)
-        (missing_text device.now pairs.now node) }
+    ensures { SendsTo W.taken W.failed sink.old sink.new out.old out.new
+        (missing_text device.now list.now.pairs node) }
 {
-    if !ends_at(index, sinks, pairs, node) {
+    if !list.ends_at(node) {
         put_after(out, sink, device, b"; none to ", node);
     }
 }
@@ -289,18 +253,15 @@ fn put_missing<W: ByteSink>(
 fn put_all_missing<W: ByteSink>(
     out: &mut OutputBuffer,
     sink: &mut W,
-    index: &NetIndex,
+    list: &IndexedList<'_>,
     device: &Device,
-    sinks: &[u32],
-    pairs: &[(u32, u32)],
 )
-    requires { IsIndex sinks.now pairs.now index.now }
-    ensures { Sends (stream (W.taken sink.old) (W.failed sink.old) out.old)
-        (stream (W.taken sink.new) (W.failed sink.new) out.new)
-        (flat_map (missing_text device.now pairs.now) sinks.now) }
+    ensures { SendsTo W.taken W.failed sink.old sink.new out.old out.new
+        (flat_map (missing_text device.now list.now.pairs) list.now.sinks) }
 {
+    let sinks = list.sinks();
     for node in sinks {
-        put_missing(out, sink, index, device, sinks, pairs, *node);
+        put_missing(out, sink, list, device, *node);
     }
 }
 
@@ -308,65 +269,54 @@ fn put_all_missing<W: ByteSink>(
 fn put_missing_sinks<W: ByteSink>(
     out: &mut OutputBuffer,
     sink: &mut W,
-    index: &NetIndex,
+    list: &IndexedList<'_>,
     device: &Device,
-    sinks: &[u32],
-    pairs: &[(u32, u32)],
 )
-    requires { IsIndex sinks.now pairs.now index.now }
-    ensures { Sends (stream (W.taken sink.old) (W.failed sink.old) out.old)
-        (stream (W.taken sink.new) (W.failed sink.new) out.new)
-        (missing_sinks_text device.now sinks.now pairs.now) }
+    ensures { SendsTo W.taken W.failed sink.old sink.new out.old out.new
+        (missing_sinks_text device.now list.now.sinks list.now.pairs) }
 {
     out.push(sink, b"no step leads to a sink of the net");
-    put_all_missing(out, sink, index, device, sinks, pairs);
+    put_all_missing(out, sink, list, device);
 }
 
 /// Prints the first step that may not stand where it does.
 fn put_out_of_order<W: ByteSink>(
     out: &mut OutputBuffer,
     sink: &mut W,
-    index: &NetIndex,
+    list: &IndexedList<'_>,
     device: &Device,
     source: u32,
-    sinks: &[u32],
-    pairs: &[(u32, u32)],
 )
-    requires { IsIndex sinks.now pairs.now index.now }
-    ensures { Sends (stream (W.taken sink.old) (W.failed sink.old) out.old)
-        (stream (W.taken sink.new) (W.failed sink.new) out.new)
-        (out_of_order_text device.now source pairs.now) }
+    ensures { SendsTo W.taken W.failed sink.old sink.new out.old out.new
+        (out_of_order_text device.now source list.now.pairs) }
 {
-    let row = row_out_of_order(index, device, source, sinks, pairs);
+    let row = row_out_of_order(list, device, source);
     out.push(sink, b"out of order is ");
-    put_step(out, sink, device, pairs, row);
+    put_step(out, sink, device, list.pairs(), row);
 }
 
-/// Prints what a fault means, of these pairs for a net of this source and these sinks.
+/// Prints what a fault means, of a list for a net of this source.
 pub(crate) fn put_reason<W: ByteSink>(
     out: &mut OutputBuffer,
     sink: &mut W,
-    index: &NetIndex,
+    list: &IndexedList<'_>,
     device: &Device,
     source: u32,
-    sinks: &[u32],
-    pairs: &[(u32, u32)],
     fault: TreeFault,
 )
-    requires { IsIndex sinks.now pairs.now index.now }
-    ensures { Sends (stream (W.taken sink.old) (W.failed sink.old) out.old)
-        (stream (W.taken sink.new) (W.failed sink.new) out.new)
-        (reason_text device.now source sinks.now pairs.now fault) }
+    ensures { SendsTo W.taken W.failed sink.old sink.new out.old out.new
+        (reason_text device.now source list.now.sinks list.now.pairs fault) }
 {
+    let pairs = list.pairs();
     match fault {
         TreeFault::NoNet => out.push(sink, b"there is no such net"),
         TreeFault::WrongSource => put_beginning(out, sink, device, source, pairs),
         TreeFault::NoSwitch => put_no_switch(out, sink, device, pairs),
-        TreeFault::NodeTwice => put_met_again(out, sink, index, device, source, sinks, pairs),
+        TreeFault::NodeTwice => put_met_again(out, sink, list, device, source),
         TreeFault::SecondOutput => put_outputs(out, sink, device, source, pairs),
-        TreeFault::ForeignSink => put_foreign_sink(out, sink, index, device, sinks, pairs),
-        TreeFault::Dangling => put_dangling(out, sink, index, device, source, sinks, pairs),
-        TreeFault::MissingSink => put_missing_sinks(out, sink, index, device, sinks, pairs),
-        TreeFault::Order => put_out_of_order(out, sink, index, device, source, sinks, pairs),
+        TreeFault::ForeignSink => put_foreign_sink(out, sink, list, device),
+        TreeFault::Dangling => put_dangling(out, sink, list, device, source),
+        TreeFault::MissingSink => put_missing_sinks(out, sink, list, device),
+        TreeFault::Order => put_out_of_order(out, sink, list, device, source),
     }
 }

@@ -2,8 +2,8 @@
 
 ghost use Rattle.std.specs.Prelude.{◌≡◌, ◌≢◌, ◌≤◌, true, false, length, Err};
 ghost use Rattle.rr_graph.specs.Fabric.{most_tracks};
-ghost use Rattle.runs.specs.Inputs.{ends_before};
-ghost use Rattle.runs.specs.Runs.{Meets, MeetsDesign, TakesNothing, reading, writing};
+ghost use Rattle.run_inputs.specs.Inputs.{ends_before};
+ghost use Rattle.run_inputs.specs.Runs.{Meets, MeetsDesign, TakesNothing, reading, writing_to};
 ghost use Rattle.report_run.specs.ReportRun.{reported_in, reported_of, reported_on, reported_with};
 ghost use Rattle.route_explain.specs.ExplainRun.{Explains, PrintsBoth, RunsExplain};
 
@@ -11,7 +11,8 @@ use crate::explanation::explain;
 use route_check::RouteFault;
 use route_tree::Routing;
 use rr_graph::Mode;
-use runs::{AppFault, Design, InputFile, NetlistText, judge, parse_routing, read_input};
+use run_inputs::{AppFault, Design, InputFile, NetlistText, parse_routing, read_input};
+use runs::judge;
 use std::alloc::AllocGlobal;
 use std::thread::Threads;
 use vpr_text::{ByteSink, ByteSource, Lines, lines};
@@ -26,7 +27,7 @@ fn explain_lines<W: ByteSink>(
     words: &mut W,
 )
     requires { length routing.now ≡ length design.now.problem.nets }
-    ensures { Explains (writing (W.taken words.old) (W.taken words.new) (W.failed words.new))
+    ensures { Explains (writing_to W.taken W.failed words.old words.new)
         path.now (record { design = design.now; lines = lines.now; routing = routing.now }) }
 {
     let netlist = design.netlist();
@@ -45,7 +46,7 @@ fn explain_to<W: ByteSink>(
     words: &mut W,
 )
     requires { length routing.now ≡ length design.now.problem.nets }
-    ensures { Explains (writing (W.taken words.old) (W.taken words.new) (W.failed words.new))
+    ensures { Explains (writing_to W.taken W.failed words.old words.new)
         path.now (reported_with design.now bytes.now routing.now) }
 {
     match lines(rt.alloc(), bytes) {
@@ -66,19 +67,16 @@ fn judge_and_explain<W: ByteSink, X: ByteSink>(
 ) -> Result<Option<RouteFault>, AppFault>
     requires { length routing.now ≡ length design.now.problem.nets }
     ensures judges { result ≢ Err AppFault.Memory
-        → PrintsBoth (writing (W.taken out.old) (W.taken out.new) (W.failed out.new))
-        (writing (X.taken words.old) (X.taken words.new) (X.failed words.new)) path.now
+        → PrintsBoth (writing_to W.taken W.failed out.old out.new)
+        (writing_to X.taken X.failed words.old words.new) path.now
         (reported_with design.now bytes.now routing.now) result }
     ensures memory { result ≡ Err AppFault.Memory
-        → TakesNothing (writing (W.taken out.old) (W.taken out.new) (W.failed out.new)) }
+        → TakesNothing (writing_to W.taken W.failed out.old out.new) }
     ensures untold { result ≡ Err AppFault.Memory
-        → TakesNothing (writing (X.taken words.old) (X.taken words.new) (X.failed words.new)) }
+        → TakesNothing (writing_to X.taken X.failed words.old words.new) }
     ensures late { ends_before InputFile.Route result ≡ false }
 {
-    let verdict = match judge(rt, design, routing, out) {
-        Ok(verdict) => verdict,
-        Err(fault) => return Err(fault),
-    };
+    let verdict = judge(rt, design, routing, out)?;
     explain_to(rt, path, design, bytes, routing, words);
     Ok(verdict)
 }
@@ -93,21 +91,18 @@ fn explain_bytes<W: ByteSink, X: ByteSink>(
     words: &mut X,
 ) -> Result<Option<RouteFault>, AppFault>
     ensures runs { result ≢ Err AppFault.Memory
-        → RunsExplain (writing (W.taken out.old) (W.taken out.new) (W.failed out.new))
-        (writing (X.taken words.old) (X.taken words.new) (X.failed words.new)) path.now
+        → RunsExplain (writing_to W.taken W.failed out.old out.new)
+        (writing_to X.taken X.failed words.old words.new) path.now
         (reported_of design.now bytes.now) result }
     ensures memory { result ≡ Err AppFault.Memory
-        → TakesNothing (writing (W.taken out.old) (W.taken out.new) (W.failed out.new)) }
+        → TakesNothing (writing_to W.taken W.failed out.old out.new) }
     ensures untold { result ≡ Err AppFault.Memory
-        → TakesNothing (writing (X.taken words.old) (X.taken words.new) (X.failed words.new)) }
+        → TakesNothing (writing_to X.taken X.failed words.old words.new) }
     ensures late { ends_before InputFile.Route result ≡ false }
 {
     let netlist = design.netlist();
     let problem = design.problem();
-    let routing = match parse_routing(rt.alloc(), bytes, netlist, problem) {
-        Ok(routing) => routing,
-        Err(fault) => return Err(fault),
-    };
+    let routing = parse_routing(rt.alloc(), bytes, netlist, problem)?;
     judge_and_explain(rt, path, design, bytes, &routing, out, words)
 }
 
@@ -122,19 +117,16 @@ fn explain_design<R: ByteSource, W: ByteSink, X: ByteSink>(
 ) -> Result<Option<RouteFault>, AppFault>
     ensures runs { result ≢ Err AppFault.Memory
         → Meets (reading (R.remaining route.old) (R.failed route.new))
-        (λ r. RunsExplain (writing (W.taken out.old) (W.taken out.new) (W.failed out.new))
-        (writing (X.taken words.old) (X.taken words.new) (X.failed words.new)) path.now
+        (λ r. RunsExplain (writing_to W.taken W.failed out.old out.new)
+        (writing_to X.taken X.failed words.old words.new) path.now
         (reported_on design.now r) result) }
     ensures memory { result ≡ Err AppFault.Memory
-        → TakesNothing (writing (W.taken out.old) (W.taken out.new) (W.failed out.new)) }
+        → TakesNothing (writing_to W.taken W.failed out.old out.new) }
     ensures untold { result ≡ Err AppFault.Memory
-        → TakesNothing (writing (X.taken words.old) (X.taken words.new) (X.failed words.new)) }
+        → TakesNothing (writing_to X.taken X.failed words.old words.new) }
     ensures late { ends_before InputFile.Route result ≡ false }
 {
-    let bytes = match read_input(rt.alloc(), route, InputFile::Route) {
-        Ok(bytes) => bytes,
-        Err(fault) => return Err(fault),
-    };
+    let bytes = read_input(rt.alloc(), route, InputFile::Route)?;
     explain_bytes(rt, path, design, &bytes, out, words)
 }
 
@@ -173,26 +165,20 @@ pub fn explain_run<
         (reading (N.remaining net.old) (N.failed net.new))
         (reading (P.remaining place.old) (P.failed place.new))
         (λ files. Meets (reading (R.remaining route.old) (R.failed route.new))
-        (λ r. RunsExplain (writing (W.taken out.old) (W.taken out.new) (W.failed out.new))
-        (writing (X.taken words.old) (X.taken words.new) (X.failed words.new)) path.now
+        (λ r. RunsExplain (writing_to W.taken W.failed out.old out.new)
+        (writing_to X.taken X.failed words.old words.new) path.now
         (reported_in width mode files r) result)) }
     // Nothing is written where memory runs out before the verdict.
     ensures memory { result ≡ Err AppFault.Memory
-        → TakesNothing (writing (W.taken out.old) (W.taken out.new) (W.failed out.new)) }
+        → TakesNothing (writing_to W.taken W.failed out.old out.new) }
     ensures untold { result ≡ Err AppFault.Memory
-        → TakesNothing (writing (X.taken words.old) (X.taken words.new) (X.failed words.new)) }
+        → TakesNothing (writing_to X.taken X.failed words.old words.new) }
     // A file is not read where the run ended at one before it.
     ensures net { ends_before InputFile.Net result ≡ true → net.new ≡ net.old }
     ensures place { ends_before InputFile.Place result ≡ true → place.new ≡ place.old }
     ensures route { ends_before InputFile.Route result ≡ true → route.new ≡ route.old }
 {
-    let text = match NetlistText::read(rt.alloc(), arch, net) {
-        Ok(text) => text,
-        Err(fault) => return Err(fault),
-    };
-    let design = match Design::read(rt.alloc(), &text, place, width, mode) {
-        Ok(design) => design,
-        Err(fault) => return Err(fault),
-    };
+    let text = NetlistText::read(rt.alloc(), arch, net)?;
+    let design = Design::read(rt.alloc(), &text, place, width, mode)?;
     explain_design(rt, path, &design, route, out, words)
 }

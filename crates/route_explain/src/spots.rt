@@ -1,12 +1,12 @@
 //! Where in its section of the file a fault of a net's list shows.
 
-ghost use Rattle.std.specs.Prelude.{◌≡◌};
+ghost use Rattle.std.specs.Prelude.{◌≡◌, ◌<◌, length};
 ghost use Rattle.route_explain.specs.Spots.{at_row, fault_spot, loose_spot, spot_of};
 ghost use Rattle.route_explain.specs.kept.Places.{IsIndex};
 ghost use Rattle.rr_graph.specs.Problems.{net_in};
-ghost use Rattle.std.specs.Prelude.{◌<◌, length};
 
 use crate::index::NetIndex;
+use crate::indexed_list::IndexedList;
 use crate::order::row_out_of_order;
 use crate::steps::{
     row_cut_off, row_leaving_again, row_that_ends_again, row_to_dead_end, row_to_foreign_sink,
@@ -46,30 +46,20 @@ fn loose_spot(dead_end: Option<usize>, cut_off: Option<usize>) -> Spot
     }
 }
 
-/// Where a fault of these pairs shows, for a net of this source and these sinks.
-fn spot_of(
-    index: &NetIndex,
-    device: &Device,
-    source: u32,
-    sinks: &[u32],
-    pairs: &[(u32, u32)],
-    fault: TreeFault,
-) -> Spot
-    requires { IsIndex sinks.now pairs.now index.now }
-    ensures { result ≡ spot_of device.now source sinks.now pairs.now fault }
+/// Where a fault of a list shows, for a net of this source.
+fn spot_of(list: &IndexedList<'_>, device: &Device, source: u32, fault: TreeFault) -> Spot
+    ensures { result ≡ spot_of device.now source list.now.sinks list.now.pairs fault }
 {
+    let pairs = list.pairs();
     match fault {
         TreeFault::NoNet | TreeFault::MissingSink => Spot::Heading,
         TreeFault::WrongSource => Spot::FirstNode,
         TreeFault::NoSwitch => at_row(row_without_switch(device, pairs)),
-        TreeFault::NodeTwice => at_row(row_that_ends_again(index, source, sinks, pairs)),
+        TreeFault::NodeTwice => at_row(row_that_ends_again(list, source)),
         TreeFault::SecondOutput => at_row(row_leaving_again(source, pairs)),
-        TreeFault::ForeignSink => at_row(row_to_foreign_sink(index, device, sinks, pairs)),
-        TreeFault::Dangling => loose_spot(
-            row_to_dead_end(index, sinks, pairs),
-            row_cut_off(index, source, sinks, pairs),
-        ),
-        TreeFault::Order => at_row(row_out_of_order(index, device, source, sinks, pairs)),
+        TreeFault::ForeignSink => at_row(row_to_foreign_sink(list, device)),
+        TreeFault::Dangling => loose_spot(row_to_dead_end(list), row_cut_off(list, source)),
+        TreeFault::Order => at_row(row_out_of_order(list, device, source)),
     }
 }
 
@@ -89,8 +79,9 @@ pub(crate) fn fault_spot(
     let device = problem.device();
     let source = problem.source(net);
     let sinks = problem.sinks(net);
+    let list = IndexedList::new(sinks, pairs, index);
     match fault {
         None => Spot::Heading,
-        Some(fault) => spot_of(index, device, source, sinks, pairs, fault),
+        Some(fault) => spot_of(&list, device, source, fault),
     }
 }

@@ -1,11 +1,9 @@
 //! Which step of a net's list a fault is about: the row of the first that shows it.
 
 ghost use Rattle.std.specs.Prelude.{◌≡◌};
-ghost use Rattle.route_tree.specs.Legality.{is_among};
-ghost use Rattle.route_explain.specs.Steps.{begins_at, ends_again, ends_at, ends_before, is_cut_off, is_dead_end, is_foreign, lacks_switch, leaves_again, pair_at, row_cut_off, row_leaving_again, row_that_ends_again, row_to_dead_end, row_to_foreign_sink, row_without_switch};
-ghost use Rattle.route_explain.specs.kept.Places.{IsIndex};
+ghost use Rattle.route_explain.specs.Steps.{ends_again, is_cut_off, is_dead_end, is_foreign, lacks_switch, leaves_again, pair_at, row_cut_off, row_leaving_again, row_that_ends_again, row_to_dead_end, row_to_foreign_sink, row_without_switch};
 
-use crate::index::NetIndex;
+use crate::indexed_list::IndexedList;
 use rr_graph::Device;
 
 /// The step at a row; past the last one that of no use.
@@ -18,52 +16,6 @@ pub(crate) fn pair_at(pairs: &[(u32, u32)], row: usize) -> (u32, u32)
     }
 }
 
-/// Whether a node is one of these sinks.
-fn has_sink(index: &NetIndex, sinks: &[u32], pairs: &[(u32, u32)], node: u32) -> bool
-    requires { IsIndex sinks.now pairs.now index.now }
-    ensures { result ≡ is_among sinks.now node }
-{
-    let _ = sinks;
-    let _ = pairs;
-    index.has_sink(node)
-}
-
-/// Whether a step begins at a node.
-fn begins_at(index: &NetIndex, sinks: &[u32], pairs: &[(u32, u32)], node: u32) -> bool
-    requires { IsIndex sinks.now pairs.now index.now }
-    ensures { result ≡ begins_at pairs.now node }
-{
-    let _ = sinks;
-    let _ = pairs;
-    index.begins_at(node)
-}
-
-/// Whether a step ends at a node.
-pub(crate) fn ends_at(index: &NetIndex, sinks: &[u32], pairs: &[(u32, u32)], node: u32) -> bool
-    requires { IsIndex sinks.now pairs.now index.now }
-    ensures { result ≡ ends_at pairs.now node }
-{
-    let _ = sinks;
-    let _ = pairs;
-    index.ends_at(node)
-}
-
-/// Whether one of so many first steps ends at a node.
-pub(crate) fn ends_before(
-    index: &NetIndex,
-    sinks: &[u32],
-    pairs: &[(u32, u32)],
-    row: usize,
-    node: u32,
-) -> bool
-    requires { IsIndex sinks.now pairs.now index.now }
-    ensures { result ≡ ends_before pairs.now row node }
-{
-    let _ = sinks;
-    let _ = pairs;
-    index.ends_before(node, row)
-}
-
 /// Whether a step is no switch of the device.
 fn lacks_switch(device: &Device, pair: (u32, u32)) -> bool
     ensures { result ≡ lacks_switch device.now pair }
@@ -72,18 +24,11 @@ fn lacks_switch(device: &Device, pair: (u32, u32)) -> bool
 }
 
 /// Whether the step at a row ends at the source, or where an earlier one does.
-fn ends_again(
-    index: &NetIndex,
-    source: u32,
-    sinks: &[u32],
-    pairs: &[(u32, u32)],
-    row: usize,
-) -> bool
-    requires { IsIndex sinks.now pairs.now index.now }
-    ensures { result ≡ ends_again source pairs.now row }
+fn ends_again(list: &IndexedList<'_>, source: u32, row: usize) -> bool
+    ensures { result ≡ ends_again source list.now.pairs row }
 {
-    let end = pair_at(pairs, row).1;
-    end == source || ends_before(index, sinks, pairs, row, end)
+    let end = list.pair_at(row).1;
+    end == source || list.ends_before(row, end)
 }
 
 /// Whether the step at a row leaves the source, and isn't the first one.
@@ -93,40 +38,25 @@ fn leaves_again(source: u32, pairs: &[(u32, u32)], row: usize) -> bool
     row > 0 && pair_at(pairs, row).0 == source
 }
 
-/// Whether a step ends at a sink of the device that is none of these.
-fn is_foreign(
-    index: &NetIndex,
-    device: &Device,
-    sinks: &[u32],
-    pairs: &[(u32, u32)],
-    pair: (u32, u32),
-) -> bool
-    requires { IsIndex sinks.now pairs.now index.now }
-    ensures { result ≡ is_foreign device.now sinks.now pair }
+/// Whether a step ends at a sink of the device that is none of the net's.
+fn is_foreign(list: &IndexedList<'_>, device: &Device, pair: (u32, u32)) -> bool
+    ensures { result ≡ is_foreign device.now list.now.sinks pair }
 {
-    device.is_sink(pair.1) && !has_sink(index, sinks, pairs, pair.1)
+    device.is_sink(pair.1) && !list.has_sink(pair.1)
 }
 
-/// Whether a step ends at a node that is none of these sinks, and at which no step begins.
-fn is_dead_end(index: &NetIndex, sinks: &[u32], pairs: &[(u32, u32)], pair: (u32, u32)) -> bool
-    requires { IsIndex sinks.now pairs.now index.now }
-    ensures { result ≡ is_dead_end sinks.now pairs.now pair }
+/// Whether a step ends at a node that is none of the net's sinks, and at which no step begins.
+fn is_dead_end(list: &IndexedList<'_>, pair: (u32, u32)) -> bool
+    ensures { result ≡ is_dead_end list.now.sinks list.now.pairs pair }
 {
-    !has_sink(index, sinks, pairs, pair.1) && !begins_at(index, sinks, pairs, pair.1)
+    !list.has_sink(pair.1) && !list.begins_at(pair.1)
 }
 
 /// Whether a step begins at a node that isn't the source, and at which no step ends.
-fn is_cut_off(
-    index: &NetIndex,
-    source: u32,
-    sinks: &[u32],
-    pairs: &[(u32, u32)],
-    pair: (u32, u32),
-) -> bool
-    requires { IsIndex sinks.now pairs.now index.now }
-    ensures { result ≡ is_cut_off source pairs.now pair }
+fn is_cut_off(list: &IndexedList<'_>, source: u32, pair: (u32, u32)) -> bool
+    ensures { result ≡ is_cut_off source list.now.pairs pair }
 {
-    pair.0 != source && !ends_at(index, sinks, pairs, pair.0)
+    pair.0 != source && !list.ends_at(pair.0)
 }
 
 /// The first step that is no switch of the device.
@@ -137,16 +67,10 @@ pub(crate) fn row_without_switch(device: &Device, pairs: &[(u32, u32)]) -> Optio
 }
 
 /// The first step that ends at the source, or where an earlier one does.
-pub(crate) fn row_that_ends_again(
-    index: &NetIndex,
-    source: u32,
-    sinks: &[u32],
-    pairs: &[(u32, u32)],
-) -> Option<usize>
-    requires { IsIndex sinks.now pairs.now index.now }
-    ensures { result ≡ row_that_ends_again source pairs.now }
+pub(crate) fn row_that_ends_again(list: &IndexedList<'_>, source: u32) -> Option<usize>
+    ensures { result ≡ row_that_ends_again source list.now.pairs }
 {
-    (0..pairs.len()).find(|row| ends_again(index, source, sinks, pairs, *row))
+    (0..list.len()).find(|row| ends_again(list, source, *row))
 }
 
 /// The first step that leaves the source, but for the first one of all.
@@ -156,40 +80,23 @@ pub(crate) fn row_leaving_again(source: u32, pairs: &[(u32, u32)]) -> Option<usi
     (0..pairs.len()).find(|row| leaves_again(source, pairs, *row))
 }
 
-/// The first step that ends at a sink of the device that is none of these.
-pub(crate) fn row_to_foreign_sink(
-    index: &NetIndex,
-    device: &Device,
-    sinks: &[u32],
-    pairs: &[(u32, u32)],
-) -> Option<usize>
-    requires { IsIndex sinks.now pairs.now index.now }
-    ensures { result ≡ row_to_foreign_sink device.now sinks.now pairs.now }
+/// The first step that ends at a sink of the device that is none of the net's.
+pub(crate) fn row_to_foreign_sink(list: &IndexedList<'_>, device: &Device) -> Option<usize>
+    ensures { result ≡ row_to_foreign_sink device.now list.now.sinks list.now.pairs }
 {
-    (0..pairs.len()).find(|row| is_foreign(index, device, sinks, pairs, pair_at(pairs, *row)))
+    (0..list.len()).find(|row| is_foreign(list, device, list.pair_at(*row)))
 }
 
-/// The first step that ends at none of these sinks, and where nothing goes on.
-pub(crate) fn row_to_dead_end(
-    index: &NetIndex,
-    sinks: &[u32],
-    pairs: &[(u32, u32)],
-) -> Option<usize>
-    requires { IsIndex sinks.now pairs.now index.now }
-    ensures { result ≡ row_to_dead_end sinks.now pairs.now }
+/// The first step that ends at none of the net's sinks, and where nothing goes on.
+pub(crate) fn row_to_dead_end(list: &IndexedList<'_>) -> Option<usize>
+    ensures { result ≡ row_to_dead_end list.now.sinks list.now.pairs }
 {
-    (0..pairs.len()).find(|row| is_dead_end(index, sinks, pairs, pair_at(pairs, *row)))
+    (0..list.len()).find(|row| is_dead_end(list, list.pair_at(*row)))
 }
 
 /// The first step that begins neither at the source nor where one ends.
-pub(crate) fn row_cut_off(
-    index: &NetIndex,
-    source: u32,
-    sinks: &[u32],
-    pairs: &[(u32, u32)],
-) -> Option<usize>
-    requires { IsIndex sinks.now pairs.now index.now }
-    ensures { result ≡ row_cut_off source pairs.now }
+pub(crate) fn row_cut_off(list: &IndexedList<'_>, source: u32) -> Option<usize>
+    ensures { result ≡ row_cut_off source list.now.pairs }
 {
-    (0..pairs.len()).find(|row| is_cut_off(index, source, sinks, pairs, pair_at(pairs, *row)))
+    (0..list.len()).find(|row| is_cut_off(list, source, list.pair_at(*row)))
 }

@@ -1,15 +1,13 @@
 //! Nodes and steps, and where something is wrong, printed through a buffer.
 
 ghost use Rattle.std.specs.Prelude.{◌≡◌, ◌++◌};
-ghost use Rattle.vpr_text.specs.Output.{Sends, stream};
+ghost use Rattle.vpr_text.specs.Output.{SendsTo};
 ghost use Rattle.route_explain.specs.Lines.{line_text, where_text};
 ghost use Rattle.route_explain.specs.Reasons.{end_text, node_text, pair_text, step_text};
 
 use crate::steps::pair_at;
-use route_file::text::put_number;
 use rr_graph::Device;
-use runs::put_node_of;
-use vpr_text::{ByteSink, OutputBuffer};
+use text_output::{ByteSink, OutputBuffer, put_node_of, put_number};
 
 /// Prints words, and then a node.
 pub(crate) fn put_after<W: ByteSink>(
@@ -19,8 +17,7 @@ pub(crate) fn put_after<W: ByteSink>(
     words: &[u8],
     node: u32,
 )
-    ensures { Sends (stream (W.taken sink.old) (W.failed sink.old) out.old)
-        (stream (W.taken sink.new) (W.failed sink.new) out.new)
+    ensures { SendsTo W.taken W.failed sink.old sink.new out.old out.new
         (words.now ++ node_text device.now node) }
 {
     out.push(sink, words);
@@ -29,8 +26,8 @@ pub(crate) fn put_after<W: ByteSink>(
 
 /// Prints the nodes of a step.
 fn put_pair<W: ByteSink>(out: &mut OutputBuffer, sink: &mut W, device: &Device, pair: (u32, u32))
-    ensures { Sends (stream (W.taken sink.old) (W.failed sink.old) out.old)
-        (stream (W.taken sink.new) (W.failed sink.new) out.new) (pair_text device.now pair) }
+    ensures { SendsTo W.taken W.failed sink.old sink.new out.old out.new
+        (pair_text device.now pair) }
 {
     put_node_of(out, sink, device, pair.0);
     out.push(sink, b" to ");
@@ -45,8 +42,7 @@ pub(crate) fn put_step<W: ByteSink>(
     pairs: &[(u32, u32)],
     row: Option<usize>,
 )
-    ensures { Sends (stream (W.taken sink.old) (W.failed sink.old) out.old)
-        (stream (W.taken sink.new) (W.failed sink.new) out.new)
+    ensures { SendsTo W.taken W.failed sink.old sink.new out.old out.new
         (step_text device.now pairs.now row) }
 {
     if let Some(row) = row {
@@ -62,8 +58,7 @@ pub(crate) fn put_end<W: ByteSink>(
     pairs: &[(u32, u32)],
     row: Option<usize>,
 )
-    ensures { Sends (stream (W.taken sink.old) (W.failed sink.old) out.old)
-        (stream (W.taken sink.new) (W.failed sink.new) out.new)
+    ensures { SendsTo W.taken W.failed sink.old sink.new out.old out.new
         (end_text device.now pairs.now row) }
 {
     if let Some(row) = row {
@@ -73,8 +68,7 @@ pub(crate) fn put_end<W: ByteSink>(
 
 /// Prints the number of a line behind a file's name, if there is such a line.
 fn put_line<W: ByteSink>(out: &mut OutputBuffer, sink: &mut W, line: u32)
-    ensures { Sends (stream (W.taken sink.old) (W.failed sink.old) out.old)
-        (stream (W.taken sink.new) (W.failed sink.new) out.new) (line_text line) }
+    ensures { SendsTo W.taken W.failed sink.old sink.new out.old out.new (line_text line) }
 {
     if line != 0 {
         out.push(sink, b":");
@@ -84,8 +78,8 @@ fn put_line<W: ByteSink>(out: &mut OutputBuffer, sink: &mut W, line: u32)
 
 /// Prints the file and the line in which something is wrong.
 pub(crate) fn put_where<W: ByteSink>(out: &mut OutputBuffer, sink: &mut W, path: &[u8], line: u32)
-    ensures { Sends (stream (W.taken sink.old) (W.failed sink.old) out.old)
-        (stream (W.taken sink.new) (W.failed sink.new) out.new) (where_text path.now line) }
+    ensures { SendsTo W.taken W.failed sink.old sink.new out.old out.new
+        (where_text path.now line) }
 {
     out.push(sink, path);
     put_line(out, sink, line);

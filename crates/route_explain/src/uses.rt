@@ -1,20 +1,21 @@
 //! The lines on the lines of the file that name what is overused.
 
 ghost use Rattle.std.specs.Prelude.{◌≡◌, if◌then◌else◌};
-ghost use Rattle.vpr_text.specs.Output.{Sends, stream};
+ghost use Rattle.vpr_text.specs.Output.{SendsTo};
 ghost use Rattle.vpr_text.specs.Words.{number_at, words_at};
 ghost use Rattle.route_file.specs.NetLine.{is_net_words, net_on};
 ghost use Rattle.route_explain.specs.Uses.{use_line, use_lines, use_text, user_text};
 ghost use Rattle.report_run.specs.Named.{overused_on};
 
 use crate::text::{put_after, put_where};
+use line_reader::line_number;
 use net_file::Netlist;
 use report_run::overused_on;
-use route_file::text::put_number;
-use route_file::{begins_section, line_number, net_begun};
+use route_file::{begins_section, net_begun};
 use rr_graph::Device;
-use runs::net_name;
-use vpr_text::{ByteSink, Lines, OutputBuffer};
+use run_inputs::net_name;
+use text_output::{ByteSink, OutputBuffer, put_number};
+use vpr_text::Lines;
 
 /// Prints the name of a net, if there is one, after a blank.
 fn put_user<W: ByteSink>(
@@ -23,8 +24,8 @@ fn put_user<W: ByteSink>(
     netlist: &Netlist<'_>,
     net: Option<u32>,
 )
-    ensures { Sends (stream (W.taken sink.old) (W.failed sink.old) out.old)
-        (stream (W.taken sink.new) (W.failed sink.new) out.new) (user_text netlist.now net) }
+    ensures { SendsTo W.taken W.failed sink.old sink.new out.old out.new
+        (user_text netlist.now net) }
 {
     if let Some(net) = net {
         out.push(sink, b" ");
@@ -43,8 +44,7 @@ fn put_use<W: ByteSink>(
     net: Option<u32>,
     node: u32,
 )
-    ensures { Sends (stream (W.taken sink.old) (W.failed sink.old) out.old)
-        (stream (W.taken sink.new) (W.failed sink.new) out.new)
+    ensures { SendsTo W.taken W.failed sink.old sink.new out.old out.new
         (use_line path.now netlist.now device.now line net node) }
 {
     put_where(out, sink, path, line);
@@ -67,8 +67,7 @@ fn put_use_of<W: ByteSink>(
     net: Option<u32>,
     node: Option<u32>,
 )
-    ensures { Sends (stream (W.taken sink.old) (W.failed sink.old) out.old)
-        (stream (W.taken sink.new) (W.failed sink.new) out.new)
+    ensures { SendsTo W.taken W.failed sink.old sink.new out.old out.new
         (use_text path.now netlist.now device.now line net node) }
 {
     if let Some(node) = node {
@@ -88,10 +87,9 @@ fn put_use_at<W: ByteSink>(
     net: Option<u32>,
     index: usize,
 )
-    ensures { Sends (stream (W.taken sink.old) (W.failed sink.old) out.old)
-        (stream (W.taken sink.new) (W.failed sink.new) out.new)
-        (use_text path.now netlist.now device.now
-        (number_at lines.now index) net (overused_on device.now uses.now lines.now index)) }
+    ensures { SendsTo W.taken W.failed sink.old sink.new out.old out.new
+        (use_text path.now netlist.now device.now (number_at lines.now index) net
+        (overused_on device.now uses.now lines.now index)) }
 {
     let line = line_number(lines, index);
     let node = overused_on(lines, device, uses, index);
@@ -125,8 +123,7 @@ pub(crate) fn put_use_lines<W: ByteSink>(
     uses: &[u16],
     lines: &Lines<'_>,
 )
-    ensures { Sends (stream (W.taken sink.old) (W.failed sink.old) out.old)
-        (stream (W.taken sink.new) (W.failed sink.new) out.new)
+    ensures { SendsTo W.taken W.failed sink.old sink.new out.old out.new
         (use_lines path.now netlist.now device.now uses.now lines.now) }
 {
     let mut net = None;

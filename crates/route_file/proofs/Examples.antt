@@ -17,7 +17,8 @@ use Rattle.rr_graph.specs.Wires.{begins, length_of, rank_of, type_of, weight_of_
 use Rattle.rr_graph.specs.Pins.{classes_of, pins_of}
 use Rattle.std.specs.List.{flat_map}
 use Rattle.route_file.specs.PrintedNodes.{printed_nodes}
-use Rattle.route_file.specs.TextLine.{line_text, Block, NodeLine, place_text, span_text, bytes_on}
+use Rattle.route_file.specs.TextLine.{line_text, Block, NodeLine, bytes_on}
+use Rattle.text_output.specs.NodeTexts.{place_text, span_text}
 use Rattle.route_file.specs.Text.{node_lines, block_line, global_net_lines, routed_net_lines, lines_of_net, net_lines, routed_before, text_lines, text_of}
 
 -- an input of a logic block, and the pad of a clock

@@ -5,7 +5,7 @@ use Rattle.std.specs.Option.{option_map_or}
 use Rattle.std.proofs.lemmas.Bool.{eqb-true, eq-eqb}
 use Rattle.std.proofs.lemmas.List.Quantifiers.{position-Some}
 use Rattle.vpr_text.specs.Words.{Line}
-use Rattle.arch_file.specs.Word.{is_at}
+use Rattle.line_reader.specs.Word.{is_at}
 use Rattle.std.specs.Prelude.{codes, option_and_then}
 use Rattle.std.proofs.lemmas.Option.{option_and_then_some, cond_some}
 use Rattle.net_file.specs.Names.{number_among}
@@ -83,7 +83,7 @@ same_tests false true h g = g refl
 same_tests false false h g = refl
 
 off_same : (netlist : Netlist) (f : Fabric) (before : List Line) (seen : Seen) (n a : ℕ) → IsSeen netlist f before seen → latest netlist before ≡ Some n → is_routed_at netlist n ≡ true
-    → is_off f seen.last seen.owners.items n a ≡ is_detached f (nodes_in netlist f before n) a
+    → is_off f seen n a ≡ is_detached f (nodes_in netlist f before n) a
 unfolding is_detached
 off_same netlist f before seen n a h e routed =
     let nodes = nodes_in netlist f before n in
@@ -96,7 +96,7 @@ pub judged_same : (netlist : Netlist) (f : Fabric) (before : List Line) (l : Lin
 unfolding entry_after judge
 judged_same netlist f before l seen h =
     let nets = net_same netlist (λ n. get_or seen.had.items n false) (had_line netlist before) l.number l.words h.had in
-    let off = is_off f seen.last seen.owners.items in
+    let off = is_off f seen in
     let detached = λ (n : ℕ). is_detached f (nodes_in netlist f before n) in
     let sections =
     ap (section_entry netlist f off l.number l.words) h.net

@@ -1,4 +1,3 @@
-pub mod Drops
 pub mod Pieces
 pub mod Reported
 pub mod Named

@@ -7,7 +7,8 @@ use Rattle.rr_graph.specs.parts.Kind.TheVariants as kind
 use Rattle.rr_graph.specs.parts.Label.{Label}
 use Rattle.rr_graph.specs.parts.Label.TheVariants as label
 use Rattle.rr_graph.specs.parts.Span.{Span}
-use Rattle.route_file.specs.TextLine.{TextLine, Size, Blank, Heading, RoutedNet, GlobalNet, Block, NodeLine, kind_text, label_text, place_text, is_one_place, span_text, class_text, bytes_on}
+use Rattle.route_file.specs.TextLine.{TextLine, Size, Blank, Heading, RoutedNet, GlobalNet, Block, NodeLine, kind_field, class_text, bytes_on}
+use Rattle.text_output.specs.NodeTexts.{label_text, place_text, is_one_place, span_text}
 use Rattle.route_file.proofs.Digits.{all_digits}
 use Rattle.route_file.proofs.PlainWords.{are_plain, is_fine, are_fine, IsPlain, all_append, fine_plain, blank_then, word_then, word_last, word_comment, plain_number, number_ends, closed}
 
@@ -125,7 +126,7 @@ block_words name number x y class h =
     ∙ more (codes "Block") (word_then name (codes "(#" ++ comment) h
     ∙ more name (word_comment (codes "(") comment (record { filled = refl; plain = refl })))
 
-kind_words : (k : Kind) (rest : List ℕ) → words_on (kind_text k ++ 32 ∷ rest) ≡ kind_word k ∷ words_on rest
+kind_words : (k : Kind) (rest : List ℕ) → words_on (kind_field k ++ 32 ∷ rest) ≡ kind_word k ∷ words_on rest
 kind_words kind.Source rest = known_then (codes "SOURCE") rest refl refl
 kind_words kind.Sink rest = blank_then (codes " SINK " ++ rest) ∙ (blank_then (codes "SINK " ++ rest) ∙ known_then (codes "SINK") rest refl refl)
 kind_words kind.Opin rest = blank_then (codes " OPIN " ++ rest) ∙ (blank_then (codes "OPIN " ++ rest) ∙ known_then (codes "OPIN") rest refl refl)
@@ -194,7 +195,7 @@ fine_number n h = fine_plain (decimal n) (plain_number n h).plain
 fine_place : (x y : ℕ) → x < 2 ^ 64 → y < 2 ^ 64 → are_fine (place_text x y) ≡ true
 fine_place x y h k = fine_plain (place_text x y) (plain_place x y h k).plain
 
-fine_kind : (k : Kind) → are_fine (kind_text k) ≡ true
+fine_kind : (k : Kind) → are_fine (kind_field k) ≡ true
 fine_kind kind.Source = refl
 fine_kind kind.Sink = refl
 fine_kind kind.Opin = refl
@@ -265,7 +266,7 @@ fine_line (Block name number x y class) h =
     (fine (codes ", pinclass ") from_class refl (fine (class_text class) (codes ".") (fine_class class) refl)))))))
 fine_line (NodeLine k s l n) h =
     let from_label = label_text l ++ decimal n in
-    fine (kind_text k) (codes " " ++ (span_text s ++ (codes "  " ++ from_label))) (fine_kind k)
+    fine (kind_field k) (codes " " ++ (span_text s ++ (codes "  " ++ from_label))) (fine_kind k)
     (fine (codes " ") (span_text s ++ (codes "  " ++ from_label)) refl
     (fine (span_text s) (codes "  " ++ from_label) (fine_span s (is_one_place s) h.0)
     (fine (codes "  ") from_label refl (fine (label_text l) (decimal n) (fine_label l) (fine_number n h.1)))))

@@ -1,6 +1,6 @@
 -- What the words of a node's line say.
 use Rattle.std.proofs.Common.{◌≡◌, ℕ, ◌^◌, ◌<◌, true, [], ◌∷◌, Some, decimal, codes, refl}
-use Rattle.arch_file.specs.Keyword.{is_text}
+use Rattle.line_reader.specs.Word.{is_text}
 use Rattle.rr_graph.specs.parts.Kind.{Kind}
 use Rattle.rr_graph.specs.parts.Label.{Label}
 use Rattle.route_file.specs.declared.node_line.NodeText.{NodeText}

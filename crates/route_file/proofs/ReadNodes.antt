@@ -7,14 +7,15 @@ use Rattle.std.proofs.lemmas.Bool.Decides.{nat_tests}
 use Rattle.std.proofs.lemmas.List.Elements.{All-from_recursion}
 use Rattle.std.proofs.lemmas.List.Splits.{slice_split_at, slice_split_none}
 use Rattle.vpr_text.specs.Words.{is_filled}
-use Rattle.arch_file.specs.Keyword.{is_text}
+use Rattle.line_reader.specs.Word.{is_text}
 use Rattle.rr_graph.specs.parts.Kind.{Kind}
 use Rattle.rr_graph.specs.parts.Kind.TheVariants as kind
 use Rattle.rr_graph.specs.parts.Label.{Label}
 use Rattle.rr_graph.specs.parts.Label.TheVariants as label
 use Rattle.rr_graph.specs.parts.Span.{Span}
 use Rattle.rr_graph.specs.Nodes.{label_by}
-use Rattle.route_file.specs.TextLine.{NodeLine, place_text, is_one_place}
+use Rattle.route_file.specs.TextLine.{NodeLine}
+use Rattle.text_output.specs.NodeTexts.{place_text, is_one_place}
 use Rattle.route_file.specs.NodeWords.{is_mark, pieces_of, node_words}
 use Rattle.route_file.specs.NodeLine.{kind_of, label_from, takes}
 use Rattle.route_file.proofs.PlainWords.{both_true, plain_number, all_of_number}

@@ -15,7 +15,8 @@ use Rattle.route_file.specs.declared.node_line.NodeText.{NodeText}
 use Rattle.route_file.specs.kept.NodeTexts.{beginning_of, is_reported_at}
 use Rattle.route_file.specs.NodeWords.{node_words}
 use Rattle.route_file.specs.NodeLine.{is_wire, are_ends, same_label, rank_of_label, text_of, node_reported, node_on}
-use Rattle.route_file.specs.TextLine.{NodeLine, is_one_place}
+use Rattle.route_file.specs.TextLine.{NodeLine}
+use Rattle.text_output.specs.NodeTexts.{is_one_place}
 use Rattle.route_file.proofs.PlainWords.{both_true}
 use Rattle.route_file.proofs.LineWords.{IsClearSpan, line_words}
 use Rattle.route_file.proofs.ReadNodes.{label_taken, words_of_node, node_words_cut}

@@ -1,23 +1,25 @@
 -- Reading is the relation between a text and its routing: each gives the other.
 use Rattle.std.proofs.Common.{◌≡◌, ℕ, ◌<◌, ◌≤◌, Bool, true, false, not, ◌&&◌, cond, List, [], ◌∷◌, ◌++◌, length, map, get_or, drop, Option, Some, None, Result, Ok, Err, refl, sym, ap, subst, ◌∙◌, arith}
-use Rattle.std.specs.Prelude.{IfOk, nat_lt, filter, All}
+use Rattle.std.specs.Prelude.{nat_lt, filter, All}
 use Rattle.std.specs.List.{range_with_len}
 use Rattle.std.specs.Option.{option_or}
 use Rattle.std.proofs.lemmas.Bool.{ltb-false, lt-ltb, le-ltb, cond-true}
 use Rattle.std.proofs.lemmas.List.{length-map, get_or-map, ext_get_or}
 use Rattle.std.proofs.lemmas.List.Elements.{All-head, All-tail, All-from_get_or}
 use Rattle.std.proofs.lemmas.List.FromFn.{length-range_with_len, get_or-range_with_len, get_or-map-range_with_len}
+use Rattle.vpr_text.specs.Readings.{unless_faulty, with_fault}
 use Rattle.vpr_text.specs.Words.{Line, words_at}
 use Rattle.vpr_text.specs.Text.{lines_of}
-use Rattle.vpr_text.specs.declared.fault.TextFault.{TextFault}
+use Rattle.line_reader.proofs.Readings.{bind_ok, not_faulty, with_fault_ok}
 use Rattle.net_file.specs.Netlist.{Netlist}
 use Rattle.net_file.specs.Routed.{is_routed_at, routed_numbers}
 use Rattle.rr_graph.specs.Fabric.{Fabric}
 use Rattle.rr_graph.specs.Problems.{RoutingProblem, no_net, net_in}
 use Rattle.route_tree.specs.Paths.{Pair}
 use Rattle.route_file.specs.declared.fault.RouteFileFault.{RouteFileFault}
+use Rattle.route_file.specs.declared.fault.RouteFileFault.TheVariants as route
 use Rattle.route_file.specs.Judge.{is_size_line, is_size_of, is_title, header_fault, line_fault, fault_from}
-use Rattle.route_file.specs.Reading.{◌>>=◌, Gives, unless_faulty, lists_in, reading, lines_or_fault, routing_of}
+use Rattle.route_file.specs.Reading.{lists_in, reading, routing_of}
 use Rattle.route_file.specs.Reads.{AreAccepted, ReadsRoute, ReadsBytes}
 use Rattle.route_file.specs.kept.LinesSeen.{routed_list, lists_by_net}
 use Rattle.route_file.specs.Sections.{list_of_net}
@@ -101,10 +103,6 @@ one_reading netlist problem lines one other h g = all_lists netlist problem line
 
 -- ---- the routing
 
-good : {X : Type 0} (x : Option RouteFileFault) (r : Result X RouteFileFault) (v : X) → unless_faulty x r ≡ Ok v → (x ≡ None) × (r ≡ Ok v)
-good None r v e = (refl, e)
-good (Some fault) r v e = absurd cc
-
 abbrev ok : List (Option (List Pair)) → Result (List (Option (List Pair))) RouteFileFault
 ok routing = Ok routing
 
@@ -115,8 +113,8 @@ reads_related : (netlist : Netlist) (problem : RoutingProblem) (lines : List Lin
 unfolding reading
 reads_related netlist problem lines routing e =
     let f = problem.device in
-    let headed = good (header_fault f lines) _ routing e in
-    let lined = good (fault_from netlist f [] (drop 2 lines)) _ routing headed.1 in
+    let headed = not_faulty (header_fault f lines) _ routing e in
+    let lined = not_faulty (fault_from netlist f [] (drop 2 lines)) _ routing headed.1 in
     let head = head_is f lines headed.0 in
     let value = same_value (lists_in netlist problem (drop 2 lines)) routing lined.1 in
     record {
@@ -138,29 +136,17 @@ reads_given netlist problem lines routing h =
 
 -- ---- the bytes
 
-bind_ok : {A B : Type 0} (r : Result A RouteFileFault) (g : A → Result B RouteFileFault) (y : B) → (r >>= g) ≡ Ok y → (x : A) × (r ≡ Ok x) × (g x ≡ Ok y)
-bind_ok (Ok x) g y e = (x, refl, e)
-bind_ok (Err d) g y e = absurd cc
-
-text_ok : (r : Result (List Line) TextFault) (ls : List Line) → lines_or_fault r ≡ Ok ls → r ≡ Ok ls
-text_ok (Ok x) ls e = cc
-text_ok (Err t) ls e = absurd cc
-
-is_read : (netlist : Netlist) (problem : RoutingProblem) (bytes : List ℕ) (routing : List (Option (List Pair))) → routing_of netlist problem bytes ≡ Ok routing → ReadsBytes netlist problem bytes routing
+pub is_read : (netlist : Netlist) (problem : RoutingProblem) (bytes : List ℕ) (routing : List (Option (List Pair))) → routing_of netlist problem bytes ≡ Ok routing → ReadsBytes netlist problem bytes routing
 unfolding routing_of
 is_read netlist problem bytes routing e =
-    let b = bind_ok (lines_or_fault (lines_of bytes)) (reading netlist problem) routing e in
-    record { lines = b.0; is_text = text_ok (lines_of bytes) b.0 b.1; reads = reads_related netlist problem b.0 routing b.2 }
+    let b = bind_ok (with_fault route.Text (lines_of bytes)) (reading netlist problem) routing e in
+    record { lines = b.0; is_text = with_fault_ok route.Text (lines_of bytes) b.0 b.1; reads = reads_related netlist problem b.0 routing b.2 }
 
 pub is_given : (netlist : Netlist) (problem : RoutingProblem) (bytes : List ℕ) (routing : List (Option (List Pair))) → ReadsBytes netlist problem bytes routing → routing_of netlist problem bytes ≡ Ok routing
 unfolding routing_of
 is_given netlist problem bytes routing h =
     let first : routing_of netlist problem bytes ≡ reading netlist problem h.lines = rw h.is_text refl in
     first ∙ reads_given netlist problem h.lines routing h.reads
-
-pub found : (netlist : Netlist) (problem : RoutingProblem) (bytes : List ℕ) (r : Result (List (Option (List Pair))) RouteFileFault) → Gives (λ v. v) r (routing_of netlist problem bytes) → IfOk r (ReadsBytes netlist problem bytes)
-found netlist problem bytes (Ok v) given = is_read netlist problem bytes v given
-found netlist problem bytes (Err fault) given = tt
 
 -- ---- the lists of routed nets, by the numbers of nets
 
@@ -203,7 +189,7 @@ pub read_whole : (netlist : Netlist) (problem : RoutingProblem) (lines : List Li
     → routing ≡ map (λ net. get_or lists net.number None) problem.nets → reading netlist problem lines ≡ Ok routing
 unfolding reading
 read_whole netlist problem lines lists routing numbers head given ordered =
-    let lined = good (fault_from netlist problem.device [] (drop 2 lines)) _ lists given in
+    let lined = not_faulty (fault_from netlist problem.device [] (drop 2 lines)) _ lists given in
     let value = same_value (lists_by_net netlist problem.device (drop 2 lines)) lists lined.1 in
     let all : routing ≡ lists_in netlist problem (drop 2 lines) = ordered ∙ ap (λ ls. map (λ net. get_or ls net.number None) problem.nets) value ∙ lists_by_number netlist problem (drop 2 lines) numbers in
     rw (head, lined.0) (ap Ok (sym all))

@@ -13,7 +13,6 @@ use Rattle.route_file.specs.declared.fault.RouteFileFault.{RouteFileFault}
 use Rattle.route_file.specs.declared.fault.RouteFileFault.TheVariants as route
 use Rattle.route_file.specs.declared.seen.Seen.{Seen}
 use Rattle.route_file.specs.Judge.{judge, fault_in, line_fault, fault_from}
-use Rattle.route_file.specs.Reading.{Fails}
 use Rattle.route_file.specs.kept.LinesSeen.{IsSeen, Notes, entry_after, routed_list, lists_by_net}
 use Rattle.route_file.proofs.Adding.{line_added}
 use Rattle.route_file.proofs.Judged.{judged_same}
@@ -73,18 +72,6 @@ module _ (netlist : Netlist) (f : Fabric) (ls : List Line) where
             let within : n < count = subst (λ k. n < k) all.lists_count lt in
             all.lists n within ∙ sym (get_or-map-range_with_len (routed_list netlist f ls) 0 count n n None within (zero-add n))),
       )
-
--- ---- a fault that was found
-
-pub fails_is : {Y : Type 0} (fault : RouteFileFault) (given : Result Y RouteFileFault) → given ≡ Err fault → Fails fault given
-fails_is (route.Text f) given e = e
-fails_is (route.BadLine n) given e = e
-fails_is (route.ArraySize n) given e = e
-fails_is (route.UnknownNet n) given e = e
-fails_is (route.NetTwice n) given e = e
-fails_is (route.NoNode n) given e = e
-fails_is (route.Detached n) given e = e
-fails_is route.Memory given e = tt
 
 -- ---- the lines after the first two
 

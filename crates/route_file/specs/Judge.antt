@@ -4,7 +4,8 @@ use Rattle.std.specs.Prelude.{ℕ, Bool, false, not, ◌&&◌, ◌||◌, ◌==�
 use Rattle.std.specs.List.{last_or}
 use Rattle.std.specs.Option.{option_map_or, option_or}
 use Rattle.vpr_text.specs.Words.{Line, words_at, number_at}
-use Rattle.arch_file.specs.Word.{is_at}
+use Rattle.line_reader.specs.ArraySize.{begins_size_line}
+use Rattle.line_reader.specs.Word.{is_at, number_or_0}
 use Rattle.net_file.specs.Netlist.{Netlist}
 use Rattle.net_file.specs.Routed.{is_routed_at}
 use Rattle.rr_graph.specs.Fabric.{Fabric}
@@ -19,7 +20,6 @@ use Rattle.route_file.specs.NetLine.{is_net_line, is_plain_form, is_global_form,
 use Rattle.route_file.specs.NodeLine.{text_of, node_reported}
 use Rattle.route_file.specs.NodeWords.{node_words}
 use Rattle.route_file.specs.Sections.{had_line, latest, nodes_in}
-use Rattle.route_file.specs.Words.{is_number, number_on}
 
 -- ---- the first two lines
 
@@ -28,19 +28,11 @@ ends_well words = is_at words 6 (codes "blocks.") || is_at words 6 (codes "block
 
 -- the first line tells the size of the array, with or without a period
 unfoldable pub is_size_line : List (List ℕ) → Bool
-is_size_line words =
-    length words == 7
-    && is_at words 0 (codes "Array")
-    && is_at words 1 (codes "size:")
-    && is_number words 2
-    && is_at words 3 (codes "x")
-    && is_number words 4
-    && is_at words 5 (codes "logic")
-    && ends_well words
+is_size_line words = begins_size_line words && ends_well words
 
 -- the size is that of the device
 abbrev pub is_size_of : Fabric → List (List ℕ) → Bool
-is_size_of f words = number_on words 2 == f.nx && number_on words 4 == f.ny
+is_size_of f words = number_or_0 words 2 == f.nx && number_or_0 words 4 == f.ny
 
 abbrev pub is_title : List (List ℕ) → Bool
 is_title words = length words == 1 && is_at words 0 (codes "Routing:")

@@ -1,4 +1,4 @@
-pub mod Words
+pub mod Faults
 pub mod NodeWords
 pub mod NodeLine
 pub mod NetLine

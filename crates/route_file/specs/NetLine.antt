@@ -1,13 +1,11 @@
 -- The lines that nets' sections begin with (VPR and T-VPack manual 4.30, "Routing File Format").
 use Rattle.std.specs.Prelude.{ℕ, ◌-◌, Bool, true, false, ◌&&◌, ◌==◌, if◌then◌else◌, List, [], ◌∷◌, length, take, drop, Option, Some, None, is_some, not, unwrap_or, option_and_then, slice_index_or, codes}
 use Rattle.vpr_text.specs.Words.{Line}
-use Rattle.arch_file.specs.Keyword.{is_text}
-use Rattle.arch_file.specs.Word.{is_at}
+use Rattle.line_reader.specs.Word.{is_text, is_at, word_at, is_number}
 use Rattle.net_file.specs.Facts.{names_of_nets}
 use Rattle.net_file.specs.Names.{number_among}
 use Rattle.net_file.specs.Netlist.{Netlist}
 use Rattle.net_file.specs.Routed.{no_net}
-use Rattle.route_file.specs.Words.{word_at, is_number}
 
 abbrev pub same_answer : Bool → Bool → Bool
 same_answer true b = b

@@ -3,8 +3,7 @@
 use Rattle.std.specs.Prelude.{ℕ, Bool, true, false, ◌&&◌, ◌||◌, ◌==◌, if◌then◌else◌, List, length, Option, Some, None, unwrap_or, option_and_then, slice_get, codes}
 use Rattle.std.specs.List.{position}
 use Rattle.std.specs.Option.{option_map_or}
-use Rattle.arch_file.specs.Keyword.{is_text}
-use Rattle.arch_file.specs.Word.{is_at}
+use Rattle.line_reader.specs.Word.{is_text, is_at, is_number, number_or_0}
 use Rattle.rr_graph.specs.parts.Kind.{Kind}
 use Rattle.rr_graph.specs.parts.Kind.TheVariants.{Source, Sink, Opin, Ipin, Chanx, Chany}
 use Rattle.rr_graph.specs.parts.Label.{Label}
@@ -15,7 +14,6 @@ use Rattle.rr_graph.specs.Fabric.{Fabric}
 use Rattle.rr_graph.specs.Nodes.{nodes_of, rank_of_kind, label_by, label_of, span_of}
 use Rattle.route_file.specs.declared.node_line.NodeText.{NodeText}
 use Rattle.route_file.specs.NodeWords.{node_words}
-use Rattle.route_file.specs.Words.{is_number, number_on}
 
 -- the kind of node that a line's first word tells
 unfoldable pub kind_of : List ℕ → Option Kind
@@ -92,24 +90,24 @@ unfoldable pub place_text : List (List ℕ) → NodeText
 place_text words =
     record {
       kind = unwrap_or (kind_on words) Source;
-      x1 = number_on words 1;
-      y1 = number_on words 2;
-      x2 = number_on words 1;
-      y2 = number_on words 2;
+      x1 = number_or_0 words 1;
+      y1 = number_or_0 words 2;
+      x2 = number_or_0 words 1;
+      y2 = number_or_0 words 2;
       label = unwrap_or (label_on words 3) Class;
-      number = number_on words 4;
+      number = number_or_0 words 4;
     }
 
 unfoldable pub span_text : List (List ℕ) → NodeText
 span_text words =
     record {
       kind = unwrap_or (kind_on words) Source;
-      x1 = number_on words 1;
-      y1 = number_on words 2;
-      x2 = number_on words 4;
-      y2 = number_on words 5;
+      x1 = number_or_0 words 1;
+      y1 = number_or_0 words 2;
+      x2 = number_or_0 words 4;
+      y2 = number_or_0 words 5;
       label = unwrap_or (label_on words 6) Class;
-      number = number_on words 7;
+      number = number_or_0 words 7;
     }
 
 -- what the words of a node's line say, if they are such a line

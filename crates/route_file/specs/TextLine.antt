@@ -1,10 +1,10 @@
 -- The lines of a routing's text, and their bytes (VPR and T-VPack manual 4.30, "Routing File Format"; the layout is ours).
-use Rattle.std.specs.Prelude.{ℕ, Bool, List, ◌++◌, Option, Some, None, ◌==◌, ◌&&◌, if◌then◌else◌, codes, decimal}
+use Rattle.std.specs.Prelude.{ℕ, List, ◌++◌, Option, Some, None, codes, decimal}
 use Rattle.rr_graph.specs.parts.Kind.{Kind}
 use Rattle.rr_graph.specs.parts.Kind.TheVariants.{Source, Sink, Opin, Ipin, Chanx, Chany}
 use Rattle.rr_graph.specs.parts.Label.{Label}
-use Rattle.rr_graph.specs.parts.Label.TheVariants.{Class, Pin, Pad, Track}
 use Rattle.rr_graph.specs.parts.Span.{Span}
+use Rattle.text_output.specs.NodeTexts.{label_text, place_text, span_text}
 
 pub data TextLine : Type 0 where
   -- the size of the array
@@ -22,31 +22,13 @@ pub data TextLine : Type 0 where
   NodeLine : Kind → Span → Label → (number : ℕ) → TextLine
 
 -- a node's kind, at the right of six places
-abbrev pub kind_text : Kind → List ℕ
-kind_text Source = codes "SOURCE"
-kind_text Sink = codes "  SINK"
-kind_text Opin = codes "  OPIN"
-kind_text Ipin = codes "  IPIN"
-kind_text Chanx = codes " CHANX"
-kind_text Chany = codes " CHANY"
-
-abbrev pub label_text : Label → List ℕ
-label_text Class = codes "Class: "
-label_text Pin = codes "Pin: "
-label_text Pad = codes "Pad: "
-label_text Track = codes "Track: "
-
--- a place, as `(1,2)`
-unfoldable pub place_text : (x y : ℕ) → List ℕ
-place_text x y = codes "(" ++ (decimal x ++ (codes "," ++ (decimal y ++ codes ")")))
-
-abbrev pub is_one_place : Span → Bool
-is_one_place s = s.x1 == s.x2 && s.y1 == s.y2
-
--- where a node stands: its place, or the two ends of a wire of several places, as `(1,2) to (4,2)`
-unfoldable pub span_text : Span → List ℕ
-span_text s =
-    if is_one_place s then place_text s.x1 s.y1 else (place_text s.x1 s.y1 ++ (codes " to " ++ place_text s.x2 s.y2))
+abbrev pub kind_field : Kind → List ℕ
+kind_field Source = codes "SOURCE"
+kind_field Sink = codes "  SINK"
+kind_field Opin = codes "  OPIN"
+kind_field Ipin = codes "  IPIN"
+kind_field Chanx = codes " CHANX"
+kind_field Chany = codes " CHANY"
 
 -- the class of a pin; a pad has none
 abbrev pub class_text : Option ℕ → List ℕ
@@ -63,7 +45,7 @@ bytes_on (GlobalNet number name) = codes "Net " ++ (decimal number ++ (codes " (
 bytes_on (Block name number x y class) =
     codes "Block " ++ (name ++ (codes " (#" ++ (decimal number ++ (codes ") at " ++ (place_text x y ++ (codes ", pinclass " ++ (class_text class ++ codes ".")))))))
 bytes_on (NodeLine kind span label number) =
-    kind_text kind ++ (codes " " ++ (span_text span ++ (codes "  " ++ (label_text label ++ decimal number))))
+    kind_field kind ++ (codes " " ++ (span_text span ++ (codes "  " ++ (label_text label ++ decimal number))))
 
 -- each line ends in a line feed
 abbrev pub line_text : TextLine → List ℕ

@@ -2,15 +2,15 @@
 
 ghost use Rattle.std.specs.Prelude.{◌≡◌, ◌++◌, [], ◌∷◌, ℕ, map, slice_index_or};
 ghost use Rattle.std.specs.List.{flat_map};
-ghost use Rattle.vpr_text.specs.Output.{Sends, stream};
+ghost use Rattle.vpr_text.specs.Output.{SendsTo};
 ghost use Rattle.net_file.specs.Connections.{no_block};
 ghost use Rattle.route_file.specs.TextLine.{Block, GlobalNet, line_text};
 ghost use Rattle.route_file.specs.Text.{no_site, block_line, global_net_lines};
 
-use crate::text::{put_blank, put_class, put_number, put_place};
+use crate::text::{put_blank, put_class};
 use net_file::{Net, Netlist, Terminal};
 use place_file::{Placement, Site};
-use vpr_text::{ByteSink, OutputBuffer};
+use text_output::{ByteSink, OutputBuffer, put_number, put_place};
 
 /// The name of a block; none past the last one.
 fn block_name<'a>(netlist: &Netlist<'a>, number: usize) -> &'a [u8]
@@ -41,7 +41,8 @@ fn put_block<W: ByteSink>(
     site: Site,
     terminal: Terminal,
 )
-    ensures { Sends (stream (W.taken sink.old) (W.failed sink.old) out.old) (stream (W.taken sink.new) (W.failed sink.new) out.new) (line_text (Block name.now terminal.block site.x site.y terminal.class)) }
+    ensures { SendsTo W.taken W.failed sink.old sink.new out.old out.new
+        (line_text (Block name.now terminal.block site.x site.y terminal.class)) }
 {
     out.push(sink, b"Block ");
     out.push(sink, name);
@@ -63,7 +64,8 @@ fn put_terminal<W: ByteSink>(
     placement: &Placement,
     terminal: Terminal,
 )
-    ensures { Sends (stream (W.taken sink.old) (W.failed sink.old) out.old) (stream (W.taken sink.new) (W.failed sink.new) out.new) (line_text (block_line netlist.now placement.now terminal)) }
+    ensures { SendsTo W.taken W.failed sink.old sink.new out.old out.new
+        (line_text (block_line netlist.now placement.now terminal)) }
 {
     let name = block_name(netlist, terminal.block);
     let site = site_of(placement, terminal.block);
@@ -78,7 +80,8 @@ fn put_terminals<W: ByteSink>(
     placement: &Placement,
     terminals: &[Terminal],
 )
-    ensures { Sends (stream (W.taken sink.old) (W.failed sink.old) out.old) (stream (W.taken sink.new) (W.failed sink.new) out.new) (flat_map line_text (map (block_line netlist.now placement.now) terminals.now)) }
+    ensures { SendsTo W.taken W.failed sink.old sink.new out.old out.new
+        (flat_map line_text (map (block_line netlist.now placement.now) terminals.now)) }
 {
     for terminal in terminals {
         put_terminal(out, sink, netlist, placement, *terminal);
@@ -90,7 +93,8 @@ fn put_terminals<W: ByteSink>(
 
 /// Prints the line that begins a global net.
 fn put_global_heading<W: ByteSink>(out: &mut OutputBuffer, sink: &mut W, number: usize, name: &[u8])
-    ensures { Sends (stream (W.taken sink.old) (W.failed sink.old) out.old) (stream (W.taken sink.new) (W.failed sink.new) out.new) (line_text (GlobalNet number name.now)) }
+    ensures { SendsTo W.taken W.failed sink.old sink.new out.old out.new
+        (line_text (GlobalNet number name.now)) }
 {
     out.push(sink, b"Net ");
     put_number(out, sink, number);
@@ -109,7 +113,8 @@ pub(crate) fn put_global_net<W: ByteSink>(
     number: usize,
     net: &Net<'_>,
 )
-    ensures { Sends (stream (W.taken sink.old) (W.failed sink.old) out.old) (stream (W.taken sink.new) (W.failed sink.new) out.new) (flat_map line_text (global_net_lines netlist.now placement.now number net.now)) }
+    ensures { SendsTo W.taken W.failed sink.old sink.new out.old out.new
+        (flat_map line_text (global_net_lines netlist.now placement.now number net.now)) }
 {
     put_blank(out, sink);
     put_global_heading(out, sink, number, net.name());

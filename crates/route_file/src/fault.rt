@@ -2,6 +2,7 @@
 
 ghost use Rattle.std.specs.Prelude.{◌≡◌};
 ghost use Rattle.route_file.specs.declared.fault.RouteFileFault.TheVariants.{Memory};
+ghost use Rattle.route_file.specs.Faults.{route_line, route_name, is_route_memory};
 
 use std::alloc::{AllocError, AllocFailed};
 use thiserror::Error;
@@ -50,5 +51,49 @@ impl<T: Drop> From<AllocFailed<T>> for RouteFileFault {
 
     fn from(_e: AllocFailed<T>) -> RouteFileFault {
         RouteFileFault::Memory
+    }
+}
+
+impl RouteFileFault {
+    /// The line of the fault; 0 where it has none.
+    pub fn line(self) -> u32
+        ensures { result ≡ route_line self }
+    {
+        match self {
+            RouteFileFault::Text(fault) => fault.line(),
+            RouteFileFault::BadLine(line)
+            | RouteFileFault::ArraySize(line)
+            | RouteFileFault::UnknownNet(line)
+            | RouteFileFault::NetTwice(line)
+            | RouteFileFault::NoNode(line)
+            | RouteFileFault::Detached(line) => line,
+            RouteFileFault::Memory => 0,
+        }
+    }
+
+    /// The name of the fault; that of a text is its own.
+    pub fn name(self) -> &'static [u8]
+        ensures { result.now ≡ route_name self }
+    {
+        match self {
+            RouteFileFault::Text(fault) => fault.name(),
+            RouteFileFault::BadLine(_) => b"BadLine",
+            RouteFileFault::ArraySize(_) => b"ArraySize",
+            RouteFileFault::UnknownNet(_) => b"UnknownNet",
+            RouteFileFault::NetTwice(_) => b"NetTwice",
+            RouteFileFault::NoNode(_) => b"NoNode",
+            RouteFileFault::Detached(_) => b"Detached",
+            RouteFileFault::Memory => b"Memory",
+        }
+    }
+
+    /// Whether memory ran out.
+    pub fn is_memory(self) -> bool
+        ensures { result ≡ is_route_memory self }
+    {
+        matches!(
+            self,
+            RouteFileFault::Memory | RouteFileFault::Text(TextFault::Memory)
+        )
     }
 }

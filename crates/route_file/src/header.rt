@@ -4,7 +4,7 @@ ghost use Rattle.std.specs.Prelude.{◌≡◌};
 ghost use Rattle.route_file.specs.Judge.{ends_well, is_size_line, is_size_of, is_title, header_fault};
 
 use crate::fault::RouteFileFault;
-use crate::words::{Words, line_number};
+use line_reader::{Words, begins_size_line, line_number};
 use rr_graph::Device;
 use vpr_text::Lines;
 
@@ -20,21 +20,14 @@ fn ends_well(words: &Words) -> bool
 fn is_size_line(words: &Words) -> bool
     ensures { result ≡ is_size_line words.now }
 {
-    words.len() == 7
-        && words.is(0, "Array")
-        && words.is(1, "size:")
-        && words.is_number(2)
-        && words.is(3, "x")
-        && words.is_number(4)
-        && words.is(5, "logic")
-        && ends_well(words)
+    begins_size_line(words) && ends_well(words)
 }
 
 /// Whether the size is that of the device.
 fn is_size_of(device: &Device, words: &Words) -> bool
     ensures { result ≡ is_size_of device.now words.now }
 {
-    words.number_on(2) == device.nx() && words.number_on(4) == device.ny()
+    words.number_or_0(2) == device.nx() && words.number_or_0(4) == device.ny()
 }
 
 fn is_title(words: &Words) -> bool

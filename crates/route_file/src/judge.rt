@@ -1,16 +1,16 @@
 //! A line, given what is kept of those before it.
 
-ghost use Rattle.std.specs.Prelude.{◌≡◌, ◌||◌, false, slice_index_or};
+ghost use Rattle.std.specs.Prelude.{◌≡◌, ◌||◌};
 ghost use Rattle.route_file.specs.Judge.{net_entry, block_entry, node_entry, section_entry};
 ghost use Rattle.route_file.specs.NetLine.{is_net_words, is_plain_form, is_global_form};
-ghost use Rattle.route_file.specs.kept.LinesSeen.{is_off, entry_after};
+ghost use Rattle.route_file.specs.kept.LinesSeen.{had_net, is_off, entry_after};
 
 use crate::entry::Entry;
 use crate::fault::RouteFileFault;
 use crate::net_line::{is_global_at, is_global_form, is_plain_form, is_routed_at, net_on};
 use crate::node_line::{node_reported, text_of};
 use crate::seen::Seen;
-use crate::words::Words;
+use line_reader::Words;
 use net_file::Netlist;
 use rr_graph::Device;
 
@@ -29,7 +29,7 @@ fn net_entry(
     line: u32,
     words: &Words,
 ) -> Result<Entry, RouteFileFault>
-    ensures { result ≡ net_entry netlist.now (λ n. slice_index_or seen.now.had.items n false) line words.now }
+    ensures { result ≡ net_entry netlist.now (had_net seen.now) line words.now }
 {
     if !is_net_form(words) {
         return Err(RouteFileFault::BadLine(line));
@@ -63,7 +63,7 @@ fn node_entry(
     line: u32,
     words: &Words,
 ) -> Result<Entry, RouteFileFault>
-    ensures { result ≡ node_entry device.now (is_off device.now seen.now.last seen.now.owners.items net) line words.now }
+    ensures { result ≡ node_entry device.now (is_off device.now seen.now net) line words.now }
 {
     let Some(text) = text_of(words) else {
         return Err(RouteFileFault::BadLine(line));
@@ -85,7 +85,8 @@ fn section_entry(
     line: u32,
     words: &Words,
 ) -> Result<Entry, RouteFileFault>
-    ensures { result ≡ section_entry netlist.now device.now (is_off device.now seen.now.last seen.now.owners.items) line words.now seen.now.net }
+    ensures { result ≡ section_entry netlist.now device.now (is_off device.now seen.now) line
+        words.now seen.now.net }
 {
     let Some(net) = seen.net else {
         return Err(RouteFileFault::BadLine(line));

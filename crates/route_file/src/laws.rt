@@ -39,5 +39,6 @@ pub fn read_back(netlist: &Netlist, placement: &Placement, problem: &Problem, ro
     requires fits { fits_problem problem.now routing.now ≡ true }
     requires whole { TellsWhole problem.now routing.now }
     requires short { length (text_of netlist.now placement.now problem.now routing.now) ≤ 2 ^ 24 }
-    ensures { ReadsBytes netlist.now problem.now (text_of netlist.now placement.now problem.now routing.now) routing.now }
+    ensures { ReadsBytes netlist.now problem.now
+        (text_of netlist.now placement.now problem.now routing.now) routing.now }
 {}

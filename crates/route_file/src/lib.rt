@@ -16,12 +16,10 @@ mod node_words;
 mod nodes;
 mod reading;
 mod seen;
-pub mod text;
-mod words;
+mod text;
 mod writing;
 
 pub use fault::RouteFileFault;
 pub use naming::{begins_section, net_begun, node_named};
 pub use reading::parse;
-pub use words::line_number;
 pub use writing::{WriteFault, write};

@@ -59,7 +59,8 @@ pub(crate) fn add_pair(
     n: usize,
     pair: Option<(u32, u32)>,
 ) -> Result<(), AllocError>
-    ensures { OnOk result (lists.new.items ≡ slice_set lists.old.items n (list_more (slice_index_or lists.old.items n None) pair)) }
+    ensures { OnOk result (lists.new.items ≡ slice_set lists.old.items n
+        (list_more (slice_index_or lists.old.items n None) pair)) }
 {
     if n < lists.len() {
         extend(alloc, &mut lists[n], pair)?;
@@ -86,7 +87,8 @@ pub(crate) fn in_order(
     problem: &Problem,
     mut lists: Vec<Option<Pairs>>,
 ) -> Result<Routing, AllocError>
-    ensures { IfOk result (λ r. r ≡ map (λ net. slice_index_or lists.items net.number None) problem.now.nets) }
+    ensures { IfOk result (λ r. r ≡ map (λ net. slice_index_or lists.items net.number None)
+        problem.now.nets) }
 {
     let mut ordered = Vec::with_capacity(alloc, problem.nets() as usize)?;
     for net in 0..problem.nets() {

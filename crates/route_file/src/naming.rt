@@ -8,7 +8,7 @@ ghost use Rattle.route_file.specs.Sections.{net_begun};
 
 use crate::net_line::net_on;
 use crate::node_line::{node_reported, text_of};
-use crate::words::Words;
+use line_reader::Words;
 use net_file::Netlist;
 use rr_graph::Device;
 use vpr_text::Lines;

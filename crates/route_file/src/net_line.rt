@@ -5,7 +5,7 @@ ghost use Rattle.std.specs.Option.{option_copied};
 ghost use Rattle.net_file.specs.Routed.{is_routed_at};
 ghost use Rattle.route_file.specs.NetLine.{enclosed, before_ending, is_plain_form, is_global_form, name_on, is_global_at, net_on};
 
-use crate::words::{Words, is};
+use line_reader::{Words, is_text};
 use net_file::Netlist;
 
 /// What stands before this ending of a text, if it ends so.
@@ -14,7 +14,11 @@ fn before_ending<'a>(text: &'a [u8], ending: &str) -> Option<&'a [u8]>
     ensures { option_copied result ≡ before_ending ending.now text.now }
 {
     let (front, end) = text.split_at(text.len().saturating_sub(ending.len()));
-    if is(end, ending) { Some(front) } else { None }
+    if is_text(end, ending) {
+        Some(front)
+    } else {
+        None
+    }
 }
 
 /// What stands between the `(` that a word begins with and this ending of the word.

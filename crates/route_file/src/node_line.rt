@@ -8,7 +8,7 @@ ghost use Rattle.route_file.specs.NodeLine.{kind_of, label_from, kind_on, label_
 ghost use Rattle.route_file.specs.NodeWords.{node_words};
 
 use crate::node_words::NodeWords;
-use crate::words::{Words, is};
+use line_reader::{Words, is_text};
 use rr_graph::{Device, Kind, Label, Node, Span};
 
 /// What a node's line tells: its kind, its two ends, which may be one place, and what its number counts.
@@ -28,22 +28,22 @@ pub(crate) struct NodeText {
 fn kind_of(word: &[u8]) -> Option<Kind>
     ensures { result ≡ kind_of word.now }
 {
-    if is(word, "SOURCE") {
+    if is_text(word, "SOURCE") {
         return Some(Kind::Source);
     }
-    if is(word, "SINK") {
+    if is_text(word, "SINK") {
         return Some(Kind::Sink);
     }
-    if is(word, "OPIN") {
+    if is_text(word, "OPIN") {
         return Some(Kind::Opin);
     }
-    if is(word, "IPIN") {
+    if is_text(word, "IPIN") {
         return Some(Kind::Ipin);
     }
-    if is(word, "CHANX") {
+    if is_text(word, "CHANX") {
         return Some(Kind::Chanx);
     }
-    if is(word, "CHANY") {
+    if is_text(word, "CHANY") {
         return Some(Kind::Chany);
     }
     None
@@ -54,16 +54,16 @@ fn kind_of(word: &[u8]) -> Option<Kind>
 fn label_from(word: &[u8]) -> Option<Label>
     ensures { result ≡ label_from word.now }
 {
-    if is(word, "Class:") {
+    if is_text(word, "Class:") {
         return Some(Label::Class);
     }
-    if is(word, "Pin:") {
+    if is_text(word, "Pin:") {
         return Some(Label::Pin);
     }
-    if is(word, "Pad:") {
+    if is_text(word, "Pad:") {
         return Some(Label::Pad);
     }
-    if is(word, "Track:") {
+    if is_text(word, "Track:") {
         return Some(Label::Track);
     }
     None
@@ -72,13 +72,13 @@ fn label_from(word: &[u8]) -> Option<Label>
 fn kind_on(words: &NodeWords) -> Option<Kind>
     ensures { result ≡ kind_on words.now }
 {
-    kind_of(words.word(0)?)
+    kind_of(words.get(0)?)
 }
 
 fn label_on(words: &NodeWords, j: usize) -> Option<Label>
     ensures { result ≡ label_on words.now j }
 {
-    label_from(words.word(j)?)
+    label_from(words.get(j)?)
 }
 
 fn same_label(a: Label, b: Label) -> bool
@@ -175,12 +175,12 @@ fn place_text(words: &NodeWords) -> NodeText
 {
     NodeText {
         kind: kind_on(words).unwrap_or(Kind::Source),
-        x1: words.number_on(1),
-        y1: words.number_on(2),
-        x2: words.number_on(1),
-        y2: words.number_on(2),
+        x1: words.number_or_0(1),
+        y1: words.number_or_0(2),
+        x2: words.number_or_0(1),
+        y2: words.number_or_0(2),
         label: label_on(words, 3).unwrap_or(Label::Class),
-        number: words.number_on(4),
+        number: words.number_or_0(4),
     }
 }
 
@@ -190,12 +190,12 @@ fn span_text(words: &NodeWords) -> NodeText
 {
     NodeText {
         kind: kind_on(words).unwrap_or(Kind::Source),
-        x1: words.number_on(1),
-        y1: words.number_on(2),
-        x2: words.number_on(4),
-        y2: words.number_on(5),
+        x1: words.number_or_0(1),
+        y1: words.number_or_0(2),
+        x2: words.number_or_0(4),
+        y2: words.number_or_0(5),
         label: label_on(words, 6).unwrap_or(Label::Class),
-        number: words.number_on(7),
+        number: words.number_or_0(7),
     }
 }
 
@@ -218,7 +218,7 @@ fn text_in(words: &NodeWords) -> Option<NodeText>
 pub(crate) fn text_of(words: &Words) -> Option<NodeText>
     ensures { result ≡ text_of (node_words words.now) }
 {
-    match NodeWords::of_line(words.copy()) {
+    match NodeWords::of_line(words.rest(0)) {
         Some(words) => text_in(&words),
         None => None,
     }

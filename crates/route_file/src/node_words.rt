@@ -3,12 +3,11 @@
 ghost use Rattle.std.specs.Prelude.{◌≡◌, ◌<◌, ◌≤◌, ◌∷◌, ◌++◌, [], not, length, slice_get, MatchOption};
 ghost use Rattle.std.specs.Option.{option_copied};
 ghost use Rattle.std.specs.List.{position, position_or_len};
-ghost use Rattle.arch_file.specs.Word.{is_at, number_at};
+ghost use Rattle.line_reader.specs.Word.{is_at, number_in, is_number, number_or_0};
 ghost use Rattle.route_file.specs.kept.NodeTexts.{CutsPiece, CutsWords};
 ghost use Rattle.route_file.specs.NodeWords.{is_mark, pieces_of, node_words};
-ghost use Rattle.route_file.specs.Words.{is_number, number_on};
 
-use crate::words::{Words, is};
+use line_reader::{Words, is_text};
 use std::marker::Model;
 use vpr_text::number;
 
@@ -122,7 +121,8 @@ impl<'a> NodeWords<'a> {
     /// The words of a node's line, unless there are more than eight.
     #[tactic(auto, using(crate::proofs::Pieces::word_kept, crate::proofs::Pieces::word_more, crate::proofs::Pieces::words_done), unfolding(crate::specs::NodeWords::node_words))]
     pub(crate) fn of_line(words: Words<'_, 'a>) -> Option<NodeWords<'a>>
-        ensures { MatchOption result (8 < length (node_words words.entry)) (λ w. w ≡ node_words words.entry) }
+        ensures { MatchOption result (8 < length (node_words words.entry))
+            (λ w. w ≡ node_words words.entry) }
     {
         let mut all = NodeWords::new();
         for word in words {
@@ -134,7 +134,7 @@ impl<'a> NodeWords<'a> {
     }
 
     /// Word `j`, counted from 0, if there is one.
-    pub(crate) fn word(&self, j: usize) -> Option<&'a [u8]>
+    pub(crate) fn get(&self, j: usize) -> Option<&'a [u8]>
         ensures { option_copied result ≡ slice_get self.now j }
     {
         if j < self.count {
@@ -148,17 +148,17 @@ impl<'a> NodeWords<'a> {
     pub(crate) fn is(&self, j: usize, text: &str) -> bool
         ensures { result ≡ is_at self.now j text.now }
     {
-        match self.word(j) {
-            Some(word) => is(word, text),
+        match self.get(j) {
+            Some(word) => is_text(word, text),
             None => false,
         }
     }
 
     /// Word `j` as a number.
     fn number(&self, j: usize) -> Option<u32>
-        ensures { result ≡ number_at self.now j }
+        ensures { result ≡ number_in self.now j }
     {
-        number(self.word(j)?)
+        number(self.get(j)?)
     }
 
     /// Whether word `j` is a number.
@@ -169,8 +169,8 @@ impl<'a> NodeWords<'a> {
     }
 
     /// The number that word `j` is.
-    pub(crate) fn number_on(&self, j: usize) -> u32
-        ensures { result ≡ number_on self.now j }
+    pub(crate) fn number_or_0(&self, j: usize) -> u32
+        ensures { result ≡ number_or_0 self.now j }
     {
         self.number(j).unwrap_or(0)
     }

@@ -2,14 +2,14 @@
 
 ghost use Rattle.std.specs.Prelude.{◌≡◌};
 ghost use Rattle.std.specs.List.{flat_map};
-ghost use Rattle.vpr_text.specs.Output.{Sends, stream};
+ghost use Rattle.vpr_text.specs.Output.{SendsTo};
 ghost use Rattle.route_file.specs.TextLine.{NodeLine, line_text};
 ghost use Rattle.route_file.specs.PrintedNodes.{goes_on, nodes_for, printed_nodes};
 ghost use Rattle.route_file.specs.Text.{node_lines};
 
-use crate::text::{kind_name, label_name, put_number, put_span};
+use crate::text::kind_field;
 use rr_graph::{Device, Kind, Label, Span};
-use vpr_text::{ByteSink, OutputBuffer};
+use text_output::{ByteSink, OutputBuffer, label_name, put_number, put_span};
 
 /// Prints the line of a node, as ` CHANX (1,2)  Track: 0`.
 fn put_node<W: ByteSink>(
@@ -20,9 +20,10 @@ fn put_node<W: ByteSink>(
     label: Label,
     number: u32,
 )
-    ensures { Sends (stream (W.taken sink.old) (W.failed sink.old) out.old) (stream (W.taken sink.new) (W.failed sink.new) out.new) (line_text (NodeLine kind span label number)) }
+    ensures { SendsTo W.taken W.failed sink.old sink.new out.old out.new
+        (line_text (NodeLine kind span label number)) }
 {
-    out.push(sink, kind_name(kind));
+    out.push(sink, kind_field(kind));
     out.push(sink, b" ");
     put_span(out, sink, span);
     out.push(sink, b"  ");
@@ -33,7 +34,8 @@ fn put_node<W: ByteSink>(
 
 /// Prints the line of the node of a number; nothing for what is no node.
 fn put_node_at<W: ByteSink>(out: &mut OutputBuffer, sink: &mut W, device: &Device, id: u32)
-    ensures { Sends (stream (W.taken sink.old) (W.failed sink.old) out.old) (stream (W.taken sink.new) (W.failed sink.new) out.new) (flat_map line_text (node_lines device.now id)) }
+    ensures { SendsTo W.taken W.failed sink.old sink.new out.old out.new
+        (flat_map line_text (node_lines device.now id)) }
 {
     let node = match device.node(id) {
         Some(node) => node,
@@ -68,7 +70,8 @@ fn put_pair<W: ByteSink>(
     before: Option<u32>,
     pair: (u32, u32),
 )
-    ensures { Sends (stream (W.taken sink.old) (W.failed sink.old) out.old) (stream (W.taken sink.new) (W.failed sink.new) out.new) (flat_map line_text (flat_map (node_lines device.now) (nodes_for device.now before pair))) }
+    ensures { SendsTo W.taken W.failed sink.old sink.new out.old out.new
+        (flat_map line_text (flat_map (node_lines device.now) (nodes_for device.now before pair))) }
 {
     if goes_on(device, before, pair) {
         put_node_at(out, sink, device, pair.1);
@@ -85,7 +88,9 @@ pub(crate) fn put_pairs<W: ByteSink>(
     device: &Device,
     pairs: &[(u32, u32)],
 )
-    ensures { Sends (stream (W.taken sink.old) (W.failed sink.old) out.old) (stream (W.taken sink.new) (W.failed sink.new) out.new) (flat_map line_text (flat_map (node_lines device.now) (printed_nodes device.now pairs.now))) }
+    ensures { SendsTo W.taken W.failed sink.old sink.new out.old out.new
+        (flat_map line_text
+        (flat_map (node_lines device.now) (printed_nodes device.now pairs.now))) }
 {
     let mut before = None;
     for pair in pairs {

@@ -1,9 +1,11 @@
 //! The reader of a `.route` file.
 
 ghost use Rattle.std.specs.Prelude.{◌≡◌, ◌≤◌, [], IfOk, List, Ok, Option, drop, length, map};
+ghost use Rattle.vpr_text.specs.Readings.{Gives, unless_faulty};
+ghost use Rattle.route_file.specs.declared.fault.RouteFileFault.TheVariants.{Memory};
 ghost use Rattle.net_file.specs.Routed.{routed_numbers};
 ghost use Rattle.route_file.specs.Judge.{fault_from};
-ghost use Rattle.route_file.specs.Reading.{Gives, unless_faulty, reading, routing_of};
+ghost use Rattle.route_file.specs.Reading.{reading, routing_of};
 ghost use Rattle.route_file.specs.Reads.{ReadsBytes};
 ghost use Rattle.route_file.specs.kept.LinesSeen.{lists_by_net};
 ghost use Rattle.route_tree.specs.Paths.{Pair};
@@ -13,7 +15,7 @@ use crate::header::header_fault;
 use crate::judge::judge;
 use crate::lists::in_order;
 use crate::seen::Seen;
-use crate::words::{Words, line_number};
+use line_reader::{Words, line_number};
 use net_file::Netlist;
 use route_tree::{Pairs, Routing};
 use rr_graph::{Device, Problem};
@@ -28,7 +30,8 @@ fn lists_by_net(
     lines: &Lines,
 ) -> Result<Vec<Option<Pairs>>, RouteFileFault>
     requires { 2 ≤ length lines.now }
-    ensures { Gives (λ v. v.items) result (unless_faulty (fault_from netlist.now device.now [] (drop 2 lines.now))
+    ensures { Gives Memory (λ v. v.items) result (unless_faulty
+        (fault_from netlist.now device.now [] (drop 2 lines.now))
         (Ok (lists_by_net netlist.now device.now (drop 2 lines.now)))) }
 {
     let mut seen = Seen::new(alloc, netlist, device)?;
@@ -51,7 +54,7 @@ fn read(
     lines: &Lines,
 ) -> Result<Routing, RouteFileFault>
     requires { map (λ n. n.number) problem.now.nets ≡ routed_numbers netlist.now }
-    ensures { Gives (λ r. r) result (reading netlist.now problem.now lines.now) }
+    ensures { Gives Memory (λ r. r) result (reading netlist.now problem.now lines.now) }
 {
     if let Some(fault) = header_fault(problem.device(), lines) {
         return Err(fault);
@@ -70,7 +73,7 @@ fn routing_in(
     problem: &Problem,
 ) -> Result<Routing, RouteFileFault>
     requires { map (λ n. n.number) problem.now.nets ≡ routed_numbers netlist.now }
-    ensures { Gives (λ r. r) result (routing_of netlist.now problem.now source.now) }
+    ensures { Gives Memory (λ r. r) result (routing_of netlist.now problem.now source.now) }
 {
     match lines(alloc, source) {
         Ok(lines) => read(alloc, netlist, problem, &lines),
@@ -94,9 +97,10 @@ pub fn parse(
     // What is read is the routing of the text.
     ensures found { IfOk result (λ r. ReadsBytes netlist.now problem.now source.now r) }
     // A text has no other routing, and one that has a routing is read, unless memory runs out.
-    ensures only { (r : List (Option (List Pair))) → ReadsBytes netlist.now problem.now source.now r → Gives (λ v. v) result (Ok r) }
+    ensures only { (r : List (Option (List Pair)))
+        → ReadsBytes netlist.now problem.now source.now r → Gives Memory (λ v. v) result (Ok r) }
     // Which fault it is.
-    ensures exact { Gives (λ r. r) result (routing_of netlist.now problem.now source.now) }
+    ensures exact { Gives Memory (λ r. r) result (routing_of netlist.now problem.now source.now) }
 {
     routing_in(alloc, source, netlist, problem)
 }

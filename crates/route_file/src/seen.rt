@@ -3,7 +3,7 @@
 ghost use Rattle.std.specs.Prelude.{◌≡◌, [], true, false, IfOk, OnOk, slice_index_or, slice_set};
 ghost use Rattle.std.specs.Option.{option_map_or};
 ghost use Rattle.rr_graph.specs.Problems.{is_sink};
-ghost use Rattle.route_file.specs.kept.LinesSeen.{IsSeen, NotesNet, NotesNode, Notes, is_off, no_owner, pair_after};
+ghost use Rattle.route_file.specs.kept.LinesSeen.{IsSeen, NotesNet, NotesNode, Notes, had_net, is_off, no_owner, pair_after};
 
 use crate::entry::Entry;
 use crate::lists::{add_pair, no_lists};
@@ -21,7 +21,7 @@ pub(crate) struct Seen {
     pub(crate) last: Option<u32>,
     /// For each net, whether one of the lines is its own.
     pub(crate) had: Vec<bool>,
-    /// For each node, one more than the number of the net in whose section it stood last; 0 if it stood in none.
+    /// For each node, the net in whose section it stood last; `NO_OWNER` if it stood in none.
     pub(crate) owners: Vec<u32>,
     /// For each net, the list that the lines tell of it.
     pub(crate) lists: Vec<Option<Pairs>>,
@@ -84,7 +84,7 @@ impl Seen {
 
     /// Whether one of the lines is that of net `n`.
     pub(crate) fn had(&self, n: u32) -> bool
-        ensures { result ≡ slice_index_or self.now.had.items n false }
+        ensures { result ≡ had_net self.now n }
     {
         match self.had.get(n as usize) {
             Some(had) => *had,
@@ -94,7 +94,7 @@ impl Seen {
 
     /// Whether the last node is a sink, and this one doesn't stand in the section of net `n`.
     pub(crate) fn is_off(&self, device: &Device, n: u32, node: u32) -> bool
-        ensures { result ≡ is_off device.now self.now.last self.now.owners.items n node }
+        ensures { result ≡ is_off device.now self.now n node }
     {
         self.ends_in_sink(device) && self.owner(node) != n
     }

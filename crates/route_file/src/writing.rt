@@ -2,7 +2,7 @@
 
 ghost use Rattle.std.specs.Prelude.{◌≡◌, true, ◌<◌, length, slice_index_or, Some, None, if◌then◌else◌};
 ghost use Rattle.std.specs.List.{flat_map};
-ghost use Rattle.vpr_text.specs.Output.{Sends, stream};
+ghost use Rattle.vpr_text.specs.Output.{SendsTo};
 ghost use Rattle.net_file.specs.Blocks.{numbers_below};
 ghost use Rattle.net_file.specs.Routed.{is_routed_net};
 ghost use Rattle.route_tree.specs.Fits.{fits_problem};
@@ -13,13 +13,13 @@ ghost use Rattle.route_file.specs.Writes.{Writes};
 
 use crate::blocks::put_global_net;
 use crate::nodes::put_pairs;
-use crate::text::{put_blank, put_number};
+use crate::text::put_blank;
 use net_file::{Net, Netlist};
 use place_file::Placement;
 use route_tree::{Pairs, Routing};
 use rr_graph::{Device, Problem};
+use text_output::{ByteSink, OutputBuffer, put_number};
 use thiserror::Error;
-use vpr_text::{ByteSink, OutputBuffer};
 
 /// Why a routing could not be written.
 #[derive(Clone, Copy, Debug, PartialEq, Eq, Error)]
@@ -31,7 +31,7 @@ pub enum WriteFault {
 
 /// Prints the line with the size of the array.
 fn put_size<W: ByteSink>(out: &mut OutputBuffer, sink: &mut W, nx: u32, ny: u32)
-    ensures { Sends (stream (W.taken sink.old) (W.failed sink.old) out.old) (stream (W.taken sink.new) (W.failed sink.new) out.new) (line_text (Size nx ny)) }
+    ensures { SendsTo W.taken W.failed sink.old sink.new out.old out.new (line_text (Size nx ny)) }
 {
     out.push(sink, b"Array size: ");
     put_number(out, sink, nx);
@@ -43,7 +43,8 @@ fn put_size<W: ByteSink>(out: &mut OutputBuffer, sink: &mut W, nx: u32, ny: u32)
 
 /// Prints the line that begins a routed net.
 fn put_net_heading<W: ByteSink>(out: &mut OutputBuffer, sink: &mut W, number: usize, name: &[u8])
-    ensures { Sends (stream (W.taken sink.old) (W.failed sink.old) out.old) (stream (W.taken sink.new) (W.failed sink.new) out.new) (line_text (RoutedNet number name.now)) }
+    ensures { SendsTo W.taken W.failed sink.old sink.new out.old out.new
+        (line_text (RoutedNet number name.now)) }
 {
     out.push(sink, b"Net ");
     put_number(out, sink, number);
@@ -62,7 +63,8 @@ fn put_listed_net<W: ByteSink>(
     name: &[u8],
     pairs: &[(u32, u32)],
 )
-    ensures { Sends (stream (W.taken sink.old) (W.failed sink.old) out.old) (stream (W.taken sink.new) (W.failed sink.new) out.new) (flat_map line_text (routed_net_lines device.now number name.now (Some pairs.now))) }
+    ensures { SendsTo W.taken W.failed sink.old sink.new out.old out.new
+        (flat_map line_text (routed_net_lines device.now number name.now (Some pairs.now))) }
 {
     put_blank(out, sink);
     put_net_heading(out, sink, number, name);
@@ -79,7 +81,8 @@ fn put_list<W: ByteSink>(
     name: &[u8],
     list: &Option<Pairs>,
 )
-    ensures { Sends (stream (W.taken sink.old) (W.failed sink.old) out.old) (stream (W.taken sink.new) (W.failed sink.new) out.new) (flat_map line_text (routed_net_lines device.now number name.now list.now)) }
+    ensures { SendsTo W.taken W.failed sink.old sink.new out.old out.new
+        (flat_map line_text (routed_net_lines device.now number name.now list.now)) }
 {
     match list {
         Some(pairs) => put_listed_net(out, sink, device, number, name, &pairs.items),
@@ -97,7 +100,9 @@ fn put_routed_net<W: ByteSink>(
     lists: &[Option<Pairs>],
     place: usize,
 )
-    ensures { Sends (stream (W.taken sink.old) (W.failed sink.old) out.old) (stream (W.taken sink.new) (W.failed sink.new) out.new) (flat_map line_text (routed_net_lines device.now number name.now (slice_index_or lists.now place None))) }
+    ensures { SendsTo W.taken W.failed sink.old sink.new out.old out.new
+        (flat_map line_text
+        (routed_net_lines device.now number name.now (slice_index_or lists.now place None))) }
 {
     match lists.get(place) {
         Some(list) => put_list(out, sink, device, number, name, list),
@@ -131,7 +136,9 @@ fn put_net<W: ByteSink>(
     lists: &[Option<Pairs>],
     place: usize,
 )
-    ensures { Sends (stream (W.taken sink.old) (W.failed sink.old) out.old) (stream (W.taken sink.new) (W.failed sink.new) out.new) (flat_map line_text (lines_of_net netlist.now placement.now device.now number net.now (slice_index_or lists.now place None))) }
+    ensures { SendsTo W.taken W.failed sink.old sink.new out.old out.new
+        (flat_map line_text (lines_of_net netlist.now placement.now device.now number net.now
+        (slice_index_or lists.now place None))) }
 {
     if net.is_global() {
         put_global_net(out, sink, netlist, placement, number, net);
@@ -151,7 +158,9 @@ fn put_nets<W: ByteSink>(
     device: &Device,
     lists: &[Option<Pairs>],
 )
-    ensures { Sends (stream (W.taken sink.old) (W.failed sink.old) out.old) (stream (W.taken sink.new) (W.failed sink.new) out.new) (flat_map line_text (flat_map (net_lines netlist.now placement.now device.now lists.now) (numbers_below (length netlist.now.nets)))) }
+    ensures { SendsTo W.taken W.failed sink.old sink.new out.old out.new
+        (flat_map line_text (flat_map (net_lines netlist.now placement.now device.now lists.now)
+        (numbers_below (length netlist.now.nets)))) }
 {
     let nets = netlist.nets();
     let mut place = 0;
@@ -176,7 +185,8 @@ fn put_text<W: ByteSink>(
     problem: &Problem,
     routing: &Routing,
 )
-    ensures { Sends (stream (W.taken sink.old) (W.failed sink.old) out.old) (stream (W.taken sink.new) (W.failed sink.new) out.new) (text_of netlist.now placement.now problem.now routing.now) }
+    ensures { SendsTo W.taken W.failed sink.old sink.new out.old out.new
+        (text_of netlist.now placement.now problem.now routing.now) }
 {
     let device = problem.device();
     put_size(out, sink, device.nx(), device.ny());
@@ -199,7 +209,8 @@ pub fn write<W: ByteSink>(
 ) -> Result<(), WriteFault>
     requires fits { fits_problem problem.now routing.now ≡ true }
     requires design { IsDesign netlist.now placement.now problem.now }
-    ensures { Writes (W.failed sink.new) (W.taken sink.old) (W.taken sink.new) (text_of netlist.now placement.now problem.now routing.now) result }
+    ensures { Writes (W.failed sink.new) (W.taken sink.old) (W.taken sink.new)
+        (text_of netlist.now placement.now problem.now routing.now) result }
 {
     let mut out = OutputBuffer::new();
     put_text(&mut out, sink, netlist, placement, problem, routing);

@@ -11,14 +11,14 @@ ghost use Rattle.route_tree.specs.kept.Ladder.{sink_fault_of, marked_fault_of, n
 use crate::fault::TreeFault;
 use crate::marks::Marks;
 use crate::passes::{
-    begins_elsewhere, breaks_off, has_dead_end, has_foreign_sink, lacks_switch, leaves_twice,
-    misses_sink, reaches_twice,
+    begins_elsewhere, breaks_off, has_dead_end, has_foreign_sink, has_node_twice, is_one_unmarked,
+    lacks_switch, leaves_twice,
 };
-use crate::stamps::{Stamps, mark_only};
+use crate::stamps::Stamps;
 use crate::tree::{Row, Tree};
 use routing_problem::{Device, Problem};
 
-/// The first fault, of those for which the sinks are marked. Whether a sink is missed was reported before.
+/// The first fault, of those for which the sinks are marked. Whether a sink is missed was found before.
 fn sink_fault(
     device: &Device,
     sinks: &[u32],
@@ -33,7 +33,6 @@ fn sink_fault(
     ensures fault { result ≡ sink_fault_of device.now sinks.now (pairs_of rows.now) }
     ensures length { length stamps.new ≡ length stamps.old }
 {
-    mark_only(stamps, sinks);
     if has_foreign_sink(device, rows, sinks, stamps) {
         return Some(TreeFault::ForeignSink);
     }
@@ -50,6 +49,7 @@ fn sink_fault(
 }
 
 /// The first fault of pairs that are switches and begin at the source.
+#[tactic(auto, using(crate::proofs::RowTests::nodes_are))]
 fn marked_fault(
     device: &Device,
     source: u32,
@@ -65,10 +65,10 @@ fn marked_fault(
     ensures fault { result ≡ marked_fault_of device.now source sinks.now (pairs_of rows.now) }
     ensures length { length stamps.new ≡ length stamps.old }
 {
-    if reaches_twice(rows, source, stamps) {
+    if has_node_twice(rows, stamps) {
         return Some(TreeFault::NodeTwice);
     }
-    let misses = misses_sink(rows, source, sinks, stamps);
+    let misses = is_one_unmarked(sinks, stamps);
     if leaves_twice(rows, source) {
         return Some(TreeFault::SecondOutput);
     }
@@ -137,7 +137,8 @@ pub fn check_tree(
 ) -> Result<(), TreeFault>
     requires fits { marks.old ≡ node_count_of problem.now.device }
     ensures route { IsOk result ↔ IsRoute problem.now net (pairs_of tree.now) }
-    ensures faults { (fault : TreeFault) → (result ≡ Err fault) ↔ IsFirstFault problem.now net (pairs_of tree.now) fault }
+    ensures faults { (fault : TreeFault) → (result ≡ Err fault)
+        ↔ IsFirstFault problem.now net (pairs_of tree.now) fault }
     ensures fits { marks.new ≡ marks.old }
 {
     let _limits = problem.nets();

@@ -1,17 +1,16 @@
 //! The tests of a tree, each a pass over its rows.
 
-ghost use Rattle.std.specs.Prelude.{◌≡◌, ◌+◌, ◌<◌, ◌==◌, ◌&&◌, not, false, ◌∷◌, All, count_by, drop, length, get_or};
+ghost use Rattle.std.specs.Prelude.{◌≡◌, ◌+◌, ◌<◌, ◌==◌, ◌&&◌, not, false, All, count_by, drop, length, get_or};
 ghost use Rattle.std.specs.List.{list_any};
 ghost use Rattle.routing_problem.specs.Edges.{edge_between};
 ghost use Rattle.routing_problem.specs.Problems.{is_sink};
-ghost use Rattle.route_tree.specs.Paths.{ends_of};
-ghost use Rattle.route_tree.specs.Legality.{has_twice, is_among};
+ghost use Rattle.route_tree.specs.Legality.{has_twice};
 ghost use Rattle.route_tree.specs.Rows.{no_row, node_in, pairs_of, IsTree};
-ghost use Rattle.route_tree.specs.Faults.{begins_elsewhere, lacks_switch, reaches_twice, leaves_twice, has_foreign_sink, misses_sink};
+ghost use Rattle.route_tree.specs.Faults.{begins_elsewhere, lacks_switch, leaves_twice, has_foreign_sink};
 ghost use Rattle.route_tree.specs.kept.Ladder.{has_dead_end, breaks_at, breaks_off};
 ghost use Rattle.route_tree.specs.kept.Marked.{IsMarked, nodes_of};
 
-use crate::stamps::Stamps;
+use crate::stamps::{Stamps, mark_only};
 use crate::tree::{Row, count_pairs, pair_at};
 use routing_problem::{Device, EdgeFinder};
 
@@ -42,7 +41,7 @@ pub(crate) fn lacks_switch(device: &Device, rows: &[Row]) -> bool
 
 /// Whether two rows have one node. All marks are taken off first; where no two rows do, their nodes are marked then.
 #[tactic(auto, using(crate::proofs::RowTests::met_twice, crate::proofs::RowTests::met_once))]
-fn has_node_twice(rows: &[Row], stamps: &mut Stamps) -> bool
+pub(crate) fn has_node_twice(rows: &[Row], stamps: &mut Stamps) -> bool
     requires { All (λ r. r.node < length stamps.old) rows.now }
     ensures twice { result ≡ has_twice (nodes_of rows.now) }
     ensures marked { result ≡ false → IsMarked stamps.new (nodes_of rows.now) }
@@ -58,37 +57,11 @@ fn has_node_twice(rows: &[Row], stamps: &mut Stamps) -> bool
     false
 }
 
-/// Whether two pairs end in one node, or one in the source, where the first pair begins. The nodes of the tree are marked where not.
-#[tactic(auto, using(crate::proofs::RowTests::nodes_are))]
-pub(crate) fn reaches_twice(rows: &[Row], source: u32, stamps: &mut Stamps) -> bool
-    requires tree { IsTree rows.now }
-    requires below { All (λ r. r.node < length stamps.old) rows.now }
-    requires begins { begins_elsewhere source (pairs_of rows.now) ≡ false }
-    ensures twice { result ≡ reaches_twice source (pairs_of rows.now) }
-    ensures marked { result ≡ false → IsMarked stamps.new (source ∷ ends_of (pairs_of rows.now)) }
-    ensures length { length stamps.new ≡ length stamps.old }
-{
-    let _ = source;
-    has_node_twice(rows, stamps)
-}
-
 /// Whether one of the numbers is not marked.
-fn is_one_unmarked(numbers: &[u32], stamps: &Stamps) -> bool
+pub(crate) fn is_one_unmarked(numbers: &[u32], stamps: &Stamps) -> bool
     ensures { result ≡ list_any (λ s. not (get_or stamps.now s false)) numbers.now }
 {
     numbers.iter().any(|number| !stamps.is_marked(*number))
-}
-
-/// Whether at one of the sinks no pair ends. The source, which is none of them, and the ends of the pairs are marked.
-#[tactic(auto, using(crate::proofs::RowTests::missing))]
-pub(crate) fn misses_sink(rows: &[Row], source: u32, sinks: &[u32], stamps: &Stamps) -> bool
-    requires marked { IsMarked stamps.now (source ∷ ends_of (pairs_of rows.now)) }
-    requires apart { is_among sinks.now source ≡ false }
-    ensures { result ≡ misses_sink sinks.now (pairs_of rows.now) }
-{
-    let _ = rows;
-    let _ = source;
-    is_one_unmarked(sinks, stamps)
 }
 
 /// Whether a pair begins at the source.
@@ -130,25 +103,26 @@ fn is_foreign(device: &Device, stamps: &Stamps, node: u32) -> bool
 
 /// Whether a row but the first is a sink that is not marked.
 fn has_foreign_row(device: &Device, rows: &[Row], stamps: &Stamps) -> bool
-    ensures { result ≡ list_any (λ r. is_sink device.now r.node && not (get_or stamps.now r.node false)) (drop 1 rows.now) }
+    ensures { result ≡ list_any (λ r. is_sink device.now r.node && not
+        (get_or stamps.now r.node false)) (drop 1 rows.now) }
 {
     rows.iter()
         .skip(1)
         .any(|row| is_foreign(device, stamps, row.node))
 }
 
-/// Whether a pair ends in a sink that is not among those given, which are marked.
-#[tactic(auto, using(crate::proofs::RowTests::foreign))]
+/// Whether a pair ends in a sink that is not among those given. These are marked.
 pub(crate) fn has_foreign_sink(
     device: &Device,
     rows: &[Row],
     sinks: &[u32],
-    stamps: &Stamps,
+    stamps: &mut Stamps,
 ) -> bool
-    requires { IsMarked stamps.now sinks.now }
-    ensures { result ≡ has_foreign_sink device.now sinks.now (pairs_of rows.now) }
+    requires { All (λ s. s < length stamps.old) sinks.now }
+    ensures foreign { result ≡ has_foreign_sink device.now sinks.now (pairs_of rows.now) }
+    ensures length { length stamps.new ≡ length stamps.old }
 {
-    let _ = sinks;
+    mark_only(stamps, sinks);
     has_foreign_row(device, rows, stamps)
 }
 
@@ -158,11 +132,11 @@ pub(crate) fn has_foreign_sink(
 pub(crate) fn has_dead_end(rows: &[Row], sinks: &[u32], stamps: &mut Stamps) -> bool
     requires tree { IsTree rows.now }
     requires below { All (λ r. r.node < length stamps.old) rows.now }
-    requires marked { IsMarked stamps.old sinks.now }
+    requires sinks { All (λ s. s < length stamps.old) sinks.now }
     ensures dead { result ≡ has_dead_end sinks.now (pairs_of rows.now) }
     ensures length { length stamps.new ≡ length stamps.old }
 {
-    let _ = sinks;
+    mark_only(stamps, sinks);
     let count = count_pairs(rows);
     for behind in 0..count {
         let pair = pair_at(rows, count - 1 - behind);

@@ -109,7 +109,8 @@ impl Tree {
     pub fn attach(&mut self, row: usize, nodes: &[u32]) -> Result<(), AllocError>
         requires { row < length self.old }
         ensures rows { OnOk result (self.new ≡ self.old ++ chain (length self.old) row nodes.now) }
-        ensures pairs { OnOk result (pairs_of self.new ≡ pairs_of self.old ++ pairs_along (node_in self.old row) nodes.now) }
+        ensures pairs { OnOk result (pairs_of self.new
+            ≡ pairs_of self.old ++ pairs_along (node_in self.old row) nodes.now) }
         ensures refused { OnErr result (self.new ≡ self.old) }
         ensures nothing { nodes.now ≡ [] → IsOk result }
     {
@@ -192,7 +193,8 @@ fn hang_chain(rows: &mut Vec<Row>, row: usize, nodes: &[u32])
     requires room { vec_len rows.old + length nodes.now ≤ vec_capacity rows.old }
     ensures rows { rows.new.items ≡ rows.old.items ++ chain (length rows.old.items) row nodes.now }
     ensures tree { IsTree rows.new.items }
-    ensures pairs { pairs_of rows.new.items ≡ pairs_of rows.old.items ++ pairs_along (node_in rows.old.items row) nodes.now }
+    ensures pairs { pairs_of rows.new.items ≡ pairs_of rows.old.items
+        ++ pairs_along (node_in rows.old.items row) nodes.now }
 {
     push_chain(rows, row, nodes);
 }

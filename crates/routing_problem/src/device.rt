@@ -43,8 +43,7 @@ impl Device {
     ) -> Result<Device, DeviceFault>
         requires columns { (1 ≤ nx) × (nx ≤ longest_side) }
         requires rows { (1 ≤ ny) × (ny ≤ longest_side) }
-        ensures made { IfOk result
-            (λ d. d ≡ record { architecture = arch.now; nx = nx; ny = ny; width = width; mode = Mode.Detailed }) }
+        ensures made { IfOk result (λ d. d ≡ fabric_with nx ny width Mode.Detailed arch.now) }
         ensures width { (result ≡ Err DeviceFault.Width) ↔ ((width ≡ 0) ⊎ (most_tracks < width)) }
     {
         Device::make(alloc, arch, nx, ny, width, Mode::Detailed)
@@ -61,8 +60,7 @@ impl Device {
     ) -> Result<Device, DeviceFault>
         requires columns { (1 ≤ nx) × (nx ≤ longest_side) }
         requires rows { (1 ≤ ny) × (ny ≤ longest_side) }
-        ensures made { IfOk result
-            (λ d. d ≡ record { architecture = arch.now; nx = nx; ny = ny; width = width; mode = Mode.Global }) }
+        ensures made { IfOk result (λ d. d ≡ fabric_with nx ny width Mode.Global arch.now) }
         ensures width { (result ≡ Err DeviceFault.Width) ↔ ((width ≡ 0) ⊎ (most_tracks < width)) }
     {
         Device::make(alloc, arch, nx, ny, width, Mode::Global)
@@ -78,8 +76,7 @@ impl Device {
     ) -> Result<Device, DeviceFault>
         requires columns { (1 ≤ nx) × (nx ≤ longest_side) }
         requires rows { (1 ≤ ny) × (ny ≤ longest_side) }
-        ensures made { IfOk result
-            (λ d. d ≡ record { architecture = arch.now; nx = nx; ny = ny; width = width; mode = mode }) }
+        ensures made { IfOk result (λ d. d ≡ fabric_with nx ny width mode arch.now) }
         ensures width { (result ≡ Err DeviceFault.Width) ↔ ((width ≡ 0) ⊎ (most_tracks < width)) }
     {
         if width == 0 || width > 256 {
@@ -163,7 +160,8 @@ impl Device {
 
     /// The number of the first wire: all nodes from there on are wires, and none before is one.
     pub fn first_wire(&self) -> u32
-        ensures wires { (i : ℕ) → i < node_count_of self.now → is_wire_at self.now i ≡ nat_le result i }
+        ensures wires { (i : ℕ) → i < node_count_of self.now
+            → is_wire_at self.now i ≡ nat_le result i }
         ensures within { result ≤ node_count_of self.now }
     {
         self.graph.nodes().first_wire()

@@ -101,7 +101,8 @@ fn is_out_of_order(nets: &[Terminals], index: usize) -> bool
 #[tactic(auto, using(crate::proofs::FirstFaults::first_below, crate::proofs::FirstFaults::none_below))]
 fn first_net_fault(device: &Device, nets: &[Terminals]) -> Option<PartsFault>
     requires few { length nets.now < 65536 }
-    ensures { result ≡ first_some (net_fault device.now nets.now) (numbers_below (length nets.now)) }
+    ensures { result ≡ first_some (net_fault device.now nets.now)
+        (numbers_below (length nets.now)) }
 {
     for index in 0..nets.len() {
         if let Some(fault) = net_fault(device, nets, index) {

@@ -24,28 +24,32 @@ fn passes_corner(first: u32, last: u32, corner: u32) -> bool
 
 /// Whether two wires above rows are of one track, different, and have a common corner.
 fn rows_join(a: Node, a_last: u32, b: Node, b_last: u32) -> bool
-    ensures { result ≡ ((b.number == a.number) && ((b.y == a.y) && is_next_to a.x a_last b.x b_last)) }
+    ensures { result ≡ ((b.number == a.number) &&
+        ((b.y == a.y) && is_next_to a.x a_last b.x b_last)) }
 {
     b.number == a.number && (b.y == a.y && is_next_to(a.x, a_last, b.x, b_last))
 }
 
 /// Whether a wire above a row and one right of a column are of one track and have a common corner.
 fn row_and_column_join(a: Node, a_last: u32, b: Node, b_last: u32) -> bool
-    ensures { result ≡ ((b.number == a.number) && (passes_corner a.x a_last b.x && passes_corner b.y b_last a.y)) }
+    ensures { result ≡ ((b.number == a.number) &&
+        (passes_corner a.x a_last b.x && passes_corner b.y b_last a.y)) }
 {
     b.number == a.number && (passes_corner(a.x, a_last, b.x) && passes_corner(b.y, b_last, a.y))
 }
 
 /// Whether a wire right of a column and one above a row are of one track and have a common corner.
 fn column_and_row_join(a: Node, a_last: u32, b: Node, b_last: u32) -> bool
-    ensures { result ≡ ((b.number == a.number) && (passes_corner a.y a_last b.y && passes_corner b.x b_last a.x)) }
+    ensures { result ≡ ((b.number == a.number) &&
+        (passes_corner a.y a_last b.y && passes_corner b.x b_last a.x)) }
 {
     b.number == a.number && (passes_corner(a.y, a_last, b.y) && passes_corner(b.x, b_last, a.x))
 }
 
 /// Whether two wires right of columns are of one track, different, and have a common corner.
 fn columns_join(a: Node, a_last: u32, b: Node, b_last: u32) -> bool
-    ensures { result ≡ ((b.number == a.number) && ((b.x == a.x) && is_next_to a.y a_last b.y b_last)) }
+    ensures { result ≡ ((b.number == a.number) &&
+        ((b.x == a.x) && is_next_to a.y a_last b.y b_last)) }
 {
     b.number == a.number && (b.x == a.x && is_next_to(a.y, a_last, b.y, b_last))
 }

@@ -116,11 +116,13 @@ impl Run {
     /// The numbers of two runs, by turns.
     #[inline(always)]
     fn push_with(self, other: Run, list: &mut SmallVec<u32, 8>, count: u32)
-        requires room { HasRoomFor list.old (length (flat_map (λ k. number_in k self ∷ number_in k other ∷ []) (numbers_below count))) }
+        requires room { HasRoomFor list.old (length
+            (flat_map (λ k. number_in k self ∷ number_in k other ∷ []) (numbers_below count))) }
         requires small { IsSmallRun self }
         requires other { IsSmallRun other }
         requires few { count ≤ 101 }
-        ensures { Pushes list.old (flat_map (λ k. number_in k self ∷ number_in k other ∷ []) (numbers_below count)) list.new }
+        ensures { Pushes list.old (flat_map (λ k. number_in k self ∷ number_in k other ∷ [])
+            (numbers_below count)) list.new }
     {
         let mut one = self.first;
         let mut two = other.first;
@@ -195,7 +197,8 @@ impl Taps<'_> {
     /// The pins at `count` places.
     #[inline(always)]
     fn push(self, list: &mut SmallVec<u32, 8>, count: u32)
-        requires room { HasRoomFor list.old (length (flat_map (pins_at self) (numbers_below count))) }
+        requires room { HasRoomFor list.old (length
+            (flat_map (pins_at self) (numbers_below count))) }
         requires small { IsSmallTaps self }
         requires few { count ≤ 101 }
         ensures { Pushes list.old (flat_map (pins_at self.entry) (numbers_below count)) list.new }
@@ -210,11 +213,13 @@ impl Taps<'_> {
     /// The pins on both sides at `count` places.
     #[inline(always)]
     fn push_with(self, other: Taps, list: &mut SmallVec<u32, 8>, count: u32)
-        requires room { HasRoomFor list.old (length (flat_map (λ k. pins_at self k ++ pins_at other k) (numbers_below count))) }
+        requires room { HasRoomFor list.old (length
+            (flat_map (λ k. pins_at self k ++ pins_at other k) (numbers_below count))) }
         requires small { IsSmallTaps self }
         requires other { IsSmallTaps other }
         requires few { count ≤ 101 }
-        ensures { Pushes list.old (flat_map (λ k. pins_at self.entry k ++ pins_at other.entry k) (numbers_below count)) list.new }
+        ensures { Pushes list.old (flat_map (λ k. pins_at self.entry k ++ pins_at other.entry k)
+            (numbers_below count)) list.new }
     {
         let mut one = self.start;
         let mut two = other.start;

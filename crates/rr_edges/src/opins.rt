@@ -41,7 +41,8 @@ fn sides_of_pin(pin: Option<Pin>) -> Sides
 
 /// How many sides they are.
 fn count_sides(sides: Sides) -> u32
-    ensures count { result ≡ (if sides.bottom then 1 else 0) + (if sides.top then 1 else 0) + (if sides.left then 1 else 0) + (if sides.right then 1 else 0) }
+    ensures count { result ≡ (if sides.bottom then 1 else 0) + (if sides.top then 1 else 0)
+        + (if sides.left then 1 else 0) + (if sides.right then 1 else 0) }
     ensures few { result ≤ 4 }
 {
     u32::from(sides.bottom) + u32::from(sides.top) + u32::from(sides.left) + u32::from(sides.right)
@@ -81,12 +82,14 @@ impl DeviceGraph {
         row: u32,
         track: u32,
     )
-        requires room { HasRoomFor list.old (length (above_wire self.now tapper.fc tapper.number column row track)) }
+        requires room { HasRoomFor list.old (length
+            (above_wire self.now tapper.fc tapper.number column row track)) }
         requires tapper { IsTapper self.now tapper }
         requires column { (1 ≤ column) × (column ≤ self.now.nx) }
         requires row { row ≤ self.now.ny }
         requires track { track < tracks_in self.now.mode self.now.width }
-        ensures { Pushes list.old (above_wire self.now tapper.fc tapper.number column row track) list.new }
+        ensures { Pushes list.old (above_wire self.now tapper.fc tapper.number column row track)
+            list.new }
     {
         if taps_as(self.layout(), tapper, track) {
             list.push_reserved(self.run_above(track, column, row).first);
@@ -102,12 +105,14 @@ impl DeviceGraph {
         row: u32,
         track: u32,
     )
-        requires room { HasRoomFor list.old (length (right_wire self.now tapper.fc tapper.number column row track)) }
+        requires room { HasRoomFor list.old (length
+            (right_wire self.now tapper.fc tapper.number column row track)) }
         requires tapper { IsTapper self.now tapper }
         requires row { (1 ≤ row) × (row ≤ self.now.ny) }
         requires column { column ≤ self.now.nx }
         requires track { track < tracks_in self.now.mode self.now.width }
-        ensures { Pushes list.old (right_wire self.now tapper.fc tapper.number column row track) list.new }
+        ensures { Pushes list.old (right_wire self.now tapper.fc tapper.number column row track)
+            list.new }
     {
         if taps_as(self.layout(), tapper, track) {
             list.push_reserved(self.run_right(track, column, row).first);
@@ -124,12 +129,14 @@ impl DeviceGraph {
         row: u32,
         tracks: &[u8],
     )
-        requires room { HasRoomFor list.old (length (flat_map (above_wire self.now tapper.fc tapper.number column row) tracks.now)) }
+        requires room { HasRoomFor list.old (length
+            (flat_map (above_wire self.now tapper.fc tapper.number column row) tracks.now)) }
         requires tapper { IsTapper self.now tapper }
         requires column { (1 ≤ column) × (column ≤ self.now.nx) }
         requires row { row ≤ self.now.ny }
         requires tracks { All (λ t. t < tracks_in self.now.mode self.now.width) tracks.now }
-        ensures { Pushes list.old (flat_map (above_wire self.now tapper.fc tapper.number column row) tracks.now) list.new }
+        ensures { Pushes list.old (flat_map (above_wire self.now tapper.fc tapper.number column row)
+            tracks.now) list.new }
     {
         for track in tracks {
             self.push_track_above(list, tapper, column, row, u32::from(*track));
@@ -148,12 +155,15 @@ impl DeviceGraph {
         tracks: &[u8],
         wanted: bool,
     )
-        requires room { HasRoomFor list.old (length (if wanted then tapped_chanx self.now tapper.fc tapper.number column row first else [])) }
+        requires room { HasRoomFor list.old (length
+            (if wanted then tapped_chanx self.now tapper.fc tapper.number column row first
+            else [])) }
         requires tapper { IsTapper self.now tapper }
         requires places { (1 ≤ first) × (first ≤ column) }
         requires row { wanted ≡ true → (column ≤ self.now.nx) × (row ≤ self.now.ny) }
         requires tracks { tracks.now ≡ tracks_from self.now self.now.nx column first }
-        ensures { Pushes list.old (if wanted then tapped_chanx self.now tapper.fc tapper.number column row first else []) list.new }
+        ensures { Pushes list.old (if wanted then tapped_chanx self.now tapper.fc tapper.number
+            column row first else []) list.new }
     {
         if wanted {
             self.push_above(list, tapper, column, row, tracks);
@@ -172,12 +182,14 @@ impl DeviceGraph {
         tracks: &[u8],
         sides: Sides,
     )
-        requires room { HasRoomFor list.old (length (rows_piece self.now tapper.fc tapper.number column row sides first)) }
+        requires room { HasRoomFor list.old (length
+            (rows_piece self.now tapper.fc tapper.number column row sides first)) }
         requires tapper { IsTapper self.now tapper }
         requires places { (1 ≤ first) × (first ≤ column) }
         requires sides { AreSides self.now column row sides }
         requires tracks { tracks.now ≡ tracks_from self.now self.now.nx column first }
-        ensures { Pushes list.old (rows_piece self.now tapper.fc tapper.number column row sides first) list.new }
+        ensures { Pushes list.old (rows_piece self.now tapper.fc tapper.number column row sides
+            first) list.new }
     {
         let below = row.saturating_sub(1);
         self.push_above_if(list, tapper, column, below, first, tracks, sides.bottom);
@@ -194,11 +206,13 @@ impl DeviceGraph {
         row: u32,
         sides: Sides,
     )
-        requires room { HasRoomFor list.old (length (tapped_rows self.now tapper.fc tapper.number column row sides.bottom sides.top)) }
+        requires room { HasRoomFor list.old (length
+            (tapped_rows self.now tapper.fc tapper.number column row sides.bottom sides.top)) }
         requires tapper { IsTapper self.now tapper }
         requires column { (1 ≤ column) × (column ≤ self.now.nx) }
         requires sides { AreSides self.now column row sides }
-        ensures { Pushes list.old (tapped_rows self.now tapper.fc tapper.number column row sides.bottom sides.top) list.new }
+        ensures { Pushes list.old (tapped_rows self.now tapper.fc tapper.number column row
+            sides.bottom sides.top) list.new }
     {
         let mut tracks = self.tables().tracks_above(column);
         for before in 0..column {
@@ -219,10 +233,12 @@ impl DeviceGraph {
         row: u32,
         sides: Sides,
     )
-        requires room { HasRoomFor list.old (length (tapped_rows self.now tapper.fc tapper.number column row sides.bottom sides.top)) }
+        requires room { HasRoomFor list.old (length
+            (tapped_rows self.now tapper.fc tapper.number column row sides.bottom sides.top)) }
         requires tapper { IsTapper self.now tapper }
         requires sides { AreSides self.now column row sides }
-        ensures { Pushes list.old (tapped_rows self.now tapper.fc tapper.number column row sides.bottom sides.top) list.new }
+        ensures { Pushes list.old (tapped_rows self.now tapper.fc tapper.number column row
+            sides.bottom sides.top) list.new }
     {
         if sides.bottom || sides.top {
             self.push_rows_through(list, tapper, column, row, sides);
@@ -232,10 +248,12 @@ impl DeviceGraph {
     /// All those right of a column.
     #[tactic(auto, using(crate::proofs::Pushes::pushed_each, crate::proofs::Pushes::room_each, crate::proofs::OpinWires::column_by_track, channel_tables::proofs::TrackOrder::through_some, channel_tables::proofs::TrackOrder::since_small))]
     fn push_column(&self, list: &mut SmallVec<u32, 8>, tapper: Tapper, column: u32, row: u32)
-        requires room { HasRoomFor list.old (length (tapped_column self.now tapper.fc tapper.number column row)) }
+        requires room { HasRoomFor list.old (length
+            (tapped_column self.now tapper.fc tapper.number column row)) }
         requires tapper { IsTapper self.now tapper }
         requires place { (column ≤ self.now.nx) × (row ≤ self.now.ny) }
-        ensures { Pushes list.old (tapped_column self.now tapper.fc tapper.number column row) list.new }
+        ensures { Pushes list.old (tapped_column self.now tapper.fc tapper.number column row)
+            list.new }
     {
         let tracks = self.tables().tracks_right(row);
         for track in tracks {
@@ -253,10 +271,12 @@ impl DeviceGraph {
         row: u32,
         wanted: bool,
     )
-        requires room { HasRoomFor list.old (length (if wanted then tapped_column self.now tapper.fc tapper.number column row else [])) }
+        requires room { HasRoomFor list.old (length
+            (if wanted then tapped_column self.now tapper.fc tapper.number column row else [])) }
         requires tapper { IsTapper self.now tapper }
         requires place { wanted ≡ true → (column ≤ self.now.nx) × (row ≤ self.now.ny) }
-        ensures { Pushes list.old (if wanted then tapped_column self.now tapper.fc tapper.number column row else []) list.new }
+        ensures { Pushes list.old (if wanted then tapped_column self.now tapper.fc tapper.number
+            column row else []) list.new }
     {
         if wanted {
             self.push_column(list, tapper, column, row);
@@ -266,7 +286,8 @@ impl DeviceGraph {
     /// All the wires that the pin taps on the sides of (x, y).
     #[tactic(auto, using(crate::proofs::Pushes::pushed_then, crate::proofs::Pushes::room_first, crate::proofs::Pushes::room_then))]
     fn push_sides(&self, list: &mut SmallVec<u32, 8>, tapper: Tapper, x: u32, y: u32, sides: Sides)
-        requires room { HasRoomFor list.old (length (wires_on self.now tapper.fc tapper.number x y sides)) }
+        requires room { HasRoomFor list.old (length
+            (wires_on self.now tapper.fc tapper.number x y sides)) }
         requires tapper { IsTapper self.now tapper }
         requires sides { AreSides self.now x y sides }
         ensures { Pushes list.old (wires_on self.now tapper.fc tapper.number x y sides) list.new }
@@ -317,7 +338,8 @@ impl DeviceGraph {
     #[tactic(auto, using(crate::proofs::TracksTapped::tapped_detailed, crate::proofs::TracksTapped::tapped_global))]
     fn count_tapped(&self, tapper: Tapper) -> u32
         requires { IsTapper self.now tapper }
-        ensures count { result ≡ length (filter (taps_track self.now tapper.fc tapper.number) (all_tracks self.now)) }
+        ensures count { result ≡ length (filter (taps_track self.now tapper.fc tapper.number)
+            (all_tracks self.now)) }
         ensures few { result ≤ most_tracks }
     {
         let _limits = self.nx();

@@ -67,7 +67,8 @@ impl DeviceGraph {
         requires column { x ≤ self.now.nx }
         requires row { y ≤ self.now.ny }
         requires track { track < tracks_in self.now.mode self.now.width }
-        ensures meeting { runs_of result ≡ map (run_above self.now track y) (meeting_of self.now self.now.nx track x) }
+        ensures meeting { runs_of result ≡ map (run_above self.now track y)
+            (meeting_of self.now self.now.nx track x) }
         ensures small { IsSmallMeeting result }
     {
         let nx = self.nx();
@@ -98,7 +99,8 @@ impl DeviceGraph {
         requires column { x ≤ self.now.nx }
         requires row { y ≤ self.now.ny }
         requires track { track < tracks_in self.now.mode self.now.width }
-        ensures meeting { runs_of result ≡ map (run_right self.now track x) (meeting_of self.now self.now.ny track y) }
+        ensures meeting { runs_of result ≡ map (run_right self.now track x)
+            (meeting_of self.now self.now.ny track y) }
         ensures small { IsSmallMeeting result }
     {
         let ny = self.ny();
@@ -132,7 +134,8 @@ impl DeviceGraph {
         requires track { track < tracks_in self.now.mode self.now.width }
         requires begins { begins self.now self.now.nx track x ≡ true }
         requires last { last ≡ last_of self.now self.now.nx track x }
-        ensures { numbers_of result ≡ map (λ q. wire_id self.now Kind.Chanx q y track) (beside_of self.now self.now.nx track x last) }
+        ensures { numbers_of result ≡ map (λ q. wire_id self.now Kind.Chanx q y track)
+            (beside_of self.now self.now.nx track x last) }
     {
         let nx = self.nx();
         Pair {
@@ -159,7 +162,8 @@ impl DeviceGraph {
         requires track { track < tracks_in self.now.mode self.now.width }
         requires begins { begins self.now self.now.ny track y ≡ true }
         requires last { last ≡ last_of self.now self.now.ny track y }
-        ensures { numbers_of result ≡ map (λ q. wire_id self.now Kind.Chany x q track) (beside_of self.now self.now.ny track y last) }
+        ensures { numbers_of result ≡ map (λ q. wire_id self.now Kind.Chany x q track)
+            (beside_of self.now self.now.ny track y last) }
     {
         let ny = self.ny();
         Pair {
@@ -289,7 +293,8 @@ impl DeviceGraph {
     fn taps_under(&self, track: u32, x: u32, y: u32) -> Taps<'_>
         requires place { (1 ≤ x) × (x ≤ self.now.nx) × (y ≤ self.now.ny) }
         requires track { track < tracks_in self.now.mode self.now.width }
-        ensures pins { (k : ℕ) → x + k ≤ self.now.nx → pins_at result k ≡ pins_beside self.now (λ s. s.top) (x + k) y track }
+        ensures pins { (k : ℕ) → x + k ≤ self.now.nx
+            → pins_at result k ≡ pins_beside self.now (λ s. s.top) (x + k) y track }
         ensures small { IsSmallTaps result }
     {
         let first = self.column_start(x);
@@ -308,7 +313,8 @@ impl DeviceGraph {
     fn taps_over(&self, track: u32, x: u32, y: u32) -> Taps<'_>
         requires place { (1 ≤ x) × (x ≤ self.now.nx) × (y ≤ self.now.ny) }
         requires track { track < tracks_in self.now.mode self.now.width }
-        ensures pins { (k : ℕ) → x + k ≤ self.now.nx → pins_at result k ≡ pins_beside self.now (λ s. s.bottom) (x + k) (y + 1) track }
+        ensures pins { (k : ℕ) → x + k ≤ self.now.nx
+            → pins_at result k ≡ pins_beside self.now (λ s. s.bottom) (x + k) (y + 1) track }
         ensures small { IsSmallTaps result }
     {
         let ny = self.ny();
@@ -325,7 +331,8 @@ impl DeviceGraph {
     fn taps_before(&self, track: u32, x: u32, y: u32) -> Taps<'_>
         requires place { (1 ≤ y) × (y ≤ self.now.ny) × (x ≤ self.now.nx) }
         requires track { track < tracks_in self.now.mode self.now.width }
-        ensures pins { (k : ℕ) → y + k ≤ self.now.ny → pins_at result k ≡ pins_beside self.now (λ s. s.right) x (y + k) track }
+        ensures pins { (k : ℕ) → y + k ≤ self.now.ny
+            → pins_at result k ≡ pins_beside self.now (λ s. s.right) x (y + k) track }
         ensures small { IsSmallTaps result }
     {
         if x == 0 {
@@ -345,7 +352,8 @@ impl DeviceGraph {
     fn taps_behind(&self, track: u32, x: u32, y: u32) -> Taps<'_>
         requires place { (1 ≤ y) × (y ≤ self.now.ny) × (x ≤ self.now.nx) }
         requires track { track < tracks_in self.now.mode self.now.width }
-        ensures pins { (k : ℕ) → y + k ≤ self.now.ny → pins_at result k ≡ pins_beside self.now (λ s. s.left) (x + 1) (y + k) track }
+        ensures pins { (k : ℕ) → y + k ≤ self.now.ny
+            → pins_at result k ≡ pins_beside self.now (λ s. s.left) (x + 1) (y + k) track }
         ensures small { IsSmallTaps result }
     {
         if x == self.nx() {
@@ -468,9 +476,11 @@ impl DeviceGraph {
         requires wire { (1 ≤ x) × (x ≤ self.now.nx) × (begins self.now self.now.nx track x ≡ true) }
         requires row { y ≤ self.now.ny }
         requires track { track < tracks_in self.now.mode self.now.width }
-        ensures filled { OnOk result (list.new.items ≡ list.old.items ++ row_wire_list self.now x y track) }
+        ensures filled { OnOk result (list.new.items
+            ≡ list.old.items ++ row_wire_list self.now x y track) }
         ensures refused { OnErr result (list.new ≡ list.old) }
-        ensures room { HasRoomFor list.old (length (row_wire_list self.now x y track)) → IsOk result }
+        ensures room { HasRoomFor list.old (length (row_wire_list self.now x y track))
+            → IsOk result }
         ensures kept { list.old.capacity ≤ list.new.capacity }
     {
         self.row_fanout(track, x, y).fill(list)?;
@@ -490,9 +500,11 @@ impl DeviceGraph {
         requires wire { (1 ≤ y) × (y ≤ self.now.ny) × (begins self.now self.now.ny track y ≡ true) }
         requires column { x ≤ self.now.nx }
         requires track { track < tracks_in self.now.mode self.now.width }
-        ensures filled { OnOk result (list.new.items ≡ list.old.items ++ column_wire_list self.now x y track) }
+        ensures filled { OnOk result (list.new.items
+            ≡ list.old.items ++ column_wire_list self.now x y track) }
         ensures refused { OnErr result (list.new ≡ list.old) }
-        ensures room { HasRoomFor list.old (length (column_wire_list self.now x y track)) → IsOk result }
+        ensures room { HasRoomFor list.old (length (column_wire_list self.now x y track))
+            → IsOk result }
         ensures kept { list.old.capacity ≤ list.new.capacity }
     {
         self.column_fanout(track, x, y).fill(list)?;
@@ -504,7 +516,8 @@ impl DeviceGraph {
     #[tactic(auto)]
     pub(crate) fn fill(&self, list: &mut SmallVec<u32, 8>, node: Node) -> Result<(), AllocError>
         requires { IsAtPlace self.now node }
-        ensures filled { OnOk result (list.new.items ≡ list.old.items ++ node_successors self.now node) }
+        ensures filled { OnOk result (list.new.items
+            ≡ list.old.items ++ node_successors self.now node) }
         ensures refused { OnErr result (list.new ≡ list.old) }
         ensures room { HasRoomFor list.old (length (node_successors self.now node)) → IsOk result }
         ensures kept { list.old.capacity ≤ list.new.capacity }

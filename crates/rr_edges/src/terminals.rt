@@ -18,10 +18,12 @@ use smallvec::SmallVec;
 /// Those of the pins, of which the first has number `start`, that are of a class.
 #[tactic(auto, using(crate::proofs::Pushes::pushed_next, crate::proofs::Pushes::room_next))]
 fn push_class(layout: &Layout, list: &mut SmallVec<u32, 8>, pins: &[u32], class: u32, start: u32)
-    requires room { HasRoomFor list.old (length (picks (λ p. has_class (slice_get layout.now.architecture.pins p) class) start pins.now)) }
+    requires room { HasRoomFor list.old (length
+        (picks (λ p. has_class (slice_get layout.now.architecture.pins p) class) start pins.now)) }
     requires few { length pins.now ≤ most_pins }
     requires small { start < 16777216 }
-    ensures { Pushes list.old (picks (λ p. has_class (slice_get layout.now.architecture.pins p) class) start pins.now) list.new }
+    ensures { Pushes list.old (picks (λ p. has_class
+        (slice_get layout.now.architecture.pins p) class) start pins.now) list.new }
 {
     for (place, pin) in pins.iter().enumerate() {
         let is_of_class = has_class(layout.pin(*pin), class);
@@ -33,7 +35,8 @@ fn push_class(layout: &Layout, list: &mut SmallVec<u32, 8>, pins: &[u32], class:
 #[tactic(auto, using(crate::proofs::Pushes::count_picked, crate::proofs::Pushes::count_passed))]
 fn count_class(layout: &Layout, pins: &[u32], class: u32) -> u32
     requires { length pins.now ≤ most_pins }
-    ensures { result ≡ length (picks (λ p. has_class (slice_get layout.now.architecture.pins p) class) 0 pins.now) }
+    ensures { result ≡ length (picks (λ p. has_class
+        (slice_get layout.now.architecture.pins p) class) 0 pins.now) }
 {
     let mut count = 0;
     for (_place, pin) in pins.iter().enumerate() {

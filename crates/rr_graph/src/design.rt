@@ -106,7 +106,8 @@ fn suits_net(device: &Device, placement: &Placement, net: &Net) -> bool
 /// Whether all terminals of routed nets have nodes.
 fn suits_nets(device: &Device, placement: &Placement, nets: &[Net]) -> bool
     ensures { result
-        ≡ list_all (λ net. not (is_routed_net net) || has_nodes device.now placement.now net) nets.now }
+        ≡ list_all (λ net. not (is_routed_net net) || has_nodes device.now placement.now net)
+        nets.now }
 {
     nets.iter().all(|net| suits_net(device, placement, net))
 }
@@ -179,7 +180,8 @@ pub(crate) fn nets_of_design(
     placement: &Placement,
 ) -> Result<Vec<Terminals>, AllocError>
     ensures { IfOk result
-        (λ v. v.items ≡ map (net_of_design device.now netlist.now placement.now) (routed_numbers netlist.now)) }
+        (λ v. v.items ≡ map (net_of_design device.now netlist.now placement.now)
+        (routed_numbers netlist.now)) }
 {
     let nets = netlist.nets();
     let mut list = Vec::new(alloc);

@@ -27,7 +27,8 @@ pub trait MadeOfDesigns {
         requires { suits_design device netlist.now placement.now ≡ true }
         ensures made { IfOk result (λ p. p ≡ problem_from device netlist.now placement.now) }
         // The nets keep the numbers that they have in the netlist.
-        ensures numbers { IfOk result (λ p. map (λ n. n.number) p.nets ≡ routed_numbers netlist.now) };
+        ensures numbers { IfOk result (λ p. map (λ n. n.number) p.nets
+            ≡ routed_numbers netlist.now) };
 
     /// The routing problem of a netlist and a placement that were read, on the device of the placement's array:
     /// its routed nets, by their numbers in the netlist.
@@ -42,9 +43,11 @@ pub trait MadeOfDesigns {
         requires tracks { (1 ≤ width) × (width ≤ most_tracks) }
         requires read { (bytes : List ℕ) × ReadsBytes arch.now.pins bytes netlist.now }
         requires placed { IsPlaced arch.now.io_rat netlist.now.blocks placement.now }
-        ensures made { IfOk result (λ p. p ≡ problem_with width mode arch.now netlist.now placement.now) }
+        ensures made { IfOk result (λ p. p ≡ problem_with width mode arch.now netlist.now
+            placement.now) }
         // The nets keep the numbers that they have in the netlist.
-        ensures numbers { IfOk result (λ p. map (λ n. n.number) p.nets ≡ routed_numbers netlist.now) };
+        ensures numbers { IfOk result (λ p. map (λ n. n.number) p.nets
+            ≡ routed_numbers netlist.now) };
 }
 
 impl MadeOfDesigns for Problem {
@@ -55,12 +58,7 @@ impl MadeOfDesigns for Problem {
         device: Device,
         netlist: &Netlist,
         placement: &Placement,
-    ) -> Result<Problem, AllocError>
-        requires { suits_design device netlist.now placement.now ≡ true }
-        ensures made { IfOk result (λ p. p ≡ problem_from device netlist.now placement.now) }
-        // The nets keep the numbers that they have in the netlist.
-        ensures numbers { IfOk result (λ p. map (λ n. n.number) p.nets ≡ routed_numbers netlist.now) }
-    {
+    ) -> Result<Problem, AllocError> {
         let _limits = netlist.nets();
         let nets = nets_of_design(alloc, &device, netlist, placement)?;
         Ok(Problem::of_nets(device, nets))
@@ -75,14 +73,7 @@ impl MadeOfDesigns for Problem {
         placement: &Placement,
         width: u32,
         mode: Mode,
-    ) -> Result<Problem, AllocError>
-        requires tracks { (1 ≤ width) × (width ≤ most_tracks) }
-        requires read { (bytes : List ℕ) × ReadsBytes arch.now.pins bytes netlist.now }
-        requires placed { IsPlaced arch.now.io_rat netlist.now.blocks placement.now }
-        ensures made { IfOk result (λ p. p ≡ problem_with width mode arch.now netlist.now placement.now) }
-        // The nets keep the numbers that they have in the netlist.
-        ensures numbers { IfOk result (λ p. map (λ n. n.number) p.nets ≡ routed_numbers netlist.now) }
-    {
+    ) -> Result<Problem, AllocError> {
         let (nx, ny) = (placement.nx(), placement.ny());
         let device = Device::with_mode(alloc, arch, nx, ny, width, mode)?;
         prove!(device.suits(netlist, placement));

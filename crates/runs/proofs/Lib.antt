@@ -1,8 +1,6 @@
-pub mod Ending
+pub mod Filled
+pub mod Judging
 pub mod Lines
-pub mod Stages
-pub mod Designs
 pub mod Writing
 pub mod Widths
 pub mod Leaving
-pub mod Logging

@@ -13,12 +13,10 @@ use Rattle.rr_graph.specs.parts.Span.{Span}
 use Rattle.rr_graph.specs.Fabric.{Fabric, numbers_below}
 use Rattle.rr_graph.specs.Nodes.{node_at, label_of, span_of, capacity_of}
 use Rattle.rr_graph.proofs.Ranges.{below_next}
-use Rattle.runs.specs.Texts.{node_text, node_line}
+use Rattle.run_inputs.proofs.Lines.{lines_more}
+use Rattle.runs.specs.Texts.{node_line}
+use Rattle.text_output.specs.NodeTexts.{node_text}
 use Rattle.runs.specs.Listing.{line_at, line_of}
-
--- the lines of one more number
-pub lines_more : (line : ℕ → List ℕ) (n : ℕ) → flat_map line (numbers_below n) ++ line n ≡ flat_map line (numbers_below (n + 1))
-lines_more line n = flat_map_more line [] (numbers_below n) n ∙ ap (flat_map line) (sym (below_next n))
 
 -- the lines of the first numbers begin those of all
 lines_rest : (line : ℕ → List ℕ) (i k : ℕ) → (rest : List ℕ) × (flat_map line (numbers_below i) ++ rest ≡ flat_map line (numbers_below (i + k)))

@@ -1,18 +1,19 @@
 -- What comes of printing the lines of a search and writing the routing that it found.
-use Rattle.std.proofs.Common.{◌≡◌, ℕ, ◌<◌, Bool, true, false, MatchBool, List, length, Option, Some, None, Result, Ok, Err, refl, ap, arith, length-append}
+use Rattle.std.proofs.Common.{◌≡◌, ℕ, ◌<◌, Bool, true, false, MatchBool, List, length, Option, Some, None, Result, Ok, Err, refl, ap, subst, arith, length-append}
+use Rattle.rr_graph.specs.Problems.{RoutingProblem}
 use Rattle.rr_graph.specs.parts.Mode.{Mode}
 use Rattle.node_cost.specs.Options.{RouterOptions}
 use Rattle.width_search.specs.declared.report.LeastWidth.{LeastWidth}
 use Rattle.width_search.specs.declared.trial.Trial.{Trial}
 use Rattle.width_search.specs.Reports.{IsOfLeastWidth, IsWidthReport, Negotiates, Report}
 use Rattle.route_file.specs.Text.{text_of}
-use Rattle.runs.specs.declared.fault.InputFile.TheVariants as file
-use Rattle.runs.specs.declared.fault.AppFault.{AppFault}
-use Rattle.runs.specs.declared.fault.AppFault.TheVariants.{Unwritten}
-use Rattle.runs.specs.Faults.{ends_free}
-use Rattle.runs.specs.Inputs.{PlacedNetlist, ends_before, placed_problem}
-use Rattle.runs.specs.Runs.{PrintsText, TakesAll, TakesFront, TakesNothing, Writing, writing}
-use Rattle.runs.specs.WidthRun.{WritesFound, WritesLeast, found_line, least_line, report_text}
+use Rattle.run_inputs.specs.declared.fault.InputFile.TheVariants as file
+use Rattle.run_inputs.specs.declared.fault.AppFault.{AppFault}
+use Rattle.run_inputs.specs.declared.fault.AppFault.TheVariants.{Unwritten}
+use Rattle.run_inputs.specs.Faults.{ends_free}
+use Rattle.run_inputs.specs.Inputs.{PlacedNetlist, ends_before, placed_problem}
+use Rattle.run_inputs.specs.Runs.{PrintsText, TakesAll, TakesFront, TakesNothing, Writing, writing}
+use Rattle.runs.specs.WidthRun.{WritesFound, WritesLeast, WritesReport, found_line, least_line, report_text}
 use Rattle.runs.specs.kept.Routing.{RoutesLeast}
 
 -- the lines of a search aren't empty
@@ -51,6 +52,14 @@ module _ (lines text : List ℕ) (route : Writing) (before after : Option (List 
       → PrintsText route text (tt {0}) result → WritesFound route (writing before after failed) lines text (tt {0}) result
   found_printed true result p w = let clash = p.0 in absurd cc
   found_printed false result p w = (p.1, w)
+
+-- the least width that was found is that of the report
+pub report_written : {R : Type 0} (route out : Writing) (mode : Mode) (p : PlacedNetlist) (r : Report) (least : LeastWidth) (problem : RoutingProblem) (value : R) (result : Result R AppFault)
+    → Some least ≡ r.least → problem ≡ placed_problem mode p least.width
+    → WritesFound route out (report_text r) (text_of p.netlist p.placement problem least.routing) value result → WritesReport route out mode p r value result
+report_written route out mode p r least problem value result is made w =
+    subst (λ (l : Option LeastWidth). WritesLeast route out mode p (report_text r) l value result) is
+    (subst (λ (q : RoutingProblem). WritesFound route out (report_text r) (text_of p.netlist p.placement q least.routing) value result) made w)
 
 -- ---- another value in place of none
 

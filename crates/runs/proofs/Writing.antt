@@ -12,12 +12,12 @@ use Rattle.net_workers.specs.declared.fault.WorkFault.TheVariants as work
 use Rattle.iteration.specs.declared.outcome.Outcome.{Outcome}
 use Rattle.iteration.specs.declared.outcome.Outcome.TheVariants.{Success, NotRouted}
 use Rattle.iteration.specs.Outcomes.{IsOutcome}
-use Rattle.runs.specs.declared.fault.InputFile.TheVariants as file
-use Rattle.runs.specs.declared.fault.AppFault.{AppFault}
-use Rattle.runs.specs.declared.fault.AppFault.TheVariants.{Arch, Net, Place, Route, Unread, Unwritten, Memory, NoThread, Astray}
-use Rattle.runs.specs.Faults.{ends_free, fault_of_work, is_free}
-use Rattle.runs.specs.Inputs.{PlacedDesign, ends_before}
-use Rattle.runs.specs.Runs.{PrintsText, TakesAll, TakesFront, TakesNothing, Writing, writing}
+use Rattle.run_inputs.specs.declared.fault.InputFile.TheVariants as file
+use Rattle.run_inputs.specs.declared.fault.AppFault.{AppFault}
+use Rattle.run_inputs.specs.declared.fault.AppFault.TheVariants.{Arch, Net, Place, Route, Unread, Unwritten, Memory, NoThread, Astray}
+use Rattle.run_inputs.specs.Faults.{ends_free, fault_of_work, is_free}
+use Rattle.run_inputs.specs.Inputs.{PlacedDesign, ends_before}
+use Rattle.run_inputs.specs.Runs.{PrintsText, TakesAll, TakesFront, TakesNothing, Writing, writing}
 use Rattle.runs.specs.RouteRun.{WritesOutcome, WritesSuccess, left_text, routed_text}
 use Rattle.runs.specs.kept.Routing.{RoutesProblem, outcome_text}
 
@@ -48,12 +48,12 @@ module _ {R : Type 0} (F T : Type 0) (value : R) (result : Result R AppFault) wh
   prints_late true p = ap (ends_before file.Route) p.0
   prints_late false p = ap (ends_before file.Route) p.0
 
-module _ (F G T : Type 0) (out : Writing) (text : List ℕ) (value : Outcome) (result : Result Outcome AppFault) where
-  success_bound : (failed : Bool) → MatchBool failed ((result ≡ Err Unwritten) × F × G) (T × PrintsText out text value result) → ends_free result ≡ false
+module _ {R : Type 0} (F G T : Type 0) (out : Writing) (text : List ℕ) (value : R) (result : Result R AppFault) where
+  pub success_bound : (failed : Bool) → MatchBool failed ((result ≡ Err Unwritten) × F × G) (T × PrintsText out text value result) → ends_free result ≡ false
   success_bound true p = ap ends_free p.0
   success_bound false p = prints_bound (TakesFront out text) (TakesAll out text) value result out.failed p.1
 
-  success_late : (failed : Bool) → MatchBool failed ((result ≡ Err Unwritten) × F × G) (T × PrintsText out text value result) → ends_before file.Route result ≡ false
+  pub success_late : (failed : Bool) → MatchBool failed ((result ≡ Err Unwritten) × F × G) (T × PrintsText out text value result) → ends_before file.Route result ≡ false
   success_late true p = ap (ends_before file.Route) p.0
   success_late false p = prints_late (TakesFront out text) (TakesAll out text) value result out.failed p.1
 

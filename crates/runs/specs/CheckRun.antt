@@ -3,9 +3,10 @@ use Rattle.std.specs.Prelude.{ℕ, List, Option, Result, Ok}
 use Rattle.rr_graph.specs.parts.Mode.{Mode}
 use Rattle.route_tree.specs.Paths.{Pair}
 use Rattle.route_check.specs.declared.fault.RouteFault.{RouteFault}
-use Rattle.runs.specs.declared.fault.AppFault.{AppFault}
-use Rattle.runs.specs.Inputs.{PlacedDesign, design_in, routing_in}
-use Rattle.runs.specs.Runs.{DesignFiles, StopsOrGoesOn, Input, PrintsText, TakesNothing, Writing, ◌>>=◌}
+use Rattle.run_inputs.specs.declared.fault.AppFault.{AppFault}
+use Rattle.run_inputs.specs.Inputs.{PlacedDesign, design_in, routing_in}
+use Rattle.run_inputs.specs.Runs.{DesignFiles, StopsOrGoesOn, Input, PrintsText, TakesNothing, Writing}
+use Rattle.vpr_text.specs.Readings.{◌>>=◌}
 use Rattle.runs.specs.Verdict.{IsVerdict, verdict_text}
 
 -- a routing, and the design that it is meant for

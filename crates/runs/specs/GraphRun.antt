@@ -2,9 +2,9 @@
 use Rattle.std.specs.Prelude.{Result}
 use Rattle.arch_file.specs.Architecture.{Architecture}
 use Rattle.rr_graph.specs.Fabric.{Fabric}
-use Rattle.runs.specs.declared.fault.AppFault.{AppFault}
+use Rattle.run_inputs.specs.declared.fault.AppFault.{AppFault}
 use Rattle.runs.specs.Listing.{listing_of}
-use Rattle.runs.specs.Runs.{StopsOrGoesOn, PrintsText, TakesNothing, Writing}
+use Rattle.run_inputs.specs.Runs.{StopsOrGoesOn, PrintsText, TakesNothing, Writing}
 
 -- A run of `graph`, memory aside: where an architecture is read, the listing of its device is printed.
 abbrev pub RunsGraph : (out : Writing) → (Architecture → Fabric) → Result Architecture AppFault → Result (Unit {0}) AppFault → Type 0

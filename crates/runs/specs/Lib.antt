@@ -1,16 +1,6 @@
 pub mod Texts
 pub mod Listing
-pub mod TextFaults
-pub mod ArchFaults
-pub mod NetFaults
-pub mod PlaceFaults
-pub mod RouteFaults
-pub mod Faults
-pub mod Runs
 pub mod GraphRun
-pub mod Inputs
-pub mod Reading
-pub mod Stages
 pub mod Verdict
 pub mod CheckRun
 pub mod RouteRun

@@ -6,10 +6,10 @@ use Rattle.route_file.specs.Text.{text_of}
 use Rattle.iteration.specs.declared.outcome.Outcome.{Outcome}
 use Rattle.iteration.specs.declared.outcome.Outcome.TheVariants.{Success, NotRouted}
 use Rattle.iteration.specs.Outcomes as negotiation
-use Rattle.runs.specs.declared.fault.AppFault.{AppFault}
-use Rattle.runs.specs.declared.fault.AppFault.TheVariants.{Unwritten}
-use Rattle.runs.specs.Inputs.{PlacedDesign}
-use Rattle.runs.specs.Runs.{StopsOrGoesOn, PrintsText, TakesAll, TakesFront, TakesNothing, Writing}
+use Rattle.run_inputs.specs.declared.fault.AppFault.{AppFault}
+use Rattle.run_inputs.specs.declared.fault.AppFault.TheVariants.{Unwritten}
+use Rattle.run_inputs.specs.Inputs.{PlacedDesign}
+use Rattle.run_inputs.specs.Runs.{StopsOrGoesOn, PrintsText, TakesAll, TakesFront, TakesNothing, Writing}
 
 -- ---- the line of an outcome
 

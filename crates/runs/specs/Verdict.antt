@@ -2,9 +2,8 @@
 use Rattle.std.specs.Prelude.{◌≡◌, ◌≢◌, ◌↔◌, ℕ, List, [], ◌++◌, slice_index_or, Option, None, Some, codes, decimal}
 use Rattle.net_file.specs.Netlist.{Netlist}
 use Rattle.net_file.specs.Routed.{no_net}
-use Rattle.rr_graph.specs.parts.Node.{Node}
 use Rattle.rr_graph.specs.Fabric.{Fabric}
-use Rattle.rr_graph.specs.Nodes.{node_at, label_of, span_of}
+use Rattle.rr_graph.specs.Nodes.{node_at}
 use Rattle.rr_graph.specs.Problems.{RoutingProblem, net_in}
 use Rattle.route_tree.specs.declared.fault.TreeFault.{TreeFault}
 use Rattle.route_tree.specs.declared.fault.TreeFault.TheVariants.{NoNet, WrongSource, NoSwitch, NodeTwice, SecondOutput, ForeignSink, Dangling, MissingSink, Order}
@@ -13,7 +12,7 @@ use Rattle.route_check.specs.declared.fault.RouteFault.{RouteFault}
 use Rattle.route_check.specs.declared.fault.RouteFault.TheVariants.{Length, Unrouted, Tree, Overused}
 use Rattle.route_check.specs.Routed.{IsRouted}
 use Rattle.route_check.specs.Faults.{IsFirstRouteFault}
-use Rattle.runs.specs.Texts.{node_text}
+use Rattle.text_output.specs.NodeTexts.{text_of_node}
 
 -- the verdict on a routing: none exactly where it routes the problem, a fault exactly where that is its first; a routing that was
 -- read has an entry for each net
@@ -41,11 +40,6 @@ net_fault_text number name fault = codes "not legal: net " ++ (decimal number ++
 abbrev pub text_of_net : Netlist → RoutingProblem → ℕ → (fault : List ℕ) → List ℕ
 text_of_net netlist p i fault =
     let number = (net_in p.nets i).number in net_fault_text number (slice_index_or netlist.nets number no_net).name fault
-
--- the node of a number, as `CHANX (1,2) Track: 0`
-abbrev pub text_of_node : Fabric → Option Node → List ℕ
-text_of_node f (Some n) = node_text n.kind (span_of f n) (label_of f n) n.number
-text_of_node f None = []
 
 -- a node that too many nets use, as `not legal: node 39 CHANY (0,1) Track: 0 overused by 1`
 unfoldable pub overuse_text : Fabric → (id by : ℕ) → List ℕ

@@ -7,10 +7,10 @@ use Rattle.route_file.specs.Text.{text_of}
 use Rattle.width_search.specs.declared.report.LeastWidth.{LeastWidth}
 use Rattle.width_search.specs.declared.trial.Trial.{Trial}
 use Rattle.width_search.specs.Reports.{IsWidthReport, Negotiates, Report}
-use Rattle.runs.specs.declared.fault.AppFault.{AppFault}
-use Rattle.runs.specs.declared.fault.AppFault.TheVariants.{Unwritten}
-use Rattle.runs.specs.Inputs.{PlacedNetlist, placed_problem}
-use Rattle.runs.specs.Runs.{StopsOrGoesOn, PrintsText, TakesAll, TakesFront, TakesNothing, Writing}
+use Rattle.run_inputs.specs.declared.fault.AppFault.{AppFault}
+use Rattle.run_inputs.specs.declared.fault.AppFault.TheVariants.{Unwritten}
+use Rattle.run_inputs.specs.Inputs.{PlacedNetlist, placed_problem}
+use Rattle.run_inputs.specs.Runs.{StopsOrGoesOn, PrintsText, TakesAll, TakesFront, TakesNothing, Writing}
 
 -- ---- the lines of a search
 

@@ -1,5 +1,3 @@
-pub mod ReaderFaults
 pub mod Routing
 pub mod Left
 pub mod Lesser
-pub mod LogTexts

@@ -2,23 +2,21 @@
 
 ghost use Rattle.std.specs.Prelude.{◌≡◌, ◌≢◌, ◌≤◌, true, false, length, Err};
 ghost use Rattle.rr_graph.specs.Fabric.{most_tracks};
-ghost use Rattle.runs.specs.Runs.{Meets, MeetsDesign, PrintsText, TakesNothing, reading, writing};
-ghost use Rattle.runs.specs.Inputs.{ends_before};
+ghost use Rattle.run_inputs.specs.Runs.{Meets, MeetsDesign, PrintsText, TakesNothing, reading, writing_to};
+ghost use Rattle.run_inputs.specs.Inputs.{ends_before};
 ghost use Rattle.runs.specs.CheckRun.{PrintsVerdict, RunsCheck, judged_in, judged_on};
 ghost use Rattle.runs.specs.Verdict.{verdict_text};
 
-use crate::design::Design;
-use crate::fault::{AppFault, InputFile};
-use crate::inputs::read_routing;
-use crate::netlist_text::NetlistText;
 use crate::verdict::put_verdict;
 use net_file::Netlist;
 use route_check::{RouteFault, check_routing};
 use route_tree::Routing;
 use rr_graph::{Mode, Problem};
+use run_inputs::{AppFault, Design, InputFile, NetlistText, read_routing};
 use std::alloc::AllocGlobal;
 use std::thread::Threads;
-use vpr_text::{ByteSink, ByteSource, OutputBuffer};
+use text_output::{ByteSink, OutputBuffer};
+use vpr_text::ByteSource;
 
 /// Prints the line of a verdict, and answers the verdict.
 fn print_verdict<W: ByteSink>(
@@ -27,7 +25,7 @@ fn print_verdict<W: ByteSink>(
     verdict: Option<RouteFault>,
     out: &mut W,
 ) -> Result<Option<RouteFault>, AppFault>
-    ensures { PrintsText (writing (W.taken out.old) (W.taken out.new) (W.failed out.new))
+    ensures { PrintsText (writing_to W.taken W.failed out.old out.new)
         (verdict_text netlist.now problem.now verdict) verdict result }
 {
     let mut buffer = OutputBuffer::new();
@@ -47,10 +45,10 @@ pub fn judge<W: ByteSink>(
 ) -> Result<Option<RouteFault>, AppFault>
     requires { length routing.now ≡ length design.now.problem.nets }
     ensures judges { result ≢ Err AppFault.Memory
-        → PrintsVerdict (writing (W.taken out.old) (W.taken out.new) (W.failed out.new))
+        → PrintsVerdict (writing_to W.taken W.failed out.old out.new)
         (record { design = design.now; routing = routing.now }) result }
     ensures memory { result ≡ Err AppFault.Memory
-        → TakesNothing (writing (W.taken out.old) (W.taken out.new) (W.failed out.new)) }
+        → TakesNothing (writing_to W.taken W.failed out.old out.new) }
     ensures late { ends_before InputFile.Route result ≡ false }
 {
     let netlist = design.netlist();
@@ -71,18 +69,15 @@ fn check_design<R: ByteSource, W: ByteSink>(
 ) -> Result<Option<RouteFault>, AppFault>
     ensures runs { result ≢ Err AppFault.Memory
         → Meets (reading (R.remaining route.old) (R.failed route.new))
-        (λ r. RunsCheck (writing (W.taken out.old) (W.taken out.new) (W.failed out.new))
+        (λ r. RunsCheck (writing_to W.taken W.failed out.old out.new)
         (judged_on design.now r) result) }
     ensures memory { result ≡ Err AppFault.Memory
-        → TakesNothing (writing (W.taken out.old) (W.taken out.new) (W.failed out.new)) }
+        → TakesNothing (writing_to W.taken W.failed out.old out.new) }
     ensures late { ends_before InputFile.Route result ≡ false }
 {
     let netlist = design.netlist();
     let problem = design.problem();
-    let routing = match read_routing(rt.alloc(), route, netlist, problem) {
-        Ok(routing) => routing,
-        Err(fault) => return Err(fault),
-    };
+    let routing = read_routing(rt.alloc(), route, netlist, problem)?;
     judge(rt, design, &routing, out)
 }
 
@@ -109,23 +104,17 @@ pub fn check_run<N: ByteSource, A: ByteSource, P: ByteSource, R: ByteSource, W: 
         (reading (N.remaining net.old) (N.failed net.new))
         (reading (P.remaining place.old) (P.failed place.new))
         (λ files. Meets (reading (R.remaining route.old) (R.failed route.new))
-        (λ r. RunsCheck (writing (W.taken out.old) (W.taken out.new) (W.failed out.new))
+        (λ r. RunsCheck (writing_to W.taken W.failed out.old out.new)
         (judged_in width mode files r) result)) }
     // Nothing is written where memory runs out.
     ensures memory { result ≡ Err AppFault.Memory
-        → TakesNothing (writing (W.taken out.old) (W.taken out.new) (W.failed out.new)) }
+        → TakesNothing (writing_to W.taken W.failed out.old out.new) }
     // A file is not read where the run ended at one before it.
     ensures net { ends_before InputFile.Net result ≡ true → net.new ≡ net.old }
     ensures place { ends_before InputFile.Place result ≡ true → place.new ≡ place.old }
     ensures route { ends_before InputFile.Route result ≡ true → route.new ≡ route.old }
 {
-    let text = match NetlistText::read(rt.alloc(), arch, net) {
-        Ok(text) => text,
-        Err(fault) => return Err(fault),
-    };
-    let design = match Design::read(rt.alloc(), &text, place, width, mode) {
-        Ok(design) => design,
-        Err(fault) => return Err(fault),
-    };
+    let text = NetlistText::read(rt.alloc(), arch, net)?;
+    let design = Design::read(rt.alloc(), &text, place, width, mode)?;
     check_design(rt, &design, route, out)
 }

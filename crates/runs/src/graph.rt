@@ -2,26 +2,26 @@
 
 ghost use Rattle.std.specs.Prelude.{◌≡◌, ◌≢◌, ◌≤◌, Err};
 ghost use Rattle.place_file.specs.Placement.{longest_side};
-ghost use Rattle.runs.specs.Inputs.{arch_in};
+ghost use Rattle.run_inputs.specs.Inputs.{arch_in};
 ghost use Rattle.runs.specs.Listing.{listing_of};
-ghost use Rattle.runs.specs.Runs.{Meets, PrintsText, TakesNothing, reading, writing};
+ghost use Rattle.run_inputs.specs.Runs.{Meets, PrintsText, TakesNothing, reading, writing_to};
 ghost use Rattle.rr_graph.specs.Fabric.{fabric_with, most_tracks};
 ghost use Rattle.runs.specs.GraphRun.{RunsGraph};
 
-use crate::fault::AppFault;
-use crate::inputs::read_arch;
 use crate::listing::{make_room, put_listing};
 use rr_graph::{Device, Mode};
+use run_inputs::{AppFault, read_arch};
 use smallvec::SmallVec;
 use std::alloc::Global;
-use vpr_text::{ByteSink, ByteSource, OutputBuffer};
+use text_output::{ByteSink, OutputBuffer};
+use vpr_text::ByteSource;
 
 /// Prints the listing of a device. Nothing is printed where memory runs out.
 fn print_listing<W: ByteSink>(alloc: Global, device: &Device, out: &mut W) -> Result<(), AppFault>
     ensures memory { result ≡ Err AppFault.Memory
-        → TakesNothing (writing (W.taken out.old) (W.taken out.new) (W.failed out.new)) }
+        → TakesNothing (writing_to W.taken W.failed out.old out.new) }
     ensures printed { result ≢ Err AppFault.Memory
-        → PrintsText (writing (W.taken out.old) (W.taken out.new) (W.failed out.new))
+        → PrintsText (writing_to W.taken W.failed out.old out.new)
         (listing_of device.now) tt result }
 {
     let mut list: SmallVec<u32, 8> = SmallVec::new(alloc);
@@ -54,16 +54,13 @@ pub fn graph_run<S: ByteSource, W: ByteSink>(
     // What the file says decides, and where it says an architecture, the listing of its device is printed.
     ensures runs { result ≢ Err AppFault.Memory
         → Meets (reading (S.remaining arch.old) (S.failed arch.new))
-        (λ a. RunsGraph (writing (W.taken out.old) (W.taken out.new) (W.failed out.new))
+        (λ a. RunsGraph (writing_to W.taken W.failed out.old out.new)
         (fabric_with nx ny width mode) (arch_in a) result) }
     // Nothing is written where memory runs out.
     ensures memory { result ≡ Err AppFault.Memory
-        → TakesNothing (writing (W.taken out.old) (W.taken out.new) (W.failed out.new)) }
+        → TakesNothing (writing_to W.taken W.failed out.old out.new) }
 {
-    let arch = match read_arch(alloc, arch) {
-        Ok(arch) => arch,
-        Err(fault) => return Err(fault),
-    };
+    let arch = read_arch(alloc, arch)?;
     let device = Device::with_mode(alloc, &arch, nx, ny, width, mode)?;
     print_listing(alloc, &device, out)
 }

@@ -2,24 +2,21 @@
 
 ghost use Rattle.std.specs.Prelude.{◌≡◌, ℕ, ◌≤◌, length, OnOk, Some};
 ghost use Rattle.std.specs.List.{flat_map};
-ghost use Rattle.vpr_text.specs.Output.{Sends, stream};
+ghost use Rattle.vpr_text.specs.Output.{SendsTo};
 ghost use Rattle.rr_graph.specs.Fabric.{numbers_below};
 ghost use Rattle.rr_graph.specs.Nodes.{node_at, node_count_of};
 ghost use Rattle.rr_graph.specs.Edges.{successors_of};
 ghost use Rattle.runs.specs.Texts.{counts_line, node_line, edge_line};
 ghost use Rattle.runs.specs.Listing.{line_at, edge_lines_at, listing_of};
 
-use crate::text::put_node;
-use route_file::text::put_number;
 use rr_graph::{Device, Node};
 use smallvec::SmallVec;
 use std::alloc::AllocError;
-use vpr_text::{ByteSink, OutputBuffer};
+use text_output::{ByteSink, OutputBuffer, put_node, put_number};
 
 /// Prints the first line: how many nodes and edges there are.
 fn put_counts<W: ByteSink>(out: &mut OutputBuffer, sink: &mut W, nodes: u32, edges: u64)
-    ensures { Sends (stream (W.taken sink.old) (W.failed sink.old) out.old)
-        (stream (W.taken sink.new) (W.failed sink.new) out.new) (counts_line nodes edges) }
+    ensures { SendsTo W.taken W.failed sink.old sink.new out.old out.new (counts_line nodes edges) }
 {
     put_number(out, sink, nodes);
     out.push(sink, b" nodes, ");
@@ -29,8 +26,7 @@ fn put_counts<W: ByteSink>(out: &mut OutputBuffer, sink: &mut W, nodes: u32, edg
 
 /// Prints the line of the node of a number, nothing for what is no node.
 fn put_line<W: ByteSink>(out: &mut OutputBuffer, sink: &mut W, device: &Device, id: u32)
-    ensures { Sends (stream (W.taken sink.old) (W.failed sink.old) out.old)
-        (stream (W.taken sink.new) (W.failed sink.new) out.new) (line_at device.now id) }
+    ensures { SendsTo W.taken W.failed sink.old sink.new out.old out.new (line_at device.now id) }
 {
     let node = match device.node(id) {
         Some(node) => node,
@@ -58,8 +54,7 @@ fn put_line<W: ByteSink>(out: &mut OutputBuffer, sink: &mut W, device: &Device, 
 
 /// Prints the lines of all nodes, or until the sink breaks.
 fn put_lines<W: ByteSink>(out: &mut OutputBuffer, sink: &mut W, device: &Device)
-    ensures { Sends (stream (W.taken sink.old) (W.failed sink.old) out.old)
-        (stream (W.taken sink.new) (W.failed sink.new) out.new)
+    ensures { SendsTo W.taken W.failed sink.old sink.new out.old out.new
         (flat_map (line_at device.now) (numbers_below (node_count_of device.now))) }
 {
     for id in 0..device.node_count() {
@@ -72,8 +67,7 @@ fn put_lines<W: ByteSink>(out: &mut OutputBuffer, sink: &mut W, device: &Device)
 
 /// Prints the line of an edge.
 fn put_edge_line<W: ByteSink>(out: &mut OutputBuffer, sink: &mut W, from: u32, to: u32)
-    ensures { Sends (stream (W.taken sink.old) (W.failed sink.old) out.old)
-        (stream (W.taken sink.new) (W.failed sink.new) out.new) (edge_line from to) }
+    ensures { SendsTo W.taken W.failed sink.old sink.new out.old out.new (edge_line from to) }
 {
     put_number(out, sink, from);
     out.push(sink, b" -> ");
@@ -83,8 +77,7 @@ fn put_edge_line<W: ByteSink>(out: &mut OutputBuffer, sink: &mut W, from: u32, t
 
 /// Prints the lines of the edges from a node to the nodes of a list.
 fn put_edge_lines<W: ByteSink>(out: &mut OutputBuffer, sink: &mut W, from: u32, list: &[u32])
-    ensures { Sends (stream (W.taken sink.old) (W.failed sink.old) out.old)
-        (stream (W.taken sink.new) (W.failed sink.new) out.new)
+    ensures { SendsTo W.taken W.failed sink.old sink.new out.old out.new
         (flat_map (edge_line from) list.now) }
 {
     for to in list {
@@ -101,8 +94,8 @@ fn put_edges_of<W: ByteSink>(
     list: &mut SmallVec<u32, 8>,
 )
     requires { length (successors_of device.now id) ≤ list.old.capacity }
-    ensures sends { Sends (stream (W.taken sink.old) (W.failed sink.old) out.old)
-        (stream (W.taken sink.new) (W.failed sink.new) out.new) (edge_lines_at device.now id) }
+    ensures sends { SendsTo W.taken W.failed sink.old sink.new out.old out.new
+        (edge_lines_at device.now id) }
     ensures kept { list.old.capacity ≤ list.new.capacity }
 {
     device.successors(id, list).unwrap();
@@ -125,8 +118,7 @@ fn put_edges<W: ByteSink>(
     list: &mut SmallVec<u32, 8>,
 )
     requires { (i : ℕ) → length (successors_of device.now i) ≤ list.old.capacity }
-    ensures { Sends (stream (W.taken sink.old) (W.failed sink.old) out.old)
-        (stream (W.taken sink.new) (W.failed sink.new) out.new)
+    ensures { SendsTo W.taken W.failed sink.old sink.new out.old out.new
         (flat_map (edge_lines_at device.now) (numbers_below (node_count_of device.now))) }
 {
     for id in 0..device.node_count() {
@@ -145,8 +137,7 @@ pub(crate) fn put_listing<W: ByteSink>(
     list: &mut SmallVec<u32, 8>,
 )
     requires { (i : ℕ) → length (successors_of device.now i) ≤ list.old.capacity }
-    ensures { Sends (stream (W.taken sink.old) (W.failed sink.old) out.old)
-        (stream (W.taken sink.new) (W.failed sink.new) out.new) (listing_of device.now) }
+    ensures { SendsTo W.taken W.failed sink.old sink.new out.old out.new (listing_of device.now) }
 {
     put_counts(out, sink, device.node_count(), device.edge_count());
     put_lines(out, sink, device);

@@ -1,18 +1,16 @@
 //! The line of an outcome.
 
 ghost use Rattle.std.specs.Prelude.{◌≡◌};
-ghost use Rattle.vpr_text.specs.Output.{Sends, stream};
+ghost use Rattle.vpr_text.specs.Output.{SendsTo};
 ghost use Rattle.runs.specs.RouteRun.{left_text, routed_text, status_of_outcome};
 ghost use Rattle.runs.specs.kept.Routing.{outcome_text};
 
 use iteration::Outcome;
-use route_file::text::put_number;
-use vpr_text::{ByteSink, OutputBuffer};
+use text_output::{ByteSink, OutputBuffer, put_number};
 
 /// Prints the line of a success.
 fn put_routed<W: ByteSink>(out: &mut OutputBuffer, sink: &mut W, iterations: u32)
-    ensures { Sends (stream (W.taken sink.old) (W.failed sink.old) out.old)
-        (stream (W.taken sink.new) (W.failed sink.new) out.new) (routed_text iterations) }
+    ensures { SendsTo W.taken W.failed sink.old sink.new out.old out.new (routed_text iterations) }
 {
     out.push(sink, b"routed, iterations ");
     put_number(out, sink, iterations);
@@ -27,8 +25,7 @@ fn put_left<W: ByteSink>(
     overused: u32,
     iterations: u32,
 )
-    ensures { Sends (stream (W.taken sink.old) (W.failed sink.old) out.old)
-        (stream (W.taken sink.new) (W.failed sink.new) out.new)
+    ensures { SendsTo W.taken W.failed sink.old sink.new out.old out.new
         (left_text unrouted overused iterations) }
 {
     out.push(sink, b"not routed: unrouted ");
@@ -42,8 +39,8 @@ fn put_left<W: ByteSink>(
 
 /// Prints the line of an outcome.
 pub(crate) fn put_outcome<W: ByteSink>(out: &mut OutputBuffer, sink: &mut W, outcome: &Outcome)
-    ensures { Sends (stream (W.taken sink.old) (W.failed sink.old) out.old)
-        (stream (W.taken sink.new) (W.failed sink.new) out.new) (outcome_text outcome.now) }
+    ensures { SendsTo W.taken W.failed sink.old sink.new out.old out.new
+        (outcome_text outcome.now) }
 {
     match outcome {
         Outcome::Success(_, iterations) => put_routed(out, sink, *iterations),

@@ -5,16 +5,13 @@ ghost use Rattle.rr_graph.specs.Fabric.{most_tracks};
 ghost use Rattle.node_cost.specs.Options.{most_workers};
 ghost use Rattle.route_check.specs.Routed.{IsRouted};
 ghost use Rattle.iteration.specs.Outcomes as negotiation;
-ghost use Rattle.runs.specs.Faults.{ends_free, is_free};
-ghost use Rattle.runs.specs.Runs.{MeetsDesign, PrintsText, TakesNothing, reading, writing};
-ghost use Rattle.runs.specs.Inputs.{design_in, ends_before};
+ghost use Rattle.run_inputs.specs.Faults.{ends_free, is_free};
+ghost use Rattle.run_inputs.specs.Runs.{MeetsDesign, PrintsText, TakesNothing, reading, writing_to};
+ghost use Rattle.run_inputs.specs.Inputs.{design_in, ends_before};
 ghost use Rattle.runs.specs.RouteRun.{RoutesDesign, RunsRoute, WritesOutcome, WritesSuccess};
 ghost use Rattle.runs.specs.kept.Routing.{RoutesProblem, outcome_text};
 
-use crate::design::Design;
-use crate::fault::{AppFault, InputFile};
-use crate::left::LeftTrees;
-use crate::netlist_text::NetlistText;
+use crate::left_trees::LeftTrees;
 use crate::outcome::put_outcome;
 use crate::routing::write_routing;
 use crate::side_files::SideFiles;
@@ -23,14 +20,16 @@ use net_workers::{BothGates, Gate};
 use node_cost::Settings;
 use route_tree::Routing;
 use rr_graph::Mode;
+use run_inputs::{AppFault, Design, InputFile, NetlistText};
 use std::alloc::AllocGlobal;
 use std::sync::Wait;
 use std::thread::Threads;
-use vpr_text::{ByteSink, ByteSource, OutputBuffer};
+use text_output::{ByteSink, OutputBuffer};
+use vpr_text::ByteSource;
 
 /// Prints the line of an outcome, and answers the outcome.
 fn print_outcome<W: ByteSink>(outcome: Outcome, out: &mut W) -> Result<Outcome, AppFault>
-    ensures { PrintsText (writing (W.taken out.old) (W.taken out.new) (W.failed out.new))
+    ensures { PrintsText (writing_to W.taken W.failed out.old out.new)
         (outcome_text outcome) outcome result }
 {
     let mut buffer = OutputBuffer::new();
@@ -50,15 +49,12 @@ fn write_success<R: ByteSink, W: ByteSink>(
     out: &mut W,
 ) -> Result<Outcome, AppFault>
     requires { IsRouted design.now.problem routing }
-    ensures { WritesSuccess (writing (R.taken route.old) (R.taken route.new) (R.failed route.new))
-        (writing (W.taken out.old) (W.taken out.new) (W.failed out.new))
+    ensures { WritesSuccess (writing_to R.taken R.failed route.old route.new)
+        (writing_to W.taken W.failed out.old out.new)
         design.now routing iterations result }
 {
     let (netlist, placement) = (design.netlist(), design.placement());
-    match write_routing(netlist, placement, design.problem(), &routing, route) {
-        Ok(()) => {}
-        Err(fault) => return Err(fault),
-    }
+    write_routing(netlist, placement, design.problem(), &routing, route)?;
     print_outcome(Outcome::Success(routing, iterations), out)
 }
 
@@ -70,8 +66,8 @@ fn write_outcome<R: ByteSink, W: ByteSink>(
     out: &mut W,
 ) -> Result<Outcome, AppFault>
     requires { RoutesProblem design.now.problem outcome }
-    ensures { WritesOutcome (writing (R.taken route.old) (R.taken route.new) (R.failed route.new))
-        (writing (W.taken out.old) (W.taken out.new) (W.failed out.new)) design.now outcome result }
+    ensures { WritesOutcome (writing_to R.taken R.failed route.old route.new)
+        (writing_to W.taken W.failed out.old out.new) design.now outcome result }
 {
     match outcome {
         Outcome::Success(routing, iterations) => write_success(
@@ -136,18 +132,15 @@ fn route_design<
 ) -> Result<Outcome, AppFault>
     requires workers { (1 ≤ workers) × (workers ≤ most_workers) }
     ensures runs { ends_free result ≡ false → RoutesDesign settings.now workers
-        (writing (R.taken route.old) (R.taken route.new) (R.failed route.new))
-        (writing (W.taken out.old) (W.taken out.new) (W.failed out.new)) design.now result }
+        (writing_to R.taken R.failed route.old route.new)
+        (writing_to W.taken W.failed out.old out.new) design.now result }
     ensures route { ends_free result ≡ true
-        → TakesNothing (writing (R.taken route.old) (R.taken route.new) (R.failed route.new)) }
+        → TakesNothing (writing_to R.taken R.failed route.old route.new) }
     ensures out { ends_free result ≡ true
-        → TakesNothing (writing (W.taken out.old) (W.taken out.new) (W.failed out.new)) }
+        → TakesNothing (writing_to W.taken W.failed out.old out.new) }
     ensures late { ends_before InputFile.Route result ≡ false }
 {
-    let outcome = match negotiate_leaving(rt, design, settings, workers, gate, rest) {
-        Ok(outcome) => outcome,
-        Err(fault) => return Err(fault),
-    };
+    let outcome = negotiate_leaving(rt, design, settings, workers, gate, rest)?;
     write_outcome(design, outcome, route, out)
 }
 
@@ -193,25 +186,19 @@ pub fn route_run<
         (reading (N.remaining net.old) (N.failed net.new))
         (reading (P.remaining place.old) (P.failed place.new))
         (λ files. RunsRoute settings.now workers
-        (writing (R.taken route.old) (R.taken route.new) (R.failed route.new))
-        (writing (W.taken out.old) (W.taken out.new) (W.failed out.new))
+        (writing_to R.taken R.failed route.old route.new)
+        (writing_to W.taken W.failed out.old out.new)
         (design_in width mode files) result) }
     // Nothing is written where memory runs out, a thread can't be started or a worker goes astray.
     ensures route { ends_free result ≡ true
-        → TakesNothing (writing (R.taken route.old) (R.taken route.new) (R.failed route.new)) }
+        → TakesNothing (writing_to R.taken R.failed route.old route.new) }
     ensures out { ends_free result ≡ true
-        → TakesNothing (writing (W.taken out.old) (W.taken out.new) (W.failed out.new)) }
+        → TakesNothing (writing_to W.taken W.failed out.old out.new) }
     // A file is not read where the run ended at one before it.
     ensures net { ends_before InputFile.Net result ≡ true → net.new ≡ net.old }
     ensures place { ends_before InputFile.Place result ≡ true → place.new ≡ place.old }
 {
-    let text = match NetlistText::read(rt.alloc(), arch, net) {
-        Ok(text) => text,
-        Err(fault) => return Err(fault),
-    };
-    let design = match Design::read(rt.alloc(), &text, place, width, mode) {
-        Ok(design) => design,
-        Err(fault) => return Err(fault),
-    };
+    let text = NetlistText::read(rt.alloc(), arch, net)?;
+    let design = Design::read(rt.alloc(), &text, place, width, mode)?;
     route_design(rt, &design, route, out, settings, workers, gate, rest)
 }

@@ -2,11 +2,10 @@
 
 ghost use Rattle.std.specs.Prelude.{◌≡◌, option_copied};
 ghost use Rattle.std.specs.List.{flat_map};
-ghost use Rattle.vpr_text.specs.Output.{Sends, stream};
+ghost use Rattle.vpr_text.specs.Output.{SendsTo};
 ghost use Rattle.runs.specs.WidthRun.{found_line, least_line, report_text, status_of_report, trial_end, trial_line};
 
-use route_file::text::put_number;
-use vpr_text::{ByteSink, OutputBuffer};
+use text_output::{ByteSink, OutputBuffer, put_number};
 use width_search::{LeastWidth, Trial, WidthReport};
 
 /// What a trial came to, after its width.
@@ -22,8 +21,7 @@ fn trial_end(routed: bool) -> &'static [u8]
 
 /// Prints the line of a trial.
 fn put_trial<W: ByteSink>(out: &mut OutputBuffer, sink: &mut W, trial: Trial)
-    ensures { Sends (stream (W.taken sink.old) (W.failed sink.old) out.old)
-        (stream (W.taken sink.new) (W.failed sink.new) out.new) (trial_line trial) }
+    ensures { SendsTo W.taken W.failed sink.old sink.new out.old out.new (trial_line trial) }
 {
     out.push(sink, b"width ");
     put_number(out, sink, trial.width);
@@ -32,8 +30,8 @@ fn put_trial<W: ByteSink>(out: &mut OutputBuffer, sink: &mut W, trial: Trial)
 
 /// Prints the lines of the trials.
 fn put_trials<W: ByteSink>(out: &mut OutputBuffer, sink: &mut W, trials: &[Trial])
-    ensures { Sends (stream (W.taken sink.old) (W.failed sink.old) out.old)
-        (stream (W.taken sink.new) (W.failed sink.new) out.new) (flat_map trial_line trials.now) }
+    ensures { SendsTo W.taken W.failed sink.old sink.new out.old out.new
+        (flat_map trial_line trials.now) }
 {
     for trial in trials {
         put_trial(out, sink, *trial);
@@ -42,8 +40,7 @@ fn put_trials<W: ByteSink>(out: &mut OutputBuffer, sink: &mut W, trials: &[Trial
 
 /// Prints the line of the least width that was routed.
 fn put_found<W: ByteSink>(out: &mut OutputBuffer, sink: &mut W, width: u32)
-    ensures { Sends (stream (W.taken sink.old) (W.failed sink.old) out.old)
-        (stream (W.taken sink.new) (W.failed sink.new) out.new) (found_line width) }
+    ensures { SendsTo W.taken W.failed sink.old sink.new out.old out.new (found_line width) }
 {
     out.push(sink, b"least routed width: ");
     put_number(out, sink, width);
@@ -52,8 +49,7 @@ fn put_found<W: ByteSink>(out: &mut OutputBuffer, sink: &mut W, width: u32)
 
 /// Prints the last line, which names the least width that was routed.
 fn put_least<W: ByteSink>(out: &mut OutputBuffer, sink: &mut W, least: Option<&LeastWidth>)
-    ensures { Sends (stream (W.taken sink.old) (W.failed sink.old) out.old)
-        (stream (W.taken sink.new) (W.failed sink.new) out.new)
+    ensures { SendsTo W.taken W.failed sink.old sink.new out.old out.new
         (least_line (option_copied least.entry)) }
 {
     match least {
@@ -64,8 +60,7 @@ fn put_least<W: ByteSink>(out: &mut OutputBuffer, sink: &mut W, least: Option<&L
 
 /// Prints the lines of a search.
 pub(crate) fn put_report<W: ByteSink>(out: &mut OutputBuffer, sink: &mut W, report: &WidthReport)
-    ensures { Sends (stream (W.taken sink.old) (W.failed sink.old) out.old)
-        (stream (W.taken sink.new) (W.failed sink.new) out.new) (report_text report.now) }
+    ensures { SendsTo W.taken W.failed sink.old sink.new out.old out.new (report_text report.now) }
 {
     put_trials(out, sink, report.trials());
     put_least(out, sink, report.least());

@@ -1,19 +1,17 @@
 //! The line of a verdict on a routing.
 
 ghost use Rattle.std.specs.Prelude.{◌≡◌, slice_index_or};
-ghost use Rattle.vpr_text.specs.Output.{Sends, stream};
+ghost use Rattle.vpr_text.specs.Output.{SendsTo};
 ghost use Rattle.net_file.specs.Routed.{no_net};
-ghost use Rattle.rr_graph.specs.Nodes.{node_at};
 ghost use Rattle.rr_graph.specs.Problems.{net_in};
-ghost use Rattle.runs.specs.Verdict.{net_fault_text, overuse_text, status_of_verdict, text_of_net, text_of_node, tree_fault_text, verdict_text};
+ghost use Rattle.runs.specs.Verdict.{net_fault_text, overuse_text, status_of_verdict, text_of_net, tree_fault_text, verdict_text};
 
-use crate::text::put_node;
 use net_file::Netlist;
 use route_check::RouteFault;
-use route_file::text::put_number;
 use route_tree::TreeFault;
 use rr_graph::{Device, Problem};
-use vpr_text::{ByteSink, OutputBuffer};
+use run_inputs::{net_name, number_of_net};
+use text_output::{ByteSink, OutputBuffer, put_node_of, put_number};
 
 /// The name of a fault of a net's list.
 pub fn tree_fault_name(fault: TreeFault) -> &'static [u8]
@@ -32,27 +30,6 @@ pub fn tree_fault_name(fault: TreeFault) -> &'static [u8]
     }
 }
 
-/// The number in its netlist of a net of the problem; 0 past the last one.
-pub fn number_of_net(problem: &Problem, net: u32) -> u32
-    ensures { result ≡ (net_in problem.now.nets net).number }
-{
-    if net < problem.nets() {
-        problem.number(net)
-    } else {
-        0
-    }
-}
-
-/// The name of the net with this number; none past the last one.
-pub fn net_name<'a>(netlist: &Netlist<'a>, number: u32) -> &'a [u8]
-    ensures { result.now ≡ (slice_index_or netlist.now.nets number no_net).name }
-{
-    match netlist.nets().get(number as usize) {
-        Some(net) => net.name(),
-        None => &[],
-    }
-}
-
 /// Prints the line of a net that is not routed.
 fn put_net_line<W: ByteSink>(
     out: &mut OutputBuffer,
@@ -61,8 +38,7 @@ fn put_net_line<W: ByteSink>(
     name: &[u8],
     fault: &[u8],
 )
-    ensures { Sends (stream (W.taken sink.old) (W.failed sink.old) out.old)
-        (stream (W.taken sink.new) (W.failed sink.new) out.new)
+    ensures { SendsTo W.taken W.failed sink.old sink.new out.old out.new
         (net_fault_text number name.now fault.now) }
 {
     out.push(sink, b"not legal: net ");
@@ -83,39 +59,17 @@ fn put_net_fault<W: ByteSink>(
     net: u32,
     fault: &[u8],
 )
-    ensures { Sends (stream (W.taken sink.old) (W.failed sink.old) out.old)
-        (stream (W.taken sink.new) (W.failed sink.new) out.new)
+    ensures { SendsTo W.taken W.failed sink.old sink.new out.old out.new
         (text_of_net netlist.now problem.now net fault.now) }
 {
     let number = number_of_net(problem, net);
     put_net_line(out, sink, number, net_name(netlist, number), fault);
 }
 
-/// Prints the node of a number; nothing for what is no node.
-pub fn put_node_of<W: ByteSink>(out: &mut OutputBuffer, sink: &mut W, device: &Device, id: u32)
-    ensures { Sends (stream (W.taken sink.old) (W.failed sink.old) out.old)
-        (stream (W.taken sink.new) (W.failed sink.new) out.new)
-        (text_of_node device.now (node_at device.now id)) }
-{
-    let node = match device.node(id) {
-        Some(node) => node,
-        None => return,
-    };
-    let span = match device.span(id) {
-        Some(span) => span,
-        None => return,
-    };
-    let label = match device.label(id) {
-        Some(label) => label,
-        None => return,
-    };
-    put_node(out, sink, node.kind, span, label, node.number);
-}
-
 /// Prints the line of a node that too many nets use.
 fn put_overuse<W: ByteSink>(out: &mut OutputBuffer, sink: &mut W, device: &Device, id: u32, by: u32)
-    ensures { Sends (stream (W.taken sink.old) (W.failed sink.old) out.old)
-        (stream (W.taken sink.new) (W.failed sink.new) out.new) (overuse_text device.now id by) }
+    ensures { SendsTo W.taken W.failed sink.old sink.new out.old out.new
+        (overuse_text device.now id by) }
 {
     out.push(sink, b"not legal: node ");
     put_number(out, sink, id);
@@ -134,8 +88,7 @@ pub fn put_verdict<W: ByteSink>(
     problem: &Problem,
     verdict: Option<RouteFault>,
 )
-    ensures { Sends (stream (W.taken sink.old) (W.failed sink.old) out.old)
-        (stream (W.taken sink.new) (W.failed sink.new) out.new)
+    ensures { SendsTo W.taken W.failed sink.old sink.new out.old out.new
         (verdict_text netlist.now problem.now verdict) }
 {
     match verdict {

@@ -7,33 +7,33 @@ ghost use Rattle.route_check.specs.Routed.{IsRouted};
 ghost use Rattle.route_file.specs.Design.{IsDesign};
 ghost use Rattle.route_file.specs.Text.{text_of};
 ghost use Rattle.width_search.specs.Reports.{IsWidthReport, Negotiates};
-ghost use Rattle.runs.specs.Faults.{ends_free, is_free};
-ghost use Rattle.runs.specs.Inputs.{ends_before, placed_in, placed_problem};
-ghost use Rattle.runs.specs.Runs.{MeetsDesign, PrintsText, TakesNothing, reading, writing};
+ghost use Rattle.run_inputs.specs.Faults.{ends_free, is_free};
+ghost use Rattle.run_inputs.specs.Inputs.{ends_before, placed_in, placed_problem};
+ghost use Rattle.run_inputs.specs.Runs.{MeetsDesign, PrintsText, TakesNothing, reading, writing_to};
 ghost use Rattle.runs.specs.WidthRun.{RunsWidth, SearchesWidths, WritesFound, WritesReport, report_text};
 ghost use Rattle.runs.specs.kept.Routing.{RoutesLeast};
 
-use crate::fault::{AppFault, InputFile};
-use crate::kept::KeptTrials;
-use crate::lesser::verify;
-use crate::netlist_text::NetlistText;
-use crate::placed::PlacedNetlist;
+use crate::kept_trials::KeptTrials;
+use crate::lesser_widths::verify;
 use crate::routing::write_routing;
 use crate::side_files::SideFiles;
 use crate::trials::put_report;
+use crate::tried_widths::Widths;
 use net_workers::{BothGates, Gate};
 use node_cost::Settings;
 use route_tree::Routing;
 use rr_graph::{Mode, Problem};
+use run_inputs::{AppFault, InputFile, NetlistText, PlacedNetlist};
 use std::alloc::{AllocGlobal, Global};
 use std::sync::Wait;
 use std::thread::Threads;
-use vpr_text::{ByteSink, ByteSource, OutputBuffer};
+use text_output::{ByteSink, OutputBuffer};
+use vpr_text::ByteSource;
 use width_search::{WidthReport, least_width};
 
 /// Prints the lines of a search.
 fn print_report<W: ByteSink>(report: &WidthReport, out: &mut W) -> Result<(), AppFault>
-    ensures { PrintsText (writing (W.taken out.old) (W.taken out.new) (W.failed out.new))
+    ensures { PrintsText (writing_to W.taken W.failed out.old out.new)
         (report_text report.now) tt result }
 {
     let mut buffer = OutputBuffer::new();
@@ -55,24 +55,18 @@ fn write_found<R: ByteSink, W: ByteSink>(
 ) -> Result<(), AppFault>
     requires design { IsDesign placed.now.netlist placed.now.placement problem.now }
     requires routed { IsRouted problem.now routing.now }
-    ensures { WritesFound (writing (R.taken route.old) (R.taken route.new) (R.failed route.new))
-        (writing (W.taken out.old) (W.taken out.new) (W.failed out.new)) (report_text report.now)
+    ensures { WritesFound (writing_to R.taken R.failed route.old route.new)
+        (writing_to W.taken W.failed out.old out.new) (report_text report.now)
         (text_of placed.now.netlist placed.now.placement problem.now routing.now) tt result }
 {
-    match print_report(report, out) {
-        Ok(()) => {}
-        Err(fault) => return Err(fault),
-    }
-    match write_routing(
+    print_report(report, out)?;
+    write_routing(
         placed.netlist(),
         placed.placement(),
         problem,
         routing,
         route,
-    ) {
-        Ok(()) => Ok(()),
-        Err(fault) => Err(fault),
-    }
+    )
 }
 
 /// Prints the lines of a search, and then writes the routing of the least width, where one was routed. The problem of that width is
@@ -87,48 +81,41 @@ fn write_report<R: ByteSink, W: ByteSink>(
 ) -> Result<(), AppFault>
     requires { RoutesLeast mode placed.now report.now.least }
     ensures writes { ends_free result ≡ false
-        → WritesReport (writing (R.taken route.old) (R.taken route.new) (R.failed route.new))
-        (writing (W.taken out.old) (W.taken out.new) (W.failed out.new))
+        → WritesReport (writing_to R.taken R.failed route.old route.new)
+        (writing_to W.taken W.failed out.old out.new)
         mode placed.now report.now tt result }
     ensures route { ends_free result ≡ true
-        → TakesNothing (writing (R.taken route.old) (R.taken route.new) (R.failed route.new)) }
+        → TakesNothing (writing_to R.taken R.failed route.old route.new) }
     ensures out { ends_free result ≡ true
-        → TakesNothing (writing (W.taken out.old) (W.taken out.new) (W.failed out.new)) }
+        → TakesNothing (writing_to W.taken W.failed out.old out.new) }
     ensures late { ends_before InputFile.Route result ≡ false }
 {
     match report.least() {
         Some(least) => {
             let problem = placed.problem(alloc, least.width, mode)?;
-            match write_found(placed, &problem, &least.routing, report, route, out) {
-                Ok(()) => Ok(()),
-                Err(fault) => Err(fault),
-            }
+            write_found(placed, &problem, &least.routing, report, route, out)
         }
-        None => match print_report(report, out) {
-            Ok(()) => Ok(()),
-            Err(fault) => Err(fault),
-        },
+        None => print_report(report, out),
     }
 }
 
 /// Searches for the least width of a placed netlist.
 fn search_widths<T: Threads + Wait + Sync + AllocGlobal, G: Gate + Sync, S: SideFiles + Sync>(
     rt: &T,
-    placed: &PlacedNetlist<'_>,
+    widths: &Widths<'_, '_, '_>,
     start: u32,
-    mode: Mode,
-    settings: &Settings,
-    workers: u32,
     gate: &G,
     kept: &S,
 ) -> Result<WidthReport, AppFault>
     requires start { (1 ≤ start) × (start ≤ most_tracks) }
-    requires workers { (1 ≤ workers) × (workers ≤ most_workers) }
+    requires workers { (1 ≤ widths.now.workers) × (widths.now.workers ≤ most_workers) }
     ensures report { IfOk result (IsWidthReport
-        (Negotiates (placed_problem mode placed.now) settings.now workers) start) }
+        (Negotiates (placed_problem widths.now.mode widths.now.placed.now)
+        widths.now.settings.now widths.now.workers) start) }
     ensures free { IfErr result (λ e. is_free e ≡ true) }
 {
-    let trials = KeptTrials::new(rt.alloc(), placed, mode, kept);
+    let placed = widths.placed;
+    let trials = KeptTrials::new(rt.alloc(), placed, widths.mode, kept);
     let gates = BothGates {
         first: gate,
         second: &trials,
@@ -139,10 +126,10 @@ fn search_widths<T: Threads + Wait + Sync + AllocGlobal, G: Gate + Sync, S: Side
         placed.arch(),
         placed.netlist(),
         placed.placement(),
-        settings,
+        widths.settings,
         start,
-        mode,
-        workers,
+        widths.mode,
+        widths.workers,
         &gates,
     )?;
     Ok(report)
@@ -157,41 +144,30 @@ fn width_placed<
     S: SideFiles + Sync,
 >(
     rt: &T,
-    placed: &PlacedNetlist<'_>,
+    widths: &Widths<'_, '_, '_>,
     route: &mut R,
     out: &mut W,
     start: u32,
-    mode: Mode,
-    settings: &Settings,
-    workers: u32,
     gate: &G,
     kept: &S,
     below: u32,
 ) -> Result<WidthReport, AppFault>
     requires start { (1 ≤ start) × (start ≤ most_tracks) }
-    requires workers { (1 ≤ workers) × (workers ≤ most_workers) }
-    ensures runs { ends_free result ≡ false → SearchesWidths settings.now workers start mode
-        (writing (R.taken route.old) (R.taken route.new) (R.failed route.new))
-        (writing (W.taken out.old) (W.taken out.new) (W.failed out.new)) placed.now result }
+    requires workers { (1 ≤ widths.now.workers) × (widths.now.workers ≤ most_workers) }
+    ensures runs { ends_free result ≡ false
+        → SearchesWidths widths.now.settings.now widths.now.workers start widths.now.mode
+        (writing_to R.taken R.failed route.old route.new)
+        (writing_to W.taken W.failed out.old out.new) widths.now.placed.now result }
     ensures route { ends_free result ≡ true
-        → TakesNothing (writing (R.taken route.old) (R.taken route.new) (R.failed route.new)) }
+        → TakesNothing (writing_to R.taken R.failed route.old route.new) }
     ensures out { ends_free result ≡ true
-        → TakesNothing (writing (W.taken out.old) (W.taken out.new) (W.failed out.new)) }
+        → TakesNothing (writing_to W.taken W.failed out.old out.new) }
     ensures late { ends_before InputFile.Route result ≡ false }
 {
-    let report = match search_widths(rt, placed, start, mode, settings, workers, gate, kept) {
-        Ok(report) => report,
-        Err(fault) => return Err(fault),
-    };
-    match write_report(rt.alloc(), placed, &report, mode, route, out) {
-        Ok(()) => {
-            verify(
-                rt, placed, &report, below, mode, settings, workers, gate, kept,
-            );
-            Ok(report)
-        }
-        Err(fault) => Err(fault),
-    }
+    let report = search_widths(rt, widths, start, gate, kept)?;
+    write_report(rt.alloc(), widths.placed, &report, widths.mode, route, out)?;
+    verify(rt, widths, &report, below, gate, kept);
+    Ok(report)
 }
 
 /// Reads an architecture, a netlist and its placement, in this order and each only where those before it are without fault;
@@ -238,27 +214,25 @@ pub fn width_run<
         (reading (N.remaining net.old) (N.failed net.new))
         (reading (P.remaining place.old) (P.failed place.new))
         (λ files. RunsWidth settings.now workers start mode
-        (writing (R.taken route.old) (R.taken route.new) (R.failed route.new))
-        (writing (W.taken out.old) (W.taken out.new) (W.failed out.new))
+        (writing_to R.taken R.failed route.old route.new)
+        (writing_to W.taken W.failed out.old out.new)
         (placed_in files) result) }
     // Nothing is written where memory runs out, a thread can't be started or a worker goes astray.
     ensures route { ends_free result ≡ true
-        → TakesNothing (writing (R.taken route.old) (R.taken route.new) (R.failed route.new)) }
+        → TakesNothing (writing_to R.taken R.failed route.old route.new) }
     ensures out { ends_free result ≡ true
-        → TakesNothing (writing (W.taken out.old) (W.taken out.new) (W.failed out.new)) }
+        → TakesNothing (writing_to W.taken W.failed out.old out.new) }
     // A file is not read where the run ended at one before it.
     ensures net { ends_before InputFile.Net result ≡ true → net.new ≡ net.old }
     ensures place { ends_before InputFile.Place result ≡ true → place.new ≡ place.old }
 {
-    let text = match NetlistText::read(rt.alloc(), arch, net) {
-        Ok(text) => text,
-        Err(fault) => return Err(fault),
+    let text = NetlistText::read(rt.alloc(), arch, net)?;
+    let placed = PlacedNetlist::read(rt.alloc(), &text, place)?;
+    let widths = Widths {
+        placed: &placed,
+        mode,
+        settings,
+        workers,
     };
-    let placed = match PlacedNetlist::read(rt.alloc(), &text, place) {
-        Ok(placed) => placed,
-        Err(fault) => return Err(fault),
-    };
-    width_placed(
-        rt, &placed, route, out, start, mode, settings, workers, gate, kept, below,
-    )
+    width_placed(rt, &widths, route, out, start, gate, kept, below)
 }

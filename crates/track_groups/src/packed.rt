@@ -37,7 +37,19 @@ impl Model for PackedGroup {
 
     ghost view = { group_in };
 
-    ghost inverse = { λ g. record { base = g.base; stride = g.stride; x1 = g.span.x1; y1 = g.span.y1; x2 = g.span.x2; y2 = g.span.y2; reach = g.reach; tracks = g.tracks; kind = g.kind } };
+    ghost inverse = { λ g. record {
+      base = g.base;
+      stride = g.stride;
+      x1 = g.span.x1;
+      y1 =
+          g.span.y1;
+      x2 = g.span.x2;
+      y2 = g.span.y2;
+      reach = g.reach;
+      tracks = g.tracks;
+      kind =
+          g.kind;
+    } };
 }
 
 impl PackedGroup {

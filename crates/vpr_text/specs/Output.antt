@@ -7,6 +7,10 @@ pub record Buffer : Type 0 where
   pub held : List ℕ
   pub broken : Bool
 
+-- what a buffer holds that isn't broken
+abbrev pub holding : List ℕ → Buffer
+holding held = record { held = held; broken = false }
+
 -- what the sink took, where that is known, whether it has failed, and the buffer before it
 pub record Stream : Type 0 where
   pub taken : Option (List ℕ)
@@ -37,3 +41,8 @@ pub record Sends (old new : Stream) (text : List ℕ) : Type 0 where
 
 abbrev pub stream : Option (List ℕ) → Bool → Buffer → Stream
 stream taken failed buffer = record { taken = taken; failed = failed; buffer = buffer }
+
+-- the text was sent through a buffer to a sink, of which these tell what it took and whether it has failed
+abbrev pub SendsTo : {S : Type 0} → (taken : S → Option (List ℕ)) → (failed : S → Bool) → (sink new_sink : S) → (buffer new_buffer : Buffer) → List ℕ → Type 0
+SendsTo taken failed sink new_sink buffer new_buffer text =
+    Sends (stream (taken sink) (failed sink) buffer) (stream (taken new_sink) (failed new_sink) new_buffer) text

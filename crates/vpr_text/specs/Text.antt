@@ -2,7 +2,7 @@
 use Rattle.std.specs.Prelude.{◌≡◌, ℕ, ◌^◌, Bool, true, not, All, ◌&&◌, ◌||◌, ◌==◌, nat_lt, nat_le, if◌then◌else◌, List, length, Option, None, Some, Result, Ok, Err}
 use Rattle.std.specs.List.{slice_split, list_any, position_from}
 use Rattle.vpr_text.specs.declared.fault.TextFault.{TextFault}
-use Rattle.vpr_text.specs.declared.fault.TextFault.TheVariants.{TooLong, BadByte, Memory}
+use Rattle.vpr_text.specs.declared.fault.TextFault.TheVariants.{TooLong, BadByte}
 use Rattle.vpr_text.specs.Words.{Line, is_line_feed, is_comment_sign, is_separator, is_filled, words_of}
 
 -- a control byte other than a tab, a line feed, a vertical tab, a form feed and a carriage return
@@ -29,14 +29,3 @@ lines_or_bad (Some n) bytes = Err (BadByte n)
 -- the lines of a text, or what is wrong with it
 unfoldable pub lines_of : List ℕ → Result (List Line) TextFault
 lines_of bytes = if nat_lt (2 ^ 24) (length bytes) then Err TooLong else lines_or_bad (bad_line_from 1 bytes) bytes
-
--- the fault is the one that splitting gives, unless memory ran out
-abbrev pub Fails : TextFault → Result (List Line) TextFault → Type 0
-Fails TooLong split = split ≡ Err TooLong
-Fails (BadByte n) split = split ≡ Err (BadByte n)
-Fails Memory split = Unit {0}
-
--- what a call returned is what splitting gives, unless memory ran out
-abbrev pub Gives : Result (List Line) TextFault → Result (List Line) TextFault → Type 0
-Gives (Ok lines) split = split ≡ Ok lines
-Gives (Err fault) split = Fails fault split

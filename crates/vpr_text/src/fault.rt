@@ -1,6 +1,7 @@
 //! Why a text could not be split.
 
 ghost use Rattle.std.specs.Prelude.{◌≡◌};
+ghost use Rattle.vpr_text.specs.Faults.{text_line, text_name, is_text_memory};
 ghost use Rattle.vpr_text.specs.declared.fault.TextFault.TheVariants.{Memory};
 
 use std::alloc::{AllocError, AllocFailed};
@@ -33,5 +34,35 @@ impl<T: Drop> From<AllocFailed<T>> for TextFault {
 
     fn from(_e: AllocFailed<T>) -> TextFault {
         TextFault::Memory
+    }
+}
+
+impl TextFault {
+    /// The line of the fault; 0 where it has none.
+    pub fn line(self) -> u32
+        ensures { result ≡ text_line self }
+    {
+        match self {
+            TextFault::BadByte(line) => line,
+            TextFault::TooLong | TextFault::Memory => 0,
+        }
+    }
+
+    /// The name of the fault.
+    pub fn name(self) -> &'static [u8]
+        ensures { result.now ≡ text_name self }
+    {
+        match self {
+            TextFault::TooLong => b"TooLong",
+            TextFault::BadByte(_) => b"BadByte",
+            TextFault::Memory => b"Memory",
+        }
+    }
+
+    /// Whether memory ran out.
+    pub fn is_memory(self) -> bool
+        ensures { result ≡ is_text_memory self }
+    {
+        matches!(self, TextFault::Memory)
     }
 }

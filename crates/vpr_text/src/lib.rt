@@ -20,6 +20,3 @@ pub use reading::{ReadFault, read_all};
 pub use sink::ByteSink;
 pub use source::{Broken, ByteSource};
 pub use split::lines;
-
-#[cfg(test)]
-mod tests;

@@ -1,7 +1,7 @@
 //! A buffer on the way to a sink.
 
 ghost use Rattle.std.specs.Prelude.{◌≡◌, ◌+◌, ◌<◌, ◌≤◌, ◌++◌, [], OnErr, OnOk, is_err, length, false, true};
-ghost use Rattle.vpr_text.specs.Output.{Breaks, Buffer, Prints, Sends, stream};
+ghost use Rattle.vpr_text.specs.Output.{Breaks, Buffer, holding, Prints, SendsTo, stream};
 
 use crate::sink::ByteSink;
 use crate::source::Broken;
@@ -9,8 +9,12 @@ use std::marker::Model;
 
 /// Puts all the bytes, in as many calls as the sink needs.
 fn put_all<W: ByteSink>(sink: &mut W, bytes: &[u8]) -> Result<(), Broken>
-    ensures ok { OnOk result (Prints (stream (W.taken sink.old) (W.failed sink.old) (record { held = bytes.now; broken = false })) (stream (W.taken sink.new) (W.failed sink.new) (record { held = []; broken = false })) []) }
-    ensures err { OnErr result (Breaks (stream (W.taken sink.old) (W.failed sink.old) (record { held = bytes.now; broken = false })) (stream (W.taken sink.new) (W.failed sink.new) (record { held = []; broken = false })) []) }
+    ensures ok { OnOk result (Prints
+        (stream (W.taken sink.old) (W.failed sink.old) (holding bytes.now))
+        (stream (W.taken sink.new) (W.failed sink.new) (holding [])) []) }
+    ensures err { OnErr result (Breaks
+        (stream (W.taken sink.old) (W.failed sink.old) (holding bytes.now))
+        (stream (W.taken sink.new) (W.failed sink.new) (holding [])) []) }
 {
     let mut rest = bytes;
     while !rest.is_empty() {
@@ -45,7 +49,7 @@ impl Model for OutputBuffer {
 impl OutputBuffer {
     /// A buffer that holds nothing.
     pub fn new() -> OutputBuffer
-        ensures { result ≡ record { held = []; broken = false } }
+        ensures { result ≡ holding [] }
     {
         OutputBuffer {
             bytes: [0; 8_192],
@@ -63,7 +67,7 @@ impl OutputBuffer {
 
     /// Prints the bytes after those that are held.
     pub fn push<W: ByteSink>(&mut self, sink: &mut W, bytes: &[u8])
-        ensures { Sends (stream (W.taken sink.old) (W.failed sink.old) self.old) (stream (W.taken sink.new) (W.failed sink.new) self.new) bytes.now }
+        ensures { SendsTo W.taken W.failed sink.old sink.new self.old self.new bytes.now }
     {
         self.make_room(sink, bytes.len());
         if bytes.len() > ROOM {
@@ -84,9 +88,10 @@ impl OutputBuffer {
     /// Hands all that is held to the sink if `count` more bytes don't fit.
     #[tactic(auto, using(crate::proofs::Printing::sends_none))]
     fn make_room<W: ByteSink>(&mut self, sink: &mut W, count: usize)
-        ensures room { self.new.broken ≡ false → count ≤ 8192 → length self.new.held + count ≤ 8192 }
+        ensures room { self.new.broken ≡ false → count ≤ 8192
+            → length self.new.held + count ≤ 8192 }
         ensures empty { self.new.broken ≡ false → 8192 < count → self.new.held ≡ [] }
-        ensures sends { Sends (stream (W.taken sink.old) (W.failed sink.old) self.old) (stream (W.taken sink.new) (W.failed sink.new) self.new) [] }
+        ensures sends { SendsTo W.taken W.failed sink.old sink.new self.old self.new [] }
     {
         if count <= ROOM - self.len() {
             return;
@@ -97,7 +102,8 @@ impl OutputBuffer {
     /// Holds the bytes after those that are held.
     fn hold(&mut self, bytes: &[u8])
         requires { self.old.broken ≡ false → length self.old.held + length bytes.now ≤ 8192 }
-        ensures held { self.old.broken ≡ false → self.new ≡ record { held = self.old.held ++ bytes.now; broken = false } }
+        ensures held { self.old.broken ≡ false
+            → self.new ≡ holding (self.old.held ++ bytes.now) }
         ensures stays { self.old.broken ≡ true → self.new ≡ self.old }
     {
         if self.broken {
@@ -112,7 +118,7 @@ impl OutputBuffer {
     /// Puts the bytes past the buffer, which holds nothing.
     fn pass<W: ByteSink>(&mut self, sink: &mut W, bytes: &[u8])
         requires { self.old.broken ≡ false → self.old.held ≡ [] }
-        ensures { Sends (stream (W.taken sink.old) (W.failed sink.old) self.old) (stream (W.taken sink.new) (W.failed sink.new) self.new) bytes.now }
+        ensures { SendsTo W.taken W.failed sink.old sink.new self.old self.new bytes.now }
     {
         if self.broken {
             return;
@@ -124,7 +130,7 @@ impl OutputBuffer {
 
     /// Puts all that is held.
     fn hand_out<W: ByteSink>(&mut self, sink: &mut W)
-        ensures sends { Sends (stream (W.taken sink.old) (W.failed sink.old) self.old) (stream (W.taken sink.new) (W.failed sink.new) self.new) [] }
+        ensures sends { SendsTo W.taken W.failed sink.old sink.new self.old self.new [] }
         ensures empty { self.new.broken ≡ false → self.new.held ≡ [] }
     {
         if self.broken {
@@ -142,7 +148,7 @@ impl OutputBuffer {
     /// # Errors
     /// Broken where a sink broke, at this call or before.
     pub fn finish<W: ByteSink>(&mut self, sink: &mut W) -> Result<(), Broken>
-        ensures sends { Sends (stream (W.taken sink.old) (W.failed sink.old) self.old) (stream (W.taken sink.new) (W.failed sink.new) self.new) [] }
+        ensures sends { SendsTo W.taken W.failed sink.old sink.new self.old self.new [] }
         ensures empty { OnOk result (self.new.held ≡ []) }
         ensures broken { is_err result ≡ self.new.broken }
     {

@@ -55,7 +55,8 @@ fn read_some<R: ByteSource>(
     buffer: &mut [u8],
 ) -> Result<usize, ReadFault>
     requires { 0 < length buffer.old }
-    ensures bytes { IfOk result (ReadsMore (R.remaining source.old) (R.remaining source.new) bytes.old.items bytes.new.items) }
+    ensures bytes { IfOk result (ReadsMore (R.remaining source.old)
+        (R.remaining source.new) bytes.old.items bytes.new.items) }
     ensures count { IfOk result (λ n. n ≤ length buffer.old) }
     ensures working { IfOk result (λ _. R.failed source.new ≡ false) }
     ensures failed { IsErrOf result ReadFault.Failed ↔ IsTrue (R.failed source.new) }

@@ -18,7 +18,8 @@ pub trait ByteSink {
         requires { 0 < length bytes.now }
         ensures some { IfOk result (λ n. 0 < n) }
         ensures count { IfOk result (λ n. n ≤ length bytes.now) }
-        ensures bytes { IfOk result (λ n. Appends (taken self.old) (taken self.new) (take n bytes.now)) }
+        ensures bytes { IfOk result (λ n. Appends (taken self.old) (taken self.new)
+            (take n bytes.now)) }
         ensures none { OnErr result (Keeps (taken self.old) (taken self.new)) }
         ensures breaks { failed self.new ≡ is_err result }
         ensures for_good { IsTrue (failed self.old) → IsErr result };

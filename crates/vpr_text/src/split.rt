@@ -3,7 +3,9 @@
 ghost use Rattle.std.specs.Prelude.{◌≡◌, ◌+◌, ◌<◌, ◌≤◌, ◌^◌, ◌++◌, ◌==◌, length, slice_range, IfOk, OnOk, All, drop, take, vec_len};
 ghost use Rattle.std.specs.List.{position_or_len};
 ghost use Rattle.vpr_text.specs.Words.{Line, words_of, words_between, is_separator};
-ghost use Rattle.vpr_text.specs.Text.{is_bad, bad_line_from, lines_of, Gives};
+ghost use Rattle.vpr_text.specs.Readings.{Gives};
+ghost use Rattle.vpr_text.specs.Text.{is_bad, bad_line_from, lines_of};
+ghost use Rattle.vpr_text.specs.declared.fault.TextFault.TheVariants.{Memory};
 ghost use Rattle.vpr_text.specs.kept.Split.{range_if, entry_if, IsRange, Adds, AddsLine, GivesUp};
 
 use crate::fault::TextFault;
@@ -52,7 +54,8 @@ fn bad_line(source: &[u8]) -> Option<u32>
 fn find(source: &[u8], byte: u8, from: usize, to: usize) -> usize
     requires ordered { from ≤ to }
     requires within { to ≤ length source.now }
-    ensures found { result ≡ from + position_or_len (λ b. b == byte) (slice_range source.now from to) }
+    ensures found { result ≡ from + position_or_len (λ b. b == byte)
+        (slice_range source.now from to) }
     ensures in_part { result ≤ to }
 {
     for i in from..to {
@@ -87,7 +90,8 @@ fn push_words(
     requires ordered { from ≤ to }
     requires within { to ≤ length source.now }
     requires small { length source.now < 2 ^ 32 }
-    ensures { OnOk result (Adds source.now ranges.old.items ranges.new.items (words_between (slice_range source.now from to))) }
+    ensures { OnOk result (Adds source.now ranges.old.items ranges.new.items
+        (words_between (slice_range source.now from to))) }
 {
     let mut start = from;
     for i in from..to {
@@ -135,7 +139,8 @@ fn push_line(
     requires ordered { from ≤ to }
     requires within { to ≤ length source.now }
     requires small { length source.now < 2 ^ 32 }
-    ensures { IfOk result (AddsLine source.now ranges.old.items ranges.new.items (slice_range source.now from to)) }
+    ensures { IfOk result (AddsLine source.now ranges.old.items ranges.new.items
+        (slice_range source.now from to)) }
 {
     let first = ranges.len();
     let text_end = find(source, COMMENT, from, to);
@@ -193,7 +198,7 @@ fn split(alloc: Global, source: &[u8]) -> Result<Lines<'_>, AllocError>
 ///
 /// A text of more than 2^24 bytes is `TooLong`; the first physical line with another control byte is `BadByte`.
 pub fn lines(alloc: Global, source: &[u8]) -> Result<Lines<'_>, TextFault>
-    ensures { Gives result (lines_of source.now) }
+    ensures { Gives Memory (λ l. l) result (lines_of source.now) }
 {
     if source.len() > MAX_LEN {
         return Err(TextFault::TooLong);

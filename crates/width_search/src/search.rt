@@ -71,33 +71,6 @@ pub fn negotiate_at<R: Threads + Wait + Sync, G: Gate + Sync>(
     Ok(outcome)
 }
 
-/// The trial of a width, of which the gate is told before and after.
-fn try_width<R: Threads + Wait + Sync, G: Gate + Sync>(
-    rt: &R,
-    alloc: Global,
-    arch: &Arch,
-    netlist: &Netlist<'_>,
-    placement: &Placement,
-    settings: &Settings,
-    width: u32,
-    mode: Mode,
-    workers: u32,
-    gate: &G,
-) -> Result<Outcome, WorkFault>
-    requires tracks { (1 ≤ width) × (width ≤ most_tracks) }
-    requires workers { (1 ≤ workers) × (workers ≤ most_workers) }
-    requires read { (bytes : List ℕ) × ReadsBytes arch.now.pins bytes netlist.now }
-    requires placed { IsPlaced arch.now.io_rat netlist.now.blocks placement.now }
-    ensures { IfOk result (Negotiates (problem_at mode arch.now netlist.now placement.now)
-        settings.now workers width) }
-{
-    let outcome = negotiate_at(
-        rt, alloc, arch, netlist, placement, settings, width, mode, workers, gate,
-    )?;
-    gate.tried(width, end_of(&outcome));
-    Ok(outcome)
-}
-
 /// Searches for the least channel width at which a netlist, read and placed for this architecture, is routed. The widths from `start`
 /// on double up to 256, until one is routed; from then on the gap between the greatest width that was not routed and the least that
 /// was is halved. Each trial is a negotiation on a new book, on a device of its own. The gate is reported of each trial.
@@ -130,9 +103,10 @@ pub fn least_width<R: Threads + Wait + Sync, G: Gate + Sync>(
 {
     let mut report = WidthReport::new(alloc);
     while let Some(width) = next_width(start, report.trials()) {
-        let outcome = try_width(
+        let outcome = negotiate_at(
             rt, alloc, arch, netlist, placement, settings, width, mode, workers, gate,
         )?;
+        gate.tried(width, end_of(&outcome));
         report.add(width, outcome)?;
     }
     Ok(report)

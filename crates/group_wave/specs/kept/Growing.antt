@@ -7,7 +7,7 @@ use Rattle.route_tree.specs.Rows.{node_in, pairs_of}
 use Rattle.wavefront.specs.Growth.{IsGrown, IsStart}
 use Rattle.wavefront.specs.Space.{HasEdge, IsInside}
 use Rattle.wavefront.specs.kept.Spaces.{node_count}
-use Rattle.group_wave.specs.kept.Grounds.{Ground, groups_of}
+use Rattle.wave_ground.specs.kept.Grounds.{Ground, groups_of}
 use Rattle.group_wave.specs.kept.WaveState.{Wave}
 use Rattle.group_wave.specs.kept.Wave.{IsBest, IsComplete, IsOrigin, IsWave, cost_at, parent_of}
 

@@ -7,11 +7,10 @@ use Rattle.routing_problem.specs.Nodes.{is_wire_at, kind_of_node}
 use Rattle.track_groups.specs.declared.group.Drive.{Drive}
 use Rattle.track_groups.specs.Groups.{on_track, wire_on}
 use Rattle.wavefront.specs.Space.{HasEdge, IsInside}
-use Rattle.wavefront.specs.Boxes.{BoundingBox}
-use Rattle.wavefront.specs.Boxes.{box_of_node}
+use Rattle.wavefront.specs.Boxes.{BoundingBox, box_of_node}
 use Rattle.wavefront.specs.kept.Bounds.{IsInsideBox}
-use Rattle.group_wave.specs.kept.Boxes.{SinkBox}
-use Rattle.group_wave.specs.kept.Grounds.{Ground, groups_of}
+use Rattle.wave_ground.specs.kept.Boxes.{SinkBox}
+use Rattle.wave_ground.specs.kept.Grounds.{Ground, groups_of}
 use Rattle.group_wave.specs.kept.WaveState.{FAR, Wave}
 use Rattle.group_wave.specs.kept.Wave.{IsComplete, IsDead, IsOpen, IsServed, IsWave, Serves, WentOn, cost_at, unreached}
 use Rattle.group_wave.specs.kept.Steps.{MoreOrigins}

@@ -1,22 +1,22 @@
 -- What each step of the wave over groups does.
-use Rattle.std.specs.Prelude.{◌≡◌, ℕ, ◌+◌, ◌*◌, ◌<◌, ◌≤◌, ◌⊎◌, ◌↔◌, Bool, true, false, cond, List, ◌∷◌, length, get_or, slice_set, Contains, min}
+use Rattle.std.specs.Prelude.{◌≡◌, ℕ, ◌+◌, ◌*◌, ◌^◌, ◌<◌, ◌≤◌, ◌⊎◌, ◌↔◌, Bool, true, false, cond, List, ◌∷◌, length, get_or, slice_set, Contains, min}
 use Rattle.std.specs.Int.{bit_at}
 use Rattle.std.specs.List.Sorted.{IsPermutation}
 use Rattle.routing_problem.specs.InputPins.{IsPinOf}
 use Rattle.routing_problem.specs.Nodes.{is_wire_at}
+use Rattle.track_groups.specs.declared.group.Group.{Group}
 use Rattle.track_groups.specs.declared.group.Tap.{Tap}
 use Rattle.track_groups.specs.Groups.{IsOn, group_at, on_track, wire_on}
 use Rattle.track_groups.specs.Joints.{taps_of, wire_beside}
-use Rattle.group_wave.specs.kept.WaveState.{FAR}
+use Rattle.group_wave.specs.kept.WaveState.{FAR, Label, Wave}
 use Rattle.wavefront.specs.Space.{HasEdge, IsInside, IsWanted, entry_cost}
 use Rattle.wavefront.specs.kept.Bounds.{left_over}
-use Rattle.group_wave.specs.kept.Boxes.{IsLow}
+use Rattle.wave_ground.specs.kept.Boxes.{IsLow, wire_of}
 use Rattle.wavefront.specs.kept.Spaces.{node_count}
 use Rattle.wavefront.specs.Ways.{AreDistinct, IsWay, way_cost}
-use Rattle.group_wave.specs.kept.Grounds.{Ground, groups_of}
-use Rattle.group_wave.specs.kept.Queues.{Waiting}
-use Rattle.group_wave.specs.kept.WaveState.{Label, Wave}
-use Rattle.group_wave.specs.kept.Wave.{AreTracks, IsBest, IsComplete, IsOf, IsOpen, IsOrigin, IsSettled, IsWave, WentOn, cost_at, label_at, weight_of, wire_of, work_of}
+use Rattle.wave_ground.specs.kept.Grounds.{Ground, IsGround, groups_of}
+use Rattle.wave_queue.specs.kept.Queues.{Waiting}
+use Rattle.group_wave.specs.kept.Wave.{AreTracks, IsBest, IsComplete, IsOf, IsOpen, IsOrigin, IsSettled, IsWave, WentOn, cost_at, label_at, weight_of, work_of}
 
 -- t is w with the label of a node set
 pub record IsLabelled (w t : Wave) (node : ℕ) (label : Label) : Type 0 where
@@ -237,6 +237,15 @@ pub record IsLive (g : Ground) (w : Wave) (e : Waiting) : Type 0 where
   pub tracks : AreTracks g e
   pub labels : (j : ℕ) → bit_at e.tracks j ≡ 1 → cost_at w (wire_on (groups_of g) (on_track e.group j)) ≤ e.label
   pub some : (j : ℕ) × (bit_at e.tracks j ≡ 1)
+
+-- an entry is out of the queue, to go on from its tracks: they are of this group, and its label fits
+pub record IsOut (g : Ground) (w : Wave) (e : Waiting) (greatest : ℕ) (is : Group) : Type 0 where
+  pub ground : IsGround g
+  pub wave : IsWave g w
+  pub group : is ≡ group_at (groups_of g) e.group
+  pub small : is.base + 64 * is.stride < 2 ^ 30
+  pub live : IsLive g w e
+  pub fits : e.label < greatest
 
 -- those tracks of an entry that still have its label
 pub record AreTracksLeft (g : Ground) (w : Wave) (e : Waiting) (tracks : ℕ) : Type 0 where

@@ -2,18 +2,15 @@
 use Rattle.std.specs.Prelude.{◌≡◌, ℕ, ◌+◌, ◌-◌, ◌*◌, ◌<◌, ◌≤◌, ◌⊎◌, List, length, slice_index, slice_index_or, get_or, Contains, Some, None, min, cond}
 use Rattle.std.specs.Int.{bit_at}
 use Rattle.std.specs.List.{sum_by}
-use Rattle.track_groups.specs.declared.group.Group.{Group}
 use Rattle.track_groups.specs.Groups.{group_at, on_track, IsOn, wire_on}
-use Rattle.wavefront.specs.kept.Bounds.{Wire}
-use Rattle.group_wave.specs.kept.WaveState.{FAR}
+use Rattle.wavefront.specs.kept.Bounds.{Surrounds}
+use Rattle.group_wave.specs.kept.WaveState.{FAR, Label, Wave}
 use Rattle.wavefront.specs.Space.{HasEdge, IsInside, IsWanted, entry_cost}
 use Rattle.wavefront.specs.kept.Spaces.{node_count}
-use Rattle.wavefront.specs.kept.Bounds.{Surrounds}
 use Rattle.wavefront.specs.Ways.{IsWay, way_cost}
-use Rattle.group_wave.specs.kept.Boxes.{IsLow, SinkBox}
-use Rattle.group_wave.specs.kept.Grounds.{Ground, groups_of}
-use Rattle.group_wave.specs.kept.Queues.{Waiting}
-use Rattle.group_wave.specs.kept.WaveState.{Label, Wave}
+use Rattle.wave_ground.specs.kept.Boxes.{IsLow, SinkBox, wire_of}
+use Rattle.wave_ground.specs.kept.Grounds.{Ground, groups_of}
+use Rattle.wave_queue.specs.kept.Queues.{Waiting}
 
 -- the label of a node that the wave has not reached
 abbrev pub unreached : Label
@@ -56,10 +53,6 @@ pub record IsServed (g : Ground) (boxes : List SinkBox) (p : ℕ) : Type 0 where
 -- each open sink has a box that is for it
 abbrev pub Serves : Ground → Wave → Type 0
 Serves g w = (p : ℕ) → p < length g.space.net.sinks → IsOpen g w (slice_index g.space.net.sinks p) → IsServed g w.boxes p
-
--- a group's wire: what tells how many wires lead on from it
-abbrev pub wire_of : Group → Wire
-wire_of group = record { kind = group.kind; span = group.span; steps = group.reach - 1 }
 
 -- what is known of a group is no more than any of the boxes tells
 abbrev pub AreKnown : Ground → Wave → Type 0
@@ -115,6 +108,10 @@ pub record IsCompleteBut (g : Ground) (w : Wave) (Owed : ℕ → Type 0) : Type 
 
 abbrev pub IsComplete : Ground → Wave → Type 0
 IsComplete g w = IsCompleteBut g w (λ v. ⊥)
+
+-- but for what is owed to the tracks of an entry
+abbrev pub IsCompleteButFor : Ground → Wave → Waiting → Type 0
+IsCompleteButFor g w e = IsCompleteBut g w (IsOf g w e)
 
 -- each track of an entry is one of its group
 abbrev pub AreTracks : Ground → Waiting → Type 0

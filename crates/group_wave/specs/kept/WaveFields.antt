@@ -2,7 +2,7 @@
 use Rattle.std.specs.Prelude.{ℕ, ◌<◌, ◌≤◌, All, cond}
 use Rattle.group_wave.specs.declared.wave.Wave.TheInside.{Inside}
 use Rattle.group_wave.specs.kept.Labels.{widened}
-use Rattle.group_wave.specs.kept.Queues.{Waiting}
+use Rattle.wave_queue.specs.kept.Queues.{Waiting}
 use Rattle.group_wave.specs.kept.WaveState.{FAR, Wave}
 
 abbrev pub wave_of : {K : Type 0} → (value : K → ℕ) → (greatest : ℕ) → Inside K → Wave

@@ -1,8 +1,8 @@
 -- What a wave over groups is: labels of nodes, entries that wait, from what cost on ways may have been left out, the least cost of a way
 -- that was found to a sink, boxes around the sinks that it has yet to take, and what is known of how many wires lead on from a group.
 use Rattle.std.specs.Prelude.{ℕ, List, Option}
-use Rattle.group_wave.specs.kept.Boxes.{SinkBox}
-use Rattle.group_wave.specs.kept.Queues.{Waiting}
+use Rattle.wave_ground.specs.kept.Boxes.{SinkBox}
+use Rattle.wave_queue.specs.kept.Queues.{Waiting}
 
 -- the cost of a node that the wave has not reached: more than any way costs
 abbrev pub FAR : ℕ

@@ -2,16 +2,14 @@
 //! on, later to all.
 
 ghost use Rattle.std.specs.Prelude.{◌≡◌, ◌+◌, ◌*◌, ◌^◌, ◌<◌, ◌≤◌, ◌↔◌, IsTrue, true, false};
-ghost use Rattle.group_wave.specs.kept.Bits.{IsOnlyBit, PutsBit};
+ghost use Rattle.wave_queue.specs.kept.Bits.{IsOnlyBit, PutsBit};
 
 use super::relaxing::Offer;
 use super::{WIRE, Wave, bound_over};
-use crate::bits::{only_bit, take_bit, with_bit};
-use crate::ground::Ground;
-use crate::keys::Key;
-use crate::queue::Entry;
 use std::alloc::AllocError;
 use track_groups::Group;
+use wave_ground::Ground;
+use wave_queue::{Entry, Key, only_bit, take_bit, with_bit};
 
 /// Whether costs are equal.
 #[inline(always)]
@@ -35,11 +33,11 @@ impl<K: Key> Wave<K> {
     ghost use Rattle.std.specs.Prelude.{length, Contains, OnOk};
     ghost use Rattle.track_groups.specs.Groups.{group_at};
     ghost use Rattle.track_groups.specs.Joints.{neighbours_of};
-    ghost use Rattle.group_wave.specs.kept.Boxes.{IsLow};
-    ghost use Rattle.group_wave.specs.kept.Grounds.{IsGround, groups_of};
-    ghost use Rattle.group_wave.specs.kept.Queues.{entry_of};
-    ghost use Rattle.group_wave.specs.kept.Wave.{AreTracks, IsCompleteBut, IsOf, IsWave, cost_at, wire_of};
-    ghost use Rattle.group_wave.specs.kept.Steps.{GoesOn, AreTracksLeft, IsLive, Spreads, TookBefore, TookBut, TookNearer, TookNearerBefore, TookPins, TookWires};
+    ghost use Rattle.wave_ground.specs.kept.Boxes.{IsLow, wire_of};
+    ghost use Rattle.wave_ground.specs.kept.Grounds.{IsGround, groups_of};
+    ghost use Rattle.wave_queue.specs.kept.Queues.{entry_of};
+    ghost use Rattle.group_wave.specs.kept.Wave.{AreTracks, IsWave, cost_at, IsCompleteButFor};
+    ghost use Rattle.group_wave.specs.kept.Steps.{GoesOn, AreTracksLeft, IsLive, Spreads, TookBefore, TookBut, TookNearer, TookNearerBefore, TookPins, TookWires, IsOut};
 
     /// Whether a node's label has this cost.
     #[inline(always)]
@@ -83,12 +81,7 @@ impl<K: Key> Wave<K> {
         group: &Group,
         neighbour: u32,
     ) -> Result<(), AllocError>
-        requires ground { IsGround ground.now }
-        requires wave { IsWave ground.now self.old }
-        requires group { group.now ≡ group_at (groups_of ground.now) entry.group }
-        requires small { group.now.base + 64 * group.now.stride < 2 ^ 30 }
-        requires entry { IsLive ground.now self.old (entry_of K.value entry) }
-        requires fits { K.value entry.label < K.greatest }
+        requires out { IsOut ground.now self.old (entry_of K.value entry) K.greatest group.now }
         requires beside { Contains (neighbours_of ground.now.tables entry.group) neighbour }
         ensures spreads { OnOk result (Spreads ground.now self.old self.new) }
         ensures took { OnOk result
@@ -115,12 +108,7 @@ impl<K: Key> Wave<K> {
         wires: u32,
         neighbour: u32,
     ) -> Result<(), AllocError>
-        requires ground { IsGround ground.now }
-        requires wave { IsWave ground.now self.old }
-        requires group { group.now ≡ group_at (groups_of ground.now) entry.group }
-        requires small { group.now.base + 64 * group.now.stride < 2 ^ 30 }
-        requires entry { IsLive ground.now self.old (entry_of K.value entry) }
-        requires fits { K.value entry.label < K.greatest }
+        requires out { IsOut ground.now self.old (entry_of K.value entry) K.greatest group.now }
         requires beside { Contains (neighbours_of ground.now.tables entry.group) neighbour }
         ensures spreads { OnOk result (Spreads ground.now self.old self.new) }
         ensures took { OnOk result
@@ -139,12 +127,7 @@ impl<K: Key> Wave<K> {
         entry: Entry<K>,
         group: &Group,
     ) -> Result<(), AllocError>
-        requires ground { IsGround ground.now }
-        requires wave { IsWave ground.now self.old }
-        requires group { group.now ≡ group_at (groups_of ground.now) entry.group }
-        requires small { group.now.base + 64 * group.now.stride < 2 ^ 30 }
-        requires entry { IsLive ground.now self.old (entry_of K.value entry) }
-        requires fits { K.value entry.label < K.greatest }
+        requires out { IsOut ground.now self.old (entry_of K.value entry) K.greatest group.now }
         ensures spreads { OnOk result (Spreads ground.now self.old self.new) }
         ensures took { OnOk result (TookBefore ground.now self.new (entry_of K.value entry)
             (neighbours_of ground.now.tables entry.group)
@@ -161,17 +144,9 @@ impl<K: Key> Wave<K> {
     /// entry may lower. All are looked at with no branch between, so that their rows are fetched
     /// side by side.
     #[inline(always)]
-    fn unsettled(
-        &self,
-        ground: &Ground<'_>,
-        entry: Entry<K>,
-        group: &Group,
-        track: u32,
-        neighbours: &[u32],
-    ) -> u64
+    fn unsettled(&self, ground: &Ground<'_>, entry: Entry<K>, track: u32, neighbours: &[u32]) -> u64
         requires ground { IsGround ground.now }
         requires wave { IsWave ground.now self.now }
-        requires group { group.now ≡ group_at (groups_of ground.now) entry.group }
         requires entry { IsLive ground.now self.now (entry_of K.value entry) }
         requires fits { K.value entry.label < K.greatest }
         requires track { IsOnlyBit entry.tracks track }
@@ -182,7 +157,7 @@ impl<K: Key> Wave<K> {
     {
         let mut places = 0;
         for at in 0..neighbours.len() {
-            let is_settled = self.is_settled(ground, entry, group, track, neighbours[at]);
+            let is_settled = self.is_settled(ground, entry, track, neighbours[at]);
             places = with_bit_if(places, at as u32, !is_settled);
         }
         places
@@ -200,12 +175,7 @@ impl<K: Key> Wave<K> {
         neighbours: &[u32],
         places: u64,
     ) -> Result<(), AllocError>
-        requires ground { IsGround ground.now }
-        requires wave { IsWave ground.now self.old }
-        requires group { group.now ≡ group_at (groups_of ground.now) entry.group }
-        requires small { group.now.base + 64 * group.now.stride < 2 ^ 30 }
-        requires entry { IsLive ground.now self.old (entry_of K.value entry) }
-        requires fits { K.value entry.label < K.greatest }
+        requires out { IsOut ground.now self.old (entry_of K.value entry) K.greatest group.now }
         requires track { IsOnlyBit entry.tracks track }
         requires beside { neighbours.now ≡ neighbours_of ground.now.tables entry.group }
         requires others { TookBut ground.now self.old (entry_of K.value entry) neighbours.now
@@ -229,20 +199,15 @@ impl<K: Key> Wave<K> {
         entry: Entry<K>,
         group: &Group,
         track: u32,
+        neighbours: &[u32],
     ) -> Result<(), AllocError>
-        requires ground { IsGround ground.now }
-        requires wave { IsWave ground.now self.old }
-        requires group { group.now ≡ group_at (groups_of ground.now) entry.group }
-        requires small { group.now.base + 64 * group.now.stride < 2 ^ 30 }
-        requires entry { IsLive ground.now self.old (entry_of K.value entry) }
-        requires fits { K.value entry.label < K.greatest }
+        requires out { IsOut ground.now self.old (entry_of K.value entry) K.greatest group.now }
         requires track { IsOnlyBit entry.tracks track }
+        requires beside { neighbours.now ≡ neighbours_of ground.now.tables entry.group }
         ensures spreads { OnOk result (Spreads ground.now self.old self.new) }
         ensures took { OnOk result (TookBefore ground.now self.new (entry_of K.value entry)
-            (neighbours_of ground.now.tables entry.group)
-            (length (neighbours_of ground.now.tables entry.group))) }
+            neighbours.now (length neighbours.now)) }
     {
-        let neighbours = ground.neighbours(entry.group);
         for neighbour in neighbours {
             self.relax_one(ground, entry, group, track, *neighbour)?;
         }
@@ -257,12 +222,7 @@ impl<K: Key> Wave<K> {
         group: &Group,
         track: u32,
     ) -> Result<(), AllocError>
-        requires ground { IsGround ground.now }
-        requires wave { IsWave ground.now self.old }
-        requires group { group.now ≡ group_at (groups_of ground.now) entry.group }
-        requires small { group.now.base + 64 * group.now.stride < 2 ^ 30 }
-        requires entry { IsLive ground.now self.old (entry_of K.value entry) }
-        requires fits { K.value entry.label < K.greatest }
+        requires out { IsOut ground.now self.old (entry_of K.value entry) K.greatest group.now }
         requires track { IsOnlyBit entry.tracks track }
         ensures spreads { OnOk result (Spreads ground.now self.old self.new) }
         ensures took { OnOk result (TookBefore ground.now self.new (entry_of K.value entry)
@@ -271,9 +231,9 @@ impl<K: Key> Wave<K> {
     {
         let neighbours = ground.neighbours(entry.group);
         if neighbours.len() > 64 {
-            return self.relax_many(ground, entry, group, track);
+            return self.relax_many(ground, entry, group, track, neighbours);
         }
-        let places = self.unsettled(ground, entry, group, track, neighbours);
+        let places = self.unsettled(ground, entry, track, neighbours);
         self.relax_unsettled(ground, entry, group, track, neighbours, places)
     }
 
@@ -284,12 +244,7 @@ impl<K: Key> Wave<K> {
         entry: Entry<K>,
         group: &Group,
     ) -> Result<(), AllocError>
-        requires ground { IsGround ground.now }
-        requires wave { IsWave ground.now self.old }
-        requires group { group.now ≡ group_at (groups_of ground.now) entry.group }
-        requires small { group.now.base + 64 * group.now.stride < 2 ^ 30 }
-        requires entry { IsLive ground.now self.old (entry_of K.value entry) }
-        requires fits { K.value entry.label < K.greatest }
+        requires out { IsOut ground.now self.old (entry_of K.value entry) K.greatest group.now }
         ensures spreads { OnOk result (Spreads ground.now self.old self.new) }
         ensures took { OnOk result (TookBefore ground.now self.new (entry_of K.value entry)
             (neighbours_of ground.now.tables entry.group)
@@ -309,12 +264,7 @@ impl<K: Key> Wave<K> {
         group: &Group,
         wires: u32,
     ) -> Result<(), AllocError>
-        requires ground { IsGround ground.now }
-        requires wave { IsWave ground.now self.old }
-        requires group { group.now ≡ group_at (groups_of ground.now) entry.group }
-        requires small { group.now.base + 64 * group.now.stride < 2 ^ 30 }
-        requires entry { IsLive ground.now self.old (entry_of K.value entry) }
-        requires fits { K.value entry.label < K.greatest }
+        requires out { IsOut ground.now self.old (entry_of K.value entry) K.greatest group.now }
         ensures spreads { OnOk result (Spreads ground.now self.old self.new) }
         ensures took { OnOk result (TookNearerBefore ground.now self.new (entry_of K.value entry)
             wires (neighbours_of ground.now.tables entry.group)
@@ -358,16 +308,10 @@ impl<K: Key> Wave<K> {
         group: &Group,
         wires: u32,
     ) -> Result<(), AllocError>
-        requires ground { IsGround ground.now }
-        requires wave { IsWave ground.now self.old }
-        requires group { group.now ≡ group_at (groups_of ground.now) entry.group }
-        requires small { group.now.base + 64 * group.now.stride < 2 ^ 30 }
-        requires entry { IsLive ground.now self.old (entry_of K.value entry) }
-        requires fits { K.value entry.label < K.greatest }
+        requires out { IsOut ground.now self.old (entry_of K.value entry) K.greatest group.now }
         requires first { entry.is_begun ≡ false }
         requires low { IsLow self.old.boxes (wire_of group.now) wires }
-        requires but { IsCompleteBut ground.now self.old
-            (IsOf ground.now self.old (entry_of K.value entry)) }
+        requires but { IsCompleteButFor ground.now self.old (entry_of K.value entry) }
         ensures { OnOk result
             (GoesOn ground.now self.old self.new (entry_of K.value entry)) }
     {
@@ -390,15 +334,9 @@ impl<K: Key> Wave<K> {
         group: &Group,
         wires: u32,
     ) -> Result<(), AllocError>
-        requires ground { IsGround ground.now }
-        requires wave { IsWave ground.now self.old }
-        requires group { group.now ≡ group_at (groups_of ground.now) entry.group }
-        requires small { group.now.base + 64 * group.now.stride < 2 ^ 30 }
-        requires entry { IsLive ground.now self.old (entry_of K.value entry) }
-        requires fits { K.value entry.label < K.greatest }
+        requires out { IsOut ground.now self.old (entry_of K.value entry) K.greatest group.now }
         requires low { IsLow self.old.boxes (wire_of group.now) wires }
-        requires but { IsCompleteBut ground.now self.old
-            (IsOf ground.now self.old (entry_of K.value entry)) }
+        requires but { IsCompleteButFor ground.now self.old (entry_of K.value entry) }
         ensures { OnOk result
             (GoesOn ground.now self.old self.new (entry_of K.value entry)) }
     {

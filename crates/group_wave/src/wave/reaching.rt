@@ -5,12 +5,10 @@ ghost use Rattle.std.specs.Prelude.{◌≡◌, ◌+◌, ◌*◌, ◌^◌, ◌<�
 ghost use Rattle.track_groups.specs.Groups.{node_on};
 
 use super::Wave;
-use crate::bits::lowest_bit;
-use crate::ground::Ground;
-use crate::keys::Key;
-use crate::queue::Entry;
 use std::alloc::AllocError;
 use track_groups::{Group, Tap};
+use wave_ground::Ground;
+use wave_queue::{Entry, Key, lowest_bit};
 
 /// The node of a track of a group.
 #[inline(always)]
@@ -28,10 +26,10 @@ impl<K: Key> Wave<K> {
     ghost use Rattle.track_groups.specs.Groups.{group_at};
     ghost use Rattle.track_groups.specs.Joints.{taps_of};
     ghost use Rattle.wavefront.specs.kept.Spaces.{node_count};
-    ghost use Rattle.group_wave.specs.kept.Grounds.{IsGround, groups_of};
-    ghost use Rattle.group_wave.specs.kept.Queues.{entry_of};
+    ghost use Rattle.wave_ground.specs.kept.Grounds.{IsGround, groups_of};
+    ghost use Rattle.wave_queue.specs.kept.Queues.{entry_of};
     ghost use Rattle.group_wave.specs.kept.Wave.{IsOpen, IsOrigin, IsWave, cost_at};
-    ghost use Rattle.group_wave.specs.kept.Steps.{Enters, IsEntering, IsFrom, IsLive, IsTapOf, LowersPin, LowersSink, Spreads, TookTap, TookTaps};
+    ghost use Rattle.group_wave.specs.kept.Steps.{Enters, IsEntering, IsFrom, IsLive, IsTapOf, LowersPin, LowersSink, Spreads, TookTap, TookTaps, IsOut};
     ghost use Rattle.wavefront.specs.Space.{HasEdge};
 
     /// Whether the wave starts at a node.
@@ -167,12 +165,7 @@ impl<K: Key> Wave<K> {
         group: &Group,
         tap: Tap,
     ) -> Result<(), AllocError>
-        requires ground { IsGround ground.now }
-        requires wave { IsWave ground.now self.old }
-        requires group { group.now ≡ group_at (groups_of ground.now) entry.group }
-        requires small { group.now.base + 64 * group.now.stride < 2 ^ 30 }
-        requires entry { IsLive ground.now self.old (entry_of K.value entry) }
-        requires fits { K.value entry.label < K.greatest }
+        requires out { IsOut ground.now self.old (entry_of K.value entry) K.greatest group.now }
         requires tap { IsTapOf ground.now entry.group tap }
         ensures spreads { OnOk result (Spreads ground.now self.old self.new) }
         ensures took { OnOk result (TookTap ground.now self.new (entry_of K.value entry) tap) }

@@ -8,13 +8,11 @@ ghost use Rattle.wavefront.specs.kept.Bounds.{least_wire_cost};
 ghost use Rattle.wavefront.specs.kept.Spaces.{node_count};
 
 use super::{WIRE, Wave, bound_over};
-use crate::bits::{take_bit, with_bit};
-use crate::ground::Ground;
-use crate::keys::Key;
 use crate::labels::Row;
-use crate::queue::Entry;
 use std::alloc::AllocError;
 use track_groups::Group;
+use wave_ground::Ground;
+use wave_queue::{Entry, Key, take_bit, with_bit};
 
 /// Nodes of one label from which a way is offered: for track j the node `first + j * step`.
 #[derive(Clone, Copy, Drop)]
@@ -61,12 +59,12 @@ impl<K: Key> Wave<K> {
     ghost use Rattle.std.specs.Prelude.{length, Contains, OnOk, IfOk, IsTrue, false};
     ghost use Rattle.track_groups.specs.Groups.{group_at};
     ghost use Rattle.track_groups.specs.Joints.{neighbours_of};
-    ghost use Rattle.group_wave.specs.kept.Bits.{IsOnlyBit};
-    ghost use Rattle.group_wave.specs.kept.Grounds.{IsGround, groups_of};
+    ghost use Rattle.wave_queue.specs.kept.Bits.{IsOnlyBit};
+    ghost use Rattle.wave_ground.specs.kept.Grounds.{IsGround, groups_of};
     ghost use Rattle.group_wave.specs.kept.Labels.{label_of};
     ghost use Rattle.group_wave.specs.kept.Wave.{IsBound, IsWave, label_at};
-    ghost use Rattle.group_wave.specs.kept.Steps.{IsLive, IsOffer, IsStep, IsTarget, Relaxes, RelaxesSome, RelaxesTrack, Spreads, TookWires, WaitsFresh, fresh_entry};
-    ghost use Rattle.group_wave.specs.kept.Queues.{entry_of};
+    ghost use Rattle.group_wave.specs.kept.Steps.{IsLive, IsOffer, IsStep, IsTarget, Relaxes, RelaxesSome, RelaxesTrack, Spreads, TookWires, WaitsFresh, fresh_entry, IsOut};
+    ghost use Rattle.wave_queue.specs.kept.Queues.{entry_of};
 
     /// Lowers a wire's label, and lets the wire wait by itself, where a way on costs so much at least.
     #[inline(always)]
@@ -331,13 +329,11 @@ impl<K: Key> Wave<K> {
         &self,
         ground: &Ground<'_>,
         entry: Entry<K>,
-        group: &Group,
         track: u32,
         neighbour: u32,
     ) -> bool
         requires ground { IsGround ground.now }
         requires wave { IsWave ground.now self.now }
-        requires group { group.now ≡ group_at (groups_of ground.now) entry.group }
         requires entry { IsLive ground.now self.now (entry_of K.value entry) }
         requires fits { K.value entry.label < K.greatest }
         requires track { IsOnlyBit entry.tracks track }
@@ -361,12 +357,7 @@ impl<K: Key> Wave<K> {
         track: u32,
         neighbour: u32,
     ) -> Result<(), AllocError>
-        requires ground { IsGround ground.now }
-        requires wave { IsWave ground.now self.old }
-        requires group { group.now ≡ group_at (groups_of ground.now) entry.group }
-        requires small { group.now.base + 64 * group.now.stride < 2 ^ 30 }
-        requires entry { IsLive ground.now self.old (entry_of K.value entry) }
-        requires fits { K.value entry.label < K.greatest }
+        requires out { IsOut ground.now self.old (entry_of K.value entry) K.greatest group.now }
         requires track { IsOnlyBit entry.tracks track }
         requires beside { Contains (neighbours_of ground.now.tables entry.group) neighbour }
         ensures spreads { OnOk result (Spreads ground.now self.old self.new) }

@@ -3,23 +3,21 @@
 ghost use Rattle.std.specs.Prelude.{◌≡◌, ◌+◌, ◌*◌, ◌^◌, ◌<◌, ◌≤◌, ℕ};
 
 use super::{WIRE, Wave, bound_over};
-use crate::bits::only_bit;
-use crate::ground::Ground;
-use crate::keys::Key;
-use crate::queue::Entry;
 use std::alloc::AllocError;
 use track_groups::Group;
+use wave_ground::Ground;
+use wave_queue::{Entry, Key, only_bit};
 
 impl<K: Key> Wave<K> {
     ghost use Rattle.std.specs.Prelude.{OnOk, IfOk, IfSome, IfNone, IsTrue, IsFalse, None, ◌↔◌};
     ghost use Rattle.track_groups.specs.Groups.{group_at};
     ghost use Rattle.wavefront.specs.Space.{IsWanted};
-    ghost use Rattle.group_wave.specs.kept.Boxes.{IsLow};
+    ghost use Rattle.wave_ground.specs.kept.Boxes.{IsLow, wire_of};
     ghost use Rattle.group_wave.specs.kept.WaveState.{FAR};
-    ghost use Rattle.group_wave.specs.kept.Grounds.{IsGround, groups_of};
-    ghost use Rattle.group_wave.specs.kept.Queues.{entry_of};
-    ghost use Rattle.group_wave.specs.kept.Wave.{AreTracks, IsBest, IsComplete, IsCompleteBut, IsOf, IsOpen, IsWave, weight_of, wire_of, work_of};
-    ghost use Rattle.group_wave.specs.kept.Steps.{GoesOn, IsAbove, IsLeastKey, IsLive, IsPopped, IsPushed, IsTaken, SameOrigins, Settles, WaitsAgain, IsNearest};
+    ghost use Rattle.wave_ground.specs.kept.Grounds.{IsGround, groups_of};
+    ghost use Rattle.wave_queue.specs.kept.Queues.{entry_of};
+    ghost use Rattle.group_wave.specs.kept.Wave.{AreTracks, IsBest, IsComplete, IsOpen, IsWave, weight_of, work_of, IsCompleteButFor};
+    ghost use Rattle.group_wave.specs.kept.Steps.{GoesOn, IsAbove, IsLeastKey, IsLive, IsPopped, IsPushed, IsTaken, SameOrigins, Settles, WaitsAgain, IsNearest, IsOut};
 
     /// Takes an entry out that a way to the nearest sink may cost as much as.
     fn pop(&mut self) -> Option<Entry<K>>
@@ -88,15 +86,9 @@ impl<K: Key> Wave<K> {
         group: &Group,
         wires: u32,
     ) -> Result<(), AllocError>
-        requires ground { IsGround ground.now }
-        requires wave { IsWave ground.now self.old }
-        requires group { group.now ≡ group_at (groups_of ground.now) entry.group }
-        requires small { group.now.base + 64 * group.now.stride < 2 ^ 30 }
-        requires entry { IsLive ground.now self.old (entry_of K.value entry) }
-        requires fits { K.value entry.label < K.greatest }
+        requires out { IsOut ground.now self.old (entry_of K.value entry) K.greatest group.now }
         requires low { IsLow self.old.boxes (wire_of group.now) wires }
-        requires but { IsCompleteBut ground.now self.old
-            (IsOf ground.now self.old (entry_of K.value entry)) }
+        requires but { IsCompleteButFor ground.now self.old (entry_of K.value entry) }
         ensures { OnOk result
             (GoesOn ground.now self.old self.new (entry_of K.value entry)) }
     {
@@ -116,14 +108,8 @@ impl<K: Key> Wave<K> {
         group: &Group,
         waited: &mut usize,
     ) -> Result<(), AllocError>
-        requires ground { IsGround ground.now }
-        requires wave { IsWave ground.now self.old }
-        requires group { group.now ≡ group_at (groups_of ground.now) entry.group }
-        requires small { group.now.base + 64 * group.now.stride < 2 ^ 30 }
-        requires entry { IsLive ground.now self.old (entry_of K.value entry) }
-        requires fits { K.value entry.label < K.greatest }
-        requires but { IsCompleteBut ground.now self.old
-            (IsOf ground.now self.old (entry_of K.value entry)) }
+        requires out { IsOut ground.now self.old (entry_of K.value entry) K.greatest group.now }
+        requires but { IsCompleteButFor ground.now self.old (entry_of K.value entry) }
         ensures settles { OnOk result (Settles ground.now self.old self.new) }
         ensures work { OnOk result (work_of self.new + 3 * waited.new + 1
             ≤ work_of self.old + weight_of (entry_of K.value entry) + 3 * waited.old) }
@@ -146,8 +132,7 @@ impl<K: Key> Wave<K> {
         requires wave { IsWave ground.now self.old }
         requires tracks { AreTracks ground.now (entry_of K.value entry) }
         requires fits { K.value entry.label < K.greatest }
-        requires but { IsCompleteBut ground.now self.old
-            (IsOf ground.now self.old (entry_of K.value entry)) }
+        requires but { IsCompleteButFor ground.now self.old (entry_of K.value entry) }
         ensures settles { OnOk result (Settles ground.now self.old self.new) }
         ensures work { OnOk result (work_of self.new + 3 * waited.new + 1
             ≤ work_of self.old + weight_of (entry_of K.value entry) + 3 * waited.old) }

@@ -5,16 +5,12 @@ ghost use Rattle.routing_problem.specs.parts.Kind.TheVariants.{Opin};
 
 use super::relaxing::Offer;
 use super::{Wave, bound_over};
-use crate::bits::with_bit;
-use crate::boxes::BoundingBox;
-use crate::ground::Ground;
-use crate::keys::Key;
 use crate::labels::Labels;
-use crate::nearest::{Nearest, SinkBox};
-use crate::queue::{Entry, Queue};
 use routing_problem::Kind;
 use smallvec::SmallVec;
 use std::alloc::{AllocError, Global};
+use wave_ground::{BoundingBox, Ground, Nearest, SinkBox};
+use wave_queue::{Entry, Key, Queue, with_bit};
 
 /// How many boxes there are at most.
 const MOST_BOXES: usize = 32;
@@ -46,12 +42,12 @@ impl<K: Key> Wave<K> {
     ghost use Rattle.track_groups.specs.Groups.{HasPlace};
     ghost use Rattle.wavefront.specs.Space.{HasEdge, IsInside, IsWanted, entry_cost};
     ghost use Rattle.wavefront.specs.kept.Spaces.{node_count};
-    ghost use Rattle.group_wave.specs.kept.Grounds.{IsGround, groups_of};
+    ghost use Rattle.wave_ground.specs.kept.Grounds.{IsGround, groups_of};
     ghost use Rattle.wavefront.specs.Boxes.{box_of_node};
     ghost use Rattle.wavefront.specs.kept.Bounds.{IsInsideBox};
-    ghost use Rattle.group_wave.specs.kept.Boxes.{boxed};
+    ghost use Rattle.wave_ground.specs.kept.Boxes.{boxed};
     ghost use Rattle.group_wave.specs.kept.Labels.{widened};
-    ghost use Rattle.group_wave.specs.kept.Nearest.{sink_box};
+    ghost use Rattle.wave_ground.specs.kept.Nearest.{sink_box};
     ghost use Rattle.group_wave.specs.kept.WaveState.{FAR};
     ghost use Rattle.group_wave.specs.kept.Wave.{IsBest, IsComplete, IsOpen, IsOrigin, IsWave, Serves, WentAlong, WentOn, cost_at};
     ghost use Rattle.group_wave.specs.kept.Steps.{Enters, IsStarted, LeadsToSink, MoreOrigins, NoOrigins, SameOrigins, Spreads};

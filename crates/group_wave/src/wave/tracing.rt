@@ -3,13 +3,13 @@
 ghost use Rattle.std.specs.Prelude.{◌≡◌, ◌<◌};
 
 use super::Wave;
-use crate::ground::Ground;
-use crate::keys::Key;
 use std::alloc::AllocError;
+use wave_ground::Ground;
+use wave_queue::Key;
 
 impl<K: Key> Wave<K> {
     ghost use Rattle.std.specs.Prelude.{IfOk, [], length, reverse};
-    ghost use Rattle.group_wave.specs.kept.Grounds.{IsGround};
+    ghost use Rattle.wave_ground.specs.kept.Grounds.{IsGround};
     ghost use Rattle.group_wave.specs.kept.WaveState.{FAR};
     ghost use Rattle.group_wave.specs.kept.Wave.{IsOpen, IsWave, cost_at, parent_of};
     ghost use Rattle.group_wave.specs.kept.Steps.{IsTraced};

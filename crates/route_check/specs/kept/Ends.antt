@@ -5,7 +5,7 @@ use Rattle.std.specs.List.Sorted.{IsPermutation, IsNonDecreasingBy}
 use Rattle.routing_problem.specs.Fabric.{numbers_below}
 use Rattle.route_tree.specs.Paths.{Pair, ends_of}
 use Rattle.route_tree.specs.Legality.{is_among}
-use Rattle.route_check.specs.declared.ends.End.{End}
+use Rattle.route_check.specs.declared.listing.End.{End}
 
 abbrev pub no_end : End
 no_end = record { node = 0; row = 0 }

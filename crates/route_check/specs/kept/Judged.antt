@@ -6,7 +6,7 @@ use Rattle.routing_problem.specs.Problems.{RoutingProblem, Net, is_sink}
 use Rattle.route_tree.specs.declared.fault.TreeFault.{TreeFault}
 use Rattle.route_tree.specs.declared.fault.TreeFault.TheVariants.{WrongSource, NoSwitch, NodeTwice, SecondOutput, ForeignSink, Dangling, MissingSink, Order}
 use Rattle.route_tree.specs.Paths.{Pair}
-use Rattle.route_check.specs.declared.ends.End.{End}
+use Rattle.route_check.specs.declared.listing.End.{End}
 use Rattle.route_tree.specs.Legality.{is_among, IsJoined, is_listed}
 use Rattle.route_tree.specs.Faults.{begins_elsewhere, lacks_switch, reaches_twice, leaves_twice, has_foreign_sink, misses_sink, IsFirstFault, IsRoute}
 
@@ -36,12 +36,12 @@ early_fault_of f source sinks pairs =
     else (if leaves_twice source pairs then Some SecondOutput
     else (if has_foreign_sink f sinks pairs then Some ForeignSink else None))))
 
--- the first fault of the others, where it is known whether a pair dangles
-unfoldable pub late_fault_of : (dangles : Bool) → Fabric → (source : ℕ) → (sinks : List ℕ) → List Pair → Option TreeFault
-late_fault_of dangles f source sinks pairs =
+-- the first fault of the others, where it is known whether a pair dangles, and whether the pairs are in order
+unfoldable pub late_fault_of : (dangles listed : Bool) → (sinks : List ℕ) → List Pair → Option TreeFault
+late_fault_of dangles listed sinks pairs =
     if dangles then Some Dangling
     else (if misses_sink sinks pairs then Some MissingSink
-    else (if is_listed f (net_of source sinks) pairs then None else Some Order))
+    else (if listed then None else Some Order))
 
 -- the test tells whether a pair dangles
 abbrev pub TellsDangling : (dangles : Bool) → (source : ℕ) → (sinks : List ℕ) → List Pair → Type 0
@@ -50,7 +50,8 @@ TellsDangling dangles source sinks pairs = MatchBool dangles (Dangles source sin
 -- the answer by the tests, where a later one asks whether a pair dangles
 abbrev pub IsReportedLate : Fabric → (source : ℕ) → (sinks : List ℕ) → List Pair → Option TreeFault → Type 0
 IsReportedLate f source sinks pairs reported =
-    (dangles : Bool) × TellsDangling dangles source sinks pairs × (reported ≡ late_fault_of dangles f source sinks pairs)
+    (dangles : Bool) × TellsDangling dangles source sinks pairs
+    × (reported ≡ late_fault_of dangles (is_listed f (net_of source sinks) pairs) sinks pairs)
 
 -- the answer by the tests
 abbrev pub IsReportedBy : Fabric → (source : ℕ) → (sinks : List ℕ) → List Pair → Option TreeFault → Type 0

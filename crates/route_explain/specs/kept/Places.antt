@@ -34,6 +34,11 @@ abbrev pub is_before : Option ℕ → ℕ → Bool
 is_before None k = false
 is_before (Some i) k = nat_lt i k
 
+-- the sinks of a net, and the steps of its list
+pub record NetSteps : Type 0 where
+  pub sinks : List ℕ
+  pub pairs : List Pair
+
 -- an index of a list for a net with these sinks
 pub record IsIndex (sinks : List ℕ) (pairs : List Pair) (x : NetIndex) : Type 0 where
   pub begins : ArePlaces (begins_of pairs) x.begins

@@ -47,15 +47,19 @@ pub record IsSeen (netlist : Netlist) (f : Fabric) (before : List Line) (seen : 
   -- the section is that of a net whose line was among these
   pub opened : (n : ℕ) → latest netlist before ≡ Some n → (n < length netlist.nets) × (had_line netlist before n ≡ true)
 
+-- one of the lines is that of net n
+abbrev pub had_net : Seen → (n : ℕ) → Bool
+had_net seen n = slice_index_or seen.had.items n false
+
 -- the last node is a sink, and node a doesn't stand in net n's section
-abbrev pub is_off : Fabric → Option ℕ → List ℕ → (n a : ℕ) → Bool
-is_off f last owners n a = option_map_or (is_sink f) last false && not (slice_index_or owners a no_owner == n)
+abbrev pub is_off : Fabric → Seen → (n a : ℕ) → Bool
+is_off f seen n a = option_map_or (is_sink f) seen.last false && not (slice_index_or seen.owners.items a no_owner == n)
 
 -- a line with this number and these words
 unfoldable pub entry_after : Netlist → Fabric → Seen → ℕ → List (List ℕ) → Result Entry RouteFileFault
 entry_after netlist f seen line words =
-    if is_net_words words then net_entry netlist (λ n. slice_index_or seen.had.items n false) line words
-    else section_entry netlist f (is_off f seen.last seen.owners.items) line words seen.net
+    if is_net_words words then net_entry netlist (had_net seen) line words
+    else section_entry netlist f (is_off f seen) line words seen.net
 
 -- the pair that node a makes with the one before it in its section, if there is one and it is no sink
 abbrev pub pair_after : Fabric → Option ℕ → ℕ → Option Pair

@@ -6,7 +6,7 @@ use Rattle.net_file.specs.Routed.{no_net}
 use Rattle.rr_graph.specs.Fabric.{Fabric}
 use Rattle.rr_graph.specs.Nodes.{node_at}
 use Rattle.rr_graph.specs.Problems.{RoutingProblem, net_in}
-use Rattle.runs.specs.Verdict.{text_of_node}
+use Rattle.text_output.specs.NodeTexts.{text_of_node}
 
 -- a net by its name, and a sink to which no way leads, as `net a: stuck at SINK (1,1) Class: 0`
 unfoldable pub stuck_line : Fabric → (name : List ℕ) → (sink : ℕ) → List ℕ

@@ -7,7 +7,7 @@ use Rattle.iteration.specs.declared.outcome.Outcome.TheVariants.{Success, NotRou
 use Rattle.runs.specs.RouteRun.{routed_text, left_text}
 use Rattle.rr_graph.specs.parts.Mode.{Mode}
 use Rattle.width_search.specs.declared.report.LeastWidth.{LeastWidth}
-use Rattle.runs.specs.Inputs.{PlacedNetlist, placed_problem}
+use Rattle.run_inputs.specs.Inputs.{PlacedNetlist, placed_problem}
 
 abbrev pub outcome_text : Outcome → List ℕ
 outcome_text (Success lists iterations) = routed_text iterations

@@ -2,8 +2,8 @@
 use Rattle.std.specs.Prelude.{ℕ, [], ◌∷◌, ◌++◌, Option, Some}
 use Rattle.iteration.specs.declared.outcome.Outcome.{Outcome}
 use Rattle.iteration.specs.declared.outcome.Outcome.TheVariants.{Success, NotRouted}
-use Rattle.net_workers.specs.declared.gate.TrialEnd.{TrialEnd}
-use Rattle.net_workers.specs.declared.gate.TrialEnd.TheVariants as ended
+use Rattle.gates.specs.declared.trial.TrialEnd.{TrialEnd}
+use Rattle.gates.specs.declared.trial.TrialEnd.TheVariants as ended
 use Rattle.width_search.specs.declared.report.LeastWidth.{LeastWidth}
 use Rattle.width_search.specs.Reports.{Report, is_success}
 

@@ -2,7 +2,7 @@ use Rattle.std.proofs.Common.{◌≡◌, ◌<◌, [], ◌∷◌, ◌++◌, true,
 use Rattle.vpr_text.specs.Words.{number_at, words_at}
 use Rattle.arch_file.specs.Judge.{is_passed, judge}
 use Rattle.arch_file.specs.Reading.{entries_from}
-use Rattle.arch_file.proofs.Lines.{passes, takes, refuses, ends, fails_at}
+use Rattle.arch_file.proofs.Lines.{passes, takes, refuses, ends}
 use Rattle.arch_file.proofs.reading.entries.Goals as goal
 use Rattle.arch_file.proofs.reading.entries.Goals.{then-not-is_passed+in-Ok+in_ok-push-in-Ok, else-not-is_passed}
 
@@ -14,7 +14,7 @@ returns-in-Err c =
     let read : is_passed (words_at ls i) ≡ false = ap is_passed (sym c.new-words.ensures) ∙ sym c.is_passed.ensures ∙ c.if-not-is_passed.true in
     let judged : judge c.loop-i.entries.items (words_at ls i) ≡ Err c.in-Err.fault = ap (λ es. judge es (words_at ls i)) (sym c.deref.ensures.value) ∙ ap (judge c.deref.result.now) (sym c.new-words.ensures) ∙ sym c.in-Err.ensures in
     let e = sym c.loop-i.invariant ∙ refuses c.loop-i.entries.items ls i c.in-Err.fault within read judged in
-    rw (c.at-in-Err.ensures, c.at.ensures) (fails_at c.in-Err.fault (number_at ls i) (entries_from [] ls) e)
+    rw (c.at-in-Err.ensures, c.at.ensures) (λ _. e)
 
 pub loop-i-preserved : goal.loop-i-preserved
 loop-i-preserved c =

@@ -1,14 +1,24 @@
 use Rattle.std.proofs.Common.{subst}
-use Rattle.net_file.specs.Reading.{Gives, netlist_of}
-use Rattle.net_file.proofs.Related.{found, is_given}
+use Rattle.vpr_text.specs.Readings.{Gives}
+use Rattle.net_file.specs.declared.fault.NetFault.TheVariants.{Memory}
+use Rattle.net_file.specs.Reads.{ReadsBytes}
+use Rattle.net_file.specs.Reading.{netlist_of}
+use Rattle.line_reader.proofs.Readings.{given_ok, given_only}
+use Rattle.net_file.proofs.Related.{is_read, is_given}
 use Rattle.net_file.proofs.reading.parse.Goals as goal
 
 pub returns-clause-found : goal.returns-clause-found
 returns-clause-found c =
-    found c.args.arch.now.pins c.args.source.now c.netlist_in.result
-    (subst (λ pins. Gives (λ m. m) c.netlist_in.result (netlist_of pins c.args.source.now)) c.pins.ensures.entry c.netlist_in.ensures)
+    let pins = c.args.arch.now.pins in
+    let bytes = c.args.source.now in
+    given_ok Memory (ReadsBytes pins bytes) c.netlist_in.result (netlist_of pins bytes)
+    (subst (λ ps. Gives Memory (λ m. m) c.netlist_in.result (netlist_of ps bytes)) c.pins.ensures.entry c.netlist_in.ensures)
+    (is_read pins bytes)
 
 pub returns-clause-only : goal.returns-clause-only
 returns-clause-only c = λ n reads.
-    subst (λ r. Gives (λ m. m) c.netlist_in.result r) (is_given c.args.arch.now.pins c.args.source.now n reads)
-    (subst (λ pins. Gives (λ m. m) c.netlist_in.result (netlist_of pins c.args.source.now)) c.pins.ensures.entry c.netlist_in.ensures)
+    let pins = c.args.arch.now.pins in
+    let bytes = c.args.source.now in
+    given_only Memory c.netlist_in.result (netlist_of pins bytes) n
+    (subst (λ ps. Gives Memory (λ m. m) c.netlist_in.result (netlist_of ps bytes)) c.pins.ensures.entry c.netlist_in.ensures)
+    (is_given pins bytes n reads)

@@ -11,6 +11,6 @@ completed-requires-clause-facts c =
     let pins = c.args.pins.now in
     let numbers = c.in_ok-numbers.numbers.items in
     let filed =
-    c.deref-3.ensures.value ∙ c.in_ok-rows.ensures ∙ ap (λ ns. by_net (connections pins ns c.deref-2.result.now) c.len.result) c.deref.ensures.value
-    ∙ ap (λ bs. by_net (connections pins numbers bs) c.len.result) c.deref-2.ensures.value ∙ ap (by_net (connections pins numbers _)) c.len.ensures in
-    facts_read pins c.args.lines.now c.in_ok-seen.seen c.in_ok-seen.ensures _ numbers c.deref-3.result.now c.requires.words c.in_ok-blocks.ensures c.in_ok-numbers.ensures filed
+    c.deref-5.ensures.value ∙ c.in_ok-rows.ensures ∙ ap (λ ns. by_net (connections pins ns c.deref-4.result.now) c.len.result) c.deref-3.ensures.value
+    ∙ ap (λ bs. by_net (connections pins numbers bs) c.len.result) c.deref-4.ensures.value ∙ ap (by_net (connections pins numbers _)) c.len.ensures in
+    facts_read pins c.args.lines.now c.in_ok-seen.seen c.in_ok-seen.ensures _ numbers c.deref-5.result.now c.requires.words c.in_ok-blocks.ensures c.in_ok-numbers.ensures filed

@@ -1,8 +1,7 @@
 use Rattle.std.proofs.Common.{◌<◌, ◌≤◌, length, Ok, true, false, sym, ap, ◌∙◌, arith}
-use Rattle.vpr_text.specs.Words.{number_at}
-use Rattle.net_file.specs.Reading.{unless_faulty}
+use Rattle.vpr_text.specs.Readings.{unless_faulty}
 use Rattle.net_file.specs.kept.LinesSeen.{seen_of}
-use Rattle.net_file.proofs.Steps.{judged, stepped, refused, ended, fails_at}
+use Rattle.net_file.proofs.Steps.{judged, stepped, refused, ended}
 use Rattle.net_file.proofs.reading.seen_in.Goals as goal
 
 pub returns-in-Some : goal.returns-in-Some
@@ -12,7 +11,7 @@ returns-in-Some c =
     let within : i < length ls = omega (arith, c.len-i-end.ensures, c.loop-i-test.true) in
     let is = sym c.in-Some.is ∙ judged c.args.pins ls i c.loop-i.seen c.judge.new.seen c.new-words.result c.in_ok-fault.fault c.new-words.ensures c.loop-i.invariant.0 c.in_ok-fault.ensures in
     let given = ap (λ f. unless_faulty f (Ok (seen_of ls))) (refused c.args.pins ls i c.in-Some.fault within is c.loop-i.invariant.1) in
-    rw (c.at-in-Some.ensures, c.at.ensures) (fails_at c.in-Some.fault (number_at ls i) _ given)
+    rw (c.at-in-Some.ensures, c.at.ensures) (λ _. given)
 
 pub loop-i-preserved : goal.loop-i-preserved
 loop-i-preserved c =
@@ -20,7 +19,7 @@ loop-i-preserved c =
     stepped c.args.pins c.args.lines.now c.loop-i.i c.loop-i.seen c.judge.new.seen c.new-words.result c.in_ok-fault.fault within c.new-words.ensures c.in_ok-fault.ensures c.in_default.is c.loop-i.invariant
 
 pub returns-then-is_some : goal.returns-then-is_some
-returns-then-is_some c =
+returns-then-is_some c = λ _.
     let ls = c.args.lines.now in
     let past : length ls ≤ c.loop-i.i = omega (arith, c.len-i-end.ensures, c.loop-i-test.false) in
     let end = ended c.args.pins ls c.loop-i.i c.loop-i.seen true past c.loop-i.invariant (sym c.is_some.ensures ∙ c.if-is_some.true) in

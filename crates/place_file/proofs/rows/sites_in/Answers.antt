@@ -1,8 +1,8 @@
 use Rattle.std.proofs.Common.{◌<◌, ◌≤◌, length, drop, Ok, sym, ap, ◌∙◌, refl, arith}
 use Rattle.std.proofs.lemmas.List.{length-drop}
-use Rattle.place_file.specs.Reading.{unless_faulty}
+use Rattle.vpr_text.specs.Readings.{unless_faulty}
 use Rattle.place_file.specs.Sites.{sites_in}
-use Rattle.place_file.proofs.Steps.{no_rows, count_sites, row_number, row_words, stepped, refused, ended, fails_is}
+use Rattle.place_file.proofs.Steps.{no_rows, count_sites, row_number, row_words, stepped, refused, ended}
 use Rattle.place_file.proofs.rows.sites_in.Goals as goal
 
 pub loop-row-init : goal.loop-row-init
@@ -17,10 +17,9 @@ returns-in-Some c =
     let within : c.loop-row.row < length (drop 2 lines) = omega (arith, length-drop 2 lines, c.len-row-end.ensures, c.loop-row-test.true) in
     let at = c.at.ensures ∙ row_number lines c.loop-row.row in
     let here = c.new-words.ensures ∙ row_words lines c.loop-row.row in
-    fails_is c.in-Some.fault _
-    (
+    λ _.
     ap (λ f. unless_faulty f (Ok (sites_in c.args.netlist.now.blocks (drop 2 lines))))
-    (refused c.args.array c.args.netlist.now.blocks (drop 2 lines) c.loop-row.row c.loop-row.sites.sites c.at.result c.new-words.result c.in-Some.fault within at here (sym c.in-Some.is ∙ c.judge.ensures.exact) c.loop-row.invariant.1))
+    (refused c.args.array c.args.netlist.now.blocks (drop 2 lines) c.loop-row.row c.loop-row.sites.sites c.at.result c.new-words.result c.in-Some.fault within at here (sym c.in-Some.is ∙ c.judge.ensures.exact) c.loop-row.invariant.1)
 
 pub loop-row-preserved : goal.loop-row-preserved
 loop-row-preserved c =

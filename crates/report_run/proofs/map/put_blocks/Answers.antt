@@ -1,7 +1,7 @@
 use Rattle.std.proofs.Common.{subst}
 use Rattle.vpr_text.specs.Output.{Sends, stream}
 use Rattle.vpr_text.proofs.Printing.{sends_then}
-use Rattle.runs.proofs.Lines.{lines_more}
+use Rattle.run_inputs.proofs.Lines.{lines_more}
 use Rattle.report_run.specs.Map.{block_cells_at}
 use Rattle.report_run.proofs.map.put_blocks.Goals as goal
 

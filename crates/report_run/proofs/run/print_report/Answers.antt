@@ -1,6 +1,6 @@
 use Rattle.std.proofs.Common.{sym, subst}
 use Rattle.vpr_text.specs.Output.{Buffer, Sends, stream}
-use Rattle.runs.proofs.Ending.{broken_text, printed}
+use Rattle.run_inputs.proofs.Ending.{broken_text, printed}
 use Rattle.report_run.specs.Report.{route_report_text}
 use Rattle.report_run.proofs.Filled.{report_filled}
 use Rattle.report_run.proofs.run.print_report.Goals as goal

@@ -1,6 +1,6 @@
 use Rattle.std.proofs.Common.{List, ap, subst, sym}
 use Rattle.vpr_text.specs.Words.{Line}
-use Rattle.runs.specs.Runs.{writing}
+use Rattle.run_inputs.specs.Runs.{writing}
 use Rattle.report_run.specs.ReportRun.{PrintsReport, lines_read}
 use Rattle.report_run.proofs.run.report_routing.Goals as goal
 

@@ -8,4 +8,4 @@ pub returns : goal.returns
 returns c =
     let f = c.args.device.now in
     let sinks = c.args.sinks.now in
-    c.has_foreign_end.ensures ∙ sym (some_end c.args.pairs.now c.args.ends.now c.requires.ends (λ b. is_sink f b && not (is_among sinks b)))
+    c.has_foreign_end.ensures ∙ sym (some_end c.args.listing.now c.ends.result.now c.ends.ensures (λ b. is_sink f b && not (is_among sinks b)))

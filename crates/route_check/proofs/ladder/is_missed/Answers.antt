@@ -8,5 +8,5 @@ use Rattle.route_check.proofs.ladder.is_missed.Goals as goal
 pub returns-in-Some : goal.returns-in-Some
 returns-in-Some c =
     let node = get_or c.args.sinks.now c.args.place 0 in
-    sym (not_from_true (is_among (ends_of c.args.pairs.now) node)
-    (some_is c.args.pairs.now node c.row_at.result c.in-Some.field-0 c.row_at.ensures c.in-Some.is))
+    sym (not_from_true (is_among (ends_of c.args.listing.now) node)
+    (some_is c.args.listing.now node c.row_at.result c.in-Some.field-0 c.row_at.ensures c.in-Some.is))

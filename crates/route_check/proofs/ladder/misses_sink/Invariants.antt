@@ -6,4 +6,4 @@ use Rattle.route_tree.specs.Legality.{is_among}
 use Rattle.route_check.proofs.ladder.misses_sink.Given as goal
 
 abbrev pub invariant-loop-place : goal.invariant-loop-place
-invariant-loop-place l = list_any (λ s. not (is_among (ends_of l.pairs) s)) (take l.place l.sinks) ≡ false
+invariant-loop-place l = list_any (λ s. not (is_among (ends_of l.listing) s)) (take l.place l.sinks) ≡ false

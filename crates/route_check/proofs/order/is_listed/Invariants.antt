@@ -5,4 +5,4 @@ use Rattle.route_check.proofs.order.is_listed.Given as goal
 
 abbrev pub invariant-loop-row : goal.invariant-loop-row
 invariant-loop-row l =
-    is_listed_after l.device l.source [] l.pairs ≡ is_listed_after l.device l.source (earlier_ends l.pairs l.row) (drop l.row l.pairs)
+    is_listed_after l.device l.net.source [] l.listing ≡ is_listed_after l.device l.net.source (earlier_ends l.listing l.row) (drop l.row l.listing)

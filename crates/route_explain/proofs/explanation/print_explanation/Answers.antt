@@ -1,6 +1,6 @@
 use Rattle.std.proofs.Common.{sym, subst}
 use Rattle.vpr_text.specs.Output.{Buffer, Sends, stream}
-use Rattle.runs.proofs.Ending.{broken_text, printed}
+use Rattle.run_inputs.proofs.Ending.{broken_text, printed}
 use Rattle.route_explain.specs.Explanation.{explanation_text}
 use Rattle.route_explain.proofs.Filled.{explanation_filled}
 use Rattle.route_explain.proofs.explanation.print_explanation.Goals as goal

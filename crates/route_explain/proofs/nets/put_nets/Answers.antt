@@ -1,7 +1,7 @@
 use Rattle.std.proofs.Common.{subst}
 use Rattle.vpr_text.specs.Output.{Sends, stream}
 use Rattle.vpr_text.proofs.Printing.{sends_then}
-use Rattle.runs.proofs.Lines.{lines_more}
+use Rattle.run_inputs.proofs.Lines.{lines_more}
 use Rattle.route_explain.specs.Explanation.{net_text_at}
 use Rattle.route_explain.proofs.nets.put_nets.Goals as goal
 

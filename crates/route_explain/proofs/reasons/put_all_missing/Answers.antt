@@ -11,6 +11,6 @@ loop-node-preserved g c =
     let sink = g.W.ByteSink in
     let s = stream (sink.taken c.args.sink.now) (sink.failed c.args.sink.now) c.args.out.now in
     let t = stream (sink.taken c.put_missing.new.sink) (sink.failed c.put_missing.new.sink) c.put_missing.new.out in
-    let text = missing_text c.args.device.now c.args.pairs.now in
-    let more = flat_map_more text [] (take c.loop-node.node-index c.args.sinks.now) _ ∙ ap (flat_map text) (sym (take_more c.args.sinks.now c.loop-node.node-index _ c.loop-node-test.true)) in
+    let text = missing_text c.args.device.now c.args.list.now.pairs in
+    let more = flat_map_more text [] (take c.loop-node.node-index c.sinks-sinks.result.now) _ ∙ ap (flat_map text) (sym (take_more c.sinks-sinks.result.now c.loop-node.node-index _ c.loop-node-test.true)) in
     subst (Sends s t) more (sends_then c.loop-node.invariant c.put_missing.ensures)

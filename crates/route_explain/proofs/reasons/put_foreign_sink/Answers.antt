@@ -5,5 +5,5 @@ use Rattle.route_explain.proofs.reasons.put_foreign_sink.Goals as goal
 pub returns : goal.returns
 unfolding foreign_sink_text
 returns g c =
-    let step = rw c.row_to_foreign_sink-row.ensures at c.put_end.ensures in
+    let step = rw (c.row_to_foreign_sink-row.ensures, c.pairs.ensures) at c.put_end.ensures in
     sends_then c.push.ensures step

@@ -5,5 +5,5 @@ use Rattle.route_explain.proofs.reasons.put_met_again.Goals as goal
 pub returns : goal.returns
 unfolding met_again_text
 returns g c =
-    let step = rw c.row_that_ends_again-row.ensures at c.put_end.ensures in
+    let step = rw (c.row_that_ends_again-row.ensures, c.pairs.ensures) at c.put_end.ensures in
     sends_then c.push.ensures step

@@ -1,8 +1,8 @@
 use Rattle.std.proofs.Common.{List, Err, ap, subst, sym, refl}
 use Rattle.vpr_text.specs.Words.{Line}
-use Rattle.runs.specs.declared.fault.AppFault.TheVariants.{Memory}
-use Rattle.runs.specs.Runs.{writing}
-use Rattle.runs.proofs.Ending.{Keeps-same}
+use Rattle.run_inputs.specs.declared.fault.AppFault.TheVariants.{Memory}
+use Rattle.run_inputs.specs.Runs.{writing}
+use Rattle.run_inputs.proofs.Ending.{Keeps-same}
 use Rattle.report_run.specs.ReportRun.{lines_read}
 use Rattle.route_explain.specs.ExplainRun.{Explains}
 use Rattle.route_explain.proofs.run.explain_to.Goals as goal

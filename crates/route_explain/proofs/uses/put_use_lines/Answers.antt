@@ -2,7 +2,7 @@ use Rattle.std.proofs.Common.{arith, refl, subst, sym, ◌∙◌}
 use Rattle.vpr_text.specs.Output.{Sends, stream}
 use Rattle.vpr_text.proofs.Printing.{sends_none, sends_then}
 use Rattle.route_file.specs.Sections.{latest}
-use Rattle.runs.proofs.Lines.{lines_more}
+use Rattle.run_inputs.proofs.Lines.{lines_more}
 use Rattle.route_explain.specs.Uses.{use_text_at}
 use Rattle.route_explain.proofs.Walking.{latest_next}
 use Rattle.route_explain.proofs.uses.put_use_lines.Goals as goal

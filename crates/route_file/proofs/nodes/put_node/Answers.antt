@@ -5,6 +5,6 @@ use Rattle.route_file.proofs.nodes.put_node.Goals as goal
 pub returns : goal.returns
 unfolding bytes_on
 returns g c =
-    let kind = rw c.kind_name.ensures at c.push.ensures in
+    let kind = rw c.kind_field.ensures at c.push.ensures in
     let label = rw c.label_name.ensures at c.push-4.ensures in
     sends_then (sends_then kind (sends_then c.push-2.ensures (sends_then c.put_span.ensures (sends_then c.push-3.ensures (sends_then label c.put_number.ensures))))) c.push-5.ensures

@@ -1,8 +1,8 @@
 use Rattle.std.proofs.Common.{◌<◌, ◌≤◌, length, drop, Ok, sym, ap, ◌∙◌, arith}
 use Rattle.std.proofs.lemmas.List.{length-drop}
-use Rattle.route_file.specs.Reading.{unless_faulty}
+use Rattle.vpr_text.specs.Readings.{unless_faulty}
 use Rattle.route_file.specs.kept.LinesSeen.{lists_by_net}
-use Rattle.route_file.proofs.Steps.{row_number, row_words, stepped, refused, ended, fails_is}
+use Rattle.route_file.proofs.Steps.{row_number, row_words, stepped, refused, ended}
 use Rattle.route_file.proofs.reading.lists_by_net.Goals as goal
 
 pub returns-in-Err : goal.returns-in-Err
@@ -14,7 +14,7 @@ returns-in-Err c =
     let at = c.line_number.ensures ∙ row_number lines c.loop-i.i in
     let here = c.new-words.ensures ∙ row_words lines c.loop-i.i in
     let fault = refused netlist f (drop 2 lines) c.loop-i.i c.line_number.result c.new-words.result c.loop-i.seen c.judge.result c.in-Err.fault within at here c.judge.ensures c.in-Err.is c.loop-i.invariant in
-    fails_is c.in-Err.fault _ (ap (λ x. unless_faulty x (Ok (lists_by_net netlist f (drop 2 lines)))) fault)
+    λ _. ap (λ x. unless_faulty x (Ok (lists_by_net netlist f (drop 2 lines)))) fault
 
 pub loop-i-preserved : goal.loop-i-preserved
 loop-i-preserved c =

@@ -1,10 +1,20 @@
-use Rattle.std.proofs.Common.{subst}
-use Rattle.route_file.specs.Reading.{Gives}
-use Rattle.route_file.proofs.Related.{found, is_given}
+use Rattle.route_file.specs.declared.fault.RouteFileFault.TheVariants.{Memory}
+use Rattle.route_file.specs.Reads.{ReadsBytes}
+use Rattle.route_file.specs.Reading.{routing_of}
+use Rattle.line_reader.proofs.Readings.{given_ok, given_only}
+use Rattle.route_file.proofs.Related.{is_read, is_given}
 use Rattle.route_file.proofs.reading.parse.Goals as goal
 
 pub returns-clause-found : goal.returns-clause-found
-returns-clause-found c = found c.args.netlist.now c.args.problem.now c.args.source.now c.routing_in.result c.routing_in.ensures
+returns-clause-found c =
+    let netlist = c.args.netlist.now in
+    let problem = c.args.problem.now in
+    let bytes = c.args.source.now in
+    given_ok Memory (ReadsBytes netlist problem bytes) c.routing_in.result (routing_of netlist problem bytes) c.routing_in.ensures (is_read netlist problem bytes)
 
 pub returns-clause-only : goal.returns-clause-only
-returns-clause-only c = λ r reads. subst (λ given. Gives (λ v. v) c.routing_in.result given) (is_given c.args.netlist.now c.args.problem.now c.args.source.now r reads) c.routing_in.ensures
+returns-clause-only c = λ r reads.
+    let netlist = c.args.netlist.now in
+    let problem = c.args.problem.now in
+    let bytes = c.args.source.now in
+    given_only Memory c.routing_in.result (routing_of netlist problem bytes) r c.routing_in.ensures (is_given netlist problem bytes r reads)

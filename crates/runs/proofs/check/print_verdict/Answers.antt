@@ -1,7 +1,8 @@
 use Rattle.std.proofs.Common.{sym, subst}
 use Rattle.vpr_text.specs.Output.{Buffer, Sends, stream}
 use Rattle.runs.specs.Verdict.{verdict_text}
-use Rattle.runs.proofs.Ending.{printed, broken_text, verdict_filled}
+use Rattle.run_inputs.proofs.Ending.{printed, broken_text}
+use Rattle.runs.proofs.Filled.{verdict_filled}
 use Rattle.runs.proofs.check.print_verdict.Goals as goal
 
 pub returns-in-Ok : goal.returns-in-Ok

@@ -1,7 +1,8 @@
 use Rattle.std.proofs.Common.{sym, subst}
 use Rattle.vpr_text.specs.Output.{Buffer, Sends, stream}
 use Rattle.runs.specs.Listing.{listing_of}
-use Rattle.runs.proofs.Ending.{printed, broken_text, listing_filled}
+use Rattle.run_inputs.proofs.Ending.{printed, broken_text}
+use Rattle.runs.proofs.Filled.{listing_filled}
 use Rattle.runs.proofs.graph.print_listing.Goals as goal
 
 pub returns-in-Ok-clause-printed : goal.returns-in-Ok-clause-printed

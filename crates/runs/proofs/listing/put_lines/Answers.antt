@@ -3,7 +3,8 @@ use Rattle.vpr_text.specs.Output.{Sends, stream}
 use Rattle.vpr_text.proofs.Printing.{sends_then}
 use Rattle.rr_graph.specs.Nodes.{node_count_of}
 use Rattle.runs.specs.Listing.{line_at}
-use Rattle.runs.proofs.Lines.{lines_more, sends_broken_lines}
+use Rattle.run_inputs.proofs.Lines.{lines_more}
+use Rattle.runs.proofs.Lines.{sends_broken_lines}
 use Rattle.runs.proofs.listing.put_lines.Goals as goal
 
 pub loop-id-preserved : goal.loop-id-preserved

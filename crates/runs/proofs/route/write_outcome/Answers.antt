@@ -1,7 +1,7 @@
 use Rattle.std.proofs.Common.{subst, sym}
 use Rattle.runs.specs.RouteRun.{WritesOutcome}
-use Rattle.runs.specs.Runs.{writing}
-use Rattle.runs.proofs.Ending.{Keeps-same}
+use Rattle.run_inputs.specs.Runs.{writing}
+use Rattle.run_inputs.proofs.Ending.{Keeps-same}
 use Rattle.runs.proofs.route.write_outcome.Goals as goal
 
 pub returns-in-NotRouted : goal.returns-in-NotRouted

@@ -1,7 +1,7 @@
 use Rattle.std.proofs.Common.{sym, subst}
 use Rattle.vpr_text.specs.Output.{Buffer, Sends, stream}
 use Rattle.runs.specs.WidthRun.{report_text}
-use Rattle.runs.proofs.Ending.{printed, broken_text}
+use Rattle.run_inputs.proofs.Ending.{printed, broken_text}
 use Rattle.runs.proofs.Widths.{report_filled}
 use Rattle.runs.proofs.width.print_report.Goals as goal
 

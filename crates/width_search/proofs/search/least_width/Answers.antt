@@ -13,8 +13,8 @@ loop-width-init g c =
 next : (g : _) (c : In-Some g) → next_width c.args.start c.loop-width.report.trials ≡ Some c.in-Some.width
 next g c = ap (next_width c.args.start) (sym c.trials.ensures) ∙ (sym c.next_width.ensures ∙ c.in-Some.is)
 
-pub try_width-requires-clause-tracks : goal.try_width-requires-clause-tracks
-try_width-requires-clause-tracks g c κs within =
+pub negotiate_at-requires-clause-tracks : goal.negotiate_at-requires-clause-tracks
+negotiate_at-requires-clause-tracks g c κs within =
     let comes_to = Negotiates (problem_at c.args.mode c.args.arch.now c.args.netlist.now c.args.placement.now) c.args.settings.now c.args.workers in
     width_within comes_to c.args.start c.requires.start c.loop-width.report c.in-Some.width c.loop-width.invariant
     (next g c)

@@ -1,17 +1,16 @@
 use Rattle.std.proofs.Common.{arith, refl, true}
 use Rattle.std.proofs.lemmas.Result.{on_ok_weaker}
 use Rattle.track_groups.specs.Groups.{group_at}
-use Rattle.group_wave.specs.kept.Boxes.{IsLow}
-use Rattle.group_wave.specs.kept.Grounds.{groups_of}
-use Rattle.group_wave.specs.kept.Queues.{Waiting, entry_of}
-use Rattle.group_wave.specs.kept.Wave.{wire_of}
-use Rattle.group_wave.proofs.Beside.{pins_then, still_live}
-use Rattle.group_wave.proofs.Entered.{spreads_then}
+use Rattle.wave_ground.specs.kept.Boxes.{IsLow, wire_of}
+use Rattle.wave_ground.specs.kept.Grounds.{groups_of}
+use Rattle.wave_queue.specs.kept.Queues.{Waiting, entry_of}
+use Rattle.group_wave.proofs.Beside.{pins_then}
+use Rattle.group_wave.proofs.Entered.{spreads_then, still_out}
 use Rattle.group_wave.proofs.Expanded.{first_goes_on, first_settled}
 use Rattle.group_wave.proofs.wave.Wave.begin_at.Goals as goal
 
-pub relax_all_nearer-requires-clause-entry : goal.relax_all_nearer-requires-clause-entry
-relax_all_nearer-requires-clause-entry g c = still_live c.args.ground.now (entry_of g.K.Key.value c.args.entry) c.args.self.now c.reach_if_beside.new.self c.in_ok-reach_if_beside.ensures.spreads c.requires.entry
+pub relax_all_nearer-requires : goal.relax_all_nearer-requires
+relax_all_nearer-requires g c = record { out = still_out c.args.ground.now c.args.self.now c.reach_if_beside.new.self (entry_of g.K.Key.value c.args.entry) g.K.Key.greatest c.args.group.now c.in_ok-reach_if_beside.ensures.spreads c.requires.out }
 
 pub returns : goal.returns
 returns g c =
@@ -24,14 +23,14 @@ returns g c =
     let after = c.wait.new.self in
     let second = c.in_ok-relax_all_nearer.ensures.spreads in
     let spreads = spreads_then ground was reached now c.in_ok-reach_if_beside.ensures.spreads second in
-    let low : IsLow now.boxes (wire_of (group_at (groups_of ground) e.group)) c.args.wires = rw spreads.lowers.boxes (rw c.requires.group at c.requires.low) in
+    let low : IsLow now.boxes (wire_of (group_at (groups_of ground) e.group)) c.args.wires = rw spreads.lowers.boxes (rw c.requires.out.group at c.requires.low) in
     let again : Waiting = record { key = value c.plus-2.result; label = e.label; group = e.group; tracks = e.tracks; begun = true } in
     let bound = c.bound_over.ensures in
     let near = c.plus.ensures in
     let wire = c.cut.ensures in
     let key = c.plus-2.ensures in
     on_ok_weaker c.wait.result (λ push.
-    first_goes_on ground was now e c.requires.but spreads after again push c.requires.entry.tracks c.requires.first refl
-    (first_settled ground c.requires.ground e (record { pin = 0; sink = 0; tracks = 0 }) now spreads.wave c.requires.entry.tracks c.args.wires low (pins_then ground e reached now c.args.wires second c.in_ok-reach_if_beside.ensures.took)
+    first_goes_on ground was now e c.requires.but spreads after again push c.requires.out.live.tracks c.requires.first refl
+    (first_settled ground c.requires.out.ground e (record { pin = 0; sink = 0; tracks = 0 }) now spreads.wave c.requires.out.live.tracks c.args.wires low (pins_then ground e reached now c.args.wires second c.in_ok-reach_if_beside.ensures.took)
     after again push refl refl refl (omega (arith, bound, near, wire, key)) (λ k lt. c.in_ok-relax_all_nearer.ensures.took k lt lt)))
     c.wait.ensures.pushed

@@ -1,4 +1,4 @@
-use Rattle.group_wave.specs.kept.Boxes.{boxed}
+use Rattle.wave_ground.specs.kept.Boxes.{boxed}
 use Rattle.group_wave.specs.kept.Starts.{IsAroundLeft}
 use Rattle.group_wave.proofs.wave.Wave.box_left.Given as goal
 

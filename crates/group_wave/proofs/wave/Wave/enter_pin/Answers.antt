@@ -4,7 +4,7 @@ use Rattle.wavefront.specs.Space.{entry_cost}
 use Rattle.group_wave.specs.kept.WaveState.{FAR}
 use Rattle.group_wave.specs.kept.Wave.{label_at}
 use Rattle.group_wave.proofs.Kept.{row_below}
-use Rattle.group_wave.proofs.PinsInside.{pin_inside}
+use Rattle.wave_ground.proofs.PinsInside.{pin_inside}
 use Rattle.group_wave.proofs.Entered.{entered_kept, tap_from}
 use Rattle.group_wave.proofs.wave.Wave.enter_pin.Goals as goal
 use Rattle.group_wave.proofs.wave.Wave.enter_pin.Given.{Over}

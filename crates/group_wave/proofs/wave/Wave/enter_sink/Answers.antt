@@ -4,7 +4,7 @@ use Rattle.std.proofs.lemmas.Result.{on_ok_weaker}
 use Rattle.wavefront.specs.Space.{entry_cost}
 use Rattle.group_wave.specs.kept.WaveState.{FAR}
 use Rattle.group_wave.specs.kept.Wave.{label_at}
-use Rattle.group_wave.proofs.PinsInside.{sink_inside}
+use Rattle.wave_ground.proofs.PinsInside.{sink_inside}
 use Rattle.group_wave.proofs.Entered.{entered_kept, sink_lowered}
 use Rattle.group_wave.proofs.Kept.{row_below}
 use Rattle.group_wave.proofs.wave.Wave.enter_sink.Goals as goal

@@ -3,8 +3,8 @@ use Rattle.std.proofs.lemmas.Nat.Bits.{bit_at-trailing_zeros}
 use Rattle.std.specs.Int.{trailing_zeros}
 use Rattle.track_groups.specs.Groups.{on_track}
 use Rattle.track_groups.proofs.OnTracks.{on_within}
-use Rattle.group_wave.specs.kept.Grounds.{groups_of}
-use Rattle.group_wave.specs.kept.Queues.{entry_of}
+use Rattle.wave_ground.specs.kept.Grounds.{groups_of}
+use Rattle.wave_queue.specs.kept.Queues.{entry_of}
 use Rattle.group_wave.proofs.GoneOn.{left_live, left_owed, none_owed, settles_refl}
 use Rattle.group_wave.proofs.wave.Wave.go_on.Goals as goal
 
@@ -21,10 +21,17 @@ returns-then-tracks-eq0-clause-settles g c = settles_refl c.args.ground.now c.ar
     (none_owed c.args.ground.now c.args.self.now (record { key = g.K.Key.value c.args.entry.key; label = g.K.Key.value c.args.entry.label; group = c.args.entry.group; tracks = c.tracks_left-tracks.result; begun = c.args.entry.is_begun }) c.if-tracks-eq0.true
     (left_owed c.args.ground.now c.args.self.now (entry_of g.K.Key.value c.args.entry) _ c.tracks_left-tracks.result c.tracks_left-tracks.ensures refl refl refl c.requires.but))
 
-pub go_on_from-requires-clause-entry : goal.go_on_from-requires-clause-entry
-go_on_from-requires-clause-entry g c =
+pub go_on_from-requires-clause-out : goal.go_on_from-requires-clause-out
+go_on_from-requires-clause-out g c =
     let one = bit_at-trailing_zeros w64 c.tracks_left-tracks.result (omega (arith, c.if-tracks-eq0.false)) (search rules) in
-    left_live c.args.ground.now c.args.self.now (entry_of g.K.Key.value c.args.entry) _ c.tracks_left-tracks.result c.tracks_left-tracks.ensures c.requires.tracks refl refl refl (trailing_zeros w64 c.tracks_left-tracks.result) one.1
+    record {
+      ground = c.requires.ground;
+      wave = c.requires.wave;
+      group = c.group-group.ensures.group;
+      small = c.group-group.ensures.small;
+      live = left_live c.args.ground.now c.args.self.now (entry_of g.K.Key.value c.args.entry) _ c.tracks_left-tracks.result c.tracks_left-tracks.ensures c.requires.tracks refl refl refl (trailing_zeros w64 c.tracks_left-tracks.result) one.1;
+      fits = c.requires.fits;
+    }
 
 pub go_on_from-requires-clause-but : goal.go_on_from-requires-clause-but
 go_on_from-requires-clause-but g c = left_owed c.args.ground.now c.args.self.now (entry_of g.K.Key.value c.args.entry) _ c.tracks_left-tracks.result c.tracks_left-tracks.ensures refl refl refl c.requires.but

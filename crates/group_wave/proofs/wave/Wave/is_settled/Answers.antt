@@ -1,9 +1,9 @@
-use Rattle.std.proofs.Common.{◌≡◌, ◌+◌, ◌*◌, ◌<◌, arith, length, slice_index_or, ap, sym, ◌∙◌}
+use Rattle.std.proofs.Common.{◌≡◌, ◌+◌, ◌*◌, ◌<◌, arith, length, slice_index_or, refl, ap, sym, ◌∙◌}
 use Rattle.track_groups.specs.declared.group.Group.{Group}
-use Rattle.track_groups.specs.Groups.{on_track}
+use Rattle.track_groups.specs.Groups.{group_at, on_track}
 use Rattle.track_groups.specs.Joints.{wire_beside}
-use Rattle.group_wave.specs.kept.Grounds.{groups_of}
-use Rattle.group_wave.specs.kept.Queues.{entry_of}
+use Rattle.wave_ground.specs.kept.Grounds.{groups_of}
+use Rattle.wave_queue.specs.kept.Queues.{entry_of}
 use Rattle.group_wave.specs.kept.WaveState.{FAR, Wave}
 use Rattle.group_wave.specs.kept.Wave.{cost_at, unreached}
 use Rattle.group_wave.proofs.Beside.{beside_on, beside_step, beside_within}
@@ -41,5 +41,5 @@ returns g c settled j one inside =
     let same = cost_below value greatest c.row-row.result _ is (omega (arith, less, least)) in
     let there = ap (cost_at was) at in
     let near : value c.args.entry.label < FAR = omega (arith, c.requires.fits, g.met.K.Key.narrow) in
-    let step = beside_step ground (entry_of value c.args.entry) c.requires.ground c.args.neighbour c.requires.beside c.requires.entry.tracks was c.args.group.now c.requires.group c.requires.entry near j one inside in
+    let step = beside_step ground (entry_of value c.args.entry) c.requires.ground c.args.neighbour c.requires.beside c.requires.entry.tracks was (group_at (groups_of ground) c.args.entry.group) refl c.requires.entry near j one inside in
     (relaxed_low ground c.requires.ground was c.requires.wave (value c.args.entry.label) wire _ step (value c.plus.result) (omega (arith, same, there, less)) (omega (arith, least, cut))).went

@@ -3,7 +3,7 @@ use Rattle.std.proofs.lemmas.Result.{on_ok_weaker}
 use Rattle.track_groups.proofs.OnTracks.{on_within}
 use Rattle.track_groups.specs.Groups.{on_track}
 use Rattle.wavefront.specs.Ways.{IsWay}
-use Rattle.group_wave.specs.kept.Grounds.{groups_of}
+use Rattle.wave_ground.specs.kept.Grounds.{groups_of}
 use Rattle.group_wave.proofs.Grouped.{group_bound}
 use Rattle.group_wave.proofs.Relaxed.{track_after}
 use Rattle.group_wave.proofs.wave.Wave.lower_alone.Goals as goal

@@ -1,6 +1,6 @@
 use Rattle.std.proofs.Common.{ap, arith, false, refl, sym}
 use Rattle.std.proofs.lemmas.Result.{on_ok_weaker}
-use Rattle.group_wave.specs.kept.Queues.{Waiting}
+use Rattle.wave_queue.specs.kept.Queues.{Waiting}
 use Rattle.group_wave.proofs.Costs.{cost_within}
 use Rattle.group_wave.proofs.Lower.{keeps, label_here, still_bound}
 use Rattle.group_wave.proofs.Offered.{one_track}

@@ -1,8 +1,8 @@
 use Rattle.std.proofs.Common.{◌≡◌, ap, arith, get_or, length, refl, sym, ◌∙◌}
 use Rattle.std.proofs.lemmas.List.{get_or_default, length-set}
 use Rattle.std.proofs.lemmas.List.Sorted.{length_permutation}
-use Rattle.group_wave.specs.kept.Boxes.{boxed}
-use Rattle.group_wave.specs.kept.Nearest.{sink_box}
+use Rattle.wave_ground.specs.kept.Boxes.{boxed}
+use Rattle.wave_ground.specs.kept.Nearest.{sink_box}
 use Rattle.group_wave.specs.kept.WaveState.{Wave}
 use Rattle.group_wave.proofs.Aimed.{narrowed_one, narrowed_put, shared_around, shared_second}
 use Rattle.group_wave.proofs.wave.Wave.narrow_box.Goals as goal

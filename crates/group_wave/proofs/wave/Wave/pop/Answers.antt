@@ -1,5 +1,5 @@
 use Rattle.std.proofs.lemmas.Option.{IfSome_then}
-use Rattle.group_wave.specs.kept.Queues.{entry_of}
+use Rattle.wave_queue.specs.kept.Queues.{entry_of}
 use Rattle.group_wave.proofs.Fitting.{left_fit, popped_fits}
 use Rattle.group_wave.proofs.wave.Wave.pop.Goals as goal
 

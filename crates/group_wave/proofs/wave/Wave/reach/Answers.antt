@@ -11,11 +11,11 @@ pub reach_from-requires-clause-edge : goal.reach_from-requires-clause-edge
 reach_from-requires-clause-edge g c =
     let one = first_one c.args.entry.tracks c.args.tap.tracks c.lowest_bit.result c.lowest_bit.ensures.one in
     let two = second_one c.args.entry.tracks c.args.tap.tracks c.lowest_bit.result c.lowest_bit.ensures.one in
-    let wire = c.node_on-wire.ensures ∙ on_wire c.args.ground.now c.args.group.now c.args.entry.group c.lowest_bit.result c.requires.group in
-    subst (λ v. HasEdge c.args.ground.now.space v c.args.tap.pin) (sym wire) (c.requires.tap.edges c.lowest_bit.result (c.requires.entry.tracks c.lowest_bit.result one) two)
+    let wire = c.node_on-wire.ensures ∙ on_wire c.args.ground.now c.args.group.now c.args.entry.group c.lowest_bit.result c.requires.out.group in
+    subst (λ v. HasEdge c.args.ground.now.space v c.args.tap.pin) (sym wire) (c.requires.tap.edges c.lowest_bit.result (c.requires.out.live.tracks c.lowest_bit.result one) two)
 
 pub reach_from-requires-clause-from : goal.reach_from-requires-clause-from
 reach_from-requires-clause-from g c =
     let one = first_one c.args.entry.tracks c.args.tap.tracks c.lowest_bit.result c.lowest_bit.ensures.one in
-    let wire = c.node_on-wire.ensures ∙ on_wire c.args.ground.now c.args.group.now c.args.entry.group c.lowest_bit.result c.requires.group in
-    subst (λ v. cost_at c.args.self.now v ≤ g.K.Key.value c.args.entry.label) (sym wire) (c.requires.entry.labels c.lowest_bit.result one)
+    let wire = c.node_on-wire.ensures ∙ on_wire c.args.ground.now c.args.group.now c.args.entry.group c.lowest_bit.result c.requires.out.group in
+    subst (λ v. cost_at c.args.self.now v ≤ g.K.Key.value c.args.entry.label) (sym wire) (c.requires.out.live.labels c.lowest_bit.result one)

@@ -1,13 +1,13 @@
 use Rattle.std.proofs.Common.{length, slice_index_or, subst, sym, ap, arith}
 use Rattle.track_groups.specs.declared.group.Tap.{Tap}
 use Rattle.track_groups.specs.Joints.{taps_of}
-use Rattle.group_wave.specs.kept.Queues.{entry_of}
+use Rattle.wave_queue.specs.kept.Queues.{entry_of}
 use Rattle.group_wave.specs.kept.Steps.{IsTapOf, TookTap}
 use Rattle.group_wave.proofs.Entered.{live_down, spreads_then}
 use Rattle.group_wave.proofs.Tapped.{tap_told, took_all, took_more}
 use Rattle.track_groups.specs.Groups.{on_track}
 use Rattle.track_groups.proofs.OnTracks.{on_within}
-use Rattle.group_wave.specs.kept.Grounds.{groups_of}
+use Rattle.wave_ground.specs.kept.Grounds.{groups_of}
 use Rattle.group_wave.proofs.wave.Wave.reach_all.Goals as goal
 
 pub group-group-requires : goal.group-group-requires
@@ -15,8 +15,15 @@ group-group-requires g c =
     let live = c.requires.entry in
     on_within (groups_of c.args.ground.now) (on_track c.args.entry.group live.some.0) (live.tracks live.some.0 live.some.1)
 
-pub reach-requires-clause-entry : goal.reach-requires-clause-entry
-reach-requires-clause-entry g c = live_down c.args.ground.now c.args.self.now c.loop-tap.self (entry_of g.K.Key.value c.args.entry) c.loop-tap.invariant.spreads c.requires.entry
+pub reach-requires-clause-out : goal.reach-requires-clause-out
+reach-requires-clause-out g c = record {
+  ground = c.requires.ground;
+  wave = c.loop-tap.invariant.spreads.wave;
+  group = c.group-group.ensures.group;
+  small = c.group-group.ensures.small;
+  live = live_down c.args.ground.now c.args.self.now c.loop-tap.self (entry_of g.K.Key.value c.args.entry) c.loop-tap.invariant.spreads c.requires.entry;
+  fits = c.requires.fits;
+}
 
 abbrev none : Tap
 none = record { pin = 0; sink = 0; tracks = 0 }

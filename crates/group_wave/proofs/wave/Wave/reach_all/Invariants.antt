@@ -1,5 +1,5 @@
 use Rattle.track_groups.specs.Joints.{taps_of}
-use Rattle.group_wave.specs.kept.Queues.{entry_of}
+use Rattle.wave_queue.specs.kept.Queues.{entry_of}
 use Rattle.group_wave.specs.kept.Steps.{Spreads, TookTaps}
 use Rattle.group_wave.proofs.wave.Wave.reach_all.Given as goal
 

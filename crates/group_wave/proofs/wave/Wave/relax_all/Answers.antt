@@ -1,12 +1,12 @@
 use Rattle.std.proofs.Common.{arith, length, refl, ap, subst}
-use Rattle.group_wave.specs.kept.Queues.{entry_of}
+use Rattle.wave_queue.specs.kept.Queues.{entry_of}
 use Rattle.group_wave.specs.kept.Steps.{TookBefore}
-use Rattle.group_wave.proofs.Beside.{took_next, still_live}
-use Rattle.group_wave.proofs.Entered.{spreads_then}
+use Rattle.group_wave.proofs.Beside.{took_next}
+use Rattle.group_wave.proofs.Entered.{spreads_then, still_out}
 use Rattle.group_wave.proofs.wave.Wave.relax_all.Goals as goal
 
-pub relax_beside-requires-clause-entry : goal.relax_beside-requires-clause-entry
-relax_beside-requires-clause-entry g c = still_live c.args.ground.now (entry_of g.K.Key.value c.args.entry) c.args.self.now c.loop-neighbour.self c.loop-neighbour.invariant.spreads c.requires.entry
+pub relax_beside-requires-clause-out : goal.relax_beside-requires-clause-out
+relax_beside-requires-clause-out g c = still_out c.args.ground.now c.args.self.now c.loop-neighbour.self (entry_of g.K.Key.value c.args.entry) g.K.Key.greatest c.args.group.now c.loop-neighbour.invariant.spreads c.requires.out
 
 pub loop-neighbour-preserved : goal.loop-neighbour-preserved
 loop-neighbour-preserved g c = record {

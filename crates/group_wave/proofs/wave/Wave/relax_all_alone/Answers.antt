@@ -1,6 +1,6 @@
 use Rattle.std.proofs.Common.{length, subst}
 use Rattle.std.specs.Prelude.{OnOk}
-use Rattle.group_wave.specs.kept.Queues.{entry_of}
+use Rattle.wave_queue.specs.kept.Queues.{entry_of}
 use Rattle.group_wave.specs.kept.Steps.{TookBefore}
 use Rattle.group_wave.proofs.wave.Wave.relax_all_alone.Goals as goal
 
@@ -8,3 +8,8 @@ pub returns-clause-took : goal.returns-clause-took
 returns-clause-took g c =
     subst (λ hs. OnOk c.relax_unsettled.result (TookBefore c.args.ground.now c.relax_unsettled.new.self (entry_of g.K.Key.value c.args.entry) hs (length hs)))
     c.neighbours-neighbours.ensures c.relax_unsettled.ensures.took
+
+pub returns-then-neighbours-gt64-clause-took : goal.returns-then-neighbours-gt64-clause-took
+returns-then-neighbours-gt64-clause-took g c =
+    subst (λ hs. OnOk c.relax_many.result (TookBefore c.args.ground.now c.relax_many.new.self (entry_of g.K.Key.value c.args.entry) hs (length hs)))
+    c.neighbours-neighbours.ensures c.relax_many.ensures.took

@@ -3,8 +3,8 @@ use Rattle.std.proofs.lemmas.Result.{on_ok_weaker}
 use Rattle.track_groups.specs.declared.group.Group.{Group}
 use Rattle.track_groups.specs.Groups.{on_track}
 use Rattle.track_groups.specs.Joints.{wire_beside}
-use Rattle.group_wave.specs.kept.Grounds.{groups_of}
-use Rattle.group_wave.specs.kept.Queues.{entry_of}
+use Rattle.wave_ground.specs.kept.Grounds.{groups_of}
+use Rattle.wave_queue.specs.kept.Queues.{entry_of}
 use Rattle.group_wave.specs.kept.WaveState.{FAR, Wave}
 use Rattle.group_wave.specs.kept.Wave.{WentOn, cost_at, unreached}
 use Rattle.group_wave.proofs.Beside.{beside_on, beside_step, beside_within, none_inside}
@@ -14,15 +14,15 @@ use Rattle.group_wave.proofs.Relaxed.{relaxed_low, track_spreads}
 use Rattle.group_wave.proofs.wave.Wave.relax_one.Goals as goal
 
 pub group-beside-requires : goal.group-beside-requires
-group-beside-requires g c = beside_within c.args.ground.now (entry_of g.K.Key.value c.args.entry) c.requires.ground c.args.neighbour c.requires.beside c.requires.entry.tracks c.args.self.now c.requires.entry
+group-beside-requires g c = beside_within c.args.ground.now (entry_of g.K.Key.value c.args.entry) c.requires.out.ground c.args.neighbour c.requires.beside c.requires.out.live.tracks c.args.self.now c.requires.out.live
 
 pub row-row-requires : goal.row-row-requires
 row-row-requires g c =
     let ground = c.args.ground.now in
-    let on = beside_on ground (entry_of g.K.Key.value c.args.entry) c.requires.ground c.args.neighbour c.requires.beside c.requires.entry.tracks c.args.track c.requires.track.has in
+    let on = beside_on ground (entry_of g.K.Key.value c.args.entry) c.requires.out.ground c.args.neighbour c.requires.beside c.requires.out.live.tracks c.args.track c.requires.track.has in
     let at = ap (λ (x : Group). x.base + c.args.track * x.stride) c.group-beside.ensures.group in
-    let within = wire_within ground c.requires.ground (on_track c.args.neighbour c.args.track) on in
-    let rows = c.requires.wave.rows in
+    let within = wire_within ground c.requires.out.ground (on_track c.args.neighbour c.args.track) on in
+    let rows = c.requires.out.wave.rows in
     let same = ap (λ (w : Wave). length w.labels) c.self.view_is in
     omega (arith, at, within, rows, same)
 
@@ -41,13 +41,13 @@ returns-then-is_below-clause-took g c j one inside =
     let is = c.row-row.ensures.label ∙ ap (λ w. slice_index_or w.labels (c.group-beside.result.base + c.args.track * c.group-beside.result.stride) unreached) c.self.view_is in
     let same = cost_below value greatest c.row-row.result _ is (omega (arith, less, least)) in
     let there = ap (cost_at was) at in
-    let near : value c.args.entry.label < FAR = omega (arith, c.requires.fits, g.met.K.Key.narrow) in
-    let step = beside_step ground (entry_of value c.args.entry) c.requires.ground c.args.neighbour c.requires.beside c.requires.entry.tracks was c.args.group.now c.requires.group c.requires.entry near j one inside in
-    (relaxed_low ground c.requires.ground was c.requires.wave (value c.args.entry.label) wire _ step (value c.plus.result) (omega (arith, same, there, less)) (omega (arith, least, cut))).went
+    let near : value c.args.entry.label < FAR = omega (arith, c.requires.out.fits, g.met.K.Key.narrow) in
+    let step = beside_step ground (entry_of value c.args.entry) c.requires.out.ground c.args.neighbour c.requires.beside c.requires.out.live.tracks was c.args.group.now c.requires.out.group c.requires.out.live near j one inside in
+    (relaxed_low ground c.requires.out.ground was c.requires.out.wave (value c.args.entry.label) wire _ step (value c.plus.result) (omega (arith, same, there, less)) (omega (arith, least, cut))).went
 
 pub returns-then-not-is_span_inside-clause-took : goal.returns-then-not-is_span_inside-clause-took
 returns-then-not-is_span_inside-clause-took g c =
-    none_inside c.args.ground.now (entry_of g.K.Key.value c.args.entry) c.requires.ground c.args.neighbour c.requires.beside c.requires.entry.tracks c.args.self.now
+    none_inside c.args.ground.now (entry_of g.K.Key.value c.args.entry) c.requires.out.ground c.args.neighbour c.requires.beside c.requires.out.live.tracks c.args.self.now
     (rw c.group-beside.ensures.group at (sym c.is_span_inside.ensures ∙ c.if-not-is_span_inside.true))
 
 pub relax_alone-requires-clause-from : goal.relax_alone-requires-clause-from
@@ -55,16 +55,16 @@ relax_alone-requires-clause-from g c =
     let value = g.K.Key.value in
     let ground = c.args.ground.now in
     let e = entry_of value c.args.entry in
-    let on = beside_on ground e c.requires.ground c.args.neighbour c.requires.beside c.requires.entry.tracks c.args.track c.requires.track.has in
+    let on = beside_on ground e c.requires.out.ground c.args.neighbour c.requires.beside c.requires.out.live.tracks c.args.track c.requires.track.has in
     let at = ap (λ (x : Group). x.base + c.args.track * x.stride) c.group-beside.ensures.group in
     let touched = rw c.group-beside.ensures.group at (sym c.is_span_inside.ensures ∙ c.if-not-is_span_inside.false) in
-    let inside = group_inside ground c.requires.ground (on_track c.args.neighbour c.args.track) on ∙ touched in
-    let near : value c.args.entry.label < FAR = omega (arith, c.requires.fits, g.met.K.Key.narrow) in
-    rw at (beside_step ground e c.requires.ground c.args.neighbour c.requires.beside c.requires.entry.tracks c.args.self.now c.args.group.now c.requires.group c.requires.entry near c.args.track c.requires.track.has inside)
+    let inside = group_inside ground c.requires.out.ground (on_track c.args.neighbour c.args.track) on ∙ touched in
+    let near : value c.args.entry.label < FAR = omega (arith, c.requires.out.fits, g.met.K.Key.narrow) in
+    rw at (beside_step ground e c.requires.out.ground c.args.neighbour c.requires.beside c.requires.out.live.tracks c.args.self.now c.args.group.now c.requires.out.group c.requires.out.live near c.args.track c.requires.track.has inside)
 
 pub relax_alone-requires-clause-to : goal.relax_alone-requires-clause-to
 relax_alone-requires-clause-to g c = record {
-  on = beside_on c.args.ground.now (entry_of g.K.Key.value c.args.entry) c.requires.ground c.args.neighbour c.requires.beside c.requires.entry.tracks c.args.track c.requires.track.has;
+  on = beside_on c.args.ground.now (entry_of g.K.Key.value c.args.entry) c.requires.out.ground c.args.neighbour c.requires.beside c.requires.out.live.tracks c.args.track c.requires.track.has;
   is = sym (ap (λ (x : Group). x.base + c.args.track * x.stride) c.group-beside.ensures.group);
 }
 

@@ -1,13 +1,13 @@
 use Rattle.std.proofs.Common.{Contains, get_or, length, refl, subst}
 use Rattle.std.proofs.lemmas.List.Elements.{Contains-get_or}
 use Rattle.group_wave.specs.kept.Steps.{TookBut}
-use Rattle.group_wave.specs.kept.Queues.{entry_of}
-use Rattle.group_wave.proofs.Beside.{but_less, but_none, still_live}
-use Rattle.group_wave.proofs.Entered.{spreads_then}
+use Rattle.wave_queue.specs.kept.Queues.{entry_of}
+use Rattle.group_wave.proofs.Beside.{but_less, but_none}
+use Rattle.group_wave.proofs.Entered.{spreads_then, still_out}
 use Rattle.group_wave.proofs.wave.Wave.relax_unsettled.Goals as goal
 
-pub relax_one-requires-clause-entry : goal.relax_one-requires-clause-entry
-relax_one-requires-clause-entry g c = still_live c.args.ground.now (entry_of g.K.Key.value c.args.entry) c.args.self.now c.loop-left.self c.loop-left.invariant.spreads c.requires.entry
+pub relax_one-requires-clause-out : goal.relax_one-requires-clause-out
+relax_one-requires-clause-out g c = still_out c.args.ground.now c.args.self.now c.loop-left.self (entry_of g.K.Key.value c.args.entry) g.K.Key.greatest c.args.group.now c.loop-left.invariant.spreads c.requires.out
 
 pub relax_one-requires-clause-beside : goal.relax_one-requires-clause-beside
 relax_one-requires-clause-beside g c =

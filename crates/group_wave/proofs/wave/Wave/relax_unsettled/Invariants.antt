@@ -1,5 +1,5 @@
 use Rattle.std.proofs.Common.{length}
-use Rattle.group_wave.specs.kept.Queues.{entry_of}
+use Rattle.wave_queue.specs.kept.Queues.{entry_of}
 use Rattle.group_wave.specs.kept.Steps.{Spreads, TookBut}
 use Rattle.group_wave.proofs.wave.Wave.relax_unsettled.Given as goal
 

@@ -1,5 +1,5 @@
 use Rattle.std.proofs.Common.{arith}
-use Rattle.group_wave.specs.kept.Queues.{entry_of}
+use Rattle.wave_queue.specs.kept.Queues.{entry_of}
 use Rattle.group_wave.proofs.GoneOn.{popped_then}
 use Rattle.group_wave.proofs.Popped.{popped_but, popped_tracks, popped_wave, popped_work}
 use Rattle.group_wave.proofs.wave.Wave.spread.Goals as goal

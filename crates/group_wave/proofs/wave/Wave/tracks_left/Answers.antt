@@ -2,7 +2,7 @@ use Rattle.std.proofs.Common.{◌+◌, ◌*◌, inl, inr, sym, ap, ◌∙◌, ar
 use Rattle.std.proofs.lemmas.Bool.{cases_Bool, false≢true}
 use Rattle.track_groups.specs.declared.group.Group.{Group}
 use Rattle.track_groups.specs.Groups.{on_track}
-use Rattle.group_wave.specs.kept.Queues.{entry_of}
+use Rattle.wave_queue.specs.kept.Queues.{entry_of}
 use Rattle.group_wave.specs.kept.Wave.{cost_at}
 use Rattle.group_wave.proofs.Grouped.{wire_within}
 use Rattle.group_wave.proofs.Left.{left_less, left_more}

@@ -1,4 +1,4 @@
-use Rattle.group_wave.specs.kept.Queues.{entry_of}
+use Rattle.wave_queue.specs.kept.Queues.{entry_of}
 use Rattle.group_wave.proofs.Left.{AreLeft}
 use Rattle.group_wave.proofs.wave.Wave.tracks_left.Given as goal
 

@@ -1,7 +1,7 @@
 use Rattle.std.proofs.Common.{Contains, get_or, inl, inr, not, refl, ap, subst}
 use Rattle.std.proofs.lemmas.Bool.{cases_Bool}
 use Rattle.std.proofs.lemmas.List.Elements.{Contains-get_or}
-use Rattle.group_wave.specs.kept.Queues.{entry_of}
+use Rattle.wave_queue.specs.kept.Queues.{entry_of}
 use Rattle.group_wave.proofs.Beside.{but_noted, but_settled}
 use Rattle.group_wave.proofs.wave.Wave.unsettled.Goals as goal
 

@@ -1,4 +1,4 @@
-use Rattle.group_wave.specs.kept.Queues.{entry_of}
+use Rattle.wave_queue.specs.kept.Queues.{entry_of}
 use Rattle.group_wave.specs.kept.Steps.{TookBut}
 use Rattle.group_wave.proofs.wave.Wave.unsettled.Given as goal
 

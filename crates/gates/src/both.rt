@@ -1,0 +1,66 @@
+//! Two onlookers.
+
+use crate::gate::Gate;
+use crate::trial::TrialEnd;
+use congestion_book::Book;
+use route_tree::Routing;
+use routing_problem::Problem;
+
+/// Two gates as one: each call comes to the first, and then to the second.
+#[derive(Clone, Copy, Debug)]
+pub struct BothGates<'a, A, B> {
+    pub first: &'a A,
+    pub second: &'a B,
+}
+
+impl<A: Gate, B: Gate> Gate for BothGates<'_, A, B> {
+    fn begins(&self, problem: &Problem) {
+        self.first.begins(problem);
+        self.second.begins(problem);
+    }
+
+    fn opened(&self, iteration: u32, nets: u32) {
+        self.first.opened(iteration, nets);
+        self.second.opened(iteration, nets);
+    }
+
+    fn between(&self, worker: u32, net: u32) {
+        self.first.between(worker, net);
+        self.second.between(worker, net);
+    }
+
+    fn stuck(&self, net: u32, sink: u32) {
+        self.first.stuck(net, sink);
+        self.second.stuck(net, sink);
+    }
+
+    fn searched(&self, worker: u32, net: u32) {
+        self.first.searched(worker, net);
+        self.second.searched(worker, net);
+    }
+
+    fn closed(&self, iteration: u32, book: &Book) {
+        self.first.closed(iteration, book);
+        self.second.closed(iteration, book);
+    }
+
+    fn found(&self, problem: &Problem, routing: &Routing) {
+        self.first.found(problem, routing);
+        self.second.found(problem, routing);
+    }
+
+    fn left(&self, book: &Book) {
+        self.first.left(book);
+        self.second.left(book);
+    }
+
+    fn tries(&self, width: u32) {
+        self.first.tries(width);
+        self.second.tries(width);
+    }
+
+    fn tried(&self, width: u32, end: TrialEnd) {
+        self.first.tried(width, end);
+        self.second.tried(width, end);
+    }
+}

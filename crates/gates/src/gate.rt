@@ -1,0 +1,51 @@
+//! What workers, the driver of a negotiation and a search of widths tell an onlooker.
+
+use crate::trial::TrialEnd;
+use congestion_book::Book;
+use route_tree::Routing;
+use routing_problem::Problem;
+
+/// What is called between the steps of an iteration, with no lock held.
+pub trait Gate {
+    /// Before the first iteration of a negotiation of this problem.
+    fn begins(&self, _problem: &Problem) {}
+
+    /// Before the first draw of an iteration, in which each of so many nets has its turn.
+    fn opened(&self, _iteration: u32, _nets: u32) {}
+
+    /// After the draw of a net, before it is searched for.
+    fn between(&self, worker: u32, net: u32);
+
+    /// After a search that found no way from a net's source to this sink, the first of those that
+    /// are not reached.
+    fn stuck(&self, _net: u32, _sink: u32) {}
+
+    /// After the first search for a net, before the worker comes to make its turn.
+    fn searched(&self, worker: u32, net: u32);
+
+    /// After an iteration was closed, with the book that it left: what is asked of it is looked up
+    /// then, and nothing where nothing is asked.
+    fn closed(&self, _iteration: u32, _book: &Book) {}
+
+    /// After a negotiation that found this routing of the problem.
+    fn found(&self, _problem: &Problem, _routing: &Routing) {}
+
+    /// After a negotiation that found none, with the book that its last iteration left.
+    fn left(&self, _book: &Book) {}
+
+    /// Before the trial of a width, which is a negotiation of its own.
+    fn tries(&self, _width: u32) {}
+
+    /// After it.
+    fn tried(&self, _width: u32, _end: TrialEnd) {}
+}
+
+/// A gate that returns at once.
+#[derive(Clone, Copy, Debug)]
+pub struct OpenGate;
+
+impl Gate for OpenGate {
+    fn between(&self, _worker: u32, _net: u32) {}
+
+    fn searched(&self, _worker: u32, _net: u32) {}
+}

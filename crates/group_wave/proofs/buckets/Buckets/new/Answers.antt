@@ -1,7 +1,0 @@
-use Rattle.std.proofs.Common.{[], sym, subst}
-use Rattle.group_wave.specs.kept.Marks.{AreUsed}
-use Rattle.group_wave.proofs.Marked.{used_none}
-use Rattle.group_wave.proofs.buckets.Buckets.new.Goals as goal
-
-pub invariant_of-result : goal.invariant_of-result
-invariant_of-result g c = rw c.new.ensures.items (subst (AreUsed []) (sym (c.in_ok-used.ensures.items_if_clones_equal (λ y e. e))) used_none)

@@ -1,7 +1,0 @@
-use Rattle.std.proofs.Common.{ℕ, ◌<◌, ◌≤◌, ◌/◌}
-use Rattle.wavefront.specs.kept.Bounds.{wires_for}
-use Rattle.group_wave.specs.kept.EightBoxes.{gap_at, gap_beside}
-use Rattle.group_wave.proofs.eight_boxes.fewest_short.Given as goal
-
-abbrev pub invariant-loop-lane : goal.invariant-loop-lane
-invariant-loop-lane l = (k : ℕ) → k < l.lane → l.fewest / 64 ≤ wires_for 0 (gap_at l.along k) (gap_beside l.across k)

@@ -1,5 +1,0 @@
-use Rattle.group_wave.proofs.Marked.{unmarked}
-use Rattle.group_wave.proofs.marks.unmark.Goals as goal
-
-pub returns : goal.returns
-returns c = unmarked c.args.words.now c.args.place c.without_bit.result c.requires c.without_bit.ensures

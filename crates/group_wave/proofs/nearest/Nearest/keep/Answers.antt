@@ -1,6 +1,0 @@
-use Rattle.std.proofs.Common.{refl, ap}
-use Rattle.group_wave.proofs.SightRows.{known_put}
-use Rattle.group_wave.proofs.nearest.Nearest.keep.Goals as goal
-
-pub returns-clause-known : goal.returns-clause-known
-returns-clause-known c = known_put c.self.inside.stamp c.self.inside.known.items c.args.self.now.known c.args.group _ refl (ap (λ s. s.known) c.self.view_is)

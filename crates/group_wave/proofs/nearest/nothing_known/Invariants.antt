@@ -1,5 +1,0 @@
-use Rattle.std.proofs.Common.{◌≡◌, All, length}
-use Rattle.group_wave.proofs.nearest.nothing_known.Given as goal
-
-abbrev pub invariant-loop : goal.invariant-loop
-invariant-loop l = (length l.known.items ≡ l.counter) × All (λ k. k.stamp ≡ 0) l.known.items

@@ -1,0 +1,219 @@
+//! Calls of `report_run` and `route_explain`: reports and explanations of routings.
+
+ghost use Rattle.std.specs.Prelude.{◌≡◌, ◌≤◌, length};
+ghost use Rattle.rr_graph.specs.Fabric.{most_tracks};
+
+use lab_runs::run_calls::{
+    DesignFiles, kept_design, kept_route, put_end, put_print, put_taken, source_of,
+};
+use lab_session::bounds::channel_width;
+use lab_session::session::{DesignTexts, NO_PROBLEM, NO_ROUTING, RunFiles, RunText, Session};
+use lab_session::sinks::sink;
+use lab_session::sources::source;
+use lab_session::unanswered::Unanswered;
+use lab_session::words::{Call, mode, mode_before};
+use net_file::Netlist;
+use report_run::report_run;
+use route_explain::{explain, explain_run};
+use route_tree::Routing;
+use rr_graph::{Mode, Problem};
+use runs::verdict_status;
+use std::alloc::Global;
+use std::rt::Runtime;
+use std::thread::Threads;
+use vpr_text::{Lines, lines};
+
+/// What explanations call the file of a routing.
+const ROUTE: &[u8] = b"route";
+
+/// How a call of a report is written.
+const REPORT: Unanswered = Unanswered::Misread(
+    "report_run W, or with `global`, and then `map`, behind it",
+);
+
+/// Makes a call, and adds its answer.
+pub fn call(
+    rt: &(impl Runtime + Threads + Sync + AllocGlobal),
+    session: &Session,
+    call: Call<'_>,
+    out: &mut String,
+) -> Result<(), Unanswered> {
+    match call.name {
+        "report_run" => run_report(rt.alloc(), &session.files, call.given, out),
+        "explain_run" => run_explain(rt, &session.files, call.given, out),
+        "explain" => explain_source(rt, session, call, out),
+        _ => Err(Unanswered::NoCall),
+    }
+}
+
+/// Whether words ask for a map.
+fn is_map(given: &[&str]) -> Result<bool, Unanswered> {
+    match given {
+        [] => Ok(false),
+        [word] if *word == "map" => Ok(true),
+        _ => Err(REPORT),
+    }
+}
+
+/// Runs `report`.
+fn run_report(
+    alloc: Global,
+    files: &RunFiles,
+    given: &[&str],
+    out: &mut String,
+) -> Result<(), Unanswered> {
+    let [width, rest @ ..] = given else {
+        return Err(REPORT);
+    };
+    let width = channel_width(width)?;
+    let (mode, rest) = mode_before(rest);
+    let is_map = is_map(rest)?;
+    let (design, route) = (kept_design(files)?, kept_route(files)?);
+    report_design(alloc, files, design, route, width, mode, is_map, out)
+}
+
+/// Runs `report` over the files of a design and a routing.
+fn report_design(
+    alloc: Global,
+    files: &RunFiles,
+    design: DesignFiles<'_>,
+    route: &RunText,
+    width: u32,
+    mode: Mode,
+    is_map: bool,
+    out: &mut String,
+) -> Result<(), Unanswered>
+    requires width { (1 ≤ width) × (width ≤ most_tracks) }
+{
+    let mut printed = sink(alloc, files.out_room);
+    let answer = report_run(
+        alloc,
+        &mut source_of(design.net),
+        &mut source_of(design.arch),
+        &mut source_of(design.place),
+        &mut source_of(route),
+        &mut printed,
+        width,
+        mode,
+        is_map,
+    );
+    put_print(alloc, answer.map(|_| 0), printed.into_inner(), out)
+}
+
+/// Runs `check` with explanations.
+fn run_explain(
+    rt: &(impl Threads + Sync + AllocGlobal),
+    files: &RunFiles,
+    given: &[&str],
+    out: &mut String,
+) -> Result<(), Unanswered> {
+    let [width, rest @ ..] = given else {
+        return Err(Unanswered::Misread("explain_run W, or with `global` behind it"));
+    };
+    let (width, mode) = (channel_width(width)?, mode(rest)?);
+    let (design, route) = (kept_design(files)?, kept_route(files)?);
+    explain_design(rt, files, design, route, width, mode, out)
+}
+
+/// Runs `check` with explanations over the files of a design and a routing. An explanation has a
+/// line at least: one that a sink would have taken, and of which there is none, lacked memory.
+fn explain_design(
+    rt: &(impl Threads + Sync + AllocGlobal),
+    files: &RunFiles,
+    design: DesignFiles<'_>,
+    route: &RunText,
+    width: u32,
+    mode: Mode,
+    out: &mut String,
+) -> Result<(), Unanswered>
+    requires width { (1 ≤ width) × (width ≤ most_tracks) }
+{
+    let mut printed = sink(rt.alloc(), files.out_room);
+    let mut words = sink(rt.alloc(), files.words_room);
+    let answer = explain_run(
+        rt,
+        ROUTE,
+        &mut source_of(design.net),
+        &mut source_of(design.arch),
+        &mut source_of(design.place),
+        &mut source_of(route),
+        &mut printed,
+        &mut words,
+        width,
+        mode,
+    );
+    let (printed, words) = (printed.into_inner(), words.into_inner());
+    if answer.is_ok() && words.bytes.is_empty() && files.words_room != Some(0) {
+        return Err(Unanswered::Memory);
+    }
+    let answer = answer.map(|verdict| verdict_status(verdict));
+    put_end(rt.alloc(), answer, &[&printed, &words], out)?;
+    put_taken("out", &printed, out)?;
+    put_taken("words", &words, out)
+}
+
+/// Explains the routing of the problem, with the netlist's names and the lines of a text.
+fn explain_source(
+    rt: &(impl Runtime + Threads + Sync + AllocGlobal),
+    session: &Session,
+    call: Call<'_>,
+    out: &mut String,
+) -> Result<(), Unanswered> {
+    let text = source(rt, call)?;
+    let lines = lines(rt.alloc(), text.as_slice())?;
+    explain_lines(rt, session, &lines, out)
+}
+
+/// Explains the routing of the problem, with the netlist's names and these lines.
+fn explain_lines(
+    rt: &(impl Threads + Sync + AllocGlobal),
+    session: &Session,
+    lines: &Lines<'_>,
+    out: &mut String,
+) -> Result<(), Unanswered> {
+    let design = session.design.texts()?;
+    match (&session.problem, &session.routing) {
+        (Some(problem), Some(routing)) => {
+            let room = session.files.words_room;
+            explain_named(rt, design, problem, lines, routing, room, out)
+        }
+        (None, _) => Err(NO_PROBLEM),
+        _ => Err(NO_ROUTING),
+    }
+}
+
+/// Explains a routing of a problem, with the names of a design.
+fn explain_named(
+    rt: &(impl Threads + Sync + AllocGlobal),
+    design: DesignTexts<'_>,
+    problem: &Problem,
+    lines: &Lines<'_>,
+    routing: &Routing,
+    room: Option<usize>,
+    out: &mut String,
+) -> Result<(), Unanswered> {
+    if routing.lists.len() != problem.nets() as usize {
+        return Err(Unanswered::Refused("the routing has not an entry for each net"));
+    }
+    let netlist = net_file::parse(rt.alloc(), design.net, design.arch)?;
+    explain_to(rt, &netlist, problem, lines, routing, room, out)
+}
+
+/// Explains a routing of a problem, and adds the explanation.
+fn explain_to(
+    rt: &(impl Threads + Sync + AllocGlobal),
+    netlist: &Netlist<'_>,
+    problem: &Problem,
+    lines: &Lines<'_>,
+    routing: &Routing,
+    room: Option<usize>,
+    out: &mut String,
+) -> Result<(), Unanswered>
+    requires { length routing.now ≡ length problem.now.nets }
+{
+    let mut words = sink(rt.alloc(), room);
+    let answer = explain(rt, ROUTE, netlist, problem, lines, routing, &mut words);
+    let words = words.into_inner();
+    put_end(rt.alloc(), answer.map(|_| 0), &[&words], out)?;
+    put_taken("words", &words, out)
+}

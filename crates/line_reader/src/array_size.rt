@@ -1,0 +1,20 @@
+//! The line that tells the size of an array.
+
+ghost use Rattle.std.specs.Prelude.{◌≡◌};
+ghost use Rattle.line_reader.specs.ArraySize.{begins_size_line};
+
+use crate::words::Words;
+
+/// Whether the line has seven words, of which the first six are `Array size: NX x NY logic`.
+#[tactic(auto, unfolding(crate::specs::ArraySize::begins_size_line))]
+pub fn begins_size_line(words: &Words) -> bool
+    ensures { result ≡ begins_size_line words.now }
+{
+    words.len() == 7
+        && words.is(0, "Array")
+        && words.is(1, "size:")
+        && words.is_number(2)
+        && words.is(3, "x")
+        && words.is_number(4)
+        && words.is(5, "logic")
+}

@@ -1,0 +1,8 @@
+//! What is said of a file that is refused, beside its fault: the line, the word, and what to do.
+#![tactic(auto)]
+
+mod advice;
+mod refusal;
+
+pub use advice::{Advice, Offender, advice_on};
+pub use refusal::{Paths, tell_refusal};

@@ -1,6 +1,0 @@
-use Rattle.route_check.proofs.SortedEnds.{row_there}
-use Rattle.route_check.proofs.ends.row_at.Goals as goal
-
-pub returns-then-ends-place : goal.returns-then-ends-place
-returns-then-ends-place c =
-    row_there c.args.pairs.now c.args.ends.now c.requires c.args.node c.args.place c.if-place-ends.true c.if-ends-place.true

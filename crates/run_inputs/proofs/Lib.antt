@@ -1,0 +1,4 @@
+pub mod Ending
+pub mod Stages
+pub mod Designs
+pub mod Lines

@@ -1,0 +1,7 @@
+use Rattle.vpr_text.proofs.Printing.{sends_then}
+use Rattle.run_log.specs.kept.LogTexts.{head_text}
+use Rattle.run_log.proofs.log_text.put_head.Goals as goal
+
+pub returns : goal.returns
+unfolding head_text
+returns g c = sends_then c.put_files.ensures (sends_then c.put_problem.ensures (sends_then c.put_options.ensures c.put_titles.ensures))

@@ -1,0 +1,9 @@
+//! What is told while a run goes on: the log of a negotiation, and its progress on a terminal.
+#![tactic(auto)]
+
+mod log;
+mod log_text;
+mod progress;
+
+pub use log::Log;
+pub use progress::Progress;

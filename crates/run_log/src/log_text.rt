@@ -1,0 +1,358 @@
+//! The text of a log: its head, and the line of an iteration.
+
+ghost use Rattle.std.specs.Prelude.{◌≡◌, ◌≤◌, decimal, length};
+ghost use Rattle.vpr_text.specs.Output.{SendsTo};
+ghost use Rattle.node_cost.specs.Options.{most_iterations};
+ghost use Rattle.run_inputs.specs.Runs.{PrintsText, writing_to};
+ghost use Rattle.run_log.specs.kept.LogTexts.{amount_text, array_text, column_text, entry_text, factors_text, figures_text, files_text, filled_text, head_text, iteration_text, mode_name, options_text, part_text, point_text, problem_text, row_text, time_text, titles_text};
+
+use congestion_book::Book;
+use itoa::{Buffer, Integer};
+use node_cost::Settings;
+use rr_graph::{Mode, Problem};
+use run_inputs::AppFault;
+use text_output::{ByteSink, OutputBuffer, put_number};
+
+/// Prints a name and what it has.
+fn put_entry<W: ByteSink>(out: &mut OutputBuffer, sink: &mut W, name: &[u8], value: &[u8])
+    ensures { SendsTo W.taken W.failed sink.old sink.new out.old out.new
+        (entry_text name.now value.now) }
+{
+    out.push(sink, b"# ");
+    out.push(sink, name);
+    out.push(sink, b" ");
+    out.push(sink, value);
+    out.push(sink, b"\n");
+}
+
+/// Prints a name, a number and its unit.
+fn put_amount<W: ByteSink, I: Integer>(
+    out: &mut OutputBuffer,
+    sink: &mut W,
+    name: &[u8],
+    number: I,
+    unit: &[u8],
+)
+    ensures { SendsTo W.taken W.failed sink.old sink.new out.old out.new
+        (amount_text name.now (I.text number) unit.now) }
+{
+    out.push(sink, b"# ");
+    out.push(sink, name);
+    out.push(sink, b" ");
+    put_number(out, sink, number);
+    out.push(sink, unit);
+    out.push(sink, b"\n");
+}
+
+/// Prints the size of an array.
+fn put_array<W: ByteSink>(out: &mut OutputBuffer, sink: &mut W, nx: u32, ny: u32)
+    ensures { SendsTo W.taken W.failed sink.old sink.new out.old out.new (array_text nx ny) }
+{
+    out.push(sink, b"# array ");
+    put_number(out, sink, nx);
+    out.push(sink, b" x ");
+    put_number(out, sink, ny);
+    out.push(sink, b" blocks\n");
+}
+
+/// How nets are routed.
+fn mode_name(mode: Mode) -> &'static [u8]
+    ensures { result.now ≡ mode_name mode }
+{
+    match mode {
+        Mode::Detailed => b"detailed",
+        Mode::Global => b"global",
+    }
+}
+
+/// Prints the program and its version, and the files of a run.
+fn put_files<W: ByteSink>(
+    out: &mut OutputBuffer,
+    sink: &mut W,
+    program: &[u8],
+    net: &[u8],
+    arch: &[u8],
+    place: &[u8],
+    route: &[u8],
+)
+    ensures { SendsTo W.taken W.failed sink.old sink.new out.old out.new
+        (files_text program.now net.now arch.now place.now route.now) }
+{
+    put_entry(out, sink, b"pathfinder", program);
+    put_entry(out, sink, b"net", net);
+    put_entry(out, sink, b"arch", arch);
+    put_entry(out, sink, b"place", place);
+    put_entry(out, sink, b"route", route);
+}
+
+/// Prints what the problem of the first negotiation is.
+fn put_problem<W: ByteSink>(out: &mut OutputBuffer, sink: &mut W, problem: &Problem)
+    ensures { SendsTo W.taken W.failed sink.old sink.new out.old out.new
+        (problem_text problem.now) }
+{
+    let device = problem.device();
+    put_array(out, sink, device.nx(), device.ny());
+    put_amount(out, sink, b"nets", problem.nets(), b"");
+    put_entry(out, sink, b"routing", mode_name(device.mode()));
+    put_amount(out, sink, b"width", device.width(), b" tracks");
+}
+
+/// Prints the present-congestion factors.
+fn put_factors<W: ByteSink>(out: &mut OutputBuffer, sink: &mut W, settings: &Settings)
+    ensures { SendsTo W.taken W.failed sink.old sink.new out.old out.new
+        (factors_text settings.now) }
+{
+    put_amount(out, sink, b"first-pres", settings.first(), b" sixteenths");
+    put_amount(out, sink, b"init-pres", settings.init(), b" sixteenths");
+    put_amount(out, sink, b"mult", settings.mult(), b" sixteenths");
+}
+
+/// Prints what was chosen of each negotiation.
+fn put_options<W: ByteSink>(out: &mut OutputBuffer, sink: &mut W, workers: u32, settings: &Settings)
+    ensures { SendsTo W.taken W.failed sink.old sink.new out.old out.new
+        (options_text workers settings.now) }
+{
+    put_amount(out, sink, b"workers", workers, b"");
+    put_amount(out, sink, b"iterations", settings.iterations(), b" at most");
+    put_factors(out, sink, settings);
+    put_amount(out, sink, b"acc", settings.acc(), b" twentieths of a wire");
+    put_amount(out, sink, b"bb", settings.bb(), b" places");
+}
+
+/// Prints what stands above the columns.
+fn put_titles<W: ByteSink>(out: &mut OutputBuffer, sink: &mut W)
+    ensures { SendsTo W.taken W.failed sink.old sink.new out.old out.new (titles_text) }
+{
+    out.push(
+        sink,
+        b"width iteration    present overused   excess unrouted wirelength   seconds\n",
+    );
+}
+
+/// Prints a head.
+fn put_head<W: ByteSink>(
+    out: &mut OutputBuffer,
+    sink: &mut W,
+    program: &[u8],
+    net: &[u8],
+    arch: &[u8],
+    place: &[u8],
+    route: &[u8],
+    problem: &Problem,
+    workers: u32,
+    settings: &Settings,
+)
+    ensures { SendsTo W.taken W.failed sink.old sink.new out.old out.new
+        (head_text (files_text program.now net.now arch.now place.now route.now) problem.now workers
+        settings.now) }
+{
+    put_files(out, sink, program, net, arch, place, route);
+    put_problem(out, sink, problem);
+    put_options(out, sink, workers, settings);
+    put_titles(out, sink);
+}
+
+/// Writes the head of a log of a run with these files, at once.
+#[inline(never)]
+pub fn write_head<W: ByteSink>(
+    sink: &mut W,
+    program: &[u8],
+    net: &[u8],
+    arch: &[u8],
+    place: &[u8],
+    route: &[u8],
+    problem: &Problem,
+    workers: u32,
+    settings: &Settings,
+) -> Result<(), AppFault>
+    ensures { PrintsText (writing_to W.taken W.failed sink.old sink.new)
+        (head_text (files_text program.now net.now arch.now place.now route.now) problem.now workers
+        settings.now) tt result }
+{
+    let mut buffer = OutputBuffer::new();
+    put_head(
+        &mut buffer,
+        sink,
+        program,
+        net,
+        arch,
+        place,
+        route,
+        problem,
+        workers,
+        settings,
+    );
+    match buffer.finish(sink) {
+        Ok(()) => Ok(()),
+        Err(_) => Err(AppFault::Unwritten),
+    }
+}
+
+/// Prints a text of so many places or more, with the front of a filling before it where it has
+/// fewer.
+fn put_filled<W: ByteSink>(
+    out: &mut OutputBuffer,
+    sink: &mut W,
+    filling: &[u8],
+    places: usize,
+    text: &[u8],
+)
+    requires { places ≤ length filling.now }
+    ensures { SendsTo W.taken W.failed sink.old sink.new out.old out.new
+        (filled_text filling.now places text.now) }
+{
+    let missing = places.saturating_sub(text.len());
+    out.push(sink, &filling[..missing]);
+    out.push(sink, text);
+}
+
+/// Prints a number at the right of so many places.
+fn put_column<W: ByteSink, I: Integer>(
+    out: &mut OutputBuffer,
+    sink: &mut W,
+    places: usize,
+    number: I,
+)
+    requires { places ≤ 10 }
+    ensures { SendsTo W.taken W.failed sink.old sink.new out.old out.new
+        (column_text places (I.text number)) }
+{
+    let mut digits = Buffer::new();
+    put_filled(
+        out,
+        sink,
+        b"          ",
+        places,
+        digits.format(number).as_bytes(),
+    );
+}
+
+/// Prints what stands behind the point, in so many places.
+fn put_part<W: ByteSink>(out: &mut OutputBuffer, sink: &mut W, places: usize, part: u32)
+    requires { places ≤ 4 }
+    ensures { SendsTo W.taken W.failed sink.old sink.new out.old out.new
+        (part_text places (decimal part)) }
+{
+    let mut digits = Buffer::new();
+    put_filled(out, sink, b"0000", places, digits.format(part).as_bytes());
+}
+
+/// Prints a number with so many places behind the point.
+fn put_point<W: ByteSink, I: Integer>(
+    out: &mut OutputBuffer,
+    sink: &mut W,
+    whole: I,
+    places: usize,
+    part: u32,
+)
+    requires { places ≤ 4 }
+    ensures { SendsTo W.taken W.failed sink.old sink.new out.old out.new
+        (point_text (I.text whole) places (decimal part)) }
+{
+    put_column(out, sink, 5, whole);
+    out.push(sink, b".");
+    put_part(out, sink, places, part);
+}
+
+/// Prints which iteration of which negotiation a line tells of.
+fn put_iteration<W: ByteSink>(
+    out: &mut OutputBuffer,
+    sink: &mut W,
+    width: u32,
+    iteration: u32,
+    present: u32,
+)
+    ensures { SendsTo W.taken W.failed sink.old sink.new out.old out.new
+        (iteration_text width iteration present) }
+{
+    put_column(out, sink, 5, width);
+    out.push(sink, b" ");
+    put_column(out, sink, 9, iteration);
+    out.push(sink, b" ");
+    put_point(out, sink, present / 16, 4, present % 16 * 625);
+}
+
+/// Prints what it left.
+fn put_figures<W: ByteSink>(
+    out: &mut OutputBuffer,
+    sink: &mut W,
+    overused: u32,
+    excess: u64,
+    unrouted: u32,
+    wirelength: u64,
+)
+    ensures { SendsTo W.taken W.failed sink.old sink.new out.old out.new
+        (figures_text overused excess unrouted wirelength) }
+{
+    out.push(sink, b" ");
+    put_column(out, sink, 8, overused);
+    out.push(sink, b" ");
+    put_column(out, sink, 8, excess);
+    out.push(sink, b" ");
+    put_column(out, sink, 8, unrouted);
+    out.push(sink, b" ");
+    put_column(out, sink, 10, wirelength);
+}
+
+/// Prints when it ended, and ends the line.
+fn put_time<W: ByteSink>(out: &mut OutputBuffer, sink: &mut W, milliseconds: u64)
+    ensures { SendsTo W.taken W.failed sink.old sink.new out.old out.new (time_text milliseconds) }
+{
+    out.push(sink, b" ");
+    put_point(
+        out,
+        sink,
+        milliseconds / 1000,
+        3,
+        (milliseconds % 1000) as u32,
+    );
+    out.push(sink, b"\n");
+}
+
+/// Prints the line of an iteration, of the book that it left.
+fn put_row<W: ByteSink>(
+    out: &mut OutputBuffer,
+    sink: &mut W,
+    settings: &Settings,
+    iteration: u32,
+    book: &Book,
+    milliseconds: u64,
+)
+    requires { (1 ≤ iteration) × (iteration ≤ most_iterations) }
+    ensures { SendsTo W.taken W.failed sink.old sink.new out.old out.new
+        (row_text settings.now iteration book.now milliseconds) }
+{
+    let width = book.problem().device().width();
+    let present = settings.present(iteration);
+    put_iteration(out, sink, width, iteration, present);
+    put_figures(
+        out,
+        sink,
+        book.overused(),
+        book.excess(),
+        book.unrouted(),
+        book.wirelength(),
+    );
+    put_time(out, sink, milliseconds);
+}
+
+/// Writes the line of an iteration, of the book that it left, at once.
+#[inline(never)]
+pub fn write_row<W: ByteSink>(
+    sink: &mut W,
+    settings: &Settings,
+    iteration: u32,
+    book: &Book,
+    milliseconds: u64,
+) -> Result<(), AppFault>
+    requires { (1 ≤ iteration) × (iteration ≤ most_iterations) }
+    ensures { PrintsText (writing_to W.taken W.failed sink.old sink.new)
+        (row_text settings.now iteration book.now milliseconds) tt result }
+{
+    let mut buffer = OutputBuffer::new();
+    put_row(&mut buffer, sink, settings, iteration, book, milliseconds);
+    match buffer.finish(sink) {
+        Ok(()) => Ok(()),
+        Err(_) => Err(AppFault::Unwritten),
+    }
+}

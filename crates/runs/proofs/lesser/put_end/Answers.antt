@@ -1,4 +1,0 @@
-use Rattle.runs.proofs.lesser.put_end.Goals as goal
-
-pub returns-in-None : goal.returns-in-None
-returns-in-None g c = rw c.in-None.is c.push.ensures

@@ -1,8 +1,0 @@
-use Rattle.vpr_text.proofs.Printing.{sends_then}
-use Rattle.runs.specs.kept.LogTexts.{figures_text}
-use Rattle.runs.proofs.log_text.put_figures.Goals as goal
-
-pub returns : goal.returns
-unfolding figures_text
-returns g c =
-    sends_then c.push.ensures (sends_then c.put_column.ensures (sends_then c.push-2.ensures (sends_then c.put_column-2.ensures (sends_then c.push-3.ensures (sends_then c.put_column-3.ensures (sends_then c.push-4.ensures c.put_column-4.ensures))))))

@@ -1,8 +1,0 @@
-use Rattle.vpr_text.proofs.Printing.{sends_then}
-use Rattle.runs.specs.kept.LogTexts.{files_text}
-use Rattle.runs.proofs.log_text.put_files.Goals as goal
-
-pub returns : goal.returns
-unfolding files_text
-returns g c =
-    sends_then c.put_entry.ensures (sends_then c.put_entry-2.ensures (sends_then c.put_entry-3.ensures (sends_then c.put_entry-4.ensures c.put_entry-5.ensures)))

@@ -1,9 +1,0 @@
-use Rattle.vpr_text.proofs.Printing.{sends_then}
-use Rattle.runs.specs.kept.LogTexts.{filled_text}
-use Rattle.runs.proofs.log_text.put_filled.Goals as goal
-
-pub returns : goal.returns
-unfolding filled_text
-returns g c =
-    let filling = rw c.saturating_sub-missing.ensures at c.push.ensures in
-    sends_then filling c.push-2.ensures

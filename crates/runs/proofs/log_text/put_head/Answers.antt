@@ -1,7 +1,0 @@
-use Rattle.vpr_text.proofs.Printing.{sends_then}
-use Rattle.runs.specs.kept.LogTexts.{head_text}
-use Rattle.runs.proofs.log_text.put_head.Goals as goal
-
-pub returns : goal.returns
-unfolding head_text
-returns g c = sends_then c.put_files.ensures (sends_then c.put_problem.ensures (sends_then c.put_options.ensures c.put_titles.ensures))

@@ -1,0 +1,185 @@
+//! What a negotiation without success left: its trees, and which nets have none.
+
+ghost use Rattle.std.specs.Prelude.{◌≡◌, true, false};
+ghost use Rattle.vpr_text.specs.Output.{SendsTo};
+ghost use Rattle.route_tree.specs.Fits.{fits_problem};
+ghost use Rattle.route_file.specs.Design.{IsDesign};
+ghost use Rattle.route_file.specs.Text.{text_of};
+ghost use Rattle.run_inputs.specs.Faults.{ends_free};
+ghost use Rattle.runs.specs.kept.Left.{stuck_line, stuck_net, stuck_text};
+ghost use Rattle.run_inputs.specs.Runs.{PrintsText, TakesNothing, writing_to};
+
+use crate::side_files::SideFiles;
+use congestion_book::Book;
+use iteration::routing_of;
+use net_file::Netlist;
+use net_workers::Gate;
+use place_file::Placement;
+use route_file::WriteFault;
+use route_tree::Routing;
+use rr_graph::{Device, Problem};
+use run_inputs::{AppFault, Design, net_name, number_of_net};
+use std::alloc::Global;
+use std::sync::{Mutex, Wait};
+use text_output::{ByteSink, OutputBuffer, put_node_of};
+
+/// Writes the text of trees of a placed netlist, of which some nets may have none.
+#[inline(never)]
+pub(crate) fn write_trees<W: ByteSink>(
+    netlist: &Netlist<'_>,
+    placement: &Placement,
+    problem: &Problem,
+    trees: &Routing,
+    file: &mut W,
+) -> Result<(), AppFault>
+    requires design { IsDesign netlist.now placement.now problem.now }
+    requires fits { fits_problem problem.now trees.now ≡ true }
+    ensures { PrintsText (writing_to W.taken W.failed file.old file.new)
+        (text_of netlist.now placement.now problem.now trees.now) tt result }
+{
+    match route_file::write(netlist, placement, problem, trees, file) {
+        Ok(()) => Ok(()),
+        Err(WriteFault::Failed) => Err(AppFault::Unwritten),
+    }
+}
+
+/// Writes the text of the trees that a book of the design's problem has recorded.
+#[tactic(auto, using(crate::proofs::Leaving::book_fits))]
+fn write_recorded<W: ByteSink>(
+    alloc: Global,
+    design: &Design<'_>,
+    book: &Book,
+    file: &mut W,
+) -> Result<(), AppFault>
+    requires { book.now.problem ≡ design.now.problem }
+    ensures writes { ends_free result ≡ false
+        → PrintsText (writing_to W.taken W.failed file.old file.new)
+        (text_of design.now.netlist design.now.placement design.now.problem book.now.lists)
+        tt result }
+    ensures nothing { ends_free result ≡ true
+        → TakesNothing (writing_to W.taken W.failed file.old file.new) }
+{
+    let _sound = book.problem();
+    let trees = routing_of(alloc, book)?;
+    write_trees(
+        design.netlist(),
+        design.placement(),
+        design.problem(),
+        &trees,
+        file,
+    )
+}
+
+/// Whether the trees of a book were written, which is of the design's problem.
+fn is_written<W: ByteSink>(alloc: Global, design: &Design<'_>, book: &Book, file: &mut W) -> bool {
+    *book.problem() == *design.problem() && write_recorded(alloc, design, book, file).is_ok()
+}
+
+/// Prints that no way leads to a sink of the net of this name.
+fn put_stuck_line<W: ByteSink>(
+    out: &mut OutputBuffer,
+    words: &mut W,
+    device: &Device,
+    name: &[u8],
+    sink: u32,
+)
+    ensures { SendsTo W.taken W.failed words.old words.new out.old out.new
+        (stuck_line device.now name.now sink) }
+{
+    out.push(words, b"net ");
+    out.push(words, name);
+    out.push(words, b": stuck at ");
+    put_node_of(out, words, device, sink);
+    out.push(words, b"\n");
+}
+
+/// Prints that no way leads to a sink of a net of the problem, of these two.
+fn put_stuck<W: ByteSink>(
+    out: &mut OutputBuffer,
+    words: &mut W,
+    netlist: &Netlist<'_>,
+    problem: &Problem,
+    stuck: (u32, u32),
+)
+    ensures { SendsTo W.taken W.failed words.old words.new out.old out.new
+        (stuck_net netlist.now problem.now stuck) }
+{
+    let name = net_name(netlist, number_of_net(problem, stuck.0));
+    put_stuck_line(out, words, problem.device(), name, stuck.1);
+}
+
+/// Prints which nets have no tree, each with a sink to which no way leads.
+fn put_all_stuck<W: ByteSink>(
+    out: &mut OutputBuffer,
+    words: &mut W,
+    netlist: &Netlist<'_>,
+    problem: &Problem,
+    stuck: &[(u32, u32)],
+)
+    ensures { SendsTo W.taken W.failed words.old words.new out.old out.new
+        (stuck_text netlist.now problem.now stuck.now) }
+{
+    for entry in stuck {
+        put_stuck(out, words, netlist, problem, *entry);
+    }
+}
+
+/// Tells which nets of a design have no tree.
+#[inline(never)]
+fn tell_stuck<W: ByteSink>(words: &mut W, design: &Design<'_>, stuck: &[(u32, u32)]) {
+    let mut out = OutputBuffer::new();
+    put_all_stuck(&mut out, words, design.netlist(), design.problem(), stuck);
+    let _ = out.finish(words);
+}
+
+/// A gate of a negotiation that writes, where it found no routing and the file is wanted, the trees
+/// that the last iteration left, and tells of each net without one a sink to which no way leads.
+#[derive(Drop)]
+pub(crate) struct LeftTrees<'a, 'b, T, S> {
+    rt: &'a T,
+    alloc: Global,
+    design: &'a Design<'b>,
+    files: &'a S,
+    /// The nets for which a search found no way, each with the sink.
+    stuck: Mutex<Vec<(u32, u32)>>,
+}
+
+impl<'a, 'b, T: Wait, S: SideFiles> LeftTrees<'a, 'b, T, S> {
+    pub(crate) fn new(
+        rt: &'a T,
+        alloc: Global,
+        design: &'a Design<'b>,
+        files: &'a S,
+    ) -> LeftTrees<'a, 'b, T, S> {
+        LeftTrees {
+            rt,
+            alloc,
+            design,
+            files,
+            stuck: Mutex::new(Vec::new(alloc)),
+        }
+    }
+}
+
+impl<T: Wait, S: SideFiles> Gate for LeftTrees<'_, '_, T, S> {
+    fn between(&self, _worker: u32, _net: u32) {}
+
+    fn stuck(&self, net: u32, sink: u32) {
+        let _ = self.stuck.lock(self.rt).push((net, sink));
+    }
+
+    fn searched(&self, _worker: u32, _net: u32) {}
+
+    fn left(&self, book: &Book) {
+        let width = self.design.problem().device().width();
+        let Some(mut file) = self.files.file(width) else {
+            return;
+        };
+        if !is_written(self.alloc, self.design, book, &mut file) {
+            self.files.unwritten(width);
+        }
+        let mut stuck = self.stuck.lock(self.rt);
+        stuck.sort_unstable();
+        tell_stuck(&mut self.files.words(), self.design, stuck.as_slice());
+    }
+}

@@ -1,0 +1,18 @@
+use Rattle.std.proofs.Common.{◌≡◌, ◌*◌, ◌/◌, ◌%◌, arith, inl, inr, sym}
+use Rattle.std.proofs.lemmas.Bool.{cases_lt}
+use Rattle.wave_ground.specs.kept.Boxes.{wire_of}
+use Rattle.wave_ground.proofs.eight_boxes.fewest_in.Goals as goal
+
+pub loop-at-preserved : goal.loop-at-preserved
+loop-at-preserved c k place lt within stands =
+    let at = c.loop-at.at in
+    elim (cases_lt k (8 * at)) [
+      | inl before ↦ let old = c.loop-at.invariant k place before within stands in omega (arith, old, c.min-fewest.ensures)
+      | inr after ↦
+          let here : k / 8 ≡ at = omega (arith, lt, after) in
+          let low = c.fewest.ensures (wire_of c.args.group.now) (k % 8) place c.in-Some.ensures (omega arith) (rw (sym here) (stands _)) in
+          omega (arith, low, c.min-fewest.ensures)
+    ]
+
+pub returns : goal.returns
+returns c at place within stands = c.loop-at.invariant at place (omega (arith, within, c.loop-at-test.false)) within stands

@@ -1,0 +1,45 @@
+-- Boxes side by side, looked at at once.
+use Rattle.std.specs.Prelude.{◌≡◌, ℕ, ◌+◌, ◌-◌, ◌*◌, ◌/◌, ◌%◌, ◌<◌, ◌≤◌, List, cond, get_or, min, slice_index}
+use Rattle.routing_problem.specs.parts.Kind.TheVariants.{Chanx, Chany}
+use Rattle.wavefront.specs.Boxes.{BoundingBox}
+use Rattle.wavefront.specs.kept.Bounds.{Wire, gap}
+use Rattle.wave_ground.specs.declared.eight_boxes.EightBoxes.{EightBoxes}
+use Rattle.wave_ground.specs.declared.eight_boxes.Outlook.{Outlook}
+use Rattle.wave_ground.specs.declared.eight_boxes.Sides.{Sides}
+
+-- what is kept of a coordinate
+abbrev pub cut : ℕ → ℕ
+cut coordinate = min coordinate 65535
+
+-- in this place of the eight stands this box
+pub record KeepsBox (boxes : EightBoxes) (lane : ℕ) (place : BoundingBox) : Type 0 where
+  pub left : slice_index boxes.left lane ≡ cut place.left
+  pub right : slice_index boxes.right lane ≡ cut place.right
+  pub bottom : slice_index boxes.bottom lane ≡ cut place.bottom
+  pub top : slice_index boxes.top lane ≡ cut place.top
+
+-- in this place of boxes that stand eight by eight stands this one
+abbrev pub StandsAt : List EightBoxes → (at : ℕ) (place : BoundingBox) → Type 0
+StandsAt eights at place = (e : EightBoxes) → KeepsBox (get_or eights (at / 8) e) (at % 8) place
+
+-- how far the wire lies from one of the boxes along the sides, and how far from what lies before the box too
+abbrev pub gap_at : Sides → (lane : ℕ) → ℕ
+gap_at s lane = gap (slice_index s.lows lane) (slice_index s.highs lane) s.first s.last
+
+abbrev pub gap_beside : Sides → (lane : ℕ) → ℕ
+gap_beside s lane = gap (slice_index s.lows lane - 1) (slice_index s.highs lane) s.first s.last
+
+-- one by which a product is divided in place of steps + 1, and is no more often
+pub record IsShare (steps share : ℕ) : Type 0 where
+  pub few : steps < 128
+  pub fits : share * (steps + 1) ≤ 65536 + (steps + 1)
+
+-- what is kept of a wire from which boxes are looked at
+pub record IsOutlook (o : Outlook) (wire : Wire) : Type 0 where
+  pub kind : wire.kind ≡ cond o.is_column Chany Chanx
+  pub steps : o.steps ≡ wire.steps
+  pub few : o.steps < 128
+  pub x1 : o.x1 ≡ cut wire.span.x1
+  pub x2 : o.x2 ≡ cut wire.span.x2
+  pub y1 : o.y1 ≡ cut wire.span.y1
+  pub y2 : o.y2 ≡ cut wire.span.y2

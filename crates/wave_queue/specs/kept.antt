@@ -1,0 +1,4 @@
+pub mod Buckets
+pub mod Queues
+pub mod Bits
+pub mod Marks

@@ -1,0 +1,46 @@
+-- Wires that wait, in the buckets of their keys.
+use Rattle.std.specs.Prelude.{ℕ, ◌≡◌, ◌≤◌, ◌<◌, Bool, List, [], length, map, get_or, All}
+use Rattle.std.specs.List.{flat_map}
+use Rattle.wave_queue.specs.declared.queue.Entry.{Entry}
+use Rattle.wave_queue.specs.kept.Buckets.{bucket_of}
+
+-- wires of one group that wait
+pub record Waiting : Type 0 where
+  pub key : ℕ
+  pub label : ℕ
+  pub group : ℕ
+  pub tracks : ℕ
+  pub begun : Bool
+
+abbrev pub entry_of : {K : Type 0} → (value : K → ℕ) → Entry K → Waiting
+entry_of value e = record { key = value e.key; label = value e.label; group = e.group; tracks = e.tracks; begun = e.is_begun }
+
+-- all that stand in the rows
+abbrev pub all_of : {X : Type 0} → List (List X) → List X
+all_of rows = flat_map (λ row. row) rows
+
+abbrev pub entries_of : {K : Type 0} → (value : K → ℕ) → List (List (Entry K)) → List Waiting
+entries_of value rows = map (entry_of value) (all_of rows)
+
+-- an entry may stand in row i: that is the bucket of its key, and one from low on
+pub record IsPlaced {K : Type 0} (value : K → ℕ) (low i : ℕ) (e : Entry K) : Type 0 where
+  pub here : bucket_of (value e.key) ≡ i
+  pub from : low ≤ i
+
+-- all entries stand in the buckets of their keys, and none stands before low
+abbrev pub ArePlaced : {K : Type 0} → (value : K → ℕ) → (low : ℕ) → List (List (Entry K)) → Type 0
+ArePlaced value low rows = (i : ℕ) → All (IsPlaced value low i) (get_or rows i [])
+
+pub record IsBucketed {K : Type 0} (value : K → ℕ) (rows : List (List (Entry K))) (low count : ℕ) : Type 0 where
+  pub placed : ArePlaced value low rows
+  pub counted : length (all_of rows) ≡ count
+
+-- a key stands in the lowest bucket in use, and that isn't above the bucket of a bound
+pub record IsLowest (old : List Waiting) (key bound : ℕ) : Type 0 where
+  pub near : bucket_of key ≤ bucket_of bound
+  pub least : All (λ e. bucket_of key ≤ bucket_of e.key) old
+
+-- none was taken: all that wait have a key above the bound
+pub record IsPast (old new : List Waiting) (bound : ℕ) : Type 0 where
+  pub same : new ≡ old
+  pub past : All (λ e. bound < e.key) old
