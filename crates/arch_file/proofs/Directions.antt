@@ -6,9 +6,9 @@ use Rattle.std.proofs.lemmas.Bool.{eq-eqb, lt-ltb}
 use Rattle.std.proofs.lemmas.List.Elements.{All-push, All-weaker}
 use Rattle.std.proofs.lemmas.List.Folds.{find-append}
 use Rattle.arch_file.specs.declared.line.ArchLine.{ArchLine}
-use Rattle.arch_file.specs.declared.parts.Direction.{Direction}
-use Rattle.arch_file.specs.declared.parts.Direction.TheVariants.{Input, Output}
-use Rattle.arch_file.specs.declared.parts.Pin.{Pin}
+use Rattle.arch_file.specs.declared.entries.Direction.{Direction}
+use Rattle.arch_file.specs.declared.entries.Direction.TheVariants.{Input, Output}
+use Rattle.arch_file.specs.declared.entries.Pin.{Pin}
 use Rattle.arch_file.specs.Lines.{same_direction, pins_of}
 use Rattle.arch_file.specs.PinLine.{mixes, is_bad_class, is_global_pin, side_words, lacks_sides, pin_in}
 use Rattle.line_reader.specs.Word.{has, number_in}

@@ -14,11 +14,11 @@ use Rattle.arch_file.specs.declared.keyword.Keyword.{Keyword}
 use Rattle.arch_file.specs.declared.keyword.Keyword.TheVariants as keyword
 use Rattle.arch_file.specs.declared.line.ArchLine.{ArchLine}
 use Rattle.arch_file.specs.declared.line.ArchLine.TheVariants as line
-use Rattle.arch_file.specs.declared.parts.Direction.{Direction}
-use Rattle.arch_file.specs.declared.parts.Direction.TheVariants.{Input, Output}
-use Rattle.arch_file.specs.declared.parts.FcType.TheVariants.{Absolute, Fractional}
-use Rattle.arch_file.specs.declared.parts.SegmentLength.{SegmentLength}
-use Rattle.arch_file.specs.declared.parts.SegmentLength.TheVariants.{Places, Longline}
+use Rattle.arch_file.specs.declared.entries.Direction.{Direction}
+use Rattle.arch_file.specs.declared.entries.Direction.TheVariants.{Input, Output}
+use Rattle.arch_file.specs.declared.entries.FcType.TheVariants.{Absolute, Fractional}
+use Rattle.arch_file.specs.declared.entries.SegmentLength.{SegmentLength}
+use Rattle.arch_file.specs.declared.entries.SegmentLength.TheVariants.{Places, Longline}
 use Rattle.arch_file.specs.Architecture.{IsSegmentLength, IsWithinLimits}
 use Rattle.arch_file.specs.Faults.{first_fault}
 use Rattle.arch_file.specs.Judge.{is_passed, has_keyword, is_repeated, judge, judged, says, keyword_at}

@@ -9,7 +9,7 @@ use Rattle.arch_file.specs.declared.keyword.Keyword.{Keyword}
 use Rattle.arch_file.specs.declared.keyword.Keyword.TheVariants.{IoRat, ChanWidthIo, ChanWidthX, ChanWidthY, Inpin, Outpin, SubblocksPerClb, SubblockLutSize, SwitchBlockType, FcType, FcOutput, FcInput, FcPad, Segment, Switch}
 use Rattle.arch_file.specs.declared.line.ArchLine.{ArchLine}
 use Rattle.arch_file.specs.declared.line.ArchLine.TheVariants as line
-use Rattle.arch_file.specs.declared.parts.Direction.TheVariants.{Input, Output}
+use Rattle.arch_file.specs.declared.entries.Direction.TheVariants.{Input, Output}
 use Rattle.arch_file.specs.Keyword.{keyword_of, is_unread, same_keyword, stands_once}
 use Rattle.arch_file.specs.Lines.{keyword_of_line}
 use Rattle.arch_file.specs.PinLine.{pin_line}

@@ -5,7 +5,7 @@ use Rattle.arch_file.specs.declared.fault.LineFault.{LineFault}
 use Rattle.arch_file.specs.declared.fault.LineFault.TheVariants.{BadWord, Unsupported}
 use Rattle.arch_file.specs.declared.line.ArchLine.{ArchLine}
 use Rattle.arch_file.specs.declared.line.ArchLine.TheVariants as line
-use Rattle.arch_file.specs.declared.parts.FcType.TheVariants.{Absolute, Fractional}
+use Rattle.arch_file.specs.declared.entries.FcType.TheVariants.{Absolute, Fractional}
 use Rattle.arch_file.specs.Faults.{first_fault}
 use Rattle.line_reader.specs.Word.{has, is_at, number_in, fixed_in}
 use Rattle.arch_file.specs.Architecture.{most_pads}

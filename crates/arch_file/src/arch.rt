@@ -3,7 +3,7 @@
 ghost use Rattle.std.specs.Prelude.{◌≡◌, IfOk};
 ghost use Rattle.arch_file.specs.Architecture.{Architecture, IsWithinLimits, class_count, class_direction, class_size};
 
-use crate::parts::{Direction, FcType, Pin, Segment, Switch};
+use crate::entries::{Direction, FcType, Pin, Segment, Switch};
 use std::alloc::{AllocError, Global};
 use std::marker::Model;
 

@@ -3,10 +3,10 @@
 ghost use Rattle.std.specs.Prelude.{◌≡◌};
 ghost use Rattle.arch_file.specs.Judge.{is_passed, has_keyword, is_repeated, keyword_at, says, judge};
 
+use crate::entries::Direction;
 use crate::fault::LineFault;
 use crate::keyword::{Keyword, is_unread};
 use crate::line::ArchLine;
-use crate::parts::Direction;
 use crate::pins::pin_line;
 use crate::segments::segment_line;
 use crate::switches::switch_line;

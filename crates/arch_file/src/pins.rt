@@ -6,9 +6,9 @@ ghost use Rattle.line_reader.specs.Word.{is_text};
 ghost use Rattle.arch_file.specs.Lines.{pins_of};
 ghost use Rattle.arch_file.specs.PinLine.{mixes, is_bad_class, is_global_pin, side_words, is_side, sides_in, pin_in, pin_line};
 
+use crate::entries::{Direction, Pin, Sides};
 use crate::fault::LineFault;
 use crate::line::ArchLine;
-use crate::parts::{Direction, Pin, Sides};
 use line_reader::{Words, is_text};
 
 /// The greatest number of pins of a logic block.

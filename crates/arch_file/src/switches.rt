@@ -3,10 +3,10 @@
 ghost use Rattle.std.specs.Prelude.{◌≡◌};
 ghost use Rattle.arch_file.specs.SwitchLine.{has_switch, repeats_switch, is_wrong_value, has_wrong_value, has_bad_number, has_switch_keys, is_buffer_word, switch_line};
 
+use crate::entries::Switch;
 use crate::fault::LineFault;
 use crate::line::ArchLine;
 use crate::pairs::{has_key, is_value, pairs_in};
-use crate::parts::Switch;
 use line_reader::{Words, is_text};
 use vpr_text::is_decimal;
 

@@ -3,9 +3,9 @@
 ghost use Rattle.std.specs.Prelude.{◌≡◌};
 ghost use Rattle.arch_file.specs.Values.{io_rat_line, is_one, chan_width_io_line, is_distribution, channel_line, number_line, fixed_line, switch_block_type_line, fc_type_line};
 
+use crate::entries::FcType;
 use crate::fault::LineFault;
 use crate::line::ArchLine;
-use crate::parts::FcType;
 use line_reader::Words;
 
 /// The greatest number of pads at one place of the perimeter.

@@ -5,7 +5,7 @@ ghost use Rattle.arch_file.specs.Architecture.{longest_side};
 ghost use Rattle.channel_tables.specs.Fabric.{IsFabric, is_block, is_pad, most_tracks};
 ghost use Rattle.channel_tables.specs.Wires.{tracks_in};
 
-use crate::parts::Mode;
+use crate::node::Mode;
 use arch_file::{Arch, Segment};
 use std::alloc::{AllocError, Global};
 use std::marker::Model;

@@ -10,7 +10,7 @@ ghost use Rattle.channel_tables.specs.Sides.{tapping_on};
 
 use crate::channel::{Beginning, Channel, Wire};
 use crate::layout::Layout;
-use crate::parts::Mode;
+use crate::node::Mode;
 use crate::pins::TapCounts;
 use crate::sides::{BlockSides, Side};
 use arch_file::Arch;

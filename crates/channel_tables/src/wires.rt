@@ -7,7 +7,7 @@ ghost use Rattle.channel_tables.specs.LastPlaces.{last_by};
 ghost use Rattle.channel_tables.specs.Fabric.{most_tracks};
 
 use crate::layout::Layout;
-use crate::parts::{Kind, Mode, Node};
+use crate::node::{Kind, Mode, Node};
 use arch_file::{Segment, SegmentLength};
 
 fn total_frequency(segments: &[Segment]) -> u128

@@ -20,7 +20,7 @@ ghost use Rattle.congestion_book.specs.kept.Counts.{RoutesOrNone, HasRoom, HasRo
 
 use crate::filling::any_filled;
 use crate::history::OveruseRow;
-use crate::showing::show;
+use crate::net_view::show;
 use crate::usage::{Usage, one_if};
 use node_cost::{Histories, View};
 use route_tree::{Row, Tree};

@@ -3,7 +3,7 @@ use Rattle.std.proofs.Common.{◌≡◌, ℕ, ◌<◌, ◌≤◌, ◌↔◌, tru
 use Rattle.std.specs.Prelude.{nat_le, nat_eq, IsTrue, OnOk}
 use Rattle.std.proofs.lemmas.Bool.{cases_lt}
 use Rattle.std.proofs.lemmas.Bool.Decides.{nat_tests}
-use Rattle.group_wave.specs.declared.labels.Row.{Row}
+use Rattle.group_wave.specs.declared.labels.LabelRow.{LabelRow}
 use Rattle.group_wave.specs.kept.WaveState.{FAR, Label, Wave}
 use Rattle.group_wave.specs.kept.Wave.{IsOrigin, label_at, cost_at, parent_of}
 use Rattle.group_wave.specs.kept.Labels.{label_of, widened}
@@ -20,7 +20,7 @@ widened_most greatest cost most = let all : nat_le greatest cost ≡ true = grin
 
 module _ {K : Type 0} (value : K → ℕ) (greatest : ℕ) where
   -- a row whose cost is 0
-  pub starts_so : (w : Wave) (node : ℕ) (row : Row K) → 0 < greatest → label_of value greatest row ≡ label_at w node → value row.cost ≤ 0 → IsTrue (nat_eq row.parent node) ↔ IsOrigin w node
+  pub starts_so : (w : Wave) (node : ℕ) (row : LabelRow K) → 0 < greatest → label_of value greatest row ≡ label_at w node → value row.cost ≤ 0 → IsTrue (nat_eq row.parent node) ↔ IsOrigin w node
   starts_so w node row some is none =
       let cost : cost_at w node ≡ 0 = ap (λ (l : Label). l.cost) (sym is) ∙ widened_low greatest (value row.cost) (omega (arith, some, none)) ∙ omega (arith, none) in
       let parent : row.parent ≡ parent_of w node = ap (λ (l : Label). l.parent) is in (
@@ -29,7 +29,7 @@ module _ {K : Type 0} (value : K → ℕ) (greatest : ℕ) where
       )
 
   -- a row whose cost is not
-  pub starts_not : (w : Wave) (node : ℕ) (row : Row K) → label_of value greatest row ≡ label_at w node → 0 < value row.cost → IsOrigin w node → ⊥
+  pub starts_not : (w : Wave) (node : ℕ) (row : LabelRow K) → label_of value greatest row ≡ label_at w node → 0 < value row.cost → IsOrigin w node → ⊥
   starts_not w node row is some o =
       let cost : widened greatest (value row.cost) ≡ 0 = ap (λ (l : Label). l.cost) is ∙ o.0 in
       elim (cases_lt (value row.cost) greatest) [

@@ -6,7 +6,7 @@ use Rattle.std.proofs.Math.Seq.{take-suc}
 use Rattle.std.proofs.lemmas.Bool.{eqb-true}
 use Rattle.std.proofs.lemmas.List.{append-nil, append_assoc}
 use Rattle.vpr_text.specs.Words.{Line, no_line, words_at}
-use Rattle.net_file.specs.declared.parts.BlockKind.{BlockKind}
+use Rattle.net_file.specs.declared.terminal.BlockKind.{BlockKind}
 use Rattle.net_file.specs.Judge.{pin_count, first_fault, stands, is_bad_line, is_bad_count, is_double, fault_of_next}
 use Rattle.net_file.specs.Lines.{kind_at, is_pinlist, opened, latest}
 use Rattle.net_file.specs.Reads.{AreAccepted}

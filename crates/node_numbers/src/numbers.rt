@@ -4,7 +4,7 @@ ghost use Rattle.std.specs.Prelude.{◌≡◌, ℕ, ◌^◌, ◌<◌, ◌≤◌,
 ghost use Rattle.std.specs.Option.{option_map};
 ghost use Rattle.node_numbers.specs.Nodes.{node_count_of, node_at, kind_of_node, is_wire_at, number_of, label_of, capacity_of, span_of, wire_in};
 
-use crate::block::{Block, block_of};
+use crate::block::{BlockNumbers, block_of};
 use crate::nodes::{label_of, span_of, terminal_capacity, wire_capacity};
 use crate::starts::{Starts, starts_of};
 use crate::strides::{Strides, strides_of};
@@ -17,7 +17,7 @@ use std::marker::Model;
 #[derive(Drop)]
 pub struct NodeNumbers {
     pub(crate) tables: ChannelTables,
-    pub(crate) block: Block,
+    pub(crate) block: BlockNumbers,
     pub(crate) starts: Starts,
     pub(crate) strides: Strides,
 }

@@ -7,7 +7,7 @@ ghost use Rattle.node_numbers.specs.Numbering.{is_terminal};
 ghost use Rattle.node_numbers.specs.kept.Columns.{terminals_length};
 ghost use Rattle.node_numbers.specs.kept.Numbers.{IsBlock, IsStarts};
 
-use crate::block::{Block, numbers};
+use crate::block::{BlockNumbers, numbers};
 use channel_tables::{ChannelTables, Kind, Layout};
 
 /// How many nodes stand before those of each kind, and how many there are.
@@ -35,7 +35,7 @@ fn terminal_count(layout: &Layout, count: usize) -> u32
 
 /// How many nodes there are of a kind of terminals or pins.
 #[tactic(auto, using(crate::proofs::PlaceStarts::few_numbers, crate::proofs::PlaceStarts::terminal_length))]
-fn terminals_of(tables: &ChannelTables, block: &Block, kind: Kind) -> u32
+fn terminals_of(tables: &ChannelTables, block: &BlockNumbers, kind: Kind) -> u32
     requires terminal { is_terminal kind ≡ true }
     requires block { IsBlock tables.now block.now }
     ensures count { result ≡ kind_length tables.now kind }
@@ -67,7 +67,7 @@ fn wires_right(tables: &ChannelTables) -> u32
 
 /// How many nodes stand before those of each kind, and how many there are.
 #[tactic(auto, unfolding(crate::specs::Starts::kind_start))]
-pub(crate) fn starts_of(tables: &ChannelTables, block: &Block) -> Starts
+pub(crate) fn starts_of(tables: &ChannelTables, block: &BlockNumbers) -> Starts
     requires { IsBlock tables.now block.now }
     ensures { IsStarts tables.now result }
 {

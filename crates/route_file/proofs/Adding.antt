@@ -11,7 +11,7 @@ use Rattle.rr_graph.specs.Fabric.{Fabric}
 use Rattle.rr_graph.specs.Nodes.{node_count_of}
 use Rattle.route_tree.specs.Legality.{is_among}
 use Rattle.route_tree.specs.Paths.{Pair}
-use Rattle.route_file.specs.declared.entry.Entry.{Entry}
+use Rattle.route_file.specs.declared.entry.FileEntry.{FileEntry}
 use Rattle.route_file.specs.declared.seen.Seen.{Seen}
 use Rattle.route_file.specs.Judge.{is_detached, judge}
 use Rattle.route_file.specs.NetLine.{is_net_line, is_global_at, net_on}
@@ -264,7 +264,7 @@ module _ (netlist : Netlist) (f : Fabric) (before : List Line) (l : Line) where
   global_apart : (n : ℕ) → is_global_at netlist n ≡ true → is_routed_at netlist n ≡ false
   global_apart n e = rw e refl
 
-  added_by : (old new : Seen) (e : Entry) (t : Bool) → IsSeen netlist f before old → is_net_line l ≡ t → judge netlist f before l ≡ Ok e → Notes f old new e → IsSeen netlist f now new
+  added_by : (old new : Seen) (e : FileEntry) (t : Bool) → IsSeen netlist f before old → is_net_line l ≡ t → judge netlist f before l ≡ Ok e → Notes f old new e → IsSeen netlist f now new
   unfolding judge
   added_by old new e true seen is ok notes =
       net_is netlist (had_line netlist before) l.number l.words e (rw is at ok)
@@ -276,5 +276,5 @@ module _ (netlist : Netlist) (f : Fabric) (before : List Line) (l : Line) where
       subst (IsSeen netlist f now) (sym same) (block_kept old n seen is at (global_apart n global)))
       (λ n a at routed node within entry. node_added old new n a seen (record { is = is; at = at; routed = routed; node = node; within = within }) (subst (Notes f old new) entry notes))
 
-  pub line_added : (old new : Seen) (e : Entry) → IsSeen netlist f before old → judge netlist f before l ≡ Ok e → Notes f old new e → IsSeen netlist f now new
+  pub line_added : (old new : Seen) (e : FileEntry) → IsSeen netlist f before old → judge netlist f before l ≡ Ok e → Notes f old new e → IsSeen netlist f now new
   line_added old new e seen ok notes = added_by old new e (is_net_line l) seen refl ok notes

@@ -9,7 +9,7 @@ use Rattle.net_file.specs.Netlist.{Netlist}
 use Rattle.net_file.specs.Routed.{is_routed_at}
 use Rattle.rr_graph.specs.Fabric.{Fabric}
 use Rattle.route_tree.specs.Paths.{Pair}
-use Rattle.route_file.specs.declared.entry.Entry.TheVariants as entry
+use Rattle.route_file.specs.declared.entry.FileEntry.TheVariants as entry
 use Rattle.route_file.specs.declared.fault.RouteFileFault.TheVariants.{BadLine}
 use Rattle.route_file.specs.declared.node_line.NodeText.{NodeText}
 use Rattle.route_file.specs.NetLine.{is_net_line, is_plain_form, is_global_form, is_global_at, net_on}

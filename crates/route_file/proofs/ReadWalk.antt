@@ -7,7 +7,7 @@ use Rattle.vpr_text.specs.Words.{Line, has_words}
 use Rattle.line_reader.specs.Word.{is_text}
 use Rattle.net_file.specs.Netlist.{Netlist, Net}
 use Rattle.net_file.specs.Routed.{no_net, is_routed_at}
-use Rattle.net_file.specs.declared.parts.Terminal.{Terminal}
+use Rattle.net_file.specs.declared.terminal.Terminal.{Terminal}
 use Rattle.place_file.specs.Placement.{Placement}
 use Rattle.rr_graph.specs.parts.Kind.{Kind}
 use Rattle.rr_graph.specs.parts.Kind.TheVariants as kind

@@ -5,7 +5,7 @@ ghost use Rattle.route_file.specs.Judge.{net_entry, block_entry, node_entry, sec
 ghost use Rattle.route_file.specs.NetLine.{is_net_words, is_plain_form, is_global_form};
 ghost use Rattle.route_file.specs.kept.LinesSeen.{had_net, is_off, entry_after};
 
-use crate::entry::Entry;
+use crate::entry::FileEntry;
 use crate::fault::RouteFileFault;
 use crate::net_line::{is_global_at, is_global_form, is_plain_form, is_routed_at, net_on};
 use crate::node_line::{node_reported, text_of};
@@ -28,7 +28,7 @@ fn net_entry(
     netlist: &Netlist,
     line: u32,
     words: &Words,
-) -> Result<Entry, RouteFileFault>
+) -> Result<FileEntry, RouteFileFault>
     ensures { result ≡ net_entry netlist.now (had_net seen.now) line words.now }
 {
     if !is_net_form(words) {
@@ -40,15 +40,15 @@ fn net_entry(
     if seen.had(net) {
         return Err(RouteFileFault::NetTwice(line));
     }
-    Ok(Entry::NetLine(net))
+    Ok(FileEntry::NetLine(net))
 }
 
 /// A line after that of a global net.
-fn block_entry(line: u32, words: &Words) -> Result<Entry, RouteFileFault>
+fn block_entry(line: u32, words: &Words) -> Result<FileEntry, RouteFileFault>
     ensures { result ≡ block_entry line words.now }
 {
     if words.is(0, "Block") {
-        Ok(Entry::BlockLine)
+        Ok(FileEntry::BlockLine)
     } else {
         Err(RouteFileFault::BadLine(line))
     }
@@ -62,7 +62,7 @@ fn node_entry(
     net: u32,
     line: u32,
     words: &Words,
-) -> Result<Entry, RouteFileFault>
+) -> Result<FileEntry, RouteFileFault>
     ensures { result ≡ node_entry device.now (is_off device.now seen.now net) line words.now }
 {
     let Some(text) = text_of(words) else {
@@ -74,7 +74,7 @@ fn node_entry(
     if seen.is_off(device, net, node) {
         return Err(RouteFileFault::Detached(line));
     }
-    Ok(Entry::NodeLine(node))
+    Ok(FileEntry::NodeLine(node))
 }
 
 /// A line of a net's section.
@@ -84,7 +84,7 @@ fn section_entry(
     device: &Device,
     line: u32,
     words: &Words,
-) -> Result<Entry, RouteFileFault>
+) -> Result<FileEntry, RouteFileFault>
     ensures { result ≡ section_entry netlist.now device.now (is_off device.now seen.now) line
         words.now seen.now.net }
 {
@@ -108,7 +108,7 @@ pub(crate) fn judge(
     device: &Device,
     line: u32,
     words: &Words,
-) -> Result<Entry, RouteFileFault>
+) -> Result<FileEntry, RouteFileFault>
     ensures { result ≡ entry_after netlist.now device.now seen.now line words.now }
 {
     if words.is(0, "Net") {

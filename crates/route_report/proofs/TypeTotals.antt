@@ -8,7 +8,7 @@ use Rattle.std.proofs.lemmas.List.{take_all}
 use Rattle.std.proofs.lemmas.List.Sums.{fails_before_first, get_or-le-sum_by}
 use Rattle.std.proofs.lemmas.List.FromFn.{get_or-range_with_len}
 use native.Mathlib.Nat.{mul-lt-mul_of_pos_right}
-use Rattle.arch_file.specs.declared.parts.Segment.{Segment}
+use Rattle.arch_file.specs.declared.entries.Segment.{Segment}
 use Rattle.routing_problem.specs.parts.Kind.{Kind}
 use Rattle.routing_problem.specs.parts.Kind.TheVariants.{Source, Sink, Opin, Ipin, Chanx, Chany}
 use Rattle.routing_problem.specs.parts.Node.{Node}

@@ -2,7 +2,7 @@
 use Rattle.std.proofs.Common.{◌≡◌, ℕ, ◌+◌, ◌<◌, ◌≤◌, false, List, length, take, map, ◌++◌, ◌∷◌, [], get_or, sym, ap, ◌∙◌, arith}
 use Rattle.std.specs.List.{sum_by}
 use Rattle.std.proofs.lemmas.List.{take_all}
-use Rattle.arch_file.specs.declared.parts.Segment.{Segment}
+use Rattle.arch_file.specs.declared.entries.Segment.{Segment}
 use Rattle.routing_problem.specs.Fabric.{numbers_below}
 use Rattle.routing_problem.specs.Wires.{weight_in, weight_of_first, reaches, type_of}
 use Rattle.routing_problem.proofs.Ranges.{first_below, length_below, get_below, mapped_next}

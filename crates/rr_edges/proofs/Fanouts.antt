@@ -4,7 +4,7 @@ use Rattle.std.specs.List.{flat_map}
 use Rattle.std.proofs.lemmas.List.{length-map}
 use Rattle.std.proofs.lemmas.List.Concat.{flat_map_single}
 use Rattle.smallvec.specs.SmallVec.{SmallVec, HasRoomFor}
-use Rattle.rr_edges.specs.declared.fanout.Run.{Run}
+use Rattle.rr_edges.specs.declared.fanout.NumberRun.{NumberRun}
 use Rattle.rr_edges.specs.declared.fanout.Meeting.{Meeting}
 use Rattle.rr_edges.specs.declared.fanout.Taps.{Taps}
 use Rattle.rr_edges.specs.declared.fanout.RowFanout.{RowFanout}
@@ -25,7 +25,7 @@ by_place_length m count = length_even (λ k. map (number_in k) (runs_of m)) (len
 by_run_length : (m : Meeting) (count : ℕ) → length (by_run m count) ≡ count * length (runs_of m)
 by_run_length m count = of_runs (runs_of m)
   where
-    of_runs : (rs : List Run) → length (flat_map (run_list count) rs) ≡ count * length rs
+    of_runs : (rs : List NumberRun) → length (flat_map (run_list count) rs) ≡ count * length rs
     of_runs [] = omega arith
     of_runs (r ∷ rs) =
         omega (arith, length-append (run_list count r) (flat_map (run_list count) rs), length_below (λ k. number_in k r) count, of_runs rs)

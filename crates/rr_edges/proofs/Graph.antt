@@ -8,7 +8,7 @@ use Rattle.std.proofs.lemmas.Option.{slice_get_past, slice_get-get_or, same_Some
 use Rattle.std.proofs.lemmas.List.Elements.{All-contains, filter_passes, Contains-append_left, Contains-push}
 use Rattle.std.proofs.lemmas.List.Kept.{IsStrictlyIncreasing-filter}
 use Rattle.std.proofs.lemmas.List.FromFn.{length-range_with_len, get_or-range_with_len}
-use Rattle.channel_tables.specs.declared.parts.Node.{Node}
+use Rattle.channel_tables.specs.declared.node.Node.{Node}
 use Rattle.channel_tables.specs.Fabric.{Fabric, IsFabric, numbers_below}
 use Rattle.node_numbers.specs.Nodes.{nodes_of, node_count_of, node_at, number_of}
 use Rattle.rr_edges.specs.Edges.{edge_between_nodes, edge_between, successors_of}

@@ -2,10 +2,10 @@
 use Rattle.std.proofs.Common.{◌≡◌, ℕ, ◌+◌, ◌-◌, ◌*◌, ◌<◌, ◌≤◌, ◌⊎◌, Bool, true, false, length, map, zero, refl, sym, ap, ◌∙◌, arith}
 use Rattle.std.specs.Prelude.{◌==◌, if◌then◌else◌}
 use Rattle.std.proofs.lemmas.Bool.Decides.{nat_tests}
-use Rattle.arch_file.specs.declared.parts.Sides.{Sides}
+use Rattle.arch_file.specs.declared.entries.Sides.{Sides}
 use Rattle.channel_tables.specs.declared.channel.Wire.{Wire}
 use Rattle.rr_edges.specs.declared.fanout.Taps.{Taps}
-use Rattle.channel_tables.specs.declared.parts.Kind.TheVariants.{Chanx, Chany, Ipin}
+use Rattle.channel_tables.specs.declared.node.Kind.TheVariants.{Chanx, Chany, Ipin}
 use Rattle.channel_tables.specs.Fabric.{Fabric, is_between, is_block}
 use Rattle.channel_tables.specs.Wires.{begins, last_of}
 use Rattle.channel_tables.specs.Channels.{first_of, starting_at, wires_before, wire_number, wire_at}

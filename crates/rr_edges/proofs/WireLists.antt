@@ -3,11 +3,11 @@ use Rattle.std.proofs.Common.{◌≡◌, ℕ, ◌+◌, ◌-◌, ◌*◌, ◌<◌
 use Rattle.std.specs.List.{range_with_len, flat_map}
 use Rattle.std.proofs.lemmas.List.Folds.{flat_map-map}
 use Rattle.std.proofs.lemmas.Simd.{map-map}
-use Rattle.rr_edges.specs.declared.fanout.Run.{Run}
+use Rattle.rr_edges.specs.declared.fanout.NumberRun.{NumberRun}
 use Rattle.rr_edges.specs.declared.fanout.RowFanout.{RowFanout}
 use Rattle.rr_edges.specs.declared.fanout.ColumnFanout.{ColumnFanout}
-use Rattle.channel_tables.specs.declared.parts.Kind.TheVariants.{Chanx, Chany}
-use Rattle.channel_tables.specs.declared.parts.Node.{Node}
+use Rattle.channel_tables.specs.declared.node.Kind.TheVariants.{Chanx, Chany}
+use Rattle.channel_tables.specs.declared.node.Node.{Node}
 use Rattle.channel_tables.specs.Fabric.{Fabric, IsFabric, numbers_below}
 use Rattle.channel_tables.specs.Wires.{steps_of, last_of}
 use Rattle.node_numbers.specs.Nodes.{node_at}
@@ -32,7 +32,7 @@ module _ (f : Fabric) (t : ℕ) where
   columns_on : (q x k : ℕ) → x + k ≤ f.nx → number_in k (run_right f t x q) ≡ wire_id f Chany (x + k) q t
   columns_on q x k l = further _ x _ _ k _ (right_by_column f x q t (omega arith)) (right_by_column f (x + k) q t l)
 
-  crossing_at : (x k : ℕ) (rs : List Run) (qs : List ℕ) → x + k ≤ f.nx → rs ≡ map (run_right f t x) qs → map (number_in k) rs ≡ map (λ q. wire_id f Chany (x + k) q t) qs
+  crossing_at : (x k : ℕ) (rs : List NumberRun) (qs : List ℕ) → x + k ≤ f.nx → rs ≡ map (run_right f t x) qs → map (number_in k) rs ≡ map (λ q. wire_id f Chany (x + k) q t) qs
   crossing_at x k rs qs l e = ap (map (number_in k)) e ∙ map-map (number_in k) (run_right f t x) qs ∙ map_agree _ _ (λ q. columns_on q x k l) qs
 
   run_on : (q y n : ℕ) → ((k : ℕ) → k < n → y + k ≤ f.ny) → run_list n (run_above f t y q) ≡ map (λ r. wire_id f Chanx q r t) (range_with_len y n)

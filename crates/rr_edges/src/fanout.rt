@@ -20,7 +20,7 @@ pub(crate) struct Pair {
 
 /// Numbers at even distances.
 #[derive(Clone, Copy, Debug)]
-pub(crate) struct Run {
+pub(crate) struct NumberRun {
     pub(crate) first: u32,
     pub(crate) step: u32,
 }
@@ -28,8 +28,8 @@ pub(crate) struct Run {
 /// The wires of a track that meet at the corners of a row or column: one or two at each corner.
 #[derive(Clone, Copy, Debug)]
 pub(crate) struct Meeting {
-    pub(crate) one: Run,
-    pub(crate) two: Option<Run>,
+    pub(crate) one: NumberRun,
+    pub(crate) two: Option<NumberRun>,
 }
 
 /// The pins that tap a wire on one side of it.
@@ -97,7 +97,7 @@ impl Pair {
     }
 }
 
-impl Run {
+impl NumberRun {
     #[inline(always)]
     #[tactic(auto, using(crate::proofs::Pushes::room_mapped))]
     fn push(self, list: &mut SmallVec<u32, 8>, count: u32)
@@ -115,7 +115,7 @@ impl Run {
 
     /// The numbers of two runs, by turns.
     #[inline(always)]
-    fn push_with(self, other: Run, list: &mut SmallVec<u32, 8>, count: u32)
+    fn push_with(self, other: NumberRun, list: &mut SmallVec<u32, 8>, count: u32)
         requires room { HasRoomFor list.old (length
             (flat_map (λ k. number_in k self ∷ number_in k other ∷ []) (numbers_below count))) }
         requires small { IsSmallRun self }

@@ -15,7 +15,7 @@ ghost use Rattle.rr_edges.specs.kept.WireSuccessors.{pins_beside};
 ghost use Rattle.rr_edges.specs.kept.Fanouts.{numbers_of, runs_of, run_above, run_right, pins_of_row, pins_of_column, pins_at, row_list, column_list, row_wire_list, column_wire_list, IsSmallRun, IsSmallMeeting, IsSmallTaps, IsSmallRow, IsSmallColumn};
 
 use crate::device_graph::DeviceGraph;
-use crate::fanout::{ColumnFanout, Meeting, Pair, RowFanout, Run, Taps};
+use crate::fanout::{ColumnFanout, Meeting, NumberRun, Pair, RowFanout, Taps};
 use channel_tables::{Kind, Node, Side};
 use smallvec::SmallVec;
 use std::alloc::AllocError;
@@ -24,7 +24,7 @@ impl DeviceGraph {
     /// The wires of a track through place `x` above row `y` and the rows over it.
     #[inline(always)]
     #[tactic(auto, using(crate::proofs::WireFanouts::above_number, crate::proofs::WireFanouts::first_upto))]
-    pub(crate) fn run_above(&self, track: u32, x: u32, y: u32) -> Run
+    pub(crate) fn run_above(&self, track: u32, x: u32, y: u32) -> NumberRun
         requires place { (1 ≤ x) × (x ≤ self.now.nx) }
         requires row { y ≤ self.now.ny }
         requires track { track < tracks_in self.now.mode self.now.width }
@@ -35,7 +35,7 @@ impl DeviceGraph {
         let place = u32::from(wire.first);
         let step = self.tables().above_step(place);
         let row = self.ny() * self.tables().above_before(place) + u32::from(wire.number);
-        Run {
+        NumberRun {
             first: self.nodes.kind_start(Kind::Chanx) + row + y * step,
             step,
         }
@@ -44,7 +44,7 @@ impl DeviceGraph {
     /// The wires of a track through place `y` right of column `x` and the columns behind it.
     #[inline(always)]
     #[tactic(auto, using(crate::proofs::WireFanouts::right_number))]
-    pub(crate) fn run_right(&self, track: u32, x: u32, y: u32) -> Run
+    pub(crate) fn run_right(&self, track: u32, x: u32, y: u32) -> NumberRun
         requires place { (1 ≤ y) × (y ≤ self.now.ny) }
         requires column { x ≤ self.now.nx }
         requires track { track < tracks_in self.now.mode self.now.width }
@@ -54,7 +54,7 @@ impl DeviceGraph {
         let _limits = self.nx();
         let step = self.tables().right_step();
         let number = u32::from(self.tables().wire_right(track, y).number);
-        Run {
+        NumberRun {
             first: self.nodes.kind_start(Kind::Chany) + number + x * step,
             step,
         }

@@ -7,9 +7,9 @@ use Rattle.std.proofs.lemmas.List.Sums.{prefix_len-le-length}
 use Rattle.std.proofs.lemmas.List.FromFn.{length-range_with_len}
 use Rattle.std.proofs.lemmas.Option.{slice_get_within, get_or_from_slice_get}
 use Rattle.arch_file.specs.Architecture.{IsSegmentLength}
-use Rattle.arch_file.specs.declared.parts.Segment.{Segment}
-use Rattle.arch_file.specs.declared.parts.SegmentLength.{SegmentLength}
-use Rattle.arch_file.specs.declared.parts.SegmentLength.TheVariants.{Places, Longline}
+use Rattle.arch_file.specs.declared.entries.Segment.{Segment}
+use Rattle.arch_file.specs.declared.entries.SegmentLength.{SegmentLength}
+use Rattle.arch_file.specs.declared.entries.SegmentLength.TheVariants.{Places, Longline}
 use Rattle.routing_problem.specs.parts.Kind.{Kind}
 use Rattle.routing_problem.specs.parts.Kind.TheVariants.{Source, Sink, Opin, Ipin, Chanx, Chany}
 use Rattle.routing_problem.specs.parts.Mode.{Mode}

@@ -3,7 +3,7 @@ use Rattle.std.proofs.Common.{◌≡◌, ℕ, ◌+◌, ◌-◌, ◌≤◌, Bool,
 use Rattle.std.specs.Prelude.{slice_get}
 use Rattle.std.specs.List.{list_any}
 use Rattle.std.proofs.lemmas.Bool.{cases_Bool, eqb-true, leb-true, false≢true}
-use Rattle.arch_file.specs.declared.parts.Pin.{Pin}
+use Rattle.arch_file.specs.declared.entries.Pin.{Pin}
 use Rattle.routing_problem.specs.parts.Kind.{Kind}
 use Rattle.routing_problem.specs.parts.Kind.TheVariants.{Chanx, Chany}
 use Rattle.routing_problem.specs.parts.Node.{Node}

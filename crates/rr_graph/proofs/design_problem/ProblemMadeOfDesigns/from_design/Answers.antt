@@ -1,5 +1,5 @@
 use Rattle.rr_graph.proofs.DevicesMade.{suits_read}
-use Rattle.rr_graph.proofs.making.ProblemMadeOfDesigns.from_design.Goals as goal
+use Rattle.rr_graph.proofs.design_problem.ProblemMadeOfDesigns.from_design.Goals as goal
 
 pub prove-unreachable-requires : goal.prove-unreachable-requires
 prove-unreachable-requires c =

@@ -1,7 +1,7 @@
 use Rattle.std.proofs.Common.{arith}
 use Rattle.rr_edges.specs.kept.Fanouts.{number_in}
 use Rattle.rr_edges.proofs.Pushes.{pushed_mapped}
-use Rattle.rr_edges.proofs.fanout.Run.push.Goals as goal
+use Rattle.rr_edges.proofs.fanout.NumberRun.push.Goals as goal
 
 pub loop-place-preserved : goal.loop-place-preserved
 loop-place-preserved c =

@@ -1,7 +1,7 @@
 use Rattle.std.proofs.Common.{[], ◌∷◌, length, refl, ap, arith, length-append}
 use Rattle.rr_edges.specs.kept.Fanouts.{number_in}
 use Rattle.rr_edges.proofs.Pushes.{pushed_two, room_more}
-use Rattle.rr_edges.proofs.fanout.Run.push_with.Goals as goal
+use Rattle.rr_edges.proofs.fanout.NumberRun.push_with.Goals as goal
 
 pub push_reserved-requires : goal.push_reserved-requires
 push_reserved-requires c =

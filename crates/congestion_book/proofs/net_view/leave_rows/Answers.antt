@@ -1,5 +1,5 @@
 use Rattle.congestion_book.proofs.Seeing.{used_next}
-use Rattle.congestion_book.proofs.showing.leave_rows.Goals as goal
+use Rattle.congestion_book.proofs.net_view.leave_rows.Goals as goal
 
 pub leave_node-requires-clause-used : goal.leave_node-requires-clause-used
 leave_node-requires-clause-used c =

@@ -6,7 +6,7 @@ ghost use Rattle.arch_file.specs.Same.{same_pin, same_segment, same_switch, is_s
 ghost use Rattle.arch_file.specs.SameLaws.{same_architecture_symmetric, same_architecture_equivalence};
 
 use crate::arch::Arch;
-use crate::parts::{Pin, Segment, Switch};
+use crate::entries::{Pin, Segment, Switch};
 
 fn are_same_pins(a: &[Pin], b: &[Pin]) -> bool
     ensures { result ≡ pointwise same_pin a.now b.now }

@@ -1,7 +1,7 @@
 use Rattle.std.proofs.Common.{◌≡◌, ◌+◌, ◌*◌, ◌≤◌}
 use Rattle.rr_edges.specs.kept.Fanouts.{number_in, run_list}
 use Rattle.rr_edges.specs.kept.Pushes.{Pushes}
-use Rattle.rr_edges.proofs.fanout.Run.push.Given as goal
+use Rattle.rr_edges.proofs.fanout.NumberRun.push.Given as goal
 
 abbrev pub invariant-loop-place : goal.invariant-loop-place
 invariant-loop-place l = record {

@@ -3,7 +3,7 @@ use Rattle.std.specs.List.{flat_map}
 use Rattle.channel_tables.specs.Fabric.{numbers_below}
 use Rattle.rr_edges.specs.kept.Fanouts.{number_in}
 use Rattle.rr_edges.specs.kept.Pushes.{Pushes}
-use Rattle.rr_edges.proofs.fanout.Run.push_with.Given as goal
+use Rattle.rr_edges.proofs.fanout.NumberRun.push_with.Given as goal
 
 abbrev pub invariant-loop-place : goal.invariant-loop-place
 invariant-loop-place l = record {

@@ -3,7 +3,7 @@ use Rattle.std.specs.Arc.{arc_value}
 use Rattle.node_cost.proofs.Views.{length_seen}
 use Rattle.route_tree.specs.TreeLists.{list_of_tree}
 use Rattle.congestion_book.proofs.Seeing.{sees_others}
-use Rattle.congestion_book.proofs.showing.show.Goals as goal
+use Rattle.congestion_book.proofs.net_view.show.Goals as goal
 
 pub leave_net-requires-clause-each : goal.leave_net-requires-clause-each
 leave_net-requires-clause-each c =

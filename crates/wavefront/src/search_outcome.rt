@@ -25,7 +25,7 @@ pub enum SearchFault {
 
 impl From<AllocError> for SearchFault {
     ghost use Rattle.std.specs.Prelude.{◌≡◌};
-    ghost use Rattle.wavefront.specs.declared.found.SearchFault.TheVariants.{Memory};
+    ghost use Rattle.wavefront.specs.declared.search_outcome.SearchFault.TheVariants.{Memory};
 
     ghost from_gives = { λ given fault. fault ≡ Memory };
 
