@@ -3,7 +3,6 @@ use Rattle.std.proofs.Common.{◌≡◌, Bool, true, false, cond, ◌&&◌, ◌|
 use Rattle.std.specs.Prelude.{find}
 use Rattle.std.specs.List.{list_any}
 use Rattle.arch_file.specs.declared.fault.Entry.{Entry}
-use Rattle.arch_file.specs.declared.line.ArchLine.{ArchLine}
 use Rattle.arch_file.specs.Faults.{first_fault}
 
 -- no test of a line found a fault
@@ -13,12 +12,12 @@ pub record IsFaultless (bad_number bad_word unsupported too_many : Bool) : Type 
   pub no_unsupported : unsupported ≡ false
   pub not_too_many : too_many ≡ false
 
-pub accepted : (n w u t : Bool) (x line : ArchLine) → first_fault n w u t x ≡ Ok line → IsFaultless n w u t × (x ≡ line)
-accepted true w u t x line e = absurd cc
-accepted false true u t x line e = absurd cc
-accepted false false true t x line e = absurd cc
-accepted false false false true x line e = absurd cc
-accepted false false false false x line e = (record { no_bad_number = refl; no_bad_word = refl; no_unsupported = refl; not_too_many = refl }, cc)
+pub accepted : {X : Type 0} (n w u t : Bool) (x said : X) → first_fault n w u t x ≡ Ok said → IsFaultless n w u t × (x ≡ said)
+accepted true w u t x said e = absurd cc
+accepted false true u t x said e = absurd cc
+accepted false false true t x said e = absurd cc
+accepted false false false true x said e = absurd cc
+accepted false false false false x said e = (record { no_bad_number = refl; no_bad_word = refl; no_unsupported = refl; not_too_many = refl }, cc)
 
 pub or_false : (a b : Bool) → (a || b) ≡ false → (a ≡ false) × (b ≡ false)
 or_false true b e = absurd cc

@@ -31,7 +31,7 @@ use Rattle.arch_file.specs.Reading.{at_number, entries_from, has_gap, missing_of
 use Rattle.vpr_text.specs.Readings.{◌>>=◌}
 use Rattle.arch_file.specs.SegmentLine.{segment_line, segment_in, length_in, is_unsupported, is_too_long, has_segment_keys, has_wire_keys, has_other_keys, has_wrong_value, is_wrong_value, is_wrong_length}
 use Rattle.arch_file.specs.SwitchLine.{switch_line, switch_in, repeats_switch, has_bad_number, has_switch_keys, is_buffer_word}
-use Rattle.arch_file.specs.Values.{pads_in, is_one, is_not_fixed, is_distribution, io_rat_line, chan_width_io_line, channel_line, number_line, fixed_line, switch_block_type_line, fc_type_line}
+use Rattle.arch_file.specs.Values.{pads_in, is_one, is_not_fixed, is_distribution, io_rat_line, chan_width_io_line, channel_line, number_line, fixed_value, switch_block_type_line, fc_type_line}
 use Rattle.arch_file.proofs.Directions.{HaveOneDirection, direction_in, one_direction_more, not_mixed}
 use Rattle.arch_file.proofs.Faultless.{accepted, or_false, or_true, and_false, and_true, not_false, passed, not_err, found_passes, found_fails}
 
@@ -207,9 +207,9 @@ number_suits : (before : List ArchLine) (words : List (List ℕ)) (given x : Arc
 unfolding number_line
 number_suits before words given x suits e = subst (Suits before) (accepted (has words 1 && is_none (number_in words 1)) (not (eqb (length words) 2)) false false given x e).1 suits
 
-fixed_suits : (before : List ArchLine) (words : List (List ℕ)) (given x : ArchLine) → Suits before given → fixed_line words given ≡ Ok x → Suits before x
-unfolding fixed_line
-fixed_suits before words given x suits e = subst (Suits before) (accepted (is_not_fixed words 1) (not (eqb (length words) 2)) false false given x e).1 suits
+value_suits : (before : List ArchLine) (make : ℕ → ArchLine) (r : Result ℕ LineFault) (x : ArchLine) → ((v : ℕ) → Suits before (make v)) → (r >>= λ v. Ok (make v)) ≡ Ok x → Suits before x
+value_suits before make (Ok v) x suits e = let is : make v ≡ x = cc in subst (Suits before) is (suits v)
+value_suits before make (Err f) x suits e = absurd cc
 
 -- the last of the faults of a line
 last_suits : (before : List ArchLine) (b : Bool) (given x : ArchLine) (f : LineFault) → Suits before given → cond b (Ok given) (Err f) ≡ Ok x → Suits before x
@@ -259,9 +259,9 @@ says_suits before words keyword.SubblocksPerClb x e = number_suits before words 
 says_suits before words keyword.SubblockLutSize x e = number_suits before words line.SubblockLutSize x tt e
 says_suits before words keyword.SwitchBlockType x e = switch_block_type_suits before words x e
 says_suits before words keyword.FcType x e = fc_type_suits before words x e
-says_suits before words keyword.FcOutput x e = fixed_suits before words (line.FcOutput (unwrap_or (fixed_in words 1) 0)) x tt e
-says_suits before words keyword.FcInput x e = fixed_suits before words (line.FcInput (unwrap_or (fixed_in words 1) 0)) x tt e
-says_suits before words keyword.FcPad x e = fixed_suits before words (line.FcPad (unwrap_or (fixed_in words 1) 0)) x tt e
+says_suits before words keyword.FcOutput x e = value_suits before (λ v. line.FcOutput v) (fixed_value words) x (λ v. tt) e
+says_suits before words keyword.FcInput x e = value_suits before (λ v. line.FcInput v) (fixed_value words) x (λ v. tt) e
+says_suits before words keyword.FcPad x e = value_suits before (λ v. line.FcPad v) (fixed_value words) x (λ v. tt) e
 says_suits before words keyword.Segment x e = segment_suits before words x e
 says_suits before words keyword.Switch x e = switch_suits before words x e
 

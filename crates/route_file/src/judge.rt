@@ -1,28 +1,21 @@
 //! A line, given what is kept of those before it.
 
-ghost use Rattle.std.specs.Prelude.{◌≡◌, ◌||◌};
+ghost use Rattle.std.specs.Prelude.{◌≡◌};
 ghost use Rattle.route_file.specs.Judge.{net_entry, block_entry, node_entry, section_entry};
-ghost use Rattle.route_file.specs.NetLine.{is_net_words, is_plain_form, is_global_form};
+ghost use Rattle.route_file.specs.NetLine.{is_net_words};
 ghost use Rattle.route_file.specs.kept.LinesSeen.{had_net, is_off, entry_after};
 
 use crate::entry::FileEntry;
 use crate::fault::RouteFileFault;
-use crate::net_line::{is_global_at, is_global_form, is_plain_form, is_routed_at, net_on};
+use crate::net_line::{heading_on, is_global_at, is_routed_at, net_on};
 use crate::node_line::{node_reported, text_of};
 use crate::seen::Seen;
 use line_reader::Words;
 use net_file::Netlist;
 use rr_graph::Device;
 
-/// Whether the line has a form of nets' lines.
-fn is_net_form(words: &Words) -> bool
-    ensures { result ≡ (is_plain_form words.now || is_global_form words.now) }
-{
-    is_plain_form(words) || is_global_form(words)
-}
-
 /// The line of a net.
-#[tactic(auto, unfolding(crate::specs::Judge::net_entry))]
+#[tactic(auto, unfolding(crate::specs::Judge::net_entry, crate::specs::NetLine::net_on))]
 fn net_entry(
     seen: &Seen,
     netlist: &Netlist,
@@ -31,10 +24,10 @@ fn net_entry(
 ) -> Result<FileEntry, RouteFileFault>
     ensures { result ≡ net_entry netlist.now (had_net seen.now) line words.now }
 {
-    if !is_net_form(words) {
+    let Some(heading) = heading_on(words) else {
         return Err(RouteFileFault::BadLine(line));
-    }
-    let Some(net) = net_on(netlist, words) else {
+    };
+    let Some(net) = net_on(netlist, heading) else {
         return Err(RouteFileFault::UnknownNet(line));
     };
     if seen.had(net) {
