@@ -17,7 +17,7 @@ use Rattle.node_cost.specs.Views.{NetView, others_in}
 use Rattle.congestion_book.specs.Looks.{fills, has_filled}
 use Rattle.congestion_book.specs.kept.Counts.{AreRecorded}
 use Rattle.congestion_book.specs.kept.Views.{filled_by}
-use Rattle.congestion_book.proofs.Counting.{room_is, no_room}
+use Rattle.route_report.proofs.Overusing.{room_is, no_room}
 
 -- a node that has a capacity is one of the device
 there : (f : Fabric) (a room : ℕ) (o : Option Node) → node_at f a ≡ o → Some room ≡ option_map (capacity_of f) o → a < node_count_of f

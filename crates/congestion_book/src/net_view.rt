@@ -67,7 +67,7 @@ fn leave_net(view: &mut View, problem: &Problem, net: u32, tree: &Option<Tree>)
 }
 
 /// The view becomes that of a net with this tree, or none, by these counts and histories.
-#[tactic(auto, using(crate::proofs::Seeing::used_there))]
+#[tactic(auto, using(node_cost::proofs::Views::others_at))]
 pub(crate) fn show(
     view: &mut View,
     problem: &Problem,

@@ -1,5 +1,5 @@
 -- A line judged by what is kept of those before it, and what a line without a fault is.
-use Rattle.std.proofs.Common.{◌≡◌, ℕ, ◌<◌, Bool, true, false, not, ◌&&◌, ◌||◌, cond, eqb, List, length, map, get_or, Option, Some, None, Result, Ok, Err, refl, sym, ap, subst, ◌∙◌}
+use Rattle.std.proofs.Common.{◌≡◌, ℕ, ◌<◌, Bool, true, false, not, ◌&&◌, ◌||◌, cond, eqb, List, length, map, get_or, Option, Some, None, Result, Ok, Err, refl, ap, subst, ◌∙◌}
 use Rattle.std.specs.List.{last_or}
 use Rattle.std.specs.Option.{option_map_or}
 use Rattle.std.proofs.lemmas.Bool.{eqb-true, eq-eqb}
@@ -8,6 +8,7 @@ use Rattle.vpr_text.specs.Words.{Line}
 use Rattle.line_reader.specs.Word.{is_at}
 use Rattle.std.specs.Prelude.{codes, option_and_then}
 use Rattle.std.proofs.lemmas.Option.{option_and_then_some, cond_some}
+use Rattle.std.specs.Cmp.{both_ways}
 use Rattle.net_file.specs.Names.{number_among}
 use Rattle.net_file.specs.Netlist.{Netlist}
 use Rattle.net_file.specs.Routed.{is_routed_at}
@@ -77,18 +78,13 @@ section_same netlist f off other line words None h = refl
 section_same netlist f off other line words (Some n) h =
     ap (λ r. cond (is_global_at netlist n) (block_entry line words) r) (routed_same f (off n) (other n) line words (is_routed_at netlist n) (h n refl))
 
-same_tests : (s t : Bool) → (s ≡ true → t ≡ true) → (t ≡ true → s ≡ true) → s ≡ t
-same_tests true t h g = sym (h refl)
-same_tests false true h g = g refl
-same_tests false false h g = refl
-
 off_same : (netlist : Netlist) (f : Fabric) (before : List Line) (seen : Seen) (n a : ℕ) → IsSeen netlist f before seen → latest netlist before ≡ Some n → is_routed_at netlist n ≡ true
     → is_off f seen n a ≡ is_detached f (nodes_in netlist f before n) a
 unfolding is_detached
 off_same netlist f before seen n a h e routed =
     let nodes = nodes_in netlist f before n in
     let owner = get_or seen.owners.items a no_owner in
-    let one : eqb owner n ≡ is_among nodes a = same_tests (eqb owner n) (is_among nodes a) (λ t. h.owned n a (h.opened n e).0 routed (eqb-true owner n t)) (λ t. eq-eqb owner n (h.owns n a e routed t)) in
+    let one : eqb owner n ≡ is_among nodes a = both_ways (eqb owner n) (is_among nodes a) (λ t. h.owned n a (h.opened n e).0 routed (eqb-true owner n t)) (λ t. eq-eqb owner n (h.owns n a e routed t)) in
     ap (λ last. option_map_or (is_sink f) last false && not (eqb owner n)) (h.last n e routed)
     ∙ ap (λ t. option_map_or (is_sink f) (last_or None nodes) false && not t) one
 

@@ -38,7 +38,7 @@ pairs_next f before pairs i d within =
     ap (λ (ps : List Pair). nodes_text f (nodes_after f before ps)) (drop_next pairs i d within)
     ∙ nodes_text-append f (nodes_for f before (get_or pairs i d)) (nodes_after f (Some (get_or pairs i d).1) (drop (i + 1) pairs))
 
-some_is : {A B : Type 0} (g : A → B) (o : Option A) (a : A) (b : B) → Some a ≡ o → Some b ≡ option_map g o → b ≡ g a
+pub some_is : {A B : Type 0} (g : A → B) (o : Option A) (a : A) (b : B) → Some a ≡ o → Some b ≡ option_map g o → b ≡ g a
 some_is {A} {B} g o a b e f =
     let h : Some b ≡ option_map g (Some a) = f ∙ ap (option_map g) (sym e) in cc
 

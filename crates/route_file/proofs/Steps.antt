@@ -1,9 +1,9 @@
 -- Reading line by line, as the loop does.
-use Rattle.std.proofs.Common.{◌≡◌, ℕ, ◌+◌, ◌<◌, ◌≤◌, List, [], ◌∷◌, length, get_or, take, drop, Option, Some, None, Result, Ok, Err, refl, sym, ap, subst, ◌∙◌, add-one, zero-add, arith}
+use Rattle.std.proofs.Common.{◌≡◌, ℕ, ◌+◌, ◌<◌, ◌≤◌, List, [], ◌∷◌, length, get_or, take, drop, Option, Some, None, Result, Ok, Err, refl, sym, ap, subst, ◌∙◌, add-one, zero-add}
 use Rattle.std.specs.List.{range_with_len}
 use Rattle.std.specs.Option.{option_or}
 use Rattle.std.proofs.Math.Seq.{drop-cons}
-use Rattle.std.proofs.lemmas.List.{drop_all, take_all, take_more, get_or-drop, ext_get_or, length-map}
+use Rattle.std.proofs.lemmas.List.{drop_all, take_all, take_more, ext_get_or, length-map}
 use Rattle.std.proofs.lemmas.List.FromFn.{length-range_with_len, get_or-map-range_with_len}
 use Rattle.vpr_text.specs.Words.{Line, no_line, number_at, words_at}
 use Rattle.net_file.specs.Netlist.{Netlist}
@@ -75,11 +75,3 @@ module _ (netlist : Netlist) (f : Fabric) (ls : List Line) where
 
 -- ---- the lines after the first two
 
-row_line : (lines : List Line) (row : ℕ) → get_or lines (row + 2) no_line ≡ get_or (drop 2 lines) row no_line
-row_line lines row = let e : row + 2 ≡ 2 + row = omega arith in rw e (sym (get_or-drop 2 lines row no_line))
-
-pub row_number : (lines : List Line) (row : ℕ) → number_at lines (row + 2) ≡ number_at (drop 2 lines) row
-row_number lines row = ap (λ l. l.number) (row_line lines row)
-
-pub row_words : (lines : List Line) (row : ℕ) → words_at lines (row + 2) ≡ words_at (drop 2 lines) row
-row_words lines row = ap (λ l. l.words) (row_line lines row)

@@ -71,7 +71,7 @@ small_base_in : (o : Option Kind) → option_map_or base_cost o 0 ≤ 20
 small_base_in None = omega arith
 small_base_in (Some k) = small_base k
 
-product_positive : (a b : ℕ) → 1 ≤ a → 1 ≤ b → 0 < a * b
+pub product_positive : (a b : ℕ) → 1 ≤ a → 1 ≤ b → 0 < a * b
 product_positive a b h g = let p : 1 * 1 ≤ a * b = mul-le-mul h g in omega (arith, p)
 
 dear_kind : (k : Kind) → is_sink_kind k ≡ false → 1 ≤ base_cost k

@@ -61,7 +61,7 @@ wire_costs Sink e = absurd (false≢true e)
 wire_costs Opin e = absurd (false≢true e)
 wire_costs Ipin e = absurd (false≢true e)
 
-wire_no_sink : (k : Kind) → is_wire k ≡ true → is_sink_kind k ≡ true → ⊥
+pub wire_no_sink : (k : Kind) → is_wire k ≡ true → is_sink_kind k ≡ true → ⊥
 wire_no_sink Chanx e h = false≢true h
 wire_no_sink Chany e h = false≢true h
 wire_no_sink Source e h = false≢true e

@@ -2,8 +2,9 @@ use Rattle.std.proofs.Common.{◌<◌, ◌≤◌, length, drop, Ok, sym, ap, ◌
 use Rattle.std.proofs.lemmas.List.{length-drop}
 use Rattle.vpr_text.specs.Readings.{unless_faulty}
 use Rattle.route_file.specs.kept.LinesSeen.{lists_by_net}
-use Rattle.route_file.proofs.Steps.{row_number, row_words, stepped, refused, ended}
+use Rattle.route_file.proofs.Steps.{stepped, refused, ended}
 use Rattle.route_file.proofs.reading.lists_by_net.Goals as goal
+use Rattle.line_reader.proofs.Rows.{row_number, row_words}
 
 pub returns-in-Err : goal.returns-in-Err
 returns-in-Err c =
