@@ -123,7 +123,8 @@ impl Arch {
 
     /// A copy of this architecture.
     pub fn copy(&self, alloc: Global) -> Result<Arch, AllocError>
-        ensures { IfOk result (λ a. a ≡ self.now) }
+        ensures copy { IfOk result (λ a. a ≡ self.now) }
+        ensures limits { IfOk result IsWithinLimits }
     {
         Ok(Arch {
             io_rat: self.io_rat,

@@ -70,9 +70,9 @@ impl Layout {
             }) }
         ensures limits { IfOk result IsFabric }
     {
-        let _limits = arch.io_rat();
+        let arch = arch.copy(alloc)?;
         Ok(Layout {
-            arch: arch.copy(alloc)?,
+            arch,
             nx,
             ny,
             width,
@@ -90,7 +90,8 @@ impl Layout {
 
     /// The architecture.
     pub fn architecture(&self) -> &Arch
-        ensures { result.now ≡ self.now.architecture }
+        ensures architecture { result.now ≡ self.now.architecture }
+        ensures limits { IsFabric self.now }
     {
         &self.arch
     }

@@ -92,7 +92,8 @@ impl ChannelTables {
 
     /// What the device is made from.
     pub fn layout(&self) -> &Layout
-        ensures { result.now ≡ self.now }
+        ensures layout { result.now ≡ self.now }
+        ensures limits { IsFabric self.now }
     {
         &self.layout
     }
@@ -139,8 +140,9 @@ impl ChannelTables {
         ensures step { result ≡ length (starting_at self.now self.now.nx x) }
         ensures few { result ≤ 25856 }
     {
-        let _ = &self.layout;
-        self.above_before(x + 1) - self.above_before(x)
+        let nx = self.layout.nx();
+        self.layout.wires_before(&self.rows, nx, x + 1)
+            - self.layout.wires_before(&self.rows, nx, x)
     }
 
     /// How many wires a channel right of a column has: so much greater is the number of a wire one column on.

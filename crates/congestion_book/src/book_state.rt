@@ -100,9 +100,7 @@ impl Book {
     pub fn excess(&self) -> u64
         ensures { result ≡ excess_in self.now.problem self.now.lists }
     {
-        let device = self.problem.device();
-        let _limits = device.nx();
-        self.routes.usage.total_excess(device)
+        self.routes.usage.total_excess(self.problem.device())
     }
 
     /// The wirelength of all nets together: the places of all wires that each covers, each wire

@@ -36,9 +36,7 @@ fn length_of_rows(problem: &Problem, net: u32, rows: &[Row]) -> u64
     requires route { IsRoute problem.now net (pairs_of rows.now) }
     ensures { result ≡ length_by problem.now net (Some (pairs_of rows.now)) }
 {
-    let device = problem.device();
-    let _limits = device.nx();
-    places_of(device, rows)
+    places_of(problem.device(), rows)
 }
 
 /// The wirelength of a net with this tree, or none.
@@ -62,8 +60,7 @@ impl Routes {
         ensures exact { result ≡ wirelength_of problem.now (lists_kept self.now) net }
         ensures short { result ≤ 2 ^ 40 }
     {
-        let device = problem.device();
-        let _limits = (device.nx(), problem.nets());
+        let _limits = (problem.device(), problem.nets());
         let tree = &self.trees[net as usize];
         length_of(problem, net, tree)
     }

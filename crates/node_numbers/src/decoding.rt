@@ -89,7 +89,6 @@ fn side_row_found(layout: &Layout, rest: u32) -> LinePlace
     ensures before { (result.line - 1) * layout.now.architecture.io_rat + result.rest ≡ rest }
     ensures rest { result.rest < layout.now.architecture.io_rat }
 {
-    let _limits = layout.ny();
     let pads = layout.architecture().io_rat();
     LinePlace {
         line: rest / pads + 1,

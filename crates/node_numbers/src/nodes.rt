@@ -25,7 +25,6 @@ pub(crate) fn label_of(layout: &Layout, node: Node) -> Label
 pub(crate) fn terminal_capacity(layout: &Layout, node: Node) -> u32
     ensures { result ≡ terminal_capacity layout.now node }
 {
-    let _limits = layout.nx();
     if layout.is_block(node.x, node.y) {
         layout.architecture().class_size(node.number) as u32
     } else {

@@ -38,9 +38,9 @@ impl Model for NodeNumbers {
 impl NodeNumbers {
     /// The numbers of a device's nodes, from its tables.
     pub fn new(alloc: Global, tables: ChannelTables) -> Result<NodeNumbers, AllocError>
-        ensures { IfOk result (λ n. n ≡ tables) }
+        ensures made { IfOk result (λ n. n ≡ tables) }
+        ensures limits { IfOk result IsFabric }
     {
-        let _limits = tables.layout().nx();
         let block = block_of(alloc, tables.layout())?;
         let starts = starts_of(&tables, &block);
         let strides = strides_of(alloc, &tables)?;
@@ -62,7 +62,8 @@ impl NodeNumbers {
     /// The tables of the device's channels and pins.
     #[inline(always)]
     pub fn tables(&self) -> &ChannelTables
-        ensures { result.now ≡ self.now }
+        ensures tables { result.now ≡ self.now }
+        ensures limits { IsFabric self.now }
     {
         &self.tables
     }
@@ -70,7 +71,8 @@ impl NodeNumbers {
     /// What the device is made from.
     #[inline(always)]
     pub fn layout(&self) -> &Layout
-        ensures { result.now ≡ self.now }
+        ensures layout { result.now ≡ self.now }
+        ensures limits { IsFabric self.now }
     {
         self.tables.layout()
     }

@@ -42,7 +42,6 @@ fn terminals_of(tables: &ChannelTables, block: &BlockNumbers, kind: Kind) -> u32
     ensures few { result ≤ 1000000 }
 {
     let layout = tables.layout();
-    let _limits = layout.nx();
     terminal_count(layout, numbers(layout, block, kind).len())
 }
 

@@ -227,4 +227,3 @@ header_fit io_rat lines few e =
 pub no_rows : (blocks : List Block) (sites : List (Option Site)) (n : ℕ) → n ≡ length blocks → sites ≡ map (λ _. None) (range_with_len 0 n) → sites ≡ sites_in blocks []
 unfolding sites_in site_in
 no_rows blocks sites n count e = e ∙ ap (λ k. map (λ _. None) (range_with_len 0 k)) count
-

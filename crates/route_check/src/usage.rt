@@ -95,10 +95,10 @@ fn excess(device: &Device, counts: &[u16], node: u32) -> u32
 
 /// The least node whose count is above its capacity.
 fn least_overused(device: &Device, counts: &[u16]) -> Option<RouteFault>
-    requires { length counts.now ≡ node_count_of device.now }
+    requires limits { IsFabric device.now }
+    requires each { length counts.now ≡ node_count_of device.now }
     ensures { TellsExcess device.now counts.now result }
 {
-    let _limits = device.nx();
     for node in 0..device.node_count() {
         let by = excess(device, counts, node);
         if by > 0 {

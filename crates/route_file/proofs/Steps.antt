@@ -74,4 +74,3 @@ module _ (netlist : Netlist) (f : Fabric) (ls : List Line) where
       )
 
 -- ---- the lines after the first two
-

@@ -19,24 +19,16 @@ fn places_along(span: Span) -> u64
     u64::from(span.x2.saturating_sub(span.x1)) + u64::from(span.y2.saturating_sub(span.y1)) + 1
 }
 
-#[tactic(auto, unfolding(crate::specs::Wirelength::places_at))]
-fn places_of_wire(device: &Device, node: u32) -> u64
-    ensures { result ≡ places_at device.now node }
+/// How many places a node's wire passes; none where the node is no wire.
+#[tactic(auto, using(crate::proofs::Lengths::places_few), unfolding(crate::specs::Wirelength::places_at))]
+pub fn places_at(device: &Device, node: u32) -> u64
+    ensures places { result ≡ places_at device.now node }
+    ensures few { result ≤ 128 }
 {
     match device.wire(node) {
         Some((_, span, _)) => places_along(span),
         None => 0,
     }
-}
-
-/// How many places a node's wire passes; none where the node is no wire.
-#[tactic(auto, using(crate::proofs::Lengths::places_few))]
-pub fn places_at(device: &Device, node: u32) -> u64
-    ensures places { result ≡ places_at device.now node }
-    ensures few { result ≤ 128 }
-{
-    let _limits = device.nx();
-    places_of_wire(device, node)
 }
 
 /// The places of the wires among these nodes.
@@ -63,7 +55,6 @@ fn wirelength(
     ensures { IfOk result (λ places. places ≡ wirelength_of problem.now lists.now net) }
 {
     let device = problem.device();
-    let _limits = device.nx();
     let nodes = nodes_covered(alloc, problem, lists, net)?;
     Ok(places_of(device, &nodes))
 }

@@ -1,6 +1,6 @@
 //! The successors of a node, from its place by arithmetic.
 
-ghost use Rattle.std.specs.Prelude.{◌≡◌, OnOk, OnErr, IsOk, ℕ, ◌+◌, ◌<◌, ◌≤◌, ◌⊎◌, ◌++◌, true, length, map};
+ghost use Rattle.std.specs.Prelude.{◌≡◌, OnOk, OnErr, IsOk, ℕ, ◌+◌, ◌<◌, ◌≤◌, ◌++◌, true, length, map};
 ghost use Rattle.arch_file.specs.Architecture.{most_pins};
 ghost use Rattle.smallvec.specs.SmallVec.{HasRoomFor};
 ghost use Rattle.channel_tables.specs.Fabric.{IsFabric};
@@ -9,10 +9,11 @@ ghost use Rattle.rr_edges.specs.kept.NodeSuccessors.{node_successors, IsAtPlace}
 ghost use Rattle.channel_tables.specs.Wires.{tracks_in, begins, last_of};
 ghost use Rattle.channel_tables.specs.Channels.{first_of};
 ghost use Rattle.rr_edges.specs.kept.Channels.{meeting_of, beside_of};
+ghost use Rattle.node_numbers.specs.Numbering.{block_numbers};
 ghost use Rattle.node_numbers.specs.Starts.{place_start};
 ghost use Rattle.node_numbers.specs.kept.WireIds.{wire_id};
 ghost use Rattle.rr_edges.specs.kept.WireSuccessors.{pins_beside};
-ghost use Rattle.rr_edges.specs.kept.Fanouts.{numbers_of, runs_of, run_above, run_right, pins_of_row, pins_of_column, pins_at, row_list, column_list, row_wire_list, column_wire_list, IsSmallRun, IsSmallMeeting, IsSmallTaps, IsSmallRow, IsSmallColumn};
+ghost use Rattle.rr_edges.specs.kept.Fanouts.{numbers_of, runs_of, run_above, run_right, pins_of_column, pins_at, row_list, column_list, row_wire_list, column_wire_list, IsSmallRun, IsSmallMeeting, IsSmallTaps, IsSmallRow, IsSmallColumn};
 
 use crate::device_graph::DeviceGraph;
 use crate::fanout::{ColumnFanout, Meeting, NumberRun, Pair, RowFanout, Taps};
@@ -51,7 +52,6 @@ impl DeviceGraph {
         ensures run { result ≡ run_right self.now track x (first_of self.now self.now.ny track y) }
         ensures small { IsSmallRun result }
     {
-        let _limits = self.nx();
         let step = self.tables().right_step();
         let number = u32::from(self.tables().wire_right(track, y).number);
         NumberRun {
@@ -212,7 +212,6 @@ impl DeviceGraph {
         ensures start { result ≡ place_start self.now Kind.Ipin x y }
         ensures few { result < 16777216 }
     {
-        let _limits = self.nx();
         let before = self.layout().architecture().io_rat()
             + (y - 1) * self.nodes.number_count(Kind::Ipin);
         self.column_start(x) + before
@@ -227,7 +226,6 @@ impl DeviceGraph {
         ensures start { result ≡ place_start self.now Kind.Ipin x y }
         ensures few { result < 16777216 }
     {
-        let _limits = self.nx();
         self.column_start(x) + (y - 1) * self.layout().architecture().io_rat()
     }
 
@@ -250,14 +248,12 @@ impl DeviceGraph {
 
     /// Those of the input pins of a column of blocks that stand at `places`, from the one of number `start` on.
     #[inline(always)]
-    #[tactic(auto, using(crate::proofs::WireFanouts::pins_by_blocks))]
-    fn taps_in_column<'a>(&self, places: &'a [u8], x: u32, start: u32) -> Taps<'a>
+    fn taps_in_column<'a>(&self, places: &'a [u8], start: u32) -> Taps<'a>
         requires few { length places.now ≤ most_pins }
         requires small { start < 16777216 }
-        requires column { (1 ≤ x) × (x ≤ self.now.nx) }
         ensures places { result.places.now ≡ places.now }
         ensures start { result.start ≡ start }
-        ensures step { result.step ≡ pins_of_row self.now x }
+        ensures step { result.step ≡ length (block_numbers self.now Kind.Ipin) }
         ensures small { IsSmallTaps result }
     {
         Taps {
@@ -269,17 +265,14 @@ impl DeviceGraph {
 
     /// Those of the input pads of a column beside the blocks that stand at `places`, from the one of number `start` on.
     #[inline(always)]
-    #[tactic(auto, using(crate::proofs::WireFanouts::pins_by_pads))]
-    fn taps_beside<'a>(&self, places: &'a [u8], x: u32, start: u32) -> Taps<'a>
+    fn taps_beside<'a>(&self, places: &'a [u8], start: u32) -> Taps<'a>
         requires few { length places.now ≤ most_pins }
         requires small { start < 16777216 }
-        requires column { (x ≡ 0) ⊎ (x ≡ self.now.nx + 1) }
         ensures places { result.places.now ≡ places.now }
         ensures start { result.start ≡ start }
-        ensures step { result.step ≡ pins_of_row self.now x }
+        ensures step { result.step ≡ self.now.architecture.io_rat }
         ensures small { IsSmallTaps result }
     {
-        let _limits = self.nx();
         Taps {
             places,
             start,
@@ -337,11 +330,10 @@ impl DeviceGraph {
     {
         if x == 0 {
             let start = self.nodes.terminal_start(Kind::Ipin, x, y);
-            return self.taps_beside(self.tables().tapping(Side::Pad, track), x, start);
+            return self.taps_beside(self.tables().tapping(Side::Pad, track), start);
         }
         self.taps_in_column(
             self.tables().tapping(Side::Right, track),
-            x,
             self.block_start(x, y),
         )
     }
@@ -358,10 +350,10 @@ impl DeviceGraph {
     {
         if x == self.nx() {
             let start = self.pad_start(x + 1, y);
-            return self.taps_beside(self.tables().tapping(Side::Pad, track), x + 1, start);
+            return self.taps_beside(self.tables().tapping(Side::Pad, track), start);
         }
         let start = self.block_start(x + 1, y);
-        self.taps_in_column(self.tables().tapping(Side::Left, track), x + 1, start)
+        self.taps_in_column(self.tables().tapping(Side::Left, track), start)
     }
 
     /// Where the wire of a track that begins at place `x` above a row ends.
@@ -374,7 +366,6 @@ impl DeviceGraph {
         ensures within { (x ≤ result) × (result ≤ self.now.nx) }
         ensures limits { IsFabric self.now }
     {
-        let _limits = self.nx();
         u32::from(self.tables().wire_above(track, x).last)
     }
 
@@ -388,7 +379,6 @@ impl DeviceGraph {
         ensures within { (y ≤ result) × (result ≤ self.now.ny) }
         ensures limits { IsFabric self.now }
     {
-        let _limits = self.ny();
         u32::from(self.tables().wire_right(track, y).last)
     }
 
