@@ -27,11 +27,11 @@ same_both a b = one_answer (bytes_eq a b) (bytes_eq b a) (bytes_eq-Decides a b) 
 
 -- ---- the place of a name
 
-position_is_any : (p : List ℕ → Bool) (k : ℕ) (names : List (List ℕ)) → is_some (position_from p k names) ≡ list_any p names
+pub position_is_any : {X : Type 0} (p : X → Bool) (k : ℕ) (xs : List X) → is_some (position_from p k xs) ≡ list_any p xs
 position_is_any p k [] = refl
 position_is_any p k (x ∷ xs) = one_more (p x) k (position_from p (k + 1) xs) (list_any p xs) (position_is_any p (k + 1) xs)
   where
-    pub one_more : (b : Bool) (k : ℕ) (r : Option ℕ) (c : Bool) → is_some r ≡ c → is_some (cond b (Some k) r) ≡ (b || c)
+    one_more : (b : Bool) (k : ℕ) (r : Option ℕ) (c : Bool) → is_some r ≡ c → is_some (cond b (Some k) r) ≡ (b || c)
     one_more true k r c e = refl
     one_more false k r c e = e
 
