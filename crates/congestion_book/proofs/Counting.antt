@@ -9,7 +9,7 @@ use Rattle.std.proofs.lemmas.Option.{slice_get_cases}
 use Rattle.std.proofs.lemmas.List.Sums.{sum_by-append, sum_by-cons, count_by-le-length}
 use Rattle.std.proofs.lemmas.List.FromFn.{length-range_with_len}
 use Rattle.routing_problem.specs.Fabric.{Fabric, IsFabric, numbers_below}
-use Rattle.routing_problem.specs.parts.Node.{Node}
+use Rattle.routing_problem.specs.node.Node.{Node}
 use Rattle.routing_problem.specs.Nodes.{node_at, nodes_of, node_count_of}
 use Rattle.routing_problem.proofs.Capacities.{some_capacity}
 use Rattle.routing_problem.proofs.Ranges.{below_next}

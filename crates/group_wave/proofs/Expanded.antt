@@ -4,7 +4,7 @@ use Rattle.std.specs.List.{list_any}
 use Rattle.std.specs.Int.{bit_at}
 use Rattle.std.proofs.lemmas.Bool.{eqb-true, false≢true, and_parts, or_cases}
 use Rattle.std.proofs.lemmas.List.Elements.{All-get_or}
-use Rattle.routing_problem.specs.parts.Kind.TheVariants.{Ipin}
+use Rattle.routing_problem.specs.node.Kind.TheVariants.{Ipin}
 use Rattle.routing_problem.specs.Nodes.{is_wire_at, kind_of_node}
 use Rattle.track_groups.specs.declared.group.Tap.{Tap}
 use Rattle.track_groups.specs.Groups.{IsOn, group_at, on_track, wire_on}

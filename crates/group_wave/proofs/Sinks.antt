@@ -2,7 +2,7 @@
 use Rattle.std.proofs.Common.{◌≡◌, ℕ, true, false, Option, Some, None, inl, inr, sym, ap, ◌∙◌, arith}
 use Rattle.std.specs.Option.{option_map, option_map_or}
 use Rattle.std.proofs.lemmas.Bool.{false≢true}
-use Rattle.routing_problem.specs.parts.Node.{Node}
+use Rattle.routing_problem.specs.node.Node.{Node}
 use Rattle.routing_problem.specs.Fabric.{Fabric}
 use Rattle.routing_problem.specs.Nodes.{node_at, is_wire, is_wire_at}
 use Rattle.routing_problem.specs.Problems.{any_node, is_sink, is_sink_kind}

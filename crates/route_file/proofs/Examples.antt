@@ -7,9 +7,9 @@ use Rattle.arch_file.specs.declared.entries.SegmentLength.TheVariants.{Places}
 use Rattle.net_file.specs.Netlist.{Netlist}
 use Rattle.net_file.specs.declared.terminal.BlockKind.TheVariants.{InputPad, LogicBlock}
 use Rattle.place_file.specs.Placement.{Placement}
-use Rattle.rr_graph.specs.parts.Kind.TheVariants.{Chanx}
-use Rattle.rr_graph.specs.parts.Label.TheVariants.{Track}
-use Rattle.rr_graph.specs.parts.Mode.TheVariants.{Detailed}
+use Rattle.rr_graph.specs.node.Kind.TheVariants.{Chanx}
+use Rattle.rr_graph.specs.node.Label.TheVariants.{Track}
+use Rattle.rr_graph.specs.node.Mode.TheVariants.{Detailed}
 use Rattle.rr_graph.specs.Fabric.{Fabric}
 use Rattle.rr_graph.specs.Problems.{is_sink}
 use Rattle.rr_graph.specs.Nodes.{nodes_of, numbers_at}

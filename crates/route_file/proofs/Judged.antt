@@ -15,8 +15,8 @@ use Rattle.net_file.specs.Routed.{is_routed_at}
 use Rattle.rr_graph.specs.Fabric.{Fabric}
 use Rattle.rr_graph.specs.Nodes.{nodes_of, node_count_of}
 use Rattle.rr_graph.specs.Problems.{is_sink}
-use Rattle.rr_graph.specs.parts.Kind.TheVariants.{Source}
-use Rattle.rr_graph.specs.parts.Node.{Node}
+use Rattle.rr_graph.specs.node.Kind.TheVariants.{Source}
+use Rattle.rr_graph.specs.node.Node.{Node}
 use Rattle.route_tree.specs.Legality.{is_among}
 use Rattle.route_file.specs.declared.entry.FileEntry.{FileEntry}
 use Rattle.route_file.specs.declared.entry.FileEntry.TheVariants.{NetLine, BlockLine, NodeLine}

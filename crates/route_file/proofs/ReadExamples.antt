@@ -5,8 +5,8 @@ use Rattle.vpr_text.specs.Words.{Line}
 use Rattle.line_reader.specs.Word.{is_text}
 use Rattle.net_file.specs.Names.{number_among}
 use Rattle.net_file.specs.Netlist.{Netlist, Net}
-use Rattle.rr_graph.specs.parts.Kind.TheVariants.{Ipin, Chanx}
-use Rattle.rr_graph.specs.parts.Label.TheVariants.{Pin, Track}
+use Rattle.rr_graph.specs.node.Kind.TheVariants.{Ipin, Chanx}
+use Rattle.rr_graph.specs.node.Label.TheVariants.{Pin, Track}
 use Rattle.route_file.specs.declared.entry.FileEntry.TheVariants.{NetLine}
 use Rattle.route_file.specs.declared.fault.RouteFileFault.TheVariants.{BadLine, UnknownNet, NetTwice}
 use Rattle.route_file.specs.Judge.{net_entry}

@@ -4,8 +4,8 @@ use Rattle.std.specs.Prelude.{nat_lt}
 use Rattle.std.specs.List.{list_any, list_all}
 use Rattle.std.proofs.lemmas.Bool.{false≢true, ltb-true, and_parts, or_parts, not-true}
 use Rattle.std.proofs.lemmas.Option.{slice_get-get_or}
-use Rattle.rr_graph.specs.parts.Kind.TheVariants.{Source}
-use Rattle.rr_graph.specs.parts.Node.{Node}
+use Rattle.rr_graph.specs.node.Kind.TheVariants.{Source}
+use Rattle.rr_graph.specs.node.Node.{Node}
 use Rattle.rr_graph.specs.Fabric.{Fabric, IsFabric}
 use Rattle.rr_graph.specs.Nodes.{nodes_of, node_at, node_count_of}
 use Rattle.rr_graph.specs.Problems.{Net, is_sink}

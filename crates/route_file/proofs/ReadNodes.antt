@@ -8,11 +8,11 @@ use Rattle.std.proofs.lemmas.List.Elements.{All-from_recursion}
 use Rattle.std.proofs.lemmas.List.Splits.{slice_split_at, slice_split_none}
 use Rattle.vpr_text.specs.Words.{is_filled}
 use Rattle.line_reader.specs.Word.{is_text}
-use Rattle.rr_graph.specs.parts.Kind.{Kind}
-use Rattle.rr_graph.specs.parts.Kind.TheVariants as kind
-use Rattle.rr_graph.specs.parts.Label.{Label}
-use Rattle.rr_graph.specs.parts.Label.TheVariants as label
-use Rattle.rr_graph.specs.parts.Span.{Span}
+use Rattle.rr_graph.specs.node.Kind.{Kind}
+use Rattle.rr_graph.specs.node.Kind.TheVariants as kind
+use Rattle.rr_graph.specs.node.Label.{Label}
+use Rattle.rr_graph.specs.node.Label.TheVariants as label
+use Rattle.rr_graph.specs.node.Span.{Span}
 use Rattle.rr_graph.specs.Nodes.{label_by}
 use Rattle.route_file.specs.TextLine.{NodeLine}
 use Rattle.text_output.specs.NodeTexts.{place_text, is_one_place}

@@ -15,7 +15,7 @@ use Rattle.std.proofs.lemmas.Option.{same_Some, none-some}
 use Rattle.std.proofs.lemmas.List.{append-nil, same_lists, get_or-map, length-map, length-set, get_or-set_same, get_or-set_other, get_or_default, get_or-take, length-take-le}
 use Rattle.std.proofs.lemmas.List.Elements.{All-head, All-tail}
 use Rattle.std.proofs.lemmas.List.Folds.{list_any_more, list_any_none}
-use Rattle.routing_problem.specs.parts.Node.{Node}
+use Rattle.routing_problem.specs.node.Node.{Node}
 use Rattle.routing_problem.specs.Fabric.{Fabric, numbers_below}
 use Rattle.routing_problem.specs.Nodes.{node_at, node_count_of, capacity_of}
 use Rattle.routing_problem.specs.Problems.{RoutingProblem, net_in}

@@ -10,9 +10,9 @@ use Rattle.std.proofs.lemmas.List.FromFn.{get_or-range_with_len}
 use Rattle.std.proofs.Math.Bool.{and-false, and-true}
 use native.Mathlib.Nat.{mul-lt-mul_of_pos_right}
 use Rattle.arch_file.specs.declared.entries.Segment.{Segment}
-use Rattle.routing_problem.specs.parts.Kind.{Kind}
-use Rattle.routing_problem.specs.parts.Kind.TheVariants.{Source, Sink, Opin, Ipin, Chanx, Chany}
-use Rattle.routing_problem.specs.parts.Node.{Node}
+use Rattle.routing_problem.specs.node.Kind.{Kind}
+use Rattle.routing_problem.specs.node.Kind.TheVariants.{Source, Sink, Opin, Ipin, Chanx, Chany}
+use Rattle.routing_problem.specs.node.Node.{Node}
 use Rattle.routing_problem.specs.Fabric.{Fabric, IsFabric, numbers_below}
 use Rattle.routing_problem.specs.Wires.{reach_of, total_frequency, weight_in, weight_of_first, reaches, type_of}
 use Rattle.routing_problem.specs.Nodes.{node_at, node_count_of, is_wire, is_wire_at, span_of, wire_in}

@@ -1,8 +1,8 @@
 -- A box inside another tells of no fewer wires.
 use Rattle.std.proofs.Common.{ℕ, ◌-◌, ◌≤◌, arith}
-use Rattle.routing_problem.specs.parts.Kind.{Kind}
-use Rattle.routing_problem.specs.parts.Kind.TheVariants.{Source, Sink, Opin, Ipin, Chanx, Chany}
-use Rattle.routing_problem.specs.parts.Span.{Span}
+use Rattle.routing_problem.specs.node.Kind.{Kind}
+use Rattle.routing_problem.specs.node.Kind.TheVariants.{Source, Sink, Opin, Ipin, Chanx, Chany}
+use Rattle.routing_problem.specs.node.Span.{Span}
 use Rattle.wavefront.specs.Boxes.{BoundingBox}
 use Rattle.wavefront.specs.kept.Bounds.{Wire, IsInsideBox, gap, wires_by_kind, wires_to}
 use Rattle.wavefront.proofs.WiresOver.{for_more}

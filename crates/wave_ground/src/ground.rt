@@ -1,7 +1,7 @@
 //! What the search of one net goes over.
 
 ghost use Rattle.std.specs.Prelude.{◌≡◌, ◌<◌, ◌≤◌, ◌+◌, ◌*◌, ◌^◌, ◌↔◌, ℕ, Contains, IfSome, OnOk, IsTrue, length, get_or, slice_index, true, [], Some};
-ghost use Rattle.routing_problem.specs.parts.Kind.TheVariants.{Ipin};
+ghost use Rattle.routing_problem.specs.node.Kind.TheVariants.{Ipin};
 ghost use Rattle.routing_problem.specs.Problems.{is_sink};
 ghost use Rattle.std.specs.List.Sorted.{IsStrictlyIncreasing};
 ghost use Rattle.std.specs.Option.{option_map_or};

@@ -1,8 +1,8 @@
 -- What each edge brings of the way to a sink.
 use Rattle.std.proofs.Common.{◌≡◌, ℕ, ◌+◌, ◌≤◌, true, ◌&&◌, ◌==◌, not, nat_le, sym, ◌∙◌, arith}
 use Rattle.std.proofs.lemmas.Bool.{eqb-true, leb-true, false≢true, and_parts}
-use Rattle.routing_problem.specs.parts.Kind.{Kind}
-use Rattle.routing_problem.specs.parts.Kind.TheVariants.{Chanx, Chany}
+use Rattle.routing_problem.specs.node.Kind.{Kind}
+use Rattle.routing_problem.specs.node.Kind.TheVariants.{Chanx, Chany}
 use Rattle.routing_problem.specs.Fabric.{Fabric, IsFabric}
 use Rattle.routing_problem.specs.Wires.{last_of}
 use Rattle.routing_problem.specs.Nodes.{node_of, is_wire, span_of}

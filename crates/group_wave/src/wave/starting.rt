@@ -1,7 +1,7 @@
 //! How a wave begins, and starts at the nodes of a tree.
 
 ghost use Rattle.std.specs.Prelude.{◌≡◌, ◌+◌, ◌*◌, ◌<◌, ◌≤◌, ◌↔◌, ℕ, [], get_or, slice_index, IsTrue, Some};
-ghost use Rattle.routing_problem.specs.parts.Kind.TheVariants.{Opin};
+ghost use Rattle.routing_problem.specs.node.Kind.TheVariants.{Opin};
 
 use super::relaxing::Offer;
 use super::{Wave, bound_over};
