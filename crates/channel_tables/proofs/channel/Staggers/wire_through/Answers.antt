@@ -7,7 +7,7 @@ use Rattle.channel_tables.specs.Wires.{tracks_in, begins}
 use Rattle.channel_tables.specs.Channels.{wire_at}
 use Rattle.channel_tables.specs.declared.channel.Wire.{Wire}
 use Rattle.channel_tables.proofs.WireTables.{wire_before}
-use Rattle.channel_tables.proofs.layout.Layout.wire_through.Goals as goal
+use Rattle.channel_tables.proofs.channel.Staggers.wire_through.Goals as goal
 
 later : (place : ℕ) (new : Bool) → 1 ≤ place → new ≡ false → (place ≡ 1 → new ≡ true) → 2 ≤ place
 later place new l e first = elim (cases_lt 1 place) [ inl m ↦ m | inr upto ↦ absurd (false≢true (sym e ∙ first (omega (arith, upto, l)))) ]
@@ -33,4 +33,4 @@ bounds-wires-place c =
 pub returns-else-begins_at : goal.returns-else-begins_at
 returns-else-begins_at c =
     let l = later c.args.place c.begins_at.result c.requires.place.0 c.if-begins_at.false c.begins_at.ensures.first in
-    read c.args.self.now c.args.places c.args.place c.tracks.result c.args.track c.args.wires.now _ c.tracks.ensures.tracks l (sym c.begins_at.ensures.begins ∙ c.if-begins_at.false) (c.requires.earlier l)
+    read c.args.self.now.layout.now c.args.self.now.places c.args.place c.tracks.result c.args.track c.args.wires.now _ c.tracks.ensures.tracks l (sym c.begins_at.ensures.begins ∙ c.if-begins_at.false) (c.requires.earlier l)
