@@ -2,6 +2,7 @@
 
 ghost use Rattle.std.specs.Prelude.{◌≡◌, ◌≤◌, length, IfOk};
 ghost use Rattle.arch_file.specs.Architecture.{most_pins};
+ghost use Rattle.channel_tables.specs.Fabric.{Fabric};
 ghost use Rattle.node_numbers.specs.Numbering.{block_numbers};
 ghost use Rattle.node_numbers.specs.kept.Numbers.{IsBlock};
 
@@ -33,9 +34,8 @@ pub(crate) fn block_of(alloc: Global, layout: &Layout) -> Result<BlockNumbers, A
 
 /// The numbers of the nodes of a kind at a block, at which no wire stands.
 #[tactic(auto, unfolding(crate::specs::Numbering::block_numbers))]
-pub(crate) fn numbers<'a>(layout: &Layout, block: &'a BlockNumbers, kind: Kind) -> &'a [u32]
-    requires { IsBlock layout.now block.now }
-    ensures { result.now ≡ block_numbers layout.now kind }
+pub(crate) fn numbers(block: &BlockNumbers, kind: Kind) -> &[u32]
+    ensures { (f : Fabric) → IsBlock f block.now → result.now ≡ block_numbers f kind }
 {
     match kind {
         Kind::Source => &block.sources,
@@ -54,5 +54,5 @@ pub(crate) fn count_at_block(layout: &Layout, block: &BlockNumbers, kind: Kind) 
     ensures few { result ≤ most_pins }
 {
     let _limits = layout.nx();
-    numbers(layout, block, kind).len() as u32
+    numbers(block, kind).len() as u32
 }

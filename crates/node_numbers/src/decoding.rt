@@ -121,7 +121,7 @@ fn inner_number(layout: &Layout, block: &BlockNumbers, kind: Kind, y: u32, index
     ensures few { is_between 1 layout.now.ny y ≡ false → index < layout.now.architecture.io_rat }
 {
     if is_row_of_blocks(layout, y) {
-        numbers(layout, block, kind)[index as usize]
+        numbers(block, kind)[index as usize]
     } else {
         index
     }

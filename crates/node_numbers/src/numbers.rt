@@ -149,7 +149,7 @@ impl NodeNumbers {
     {
         match self.node(id) {
             None => None,
-            Some(node) => Some(span_of(self.layout(), node, self.last_of(id, node))),
+            Some(node) => Some(span_of(node, self.last_of(node))),
         }
     }
 
@@ -165,7 +165,7 @@ impl NodeNumbers {
         match self.node_of(id) {
             None => None,
             Some(node) => {
-                let span = span_of(self.layout(), node, self.last_of(id, node));
+                let span = span_of(node, self.last_of(node));
                 Some((node.kind, span, self.tables.reach_of(node.number)))
             }
         }

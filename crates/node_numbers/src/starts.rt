@@ -2,6 +2,7 @@
 
 ghost use Rattle.std.specs.Prelude.{◌≡◌, ◌≤◌, true};
 ghost use Rattle.arch_file.specs.Architecture.{most_pins};
+ghost use Rattle.channel_tables.specs.Fabric.{Fabric};
 ghost use Rattle.node_numbers.specs.Starts.{kind_length, kind_start};
 ghost use Rattle.node_numbers.specs.Numbering.{is_terminal};
 ghost use Rattle.node_numbers.specs.kept.Columns.{terminals_length};
@@ -42,7 +43,7 @@ fn terminals_of(tables: &ChannelTables, block: &BlockNumbers, kind: Kind) -> u32
     ensures few { result ≤ 1000000 }
 {
     let layout = tables.layout();
-    terminal_count(layout, numbers(layout, block, kind).len())
+    terminal_count(layout, numbers(block, kind).len())
 }
 
 /// How many wires lie above rows.
@@ -88,9 +89,8 @@ pub(crate) fn starts_of(tables: &ChannelTables, block: &BlockNumbers) -> Starts
 
 /// How many nodes stand before those of a kind.
 #[tactic(auto, unfolding(crate::specs::Starts::kind_start))]
-pub(crate) fn kind_start(layout: &Layout, starts: Starts, kind: Kind) -> u32
-    requires { IsStarts layout.now starts }
-    ensures { result ≡ kind_start layout.now kind }
+pub(crate) fn kind_start(starts: Starts, kind: Kind) -> u32
+    ensures { (f : Fabric) → IsStarts f starts → result ≡ kind_start f kind }
 {
     match kind {
         Kind::Source => 0,

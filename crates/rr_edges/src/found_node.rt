@@ -30,7 +30,7 @@ impl DeviceGraph {
             Some(node) => Some(FoundNode {
                 id,
                 node,
-                last: self.nodes.last_of(id, node),
+                last: self.nodes.last_of(node),
             }),
         }
     }
