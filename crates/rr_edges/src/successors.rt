@@ -13,10 +13,10 @@ ghost use Rattle.node_numbers.specs.Numbering.{block_numbers};
 ghost use Rattle.node_numbers.specs.Starts.{place_start};
 ghost use Rattle.node_numbers.specs.kept.WireIds.{wire_id};
 ghost use Rattle.rr_edges.specs.kept.WireSuccessors.{pins_beside};
-ghost use Rattle.rr_edges.specs.kept.Fanouts.{numbers_of, runs_of, run_above, run_right, pins_of_column, pins_at, row_list, column_list, row_wire_list, column_wire_list, IsSmallRun, IsSmallMeeting, IsSmallTaps, IsSmallRow, IsSmallColumn};
+ghost use Rattle.rr_edges.specs.kept.Fanouts.{numbers_of, runs_of, run_above, run_right, pins_of_column, pins_at, fanout_list, row_wire_list, column_wire_list, IsSmallRun, IsSmallMeeting, IsSmallTaps, IsSmallFanout};
 
 use crate::device_graph::DeviceGraph;
-use crate::fanout::{ColumnFanout, Meeting, NumberRun, Pair, RowFanout, Taps};
+use crate::fanout::{Axis, Fanout, Meeting, NumberRun, Pair, Taps};
 use channel_tables::{Kind, Node, Side};
 use smallvec::SmallVec;
 use std::alloc::AllocError;
@@ -384,17 +384,18 @@ impl DeviceGraph {
 
     /// What the wire of a track leads to that begins at place `x` above row `y`.
     #[inline(always)]
-    pub(crate) fn row_fanout(&self, track: u32, x: u32, y: u32) -> RowFanout<'_>
+    pub(crate) fn row_fanout(&self, track: u32, x: u32, y: u32) -> Fanout<'_>
         requires wire { (1 ≤ x) × (x ≤ self.now.nx) × (begins self.now self.now.nx track x ≡ true) }
         requires row { y ≤ self.now.ny }
         requires track { track < tracks_in self.now.mode self.now.width }
-        ensures list { row_list result ≡ row_wire_list self.now x y track }
-        ensures small { IsSmallRow result }
+        ensures list { fanout_list result ≡ row_wire_list self.now x y track }
+        ensures small { IsSmallFanout result }
     {
         let last = self.end_above(track, x);
-        RowFanout {
-            under: self.taps_under(track, x, y),
-            over: self.taps_over(track, x, y),
+        Fanout {
+            axis: Axis::Row,
+            low: self.taps_under(track, x, y),
+            high: self.taps_over(track, x, y),
             places: last - x + 1,
             beside: self.beside_above(track, x, last, y),
             crossing: self.meeting_right(track, x - 1, y),
@@ -403,20 +404,21 @@ impl DeviceGraph {
 
     /// What the wire of a track leads to that begins at place `y` right of column `x`.
     #[inline(always)]
-    pub(crate) fn column_fanout(&self, track: u32, x: u32, y: u32) -> ColumnFanout<'_>
+    pub(crate) fn column_fanout(&self, track: u32, x: u32, y: u32) -> Fanout<'_>
         requires wire { (1 ≤ y) × (y ≤ self.now.ny) × (begins self.now self.now.ny track y ≡ true) }
         requires column { x ≤ self.now.nx }
         requires track { track < tracks_in self.now.mode self.now.width }
-        ensures list { column_list result ≡ column_wire_list self.now x y track }
-        ensures small { IsSmallColumn result }
+        ensures list { fanout_list result ≡ column_wire_list self.now x y track }
+        ensures small { IsSmallFanout result }
     {
         let last = self.end_right(track, y);
-        ColumnFanout {
-            before: self.taps_before(track, x, y),
-            behind: self.taps_behind(track, x, y),
+        Fanout {
+            axis: Axis::Column,
+            low: self.taps_before(track, x, y),
+            high: self.taps_behind(track, x, y),
             places: last - y + 1,
-            crossing: self.meeting_above(track, x, y - 1),
             beside: self.beside_right(track, x, y, last),
+            crossing: self.meeting_above(track, x, y - 1),
         }
     }
 

@@ -6,8 +6,9 @@ use Rattle.rr_edges.specs.declared.fanout.Pair.{Pair}
 use Rattle.rr_edges.specs.declared.fanout.NumberRun.{NumberRun}
 use Rattle.rr_edges.specs.declared.fanout.Meeting.{Meeting}
 use Rattle.rr_edges.specs.declared.fanout.Taps.{Taps}
-use Rattle.rr_edges.specs.declared.fanout.RowFanout.{RowFanout}
-use Rattle.rr_edges.specs.declared.fanout.ColumnFanout.{ColumnFanout}
+use Rattle.rr_edges.specs.declared.fanout.Axis.{Axis}
+use Rattle.rr_edges.specs.declared.fanout.Axis.TheVariants.{Row, Column}
+use Rattle.rr_edges.specs.declared.fanout.Fanout.{Fanout}
 use Rattle.channel_tables.specs.declared.node.Kind.TheVariants.{Chanx, Chany, Ipin}
 use Rattle.channel_tables.specs.Fabric.{Fabric, numbers_below, is_between}
 use Rattle.channel_tables.specs.Wires.{steps_of, last_of, places_of}
@@ -48,15 +49,23 @@ abbrev pub pins_at : Taps → (k : ℕ) → List ℕ
 pins_at t k = map (λ j. t.start + k * t.step + j) t.places.now
 
 -- what a wire above a row leads to
-unfoldable pub row_list : RowFanout → List ℕ
+unfoldable pub row_list : Fanout → List ℕ
 row_list r =
-    flat_map (λ k. pins_at r.under k ++ pins_at r.over k) (numbers_below r.places) ++ (numbers_of r.beside ++ by_place r.crossing (r.places + 1))
+    flat_map (λ k. pins_at r.low k ++ pins_at r.high k) (numbers_below r.places) ++ (numbers_of r.beside ++ by_place r.crossing (r.places + 1))
 
 -- what a wire right of a column leads to
-unfoldable pub column_list : ColumnFanout → List ℕ
+unfoldable pub column_list : Fanout → List ℕ
 column_list c =
-    (flat_map (pins_at c.before) (numbers_below c.places) ++ flat_map (pins_at c.behind) (numbers_below c.places))
+    (flat_map (pins_at c.low) (numbers_below c.places) ++ flat_map (pins_at c.high) (numbers_below c.places))
     ++ (by_run c.crossing (c.places + 1) ++ numbers_of c.beside)
+
+abbrev pub list_along : Axis → Fanout → List ℕ
+list_along Row x = row_list x
+list_along Column x = column_list x
+
+-- what a wire leads to
+abbrev pub fanout_list : Fanout → List ℕ
+fanout_list x = list_along x.axis x
 
 -- ---- wires and pins of a device as numbers at even distances
 -- the wires that begin at place q above row y and the rows over it, in a track
@@ -101,14 +110,8 @@ pub record IsSmallTaps (t : Taps) : Type 0 where
   pub step : t.step ≤ 32768
   pub few : length t.places.now ≤ most_pins
 
-pub record IsSmallRow (r : RowFanout) : Type 0 where
-  pub under : IsSmallTaps r.under
-  pub over : IsSmallTaps r.over
-  pub places : r.places ≤ longest_side
-  pub crossing : IsSmallMeeting r.crossing
-
-pub record IsSmallColumn (c : ColumnFanout) : Type 0 where
-  pub before : IsSmallTaps c.before
-  pub behind : IsSmallTaps c.behind
-  pub places : c.places ≤ longest_side
-  pub crossing : IsSmallMeeting c.crossing
+pub record IsSmallFanout (x : Fanout) : Type 0 where
+  pub low : IsSmallTaps x.low
+  pub high : IsSmallTaps x.high
+  pub places : x.places ≤ longest_side
+  pub crossing : IsSmallMeeting x.crossing

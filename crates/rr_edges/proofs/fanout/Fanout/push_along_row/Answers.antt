@@ -2,7 +2,7 @@ use Rattle.std.proofs.Common.{◌+◌, ◌++◌}
 use Rattle.rr_edges.specs.kept.Fanouts.{numbers_of, by_place}
 use Rattle.rr_edges.proofs.Pushes.{room_first, room_then}
 use Rattle.rr_edges.proofs.Fanouts.{row_room}
-use Rattle.rr_edges.proofs.fanout.RowFanout.push_along.Goals as goal
+use Rattle.rr_edges.proofs.fanout.Fanout.push_along_row.Goals as goal
 
 pub push-requires : goal.push-requires
 push-requires c =
