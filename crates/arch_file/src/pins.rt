@@ -1,6 +1,6 @@
 //! `inpin` and `outpin` lines.
 
-ghost use Rattle.std.specs.Prelude.{◌≡◌, length, unwrap_or};
+ghost use Rattle.std.specs.Prelude.{◌≡◌, true, length, unwrap_or};
 ghost use Rattle.std.specs.Option.{option_map_or};
 ghost use Rattle.std.specs.List.{list_any, list_all};
 ghost use Rattle.line_reader.specs.Word.{is_text, number_in};

@@ -1,6 +1,6 @@
 //! `switch` lines.
 
-ghost use Rattle.std.specs.Prelude.{◌≡◌};
+ghost use Rattle.std.specs.Prelude.{◌≡◌, false};
 ghost use Rattle.std.specs.Option.{option_map_or};
 ghost use Rattle.arch_file.specs.SwitchLine.{has_switch, is_wrong_value, has_wrong_value, has_switch_keys, is_buffer_word, switch_line};
 
