@@ -4,7 +4,7 @@
 ghost use Rattle.std.specs.Prelude.{◌≡◌, ◌+◌, ◌-◌, ◌*◌, ◌<◌, ◌≤◌, ◌++◌, length, map, slice_get, Some, true, IfOk, OnOk};
 ghost use Rattle.std.specs.List.{flat_map};
 ghost use Rattle.arch_file.specs.Architecture.{longest_side};
-ghost use Rattle.channel_tables.specs.Fabric.{numbers_below, most_tracks};
+ghost use Rattle.channel_tables.specs.Fabric.{IsFabric, numbers_below, most_tracks};
 ghost use Rattle.channel_tables.specs.Wires.{tracks_in, type_of, rank_of, begins, steps_of};
 ghost use Rattle.channel_tables.specs.kept.Tables.{stagger_of, wires_at, IsChannel};
 ghost use Rattle.channel_tables.specs.Channels.{starting_at, wires_before, wire_number, wire_at, beginning_of, beginnings_of};
@@ -322,6 +322,7 @@ impl Layout {
     /// How many wires of a channel begin before a place.
     #[tactic(auto, using(crate::proofs::Ranges::length_below, crate::proofs::Ranges::get_below, crate::proofs::WireTables::few_before))]
     pub(crate) fn wires_before(&self, channel: &Channel, place: u32) -> u32
+        requires limits { IsFabric self.now }
         requires few { channel.now.places ≤ longest_side }
         requires within { place ≤ channel.now.places + 1 }
         requires tables { IsChannel self.now channel.now }

@@ -2,7 +2,7 @@
 
 ghost use Rattle.std.specs.Prelude.{◌≡◌, ℕ, ◌+◌, ◌≤◌, ◌<◌, ◌++◌, length, map, IfOk, OnOk, vec_len};
 ghost use Rattle.arch_file.specs.Architecture.{most_pins};
-ghost use Rattle.channel_tables.specs.Fabric.{numbers_below};
+ghost use Rattle.channel_tables.specs.Fabric.{IsFabric, numbers_below, most_tracks};
 ghost use Rattle.channel_tables.specs.Wires.{tracks_in};
 ghost use Rattle.channel_tables.specs.Pins.{tap_count};
 ghost use Rattle.channel_tables.specs.Picks.{picks};

@@ -2,7 +2,7 @@
 
 ghost use Rattle.std.specs.Prelude.{◌≡◌, ◌+◌, ◌≤◌, ◌<◌, length, slice_get, Some, IfOk};
 ghost use Rattle.arch_file.specs.Architecture.{most_pins, longest_side};
-ghost use Rattle.channel_tables.specs.Fabric.{fabric_with, most_tracks};
+ghost use Rattle.channel_tables.specs.Fabric.{IsFabric, fabric_with, most_tracks};
 ghost use Rattle.channel_tables.specs.Wires.{tracks_in};
 ghost use Rattle.channel_tables.specs.Channels.{starting_at, wires_before, beginnings_of, wire_at};
 ghost use Rattle.channel_tables.specs.Pins.{IsTapCounts};

@@ -2,6 +2,7 @@
 
 ghost use Rattle.std.specs.Prelude.{◌≡◌, ℕ, ◌^◌, ◌<◌, ◌≤◌, nat_le, IfOk, IfSome, Some};
 ghost use Rattle.std.specs.Option.{option_map};
+ghost use Rattle.channel_tables.specs.Fabric.{IsFabric};
 ghost use Rattle.node_numbers.specs.Nodes.{node_count_of, node_at, kind_of_node, is_wire_at, number_of, label_of, capacity_of, span_of, wire_in};
 
 use crate::block::{BlockNumbers, block_of};
