@@ -24,9 +24,10 @@ fn net_entry(
 ) -> Result<FileEntry, RouteFileFault>
     ensures { result ≡ net_entry netlist.now (had_net seen.now) line words.now }
 {
-    let Some(heading) = heading_on(words) else {
+    let heading = heading_on(words);
+    if !heading.is_plain && !heading.is_global {
         return Err(RouteFileFault::BadLine(line));
-    };
+    }
     let Some(net) = net_on(netlist, heading) else {
         return Err(RouteFileFault::UnknownNet(line));
     };

@@ -1,8 +1,7 @@
 //! The lines that nets' sections begin with.
 
-ghost use Rattle.std.specs.Prelude.{◌≡◌, ◌||◌, Some, IfSome, is_some, option_and_then, codes};
+ghost use Rattle.std.specs.Prelude.{◌≡◌, option_and_then};
 ghost use Rattle.std.specs.Option.{option_copied};
-ghost use Rattle.line_reader.specs.Word.{word_at};
 ghost use Rattle.net_file.specs.Facts.{names_of_nets};
 ghost use Rattle.net_file.specs.Names.{number_among};
 ghost use Rattle.net_file.specs.Routed.{is_routed_at};
@@ -35,60 +34,53 @@ fn enclosed<'a>(word: &'a [u8], ending: &str) -> Option<&'a [u8]>
     }
 }
 
-/// What the line of a net tells: its name, and whether the line has the form of global nets.
+/// What the line of a net tells: which form it has, and the name.
 #[derive(Clone, Copy)]
 pub(crate) struct NetHeading<'a> {
-    pub(crate) name: &'a [u8],
+    pub(crate) is_plain: bool,
     pub(crate) is_global: bool,
+    pub(crate) name: &'a [u8],
 }
 
-/// The name on a line that has the form of nets that aren't global.
+/// Whether the line has the form of nets that aren't global.
 #[tactic(auto, unfolding(crate::specs::NetLine::is_plain_form))]
-fn plain_name<'a>(words: &Words<'_, 'a>) -> Option<&'a [u8]>
-    ensures form { is_some result ≡ is_plain_form words.now }
-    ensures name { IfSome result (λ n. enclosed (codes ")") (word_at words.now 2) ≡ Some n.now) }
+fn is_plain_form(words: &Words) -> bool
+    ensures { result ≡ is_plain_form words.now }
 {
-    if words.len() != 3 || !words.is_number(1) {
-        return None;
-    }
-    enclosed(words.word(2), ")")
+    words.len() == 3 && words.is_number(1) && enclosed(words.word(2), ")").is_some()
 }
 
-/// The name on a line that has the form of global nets.
+/// Whether the line has the form of global nets.
 #[tactic(auto, unfolding(crate::specs::NetLine::is_global_form))]
-fn global_name<'a>(words: &Words<'_, 'a>) -> Option<&'a [u8]>
-    ensures form { is_some result ≡ is_global_form words.now }
-    ensures name { IfSome result (λ n. enclosed (codes "):") (word_at words.now 2) ≡ Some n.now) }
+fn is_global_form(words: &Words) -> bool
+    ensures { result ≡ is_global_form words.now }
 {
-    if words.len() != 6 || !words.is_number(1) {
-        return None;
-    }
-    let name = enclosed(words.word(2), "):")?;
-    if words.is(3, "global") && words.is(4, "net") && words.is(5, "connecting:") {
-        Some(name)
-    } else {
-        None
-    }
+    words.len() == 6
+        && words.is_number(1)
+        && enclosed(words.word(2), "):").is_some()
+        && words.is(3, "global")
+        && words.is(4, "net")
+        && words.is(5, "connecting:")
 }
 
-/// What the line of a net tells, where it has one of the two forms.
+/// What the line of a net tells.
 #[tactic(auto, unfolding(crate::specs::NetLine::name_on))]
-pub(crate) fn heading_on<'a>(words: &Words<'_, 'a>) -> Option<NetHeading<'a>>
-    ensures form { is_some result ≡ (is_plain_form words.now || is_global_form words.now) }
-    ensures global { IfSome result (λ h. h.is_global ≡ is_global_form words.now) }
-    ensures name { IfSome result (λ h. h.name.now ≡ name_on words.now) }
+pub(crate) fn heading_on<'a>(words: &Words<'_, 'a>) -> NetHeading<'a>
+    ensures plain { result.is_plain ≡ is_plain_form words.now }
+    ensures global { result.is_global ≡ is_global_form words.now }
+    ensures name { result.name.now ≡ name_on words.now }
 {
-    if let Some(name) = global_name(words) {
-        return Some(NetHeading {
-            name,
-            is_global: true,
-        });
-    }
-    let name = plain_name(words)?;
-    Some(NetHeading {
+    let is_global = is_global_form(words);
+    let ending = if is_global { "):" } else { ")" };
+    let name = match enclosed(words.word(2), ending) {
+        Some(name) => name,
+        None => &[],
+    };
+    NetHeading {
+        is_plain: is_plain_form(words),
+        is_global,
         name,
-        is_global: false,
-    })
+    }
 }
 
 /// Whether net `n` is global; a net past the last one isn't.

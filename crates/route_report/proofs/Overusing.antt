@@ -28,7 +28,7 @@ use Rattle.route_report.specs.Covered.{nodes_covered, uses_of}
 use Rattle.route_report.specs.Overused.{Overuse, is_over, is_overused}
 use Rattle.route_report.proofs.Covering.{same_filter}
 use Rattle.std.proofs.lemmas.List.FromFn.{length-range_with_len, get_or-range_with_len}
-use Rattle.std.specs.Cmp.{both_ways}
+use Rattle.std.specs.Cmp.{both_ways as same_test}
 use Rattle.route_report.specs.kept.Overused.{bare, with_net, entry_to}
 
 -- ---- the room of a node
@@ -175,7 +175,7 @@ unfolding nodes_covered
 among_covered p lists i a l =
     let test = covers_by (net_in p.nets i) (list_in lists i) in
     let n = node_count_of p.device in
-    both_ways (is_among (filter test (numbers_below n)) a) (test a) (λ e. passes_there test (numbers_below n) a (among_contains (filter test (numbers_below n)) a e))
+    same_test (is_among (filter test (numbers_below n)) a) (test a) (λ e. passes_there test (numbers_below n) a (among_contains (filter test (numbers_below n)) a e))
     (λ e. contains_among (filter test (numbers_below n)) a (kept_below test n a l e))
 
 pub covered_ascends : (p : RoutingProblem) (lists : Lists) (i : ℕ) → IsStrictlyIncreasing (nodes_covered p lists i)

@@ -2,7 +2,7 @@
 
 ghost use Rattle.std.specs.Prelude.{◌≡◌, ◌*◌, ◌^◌, ◌<◌, ◌≤◌, ℕ, ◌==◌, IfOk, All, length, sum, map, get_or};
 ghost use Rattle.std.specs.List.{sum_by, find};
-ghost use Rattle.routing_problem.specs.Fabric.{numbers_below};
+ghost use Rattle.routing_problem.specs.Fabric.{IsFabric, numbers_below};
 ghost use Rattle.routing_problem.specs.Nodes.{node_count_of};
 ghost use Rattle.route_report.specs.Covered.{nodes_covered};
 ghost use Rattle.route_report.specs.Wirelength.{places_along, places_at, wirelength_of, wirelengths_of, greatest_in, first_greatest};
@@ -19,16 +19,24 @@ fn places_along(span: Span) -> u64
     u64::from(span.x2.saturating_sub(span.x1)) + u64::from(span.y2.saturating_sub(span.y1)) + 1
 }
 
-/// How many places a node's wire passes; none where the node is no wire.
-#[tactic(auto, using(crate::proofs::Lengths::places_few), unfolding(crate::specs::Wirelength::places_at))]
-pub fn places_at(device: &Device, node: u32) -> u64
+#[tactic(auto, unfolding(crate::specs::Wirelength::places_at))]
+fn places_of_wire(device: &Device, node: u32) -> u64
     ensures places { result ≡ places_at device.now node }
-    ensures few { result ≤ 128 }
+    ensures limits { IsFabric device.now }
 {
     match device.wire(node) {
         Some((_, span, _)) => places_along(span),
         None => 0,
     }
+}
+
+/// How many places a node's wire passes; none where the node is no wire.
+#[tactic(auto, using(crate::proofs::Lengths::places_few))]
+pub fn places_at(device: &Device, node: u32) -> u64
+    ensures places { result ≡ places_at device.now node }
+    ensures few { result ≤ 128 }
+{
+    places_of_wire(device, node)
 }
 
 /// The places of the wires among these nodes.
