@@ -28,7 +28,7 @@ fn net_entry(
     if !heading.is_plain && !heading.is_global {
         return Err(RouteFileFault::BadLine(line));
     }
-    let Some(net) = net_on(netlist, heading) else {
+    let Some(net) = net_on(netlist, &heading) else {
         return Err(RouteFileFault::UnknownNet(line));
     };
     if seen.had(net) {

@@ -38,7 +38,7 @@ pub fn net_begun(lines: &Lines, netlist: &Netlist, line: usize) -> Option<u32>
 {
     let words = Words::new(lines, line);
     if words.is(0, "Net") {
-        net_on(netlist, heading_on(&words))
+        net_on(netlist, &heading_on(&words))
     } else {
         None
     }
