@@ -11,11 +11,11 @@ use Rattle.group_wave.specs.kept.WaveState.{Wave}
 use Rattle.group_wave.specs.kept.Wave.{IsBest}
 use Rattle.group_wave.specs.kept.Steps.{KeepsSinks, SameOrigins}
 use Rattle.group_wave.proofs.Lower.{keeps, still_open}
-use Rattle.wavefront.proofs.WaysLeft.{wire_no_sink}
+use Rattle.wavefront.proofs.WaysLeft.{wire_no_sink as no_sink_kind}
 
 wire_node : (o : Option Node) → option_map_or is_wire (option_map (λ n. n.kind) o) false ≡ true → any_node is_sink_kind o ≡ true → ⊥
 wire_node None e h = false≢true e
-wire_node (Some n) e h = wire_no_sink n.kind e h
+wire_node (Some n) e h = no_sink_kind n.kind e h
 
 pub wire_no_sink : (f : Fabric) (v : ℕ) → is_wire_at f v ≡ true → is_sink f v ≡ true → ⊥
 unfolding is_sink
