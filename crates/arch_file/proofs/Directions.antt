@@ -2,17 +2,17 @@
 use Rattle.std.proofs.Common.{◌≡◌, ℕ, Bool, true, false, eqb, ◌&&◌, not, List, [], ◌∷◌, ◌++◌, length, All, Option, Some, None, refl, ap, arith, ◌∙◌}
 use Rattle.std.specs.Prelude.{find, unwrap_or}
 use Rattle.std.specs.Option.{option_map, option_map_or, option_or}
-use Rattle.std.proofs.lemmas.Bool.{eq-eqb, lt-ltb}
+use Rattle.std.proofs.lemmas.Bool.{eq-eqb, lt-ltb, not-false}
 use Rattle.std.proofs.lemmas.List.Elements.{All-push, All-weaker}
 use Rattle.std.proofs.lemmas.List.Folds.{find-append}
 use Rattle.arch_file.specs.declared.line.ArchLine.{ArchLine}
-use Rattle.arch_file.specs.declared.parts.Direction.{Direction}
-use Rattle.arch_file.specs.declared.parts.Direction.TheVariants.{Input, Output}
-use Rattle.arch_file.specs.declared.parts.Pin.{Pin}
+use Rattle.arch_file.specs.declared.entries.Direction.{Direction}
+use Rattle.arch_file.specs.declared.entries.Direction.TheVariants.{Input, Output}
+use Rattle.arch_file.specs.declared.entries.Pin.{Pin}
 use Rattle.arch_file.specs.Lines.{same_direction, pins_of}
 use Rattle.arch_file.specs.PinLine.{mixes, is_bad_class, is_global_pin, side_words, lacks_sides, pin_in}
 use Rattle.line_reader.specs.Word.{has, number_in}
-use Rattle.arch_file.proofs.Faultless.{and_false, not_false, found_passes, found_fails}
+use Rattle.arch_file.proofs.Faultless.{and_false, found_passes, found_fails}
 
 -- the direction of the first pin of a class
 abbrev pub direction_in : List Pin → ℕ → Option Direction
@@ -46,7 +46,7 @@ unfolding mixes
 agrees before p q none e =
     let class = found_passes (λ (r : Pin). eqb r.class p.class) (pins_of before) q e in
     let fails = found_fails (λ (r : Pin). eqb r.class p.class) (λ (r : Pin). eqb r.class p.class && not (same_direction r.direction p.direction)) (pins_of before) q none e in
-    same_directions q.direction p.direction (not_false _ (and_false (eqb q.class p.class) (not (same_direction q.direction p.direction)) fails class))
+    same_directions q.direction p.direction (not-false _ (and_false (eqb q.class p.class) (not (same_direction q.direction p.direction)) fails class))
 
 pub one_direction_more : (before : List ArchLine) (p : Pin) → HaveOneDirection (pins_of before) → mixes before p.direction p.class ≡ false → HaveOneDirection (pins_of before ++ p ∷ [])
 one_direction_more before p h none =

@@ -1,9 +1,9 @@
 -- What tests say that answered false.
-use Rattle.std.proofs.Common.{◌≡◌, Bool, true, false, cond, ◌&&◌, ◌||◌, not, List, [], ◌∷◌, Option, Some, None, Result, Ok, Err, ◌⊎◌, inl, inr, refl, subst}
+use Rattle.std.proofs.Common.{◌≡◌, Bool, true, false, cond, ◌&&◌, ◌||◌, List, [], ◌∷◌, Option, Some, None, Result, Ok, Err, ◌⊎◌, inl, inr, refl, subst}
 use Rattle.std.specs.Prelude.{find}
 use Rattle.std.specs.List.{list_any}
+use Rattle.std.proofs.lemmas.Bool.{or_parts}
 use Rattle.arch_file.specs.declared.fault.Entry.{Entry}
-use Rattle.arch_file.specs.declared.line.ArchLine.{ArchLine}
 use Rattle.arch_file.specs.Faults.{first_fault}
 
 -- no test of a line found a fault
@@ -13,16 +13,12 @@ pub record IsFaultless (bad_number bad_word unsupported too_many : Bool) : Type 
   pub no_unsupported : unsupported ≡ false
   pub not_too_many : too_many ≡ false
 
-pub accepted : (n w u t : Bool) (x line : ArchLine) → first_fault n w u t x ≡ Ok line → IsFaultless n w u t × (x ≡ line)
-accepted true w u t x line e = absurd cc
-accepted false true u t x line e = absurd cc
-accepted false false true t x line e = absurd cc
-accepted false false false true x line e = absurd cc
-accepted false false false false x line e = (record { no_bad_number = refl; no_bad_word = refl; no_unsupported = refl; not_too_many = refl }, cc)
-
-pub or_false : (a b : Bool) → (a || b) ≡ false → (a ≡ false) × (b ≡ false)
-or_false true b e = absurd cc
-or_false false b e = (refl, e)
+pub accepted : {X : Type 0} (n w u t : Bool) (x said : X) → first_fault n w u t x ≡ Ok said → IsFaultless n w u t × (x ≡ said)
+accepted true w u t x said e = absurd cc
+accepted false true u t x said e = absurd cc
+accepted false false true t x said e = absurd cc
+accepted false false false true x said e = absurd cc
+accepted false false false false x said e = (record { no_bad_number = refl; no_bad_word = refl; no_unsupported = refl; not_too_many = refl }, cc)
 
 pub or_true : (a b : Bool) → (a || b) ≡ true → a ≡ false → b ≡ true
 or_true true b e h = absurd cc
@@ -31,14 +27,6 @@ or_true false b e h = e
 pub and_false : (a b : Bool) → (a && b) ≡ false → a ≡ true → b ≡ false
 and_false true b e h = e
 and_false false b e h = absurd cc
-
-pub and_true : (a b : Bool) → (a && b) ≡ true → (a ≡ true) × (b ≡ true)
-and_true true b e = (refl, e)
-and_true false b e = absurd cc
-
-pub not_false : (a : Bool) → not a ≡ false → a ≡ true
-not_false true e = refl
-not_false false e = absurd cc
 
 -- a test of a ladder that was passed, and the rest of the ladder
 pub passed : (b : Bool) (x : Entry) (r : Option Entry) → cond b (Some x) r ≡ None → (b ≡ false) × (r ≡ None)
@@ -66,7 +54,7 @@ found_passes sought (y ∷ ys) x e =
 pub found_fails : {X : Type 0} (sought test : X → Bool) (xs : List X) (x : X) → list_any test xs ≡ false → find sought xs ≡ Some x → test x ≡ false
 found_fails sought test [] x none e = absurd cc
 found_fails sought test (y ∷ ys) x none e =
-    let split = or_false (test y) (list_any test ys) none in
+    let split = or_parts (test y) (list_any test ys) none in
     elim (first_or_rest (sought y) y x (find sought ys) e) [
       | inl h ↦ subst (λ z. test z ≡ false) h.1 split.0
       | inr h ↦ found_fails sought test ys x split.1 h

@@ -3,7 +3,7 @@ use Rattle.std.proofs.Common.{◌≡◌, ◌≢◌, ℕ, ◌<◌, ◌≤◌, Boo
 use Rattle.std.specs.Prelude.{unwrap_or, is_some, is_none, option_and_then, codes}
 use Rattle.std.specs.Option.{option_map, option_map_or}
 use Rattle.std.specs.List.{filter_map, cons_option}
-use Rattle.std.proofs.lemmas.Bool.{ltb-false, leb-false, eqb-true, eqb-false}
+use Rattle.std.proofs.lemmas.Bool.{ltb-false, leb-false, eqb-true, eqb-false, not-false, and_parts, or_parts}
 use Rattle.std.proofs.lemmas.List.{append-nil}
 use Rattle.std.proofs.lemmas.List.Elements.{filter_map-append, All-push, All-nil, All-head, All-tail}
 use Rattle.vpr_text.specs.Words.{Line}
@@ -14,16 +14,16 @@ use Rattle.arch_file.specs.declared.keyword.Keyword.{Keyword}
 use Rattle.arch_file.specs.declared.keyword.Keyword.TheVariants as keyword
 use Rattle.arch_file.specs.declared.line.ArchLine.{ArchLine}
 use Rattle.arch_file.specs.declared.line.ArchLine.TheVariants as line
-use Rattle.arch_file.specs.declared.parts.Direction.{Direction}
-use Rattle.arch_file.specs.declared.parts.Direction.TheVariants.{Input, Output}
-use Rattle.arch_file.specs.declared.parts.FcType.TheVariants.{Absolute, Fractional}
-use Rattle.arch_file.specs.declared.parts.SegmentLength.{SegmentLength}
-use Rattle.arch_file.specs.declared.parts.SegmentLength.TheVariants.{Places, Longline}
+use Rattle.arch_file.specs.declared.entries.Direction.{Direction}
+use Rattle.arch_file.specs.declared.entries.Direction.TheVariants.{Input, Output}
+use Rattle.arch_file.specs.declared.entries.FcType.TheVariants.{Absolute, Fractional}
+use Rattle.arch_file.specs.declared.entries.SegmentLength.{SegmentLength}
+use Rattle.arch_file.specs.declared.entries.SegmentLength.TheVariants.{Places, Longline}
 use Rattle.arch_file.specs.Architecture.{IsSegmentLength, IsWithinLimits}
 use Rattle.arch_file.specs.Faults.{first_fault}
 use Rattle.arch_file.specs.Judge.{is_passed, has_keyword, is_repeated, judge, judged, says, keyword_at}
 use Rattle.arch_file.specs.Keyword.{same_keyword}
-use Rattle.line_reader.specs.Word.{is_text, has, is_at, number_in, fixed_in}
+use Rattle.line_reader.specs.Word.{is_text, has, is_at, number_in}
 use Rattle.arch_file.specs.Lines.{keyword_of_pin, io_rat_of, pin_of, segment_of, pins_of, segments_of}
 use Rattle.arch_file.specs.Pairs.{pairs_of, pair_with, value_of, has_key, fixed_for}
 use Rattle.arch_file.specs.PinLine.{mixes, pin_line, pin_in, is_bad_class, lacks_sides}
@@ -31,9 +31,9 @@ use Rattle.arch_file.specs.Reading.{at_number, entries_from, has_gap, missing_of
 use Rattle.vpr_text.specs.Readings.{◌>>=◌}
 use Rattle.arch_file.specs.SegmentLine.{segment_line, segment_in, length_in, is_unsupported, is_too_long, has_segment_keys, has_wire_keys, has_other_keys, has_wrong_value, is_wrong_value, is_wrong_length}
 use Rattle.arch_file.specs.SwitchLine.{switch_line, switch_in, repeats_switch, has_bad_number, has_switch_keys, is_buffer_word}
-use Rattle.arch_file.specs.Values.{pads_in, is_one, is_not_fixed, is_distribution, io_rat_line, chan_width_io_line, channel_line, number_line, fixed_line, switch_block_type_line, fc_type_line}
+use Rattle.arch_file.specs.Values.{pads_in, is_one, is_not_fixed, is_distribution, io_rat_line, chan_width_io_line, channel_line, number_line, fixed_value, switch_block_type_line, fc_type_line}
 use Rattle.arch_file.proofs.Directions.{HaveOneDirection, direction_in, one_direction_more, not_mixed}
-use Rattle.arch_file.proofs.Faultless.{accepted, or_false, or_true, and_false, and_true, not_false, passed, not_err, found_passes, found_fails}
+use Rattle.arch_file.proofs.Faultless.{accepted, or_true, and_false, passed, not_err, found_passes, found_fails}
 
 -- pads at one place of the perimeter
 abbrev pub IsPads : ℕ → Type 0
@@ -116,7 +116,7 @@ KeepLimits-push before (line.Switch v) k suits = kept_other before (line.Switch 
 -- ---- each line
 
 two_words : (words : List (List ℕ)) → not (eqb (length words) 2) ≡ false → has words 1 ≡ true
-two_words words e = ap (λ n. ltb 1 n) (eqb-true (length words) 2 (not_false (eqb (length words) 2) e))
+two_words words e = ap (λ n. ltb 1 n) (eqb-true (length words) 2 (not-false (eqb (length words) 2) e))
 
 io_rat_suits : (before : List ArchLine) (words : List (List ℕ)) (x : ArchLine) → io_rat_line words ≡ Ok x → Suits before x
 unfolding io_rat_line
@@ -131,8 +131,8 @@ pin_suits : (before : List ArchLine) (d : Direction) (words : List (List ℕ)) (
 unfolding pin_line pin_in
 pin_suits before d words x e =
     let a = accepted (is_bad_class before d words) (not (is_at words 1 (codes "class:")) || lacks_sides d words) false (ltb 63 (pin_in d words).class || leb 64 (length (pins_of before))) (line.Pin (pin_in d words)) x e in
-    let few = or_false (ltb 63 (pin_in d words).class) (leb 64 (length (pins_of before))) a.0.not_too_many in
-    let sides = or_false (not (is_at words 1 (codes "class:"))) (lacks_sides d words) a.0.no_bad_word in
+    let few = or_parts (ltb 63 (pin_in d words).class) (leb 64 (length (pins_of before))) a.0.not_too_many in
+    let sides = or_parts (not (is_at words 1 (codes "class:"))) (lacks_sides d words) a.0.no_bad_word in
     subst (Suits before) a.1 (omega (arith, ltb-false 63 (pin_in d words).class few.0), leb-false 64 (length (pins_of before)) few.1, not_mixed before d words a.0.no_bad_number sides.1)
 
 by_text : (b : Bool) (n : ℕ) → (not b && eqb n 0) ≡ false → is_too_long (cond b Longline (Places n)) ≡ false → IsSegmentLength (cond b Longline (Places n))
@@ -166,7 +166,7 @@ has_length pairs e =
     let b = has_key pairs (codes "length:") in
     let c = has_key pairs (codes "wire_switch:") in
     let d = has_key pairs (codes "opin_switch:") in
-    (and_true a b (and_true (a && b) c (and_true (a && b && c) d e).0).0).1
+    (and_parts a b (and_parts (a && b) c (and_parts (a && b && c) d e).0).0).1
 
 -- the length of a segment that has no wrong value and is supported
 length_fits : (pairs : List (List ℕ)) → has_wrong_value pairs ≡ false → has_segment_keys pairs ≡ true → is_unsupported pairs ≡ false → IsSegmentLength (length_in pairs)
@@ -175,10 +175,10 @@ length_fits pairs right complete supported =
     let long = is_too_long (length_in pairs) in
     let whole_cb = not (eqb (fixed_for pairs (codes "Frac_cb:")) 1000000000) in
     let whole_sb = not (eqb (fixed_for pairs (codes "Frac_sb:")) 1000000000) in
-    let counted = (and_true (eqb (length pairs) 16 && has_wire_keys pairs) (has_other_keys pairs) complete).0 in
-    let wire = (and_true (eqb (length pairs) 16) (has_wire_keys pairs) counted).1 in
+    let counted = (and_parts (eqb (length pairs) 16 && has_wire_keys pairs) (has_other_keys pairs) complete).0 in
+    let wire = (and_parts (eqb (length pairs) 16) (has_wire_keys pairs) counted).1 in
     let keys = has_length pairs wire in
-    let short = (or_false long whole_cb (or_false (long || whole_cb) whole_sb supported).0).0 in
+    let short = (or_parts long whole_cb (or_parts (long || whole_cb) whole_sb supported).0).0 in
     by_value (value_of pairs (codes "length:")) keys (λ v e. right_length pairs v right e) short
 
 segment_suits : (before : List ArchLine) (words : List (List ℕ)) (x : ArchLine) → segment_line before words ≡ Ok x → Suits before x
@@ -186,7 +186,7 @@ unfolding segment_line segment_in
 segment_suits before words x e =
     let pairs = drop 1 words in
     let a = accepted (has_wrong_value pairs) (not (has_segment_keys pairs)) (is_unsupported pairs) (leb 16 (length (segments_of before))) (line.Segment (segment_in pairs)) x e in
-    subst (Suits before) a.1 (length_fits pairs a.0.no_bad_number (not_false (has_segment_keys pairs) a.0.no_bad_word) a.0.no_unsupported, leb-false 16 (length (segments_of before)) a.0.not_too_many)
+    subst (Suits before) a.1 (length_fits pairs a.0.no_bad_number (not-false (has_segment_keys pairs) a.0.no_bad_word) a.0.no_unsupported, leb-false 16 (length (segments_of before)) a.0.not_too_many)
 
 -- a line that says the same whatever its words are
 given_suits : (before : List ArchLine) (given x : ArchLine) → Suits before given → given ≡ x → Suits before x
@@ -207,9 +207,9 @@ number_suits : (before : List ArchLine) (words : List (List ℕ)) (given x : Arc
 unfolding number_line
 number_suits before words given x suits e = subst (Suits before) (accepted (has words 1 && is_none (number_in words 1)) (not (eqb (length words) 2)) false false given x e).1 suits
 
-fixed_suits : (before : List ArchLine) (words : List (List ℕ)) (given x : ArchLine) → Suits before given → fixed_line words given ≡ Ok x → Suits before x
-unfolding fixed_line
-fixed_suits before words given x suits e = subst (Suits before) (accepted (is_not_fixed words 1) (not (eqb (length words) 2)) false false given x e).1 suits
+value_suits : (before : List ArchLine) (make : ℕ → ArchLine) (r : Result ℕ LineFault) (x : ArchLine) → ((v : ℕ) → Suits before (make v)) → (r >>= λ v. Ok (make v)) ≡ Ok x → Suits before x
+value_suits before make (Ok v) x suits e = let is : make v ≡ x = cc in subst (Suits before) is (suits v)
+value_suits before make (Err f) x suits e = absurd cc
 
 -- the last of the faults of a line
 last_suits : (before : List ArchLine) (b : Bool) (given x : ArchLine) (f : LineFault) → Suits before given → cond b (Ok given) (Err f) ≡ Ok x → Suits before x
@@ -259,9 +259,9 @@ says_suits before words keyword.SubblocksPerClb x e = number_suits before words 
 says_suits before words keyword.SubblockLutSize x e = number_suits before words line.SubblockLutSize x tt e
 says_suits before words keyword.SwitchBlockType x e = switch_block_type_suits before words x e
 says_suits before words keyword.FcType x e = fc_type_suits before words x e
-says_suits before words keyword.FcOutput x e = fixed_suits before words (line.FcOutput (unwrap_or (fixed_in words 1) 0)) x tt e
-says_suits before words keyword.FcInput x e = fixed_suits before words (line.FcInput (unwrap_or (fixed_in words 1) 0)) x tt e
-says_suits before words keyword.FcPad x e = fixed_suits before words (line.FcPad (unwrap_or (fixed_in words 1) 0)) x tt e
+says_suits before words keyword.FcOutput x e = value_suits before (λ v. line.FcOutput v) (fixed_value words) x (λ v. tt) e
+says_suits before words keyword.FcInput x e = value_suits before (λ v. line.FcInput v) (fixed_value words) x (λ v. tt) e
+says_suits before words keyword.FcPad x e = value_suits before (λ v. line.FcPad v) (fixed_value words) x (λ v. tt) e
 says_suits before words keyword.Segment x e = segment_suits before words x e
 says_suits before words keyword.Switch x e = switch_suits before words x e
 
@@ -359,7 +359,7 @@ within ls es e m =
     let m9 = passed (not (has_keyword es keyword.FcInput)) _ _ m8.1 in
     let m10 = passed (not (has_keyword es keyword.FcPad)) _ _ m9.1 in
     let m11 = passed (eqb (length (segments_of es)) 0) _ _ m10.1 in
-    let pads = fits_given io_rat_of IsPads es 0 (gives_pads es (not_false (has_keyword es keyword.IoRat) m0.0)) k.pads in
+    let pads = fits_given io_rat_of IsPads es 0 (gives_pads es (not-false (has_keyword es keyword.IoRat) m0.0)) k.pads in
     record {
       some_pads = pads.0;
       few_pads = pads.1;

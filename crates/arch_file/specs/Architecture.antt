@@ -1,13 +1,13 @@
 -- An architecture as the record of its entries (VPR and T-VPack manual 4.30, "The Architecture File Format").
 use Rattle.std.specs.Prelude.{◌≡◌, ℕ, ◌+◌, ◌<◌, ◌≤◌, ◌==◌, List, length, max, fold, find, count_by, Option, Some, All}
 use Rattle.std.specs.Option.{option_map}
-use Rattle.arch_file.specs.declared.parts.Direction.{Direction}
-use Rattle.arch_file.specs.declared.parts.Pin.{Pin}
-use Rattle.arch_file.specs.declared.parts.FcType.{FcType}
-use Rattle.arch_file.specs.declared.parts.Segment.{Segment}
-use Rattle.arch_file.specs.declared.parts.SegmentLength.{SegmentLength}
-use Rattle.arch_file.specs.declared.parts.SegmentLength.TheVariants.{Places, Longline}
-use Rattle.arch_file.specs.declared.parts.Switch.{Switch}
+use Rattle.arch_file.specs.declared.entries.Direction.{Direction}
+use Rattle.arch_file.specs.declared.entries.Pin.{Pin}
+use Rattle.arch_file.specs.declared.entries.FcType.{FcType}
+use Rattle.arch_file.specs.declared.entries.Segment.{Segment}
+use Rattle.arch_file.specs.declared.entries.SegmentLength.{SegmentLength}
+use Rattle.arch_file.specs.declared.entries.SegmentLength.TheVariants.{Places, Longline}
+use Rattle.arch_file.specs.declared.entries.Switch.{Switch}
 
 pub record Architecture : Type 0 where
   -- pads at each place of the perimeter

@@ -1,6 +1,6 @@
 -- A line, given what the lines before it say: what it says, or its first fault (VPR and T-VPack manual 4.30; the order of
 -- the faults is this project's profile).
-use Rattle.std.specs.Prelude.{ℕ, Bool, false, ◌&&◌, if◌then◌else◌, List, Option, None, Some, option_and_then, unwrap_or, slice_get, Result, Err}
+use Rattle.std.specs.Prelude.{ℕ, Bool, false, ◌&&◌, if◌then◌else◌, List, Option, None, Some, option_and_then, slice_get, Result, Ok, Err}
 use Rattle.std.specs.Option.{option_map_or}
 use Rattle.std.specs.List.{list_any}
 use Rattle.arch_file.specs.declared.fault.LineFault.{LineFault}
@@ -9,14 +9,14 @@ use Rattle.arch_file.specs.declared.keyword.Keyword.{Keyword}
 use Rattle.arch_file.specs.declared.keyword.Keyword.TheVariants.{IoRat, ChanWidthIo, ChanWidthX, ChanWidthY, Inpin, Outpin, SubblocksPerClb, SubblockLutSize, SwitchBlockType, FcType, FcOutput, FcInput, FcPad, Segment, Switch}
 use Rattle.arch_file.specs.declared.line.ArchLine.{ArchLine}
 use Rattle.arch_file.specs.declared.line.ArchLine.TheVariants as line
-use Rattle.arch_file.specs.declared.parts.Direction.TheVariants.{Input, Output}
+use Rattle.arch_file.specs.declared.entries.Direction.TheVariants.{Input, Output}
 use Rattle.arch_file.specs.Keyword.{keyword_of, is_unread, same_keyword, stands_once}
 use Rattle.arch_file.specs.Lines.{keyword_of_line}
 use Rattle.arch_file.specs.PinLine.{pin_line}
 use Rattle.arch_file.specs.SegmentLine.{segment_line}
 use Rattle.arch_file.specs.SwitchLine.{switch_line}
-use Rattle.arch_file.specs.Values.{io_rat_line, chan_width_io_line, channel_line, number_line, fixed_line, switch_block_type_line, fc_type_line}
-use Rattle.line_reader.specs.Word.{fixed_in}
+use Rattle.arch_file.specs.Values.{io_rat_line, chan_width_io_line, channel_line, number_line, fixed_value, switch_block_type_line, fc_type_line}
+use Rattle.vpr_text.specs.Readings.{◌>>=◌}
 
 -- a line that begins with a keyword of timing, `T_`, `C_` or `R_`, is passed over unread
 abbrev pub is_passed : List (List ℕ) → Bool
@@ -46,9 +46,9 @@ says before words SubblocksPerClb = number_line words line.SubblocksPerClb
 says before words SubblockLutSize = number_line words line.SubblockLutSize
 says before words SwitchBlockType = switch_block_type_line words
 says before words FcType = fc_type_line words
-says before words FcOutput = fixed_line words (line.FcOutput (unwrap_or (fixed_in words 1) 0))
-says before words FcInput = fixed_line words (line.FcInput (unwrap_or (fixed_in words 1) 0))
-says before words FcPad = fixed_line words (line.FcPad (unwrap_or (fixed_in words 1) 0))
+says before words FcOutput = fixed_value words >>= λ v. Ok (line.FcOutput v)
+says before words FcInput = fixed_value words >>= λ v. Ok (line.FcInput v)
+says before words FcPad = fixed_value words >>= λ v. Ok (line.FcPad v)
 says before words Segment = segment_line before words
 says before words Switch = switch_line before words
 

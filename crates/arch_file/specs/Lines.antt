@@ -5,12 +5,12 @@ use Rattle.arch_file.specs.declared.keyword.Keyword.{Keyword}
 use Rattle.arch_file.specs.declared.keyword.Keyword.TheVariants as keyword
 use Rattle.arch_file.specs.declared.line.ArchLine.{ArchLine}
 use Rattle.arch_file.specs.declared.line.ArchLine.TheVariants as line
-use Rattle.arch_file.specs.declared.parts.Direction.{Direction}
-use Rattle.arch_file.specs.declared.parts.Direction.TheVariants.{Input, Output}
-use Rattle.arch_file.specs.declared.parts.FcType.{FcType}
-use Rattle.arch_file.specs.declared.parts.Pin.{Pin}
-use Rattle.arch_file.specs.declared.parts.Segment.{Segment}
-use Rattle.arch_file.specs.declared.parts.Switch.{Switch}
+use Rattle.arch_file.specs.declared.entries.Direction.{Direction}
+use Rattle.arch_file.specs.declared.entries.Direction.TheVariants.{Input, Output}
+use Rattle.arch_file.specs.declared.entries.FcType.{FcType}
+use Rattle.arch_file.specs.declared.entries.Pin.{Pin}
+use Rattle.arch_file.specs.declared.entries.Segment.{Segment}
+use Rattle.arch_file.specs.declared.entries.Switch.{Switch}
 
 abbrev pub same_direction : Direction → Direction → Bool
 same_direction Input Input = true

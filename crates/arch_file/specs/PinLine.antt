@@ -6,10 +6,10 @@ use Rattle.std.specs.List.{list_any, list_all}
 use Rattle.arch_file.specs.declared.fault.LineFault.{LineFault}
 use Rattle.arch_file.specs.declared.line.ArchLine.{ArchLine}
 use Rattle.arch_file.specs.declared.line.ArchLine.TheVariants as line
-use Rattle.arch_file.specs.declared.parts.Direction.{Direction}
-use Rattle.arch_file.specs.declared.parts.Direction.TheVariants.{Input}
-use Rattle.arch_file.specs.declared.parts.Pin.{Pin}
-use Rattle.arch_file.specs.declared.parts.Sides.{Sides}
+use Rattle.arch_file.specs.declared.entries.Direction.{Direction}
+use Rattle.arch_file.specs.declared.entries.Direction.TheVariants.{Input}
+use Rattle.arch_file.specs.declared.entries.Pin.{Pin}
+use Rattle.arch_file.specs.declared.entries.Sides.{Sides}
 use Rattle.arch_file.specs.Faults.{first_fault}
 use Rattle.line_reader.specs.Word.{is_text, has, is_at, number_in}
 use Rattle.arch_file.specs.Lines.{same_direction, pins_of}

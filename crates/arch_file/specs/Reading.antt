@@ -12,7 +12,7 @@ use Rattle.arch_file.specs.declared.fault.Entry.TheVariants as entry
 use Rattle.arch_file.specs.declared.fault.LineFault.{LineFault}
 use Rattle.arch_file.specs.declared.keyword.Keyword.TheVariants.{IoRat, ChanWidthIo, ChanWidthX, ChanWidthY, SwitchBlockType, FcType, FcOutput, FcInput, FcPad}
 use Rattle.arch_file.specs.declared.line.ArchLine.{ArchLine}
-use Rattle.arch_file.specs.declared.parts.FcType.TheVariants.{Absolute}
+use Rattle.arch_file.specs.declared.entries.FcType.TheVariants.{Absolute}
 use Rattle.arch_file.specs.Architecture.{Architecture}
 use Rattle.arch_file.specs.Faults.{at_line}
 use Rattle.arch_file.specs.Judge.{is_passed, has_keyword, judge}

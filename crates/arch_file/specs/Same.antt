@@ -2,14 +2,14 @@
 use Rattle.std.specs.Prelude.{Bool, true, false, ◌==◌, ◌&&◌}
 use Rattle.std.proofs.Math.Bool.{beq}
 use Rattle.std.specs.Cmp.Lexicographic.{pointwise}
-use Rattle.arch_file.specs.declared.parts.Sides.{Sides}
-use Rattle.arch_file.specs.declared.parts.Pin.{Pin}
-use Rattle.arch_file.specs.declared.parts.FcType.{FcType}
-use Rattle.arch_file.specs.declared.parts.FcType.TheVariants.{Absolute, Fractional}
-use Rattle.arch_file.specs.declared.parts.Segment.{Segment}
-use Rattle.arch_file.specs.declared.parts.SegmentLength.{SegmentLength}
-use Rattle.arch_file.specs.declared.parts.SegmentLength.TheVariants.{Places, Longline}
-use Rattle.arch_file.specs.declared.parts.Switch.{Switch}
+use Rattle.arch_file.specs.declared.entries.Sides.{Sides}
+use Rattle.arch_file.specs.declared.entries.Pin.{Pin}
+use Rattle.arch_file.specs.declared.entries.FcType.{FcType}
+use Rattle.arch_file.specs.declared.entries.FcType.TheVariants.{Absolute, Fractional}
+use Rattle.arch_file.specs.declared.entries.Segment.{Segment}
+use Rattle.arch_file.specs.declared.entries.SegmentLength.{SegmentLength}
+use Rattle.arch_file.specs.declared.entries.SegmentLength.TheVariants.{Places, Longline}
+use Rattle.arch_file.specs.declared.entries.Switch.{Switch}
 use Rattle.arch_file.specs.Architecture.{Architecture}
 use Rattle.arch_file.specs.Lines.{same_direction}
 

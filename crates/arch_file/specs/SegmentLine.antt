@@ -5,9 +5,9 @@ use Rattle.std.specs.List.{list_any}
 use Rattle.arch_file.specs.declared.fault.LineFault.{LineFault}
 use Rattle.arch_file.specs.declared.line.ArchLine.{ArchLine}
 use Rattle.arch_file.specs.declared.line.ArchLine.TheVariants as line
-use Rattle.arch_file.specs.declared.parts.Segment.{Segment}
-use Rattle.arch_file.specs.declared.parts.SegmentLength.{SegmentLength}
-use Rattle.arch_file.specs.declared.parts.SegmentLength.TheVariants.{Places, Longline}
+use Rattle.arch_file.specs.declared.entries.Segment.{Segment}
+use Rattle.arch_file.specs.declared.entries.SegmentLength.{SegmentLength}
+use Rattle.arch_file.specs.declared.entries.SegmentLength.TheVariants.{Places, Longline}
 use Rattle.arch_file.specs.Faults.{first_fault}
 use Rattle.line_reader.specs.Word.{is_text}
 use Rattle.arch_file.specs.Lines.{segments_of}

@@ -7,7 +7,7 @@ use Rattle.arch_file.specs.declared.fault.LineFault.{LineFault}
 use Rattle.arch_file.specs.declared.fault.LineFault.TheVariants.{Repeated}
 use Rattle.arch_file.specs.declared.line.ArchLine.{ArchLine}
 use Rattle.arch_file.specs.declared.line.ArchLine.TheVariants as line
-use Rattle.arch_file.specs.declared.parts.Switch.{Switch}
+use Rattle.arch_file.specs.declared.entries.Switch.{Switch}
 use Rattle.arch_file.specs.Faults.{first_fault}
 use Rattle.line_reader.specs.Word.{is_text, has, number_in}
 use Rattle.arch_file.specs.Lines.{switches_of}

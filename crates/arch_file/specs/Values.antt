@@ -5,7 +5,7 @@ use Rattle.arch_file.specs.declared.fault.LineFault.{LineFault}
 use Rattle.arch_file.specs.declared.fault.LineFault.TheVariants.{BadWord, Unsupported}
 use Rattle.arch_file.specs.declared.line.ArchLine.{ArchLine}
 use Rattle.arch_file.specs.declared.line.ArchLine.TheVariants as line
-use Rattle.arch_file.specs.declared.parts.FcType.TheVariants.{Absolute, Fractional}
+use Rattle.arch_file.specs.declared.entries.FcType.TheVariants.{Absolute, Fractional}
 use Rattle.arch_file.specs.Faults.{first_fault}
 use Rattle.line_reader.specs.Word.{has, is_at, number_in, fixed_in}
 use Rattle.arch_file.specs.Architecture.{most_pads}
@@ -44,9 +44,9 @@ channel_line words line =
 unfoldable pub number_line : List (List ℕ) → ArchLine → Result ArchLine LineFault
 number_line words line = first_fault (has words 1 && is_none (number_in words 1)) (not (length words == 2)) false false line
 
--- a keyword and a number with decimals
-unfoldable pub fixed_line : List (List ℕ) → ArchLine → Result ArchLine LineFault
-fixed_line words line = first_fault (is_not_fixed words 1) (not (length words == 2)) false false line
+-- the number with decimals that stands behind a keyword, and is all of the line
+unfoldable pub fixed_value : List (List ℕ) → Result ℕ LineFault
+fixed_value words = first_fault (is_not_fixed words 1) (not (length words == 2)) false false (unwrap_or (fixed_in words 1) 0)
 
 -- `switch_block_type subset`
 unfoldable pub switch_block_type_line : List (List ℕ) → Result ArchLine LineFault

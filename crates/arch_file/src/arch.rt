@@ -3,7 +3,7 @@
 ghost use Rattle.std.specs.Prelude.{◌≡◌, IfOk};
 ghost use Rattle.arch_file.specs.Architecture.{Architecture, IsWithinLimits, class_count, class_direction, class_size};
 
-use crate::parts::{Direction, FcType, Pin, Segment, Switch};
+use crate::entries::{Direction, FcType, Pin, Segment, Switch};
 use std::alloc::{AllocError, Global};
 use std::marker::Model;
 
@@ -123,7 +123,8 @@ impl Arch {
 
     /// A copy of this architecture.
     pub fn copy(&self, alloc: Global) -> Result<Arch, AllocError>
-        ensures { IfOk result (λ a. a ≡ self.now) }
+        ensures copy { IfOk result (λ a. a ≡ self.now) }
+        ensures limits { IfOk result IsWithinLimits }
     {
         Ok(Arch {
             io_rat: self.io_rat,

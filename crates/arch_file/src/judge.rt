@@ -3,15 +3,15 @@
 ghost use Rattle.std.specs.Prelude.{◌≡◌};
 ghost use Rattle.arch_file.specs.Judge.{is_passed, has_keyword, is_repeated, keyword_at, says, judge};
 
+use crate::entries::Direction;
 use crate::fault::LineFault;
 use crate::keyword::{Keyword, is_unread};
 use crate::line::ArchLine;
-use crate::parts::Direction;
 use crate::pins::pin_line;
 use crate::segments::segment_line;
 use crate::switches::switch_line;
 use crate::values::{
-    chan_width_io_line, channel_line, fc_type_line, fixed_line, io_rat_line, number_line,
+    chan_width_io_line, channel_line, fc_type_line, fixed_value, io_rat_line, number_line,
     switch_block_type_line,
 };
 use line_reader::Words;
@@ -64,9 +64,9 @@ fn says(before: &[ArchLine], words: &Words, keyword: Keyword) -> Result<ArchLine
         Keyword::SubblockLutSize => number_line(words, ArchLine::SubblockLutSize),
         Keyword::SwitchBlockType => switch_block_type_line(words),
         Keyword::FcType => fc_type_line(words),
-        Keyword::FcOutput => fixed_line(words, ArchLine::FcOutput(words.fixed(1).unwrap_or(0))),
-        Keyword::FcInput => fixed_line(words, ArchLine::FcInput(words.fixed(1).unwrap_or(0))),
-        Keyword::FcPad => fixed_line(words, ArchLine::FcPad(words.fixed(1).unwrap_or(0))),
+        Keyword::FcOutput => Ok(ArchLine::FcOutput(fixed_value(words)?)),
+        Keyword::FcInput => Ok(ArchLine::FcInput(fixed_value(words)?)),
+        Keyword::FcPad => Ok(ArchLine::FcPad(fixed_value(words)?)),
         Keyword::Segment => segment_line(before, words),
         Keyword::Switch => switch_line(before, words),
     }

@@ -2,20 +2,20 @@
 #![tactic(auto)]
 
 mod arch;
+mod entries;
+mod equality;
 mod fault;
 mod judge;
 mod keyword;
 mod line;
 mod pairs;
-mod parts;
 mod pins;
 mod reading;
-mod same;
 mod segments;
 mod switches;
 mod values;
 
 pub use arch::Arch;
+pub use entries::{Direction, FcType, Pin, Segment, SegmentLength, Sides, Switch};
 pub use fault::{ArchFault, Entry};
-pub use parts::{Direction, FcType, Pin, Segment, SegmentLength, Sides, Switch};
 pub use reading::parse;

@@ -3,8 +3,8 @@
 ghost use Rattle.std.specs.Prelude.{◌≡◌};
 ghost use Rattle.arch_file.specs.Lines.{keyword_of_line, pin_of, segment_of, switch_of, io_rat_of, fc_type_of, fc_output_of, fc_input_of, fc_pad_of};
 
+use crate::entries::{Direction, FcType, Pin, Segment, Switch};
 use crate::keyword::Keyword;
-use crate::parts::{Direction, FcType, Pin, Segment, Switch};
 
 /// An accepted line. Lines that are passed over unread give none.
 #[derive(Clone, Copy)]

@@ -9,11 +9,11 @@ use vpr_text::{fixed, number};
 
 /// Each key with the word after it, in the order of the line. A last key without a value gives no pair.
 #[derive(Drop)]
-pub(crate) struct Pairs<'t, 'a> {
+pub(crate) struct KeyedWords<'t, 'a> {
     words: Words<'t, 'a>,
 }
 
-impl<'t, 'a> Iterator for Pairs<'t, 'a> {
+impl<'t, 'a> Iterator for KeyedWords<'t, 'a> {
     type Item = (&'a [u8], &'a [u8]);
 
     ghost use Rattle.std.specs.Iterator.{YieldsFirstBy, item_count};
@@ -30,10 +30,10 @@ impl<'t, 'a> Iterator for Pairs<'t, 'a> {
 }
 
 /// The pairs that these words make.
-pub(crate) fn pairs_in<'t, 'a>(words: &Words<'t, 'a>) -> Pairs<'t, 'a>
+pub(crate) fn pairs_in<'t, 'a>(words: &Words<'t, 'a>) -> KeyedWords<'t, 'a>
     ensures { result.words ≡ words.now }
 {
-    Pairs {
+    KeyedWords {
         words: words.rest(0),
     }
 }

@@ -1,14 +1,15 @@
 //! `inpin` and `outpin` lines.
 
-ghost use Rattle.std.specs.Prelude.{◌≡◌, length};
+ghost use Rattle.std.specs.Prelude.{◌≡◌, true, length, unwrap_or};
+ghost use Rattle.std.specs.Option.{option_map_or};
 ghost use Rattle.std.specs.List.{list_any, list_all};
-ghost use Rattle.line_reader.specs.Word.{is_text};
+ghost use Rattle.line_reader.specs.Word.{is_text, number_in};
 ghost use Rattle.arch_file.specs.Lines.{pins_of};
-ghost use Rattle.arch_file.specs.PinLine.{mixes, is_bad_class, is_global_pin, side_words, is_side, sides_in, pin_in, pin_line};
+ghost use Rattle.arch_file.specs.PinLine.{mixes, is_global_pin, side_words, is_side, sides_in, pin_in, pin_line};
 
+use crate::entries::{Direction, Pin, Sides};
 use crate::fault::LineFault;
 use crate::line::ArchLine;
-use crate::parts::{Direction, Pin, Sides};
 use line_reader::{Words, is_text};
 
 /// The greatest number of pins of a logic block.
@@ -35,15 +36,11 @@ fn mixes(before: &[ArchLine], direction: Direction, class: u32) -> bool
         .any(|pin| pin.class == class && pin.direction != direction)
 }
 
-/// Whether the class is there and is no number, or mixes inputs and outputs.
-#[tactic(auto, unfolding(crate::specs::PinLine::is_bad_class))]
-fn is_bad_class(before: &[ArchLine], direction: Direction, words: &Words) -> bool
-    ensures { result ≡ is_bad_class before.now direction words.now }
+/// Whether the word that stands for a class is no number, or the class mixes inputs and outputs.
+fn is_wrong_class(before: &[ArchLine], direction: Direction, class: Option<u32>) -> bool
+    ensures { result ≡ option_map_or (mixes before.now direction) class true }
 {
-    if !words.has(2) {
-        return false;
-    }
-    match words.number(2) {
+    match class {
         Some(class) => mixes(before, direction, class),
         None => true,
     }
@@ -105,13 +102,14 @@ fn sides_in(words: &Words) -> Sides
     }
 }
 
-/// The pin that the line describes.
+/// The pin that the line describes, whose class is given.
 #[tactic(auto, unfolding(crate::specs::PinLine::pin_in))]
-fn pin_in(direction: Direction, words: &Words) -> Pin
+fn pin_in(direction: Direction, class: u32, words: &Words) -> Pin
+    requires { class ≡ unwrap_or (number_in words.now 2) 0 }
     ensures { result ≡ pin_in direction words.now }
 {
     Pin {
-        class: words.number(2).unwrap_or(0),
+        class,
         direction,
         global: is_global_pin(direction, words),
         sides: sides_in(&side_words(direction, words)),
@@ -119,7 +117,7 @@ fn pin_in(direction: Direction, words: &Words) -> Pin
 }
 
 /// `inpin class: n [global] sides` and `outpin class: n sides`.
-#[tactic(auto, unfolding(crate::specs::PinLine::pin_line, crate::specs::PinLine::pin_in, crate::specs::PinLine::lacks_sides))]
+#[tactic(auto, unfolding(crate::specs::PinLine::pin_line, crate::specs::PinLine::is_bad_class, crate::specs::PinLine::pin_in, crate::specs::PinLine::lacks_sides))]
 pub(crate) fn pin_line(
     before: &[ArchLine],
     direction: Direction,
@@ -127,10 +125,11 @@ pub(crate) fn pin_line(
 ) -> Result<ArchLine, LineFault>
     ensures { result ≡ pin_line before.now direction words.now }
 {
-    if is_bad_class(before, direction, words) {
+    let class = words.number(2);
+    if words.has(2) && is_wrong_class(before, direction, class) {
         return Err(LineFault::BadNumber);
     }
-    let pin = pin_in(direction, words);
+    let pin = pin_in(direction, class.unwrap_or(0), words);
     let sides = side_words(direction, words);
     if !words.is(1, "class:") || !are_sides(&sides) || (sides.len() == 0 && !pin.global) {
         return Err(LineFault::BadWord);

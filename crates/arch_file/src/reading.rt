@@ -9,11 +9,11 @@ ghost use Rattle.arch_file.specs.Reading.{entries_from, has_class, has_gap, lack
 ghost use Rattle.arch_file.specs.Reads.{ReadsBytes};
 
 use crate::arch::Arch;
+use crate::entries::{FcType, Pin, Segment, Switch};
 use crate::fault::{ArchFault, Entry};
 use crate::judge::{has_keyword, is_passed, judge};
 use crate::keyword::Keyword;
 use crate::line::ArchLine;
-use crate::parts::{FcType, Pin, Segment, Switch};
 use crate::pins::pin_count;
 use crate::segments::segment_count;
 use crate::switches::has_switch;

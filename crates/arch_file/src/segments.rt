@@ -4,10 +4,10 @@ ghost use Rattle.std.specs.Prelude.{◌≡◌, length};
 ghost use Rattle.arch_file.specs.Lines.{segments_of};
 ghost use Rattle.arch_file.specs.SegmentLine.{is_wrong_length, wants_fixed, wants_number, wants_decimal, is_wrong_value, has_wrong_value, has_wire_keys, has_other_keys, has_segment_keys, length_in, is_unsupported, segment_in, segment_line};
 
+use crate::entries::{Segment, SegmentLength};
 use crate::fault::LineFault;
 use crate::line::ArchLine;
 use crate::pairs::{fixed_for, has_key, is_value, number_for, pairs_in};
-use crate::parts::{Segment, SegmentLength};
 use crate::values::ONE;
 use line_reader::{Words, is_text};
 use vpr_text::{fixed, is_decimal, number};

@@ -1,12 +1,13 @@
 //! `switch` lines.
 
-ghost use Rattle.std.specs.Prelude.{◌≡◌};
-ghost use Rattle.arch_file.specs.SwitchLine.{has_switch, repeats_switch, is_wrong_value, has_wrong_value, has_bad_number, has_switch_keys, is_buffer_word, switch_line};
+ghost use Rattle.std.specs.Prelude.{◌≡◌, false};
+ghost use Rattle.std.specs.Option.{option_map_or};
+ghost use Rattle.arch_file.specs.SwitchLine.{has_switch, is_wrong_value, has_wrong_value, has_switch_keys, is_buffer_word, switch_line};
 
+use crate::entries::Switch;
 use crate::fault::LineFault;
 use crate::line::ArchLine;
 use crate::pairs::{has_key, is_value, pairs_in};
-use crate::parts::Switch;
 use line_reader::{Words, is_text};
 use vpr_text::is_decimal;
 
@@ -25,10 +26,10 @@ pub(crate) fn has_switch(lines: &[ArchLine], number: u32) -> bool
 }
 
 /// Whether a line before gives the switch of this number.
-fn repeats_switch(before: &[ArchLine], words: &Words) -> bool
-    ensures { result ≡ repeats_switch before.now words.now }
+fn repeats_switch(before: &[ArchLine], number: Option<u32>) -> bool
+    ensures { result ≡ option_map_or (has_switch before.now) number false }
 {
-    match words.number(1) {
+    match number {
         Some(number) => has_switch(before, number),
         None => false,
     }
@@ -57,14 +58,6 @@ fn has_wrong_value(pairs: &Words) -> bool
     pairs_in(pairs).any(|pair| is_wrong_value(pair.0, pair.1))
 }
 
-/// Whether a number of the line is none.
-#[tactic(auto, unfolding(crate::specs::SwitchLine::has_bad_number))]
-fn has_bad_number(words: &Words) -> bool
-    ensures { result ≡ has_bad_number words.now }
-{
-    (words.has(1) && words.number(1).is_none()) || has_wrong_value(&words.rest(2))
-}
-
 /// Whether the words are the five pairs: with as many words and each key among them, no key is unknown, repeated or left
 /// out.
 #[tactic(auto, unfolding(crate::specs::SwitchLine::has_switch_keys))]
@@ -87,21 +80,22 @@ fn is_buffer_word(pairs: &Words) -> bool
 }
 
 /// `switch n` and its five pairs.
-#[tactic(auto, unfolding(crate::specs::SwitchLine::switch_line))]
+#[tactic(auto, unfolding(crate::specs::SwitchLine::switch_line, crate::specs::SwitchLine::has_bad_number))]
 pub(crate) fn switch_line(before: &[ArchLine], words: &Words) -> Result<ArchLine, LineFault>
     ensures { result ≡ switch_line before.now words.now }
 {
-    if repeats_switch(before, words) {
+    let number = words.number(1);
+    if repeats_switch(before, number) {
         return Err(LineFault::Repeated);
     }
-    if has_bad_number(words) {
+    let pairs = words.rest(2);
+    if (words.has(1) && number.is_none()) || has_wrong_value(&pairs) {
         return Err(LineFault::BadNumber);
     }
-    let pairs = words.rest(2);
     if !has_switch_keys(&pairs) || !is_buffer_word(&pairs) {
         return Err(LineFault::BadWord);
     }
-    let number = words.number(1).unwrap_or(0);
+    let number = number.unwrap_or(0);
     if number > GREATEST_SWITCH {
         return Err(LineFault::TooMany);
     }

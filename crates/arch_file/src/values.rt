@@ -1,11 +1,11 @@
 //! Lines of one value.
 
 ghost use Rattle.std.specs.Prelude.{◌≡◌};
-ghost use Rattle.arch_file.specs.Values.{io_rat_line, is_one, chan_width_io_line, is_distribution, channel_line, number_line, fixed_line, switch_block_type_line, fc_type_line};
+ghost use Rattle.arch_file.specs.Values.{io_rat_line, chan_width_io_line, is_distribution, channel_line, number_line, fixed_value, switch_block_type_line, fc_type_line};
 
+use crate::entries::FcType;
 use crate::fault::LineFault;
 use crate::line::ArchLine;
-use crate::parts::FcType;
 use line_reader::Words;
 
 /// The greatest number of pads at one place of the perimeter.
@@ -32,25 +32,19 @@ pub(crate) fn io_rat_line(words: &Words) -> Result<ArchLine, LineFault>
     Ok(ArchLine::IoRat(pads))
 }
 
-/// Whether word `j` is the number 1.
-fn is_one(words: &Words, j: usize) -> bool
-    ensures { result ≡ is_one words.now j }
-{
-    words.fixed(j).unwrap_or(0) == ONE
-}
-
 /// `chan_width_io v`.
 #[tactic(auto, unfolding(crate::specs::Values::chan_width_io_line))]
 pub(crate) fn chan_width_io_line(words: &Words) -> Result<ArchLine, LineFault>
     ensures { result ≡ chan_width_io_line words.now }
 {
-    if words.has(1) && words.fixed(1).is_none() {
+    let width = words.fixed(1);
+    if words.has(1) && width.is_none() {
         return Err(LineFault::BadNumber);
     }
     if words.len() != 2 {
         return Err(LineFault::BadWord);
     }
-    if !is_one(words, 1) {
+    if width.unwrap_or(0) != ONE {
         return Err(LineFault::Unsupported);
     }
     Ok(ArchLine::ChanWidthIo)
@@ -71,13 +65,14 @@ pub(crate) fn channel_line(words: &Words, line: ArchLine) -> Result<ArchLine, Li
     if is_distribution(words) {
         return Err(LineFault::Unsupported);
     }
-    if words.has(2) && words.fixed(2).is_none() {
+    let width = words.fixed(2);
+    if words.has(2) && width.is_none() {
         return Err(LineFault::BadNumber);
     }
     if !words.is(1, "uniform") || words.len() != 3 {
         return Err(LineFault::BadWord);
     }
-    if !is_one(words, 2) {
+    if width.unwrap_or(0) != ONE {
         return Err(LineFault::Unsupported);
     }
     Ok(line)
@@ -97,18 +92,19 @@ pub(crate) fn number_line(words: &Words, line: ArchLine) -> Result<ArchLine, Lin
     Ok(line)
 }
 
-/// A keyword and a number with decimals.
-#[tactic(auto, unfolding(crate::specs::Values::fixed_line))]
-pub(crate) fn fixed_line(words: &Words, line: ArchLine) -> Result<ArchLine, LineFault>
-    ensures { result ≡ fixed_line words.now line }
+/// The number with decimals that stands behind a keyword, and is all of the line.
+#[tactic(auto, unfolding(crate::specs::Values::fixed_value))]
+pub(crate) fn fixed_value(words: &Words) -> Result<u64, LineFault>
+    ensures { result ≡ fixed_value words.now }
 {
-    if words.has(1) && words.fixed(1).is_none() {
+    let value = words.fixed(1);
+    if words.has(1) && value.is_none() {
         return Err(LineFault::BadNumber);
     }
     if words.len() != 2 {
         return Err(LineFault::BadWord);
     }
-    Ok(line)
+    Ok(value.unwrap_or(0))
 }
 
 /// `switch_block_type subset`.

@@ -3,10 +3,10 @@ use Rattle.std.proofs.Common.{◌≡◌, ℕ, ◌+◌, ◌*◌, ◌<◌, ◌≤�
 use Rattle.std.specs.List.{range_with_len, filter, flat_map, fold}
 use Rattle.std.proofs.lemmas.List.Elements.{All-head, All-tail}
 use Rattle.arch_file.specs.Architecture.{Architecture, IsWithinLimits, class_count}
-use Rattle.arch_file.specs.declared.parts.Direction.{Direction}
-use Rattle.arch_file.specs.declared.parts.Pin.{Pin}
-use Rattle.channel_tables.specs.declared.parts.Mode.{Mode}
-use Rattle.channel_tables.specs.declared.parts.Mode.TheVariants.{Detailed, Global}
+use Rattle.arch_file.specs.declared.entries.Direction.{Direction}
+use Rattle.arch_file.specs.declared.entries.Pin.{Pin}
+use Rattle.channel_tables.specs.declared.node.Mode.{Mode}
+use Rattle.channel_tables.specs.declared.node.Mode.TheVariants.{Detailed, Global}
 use Rattle.channel_tables.specs.Fabric.{Fabric, IsFabric, numbers_below}
 use Rattle.channel_tables.specs.Wires.{tracks_in, beginnings_at}
 use Rattle.channel_tables.specs.Pins.{classes_of, pins_of}

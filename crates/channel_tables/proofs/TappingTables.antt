@@ -10,8 +10,8 @@ use Rattle.channel_tables.specs.kept.TappingTables.{IsTapping, HoldsTrack, place
 use Rattle.channel_tables.proofs.Ranges.{mapped_more}
 use Rattle.channel_tables.proofs.Windows.{flat_map_next, flat_map_split}
 use Rattle.std.proofs.lemmas.List.Sums.{length-filter, count_by-le-length}
-use Rattle.arch_file.specs.declared.parts.Direction.TheVariants.{Input}
-use Rattle.arch_file.specs.declared.parts.Sides.{Sides}
+use Rattle.arch_file.specs.declared.entries.Direction.TheVariants.{Input}
+use Rattle.arch_file.specs.declared.entries.Sides.{Sides}
 use Rattle.channel_tables.specs.Fabric.{Fabric, IsFabric, numbers_below}
 use Rattle.channel_tables.specs.Pins.{pins_of, tapped_tracks}
 use Rattle.channel_tables.specs.Picks.{picks}

@@ -1,7 +1,7 @@
 -- No more wires run through a place of a channel than it has tracks.
 use Rattle.std.proofs.Common.{ℕ, ◌≤◌, arith}
-use Rattle.channel_tables.specs.declared.parts.Mode.{Mode}
-use Rattle.channel_tables.specs.declared.parts.Mode.TheVariants.{Detailed, Global}
+use Rattle.channel_tables.specs.declared.node.Mode.{Mode}
+use Rattle.channel_tables.specs.declared.node.Mode.TheVariants.{Detailed, Global}
 use Rattle.channel_tables.specs.Wires.{tracks_in}
 
 pub tracks_within : (mode : Mode) (width : ℕ) → 1 ≤ width → tracks_in mode width ≤ width

@@ -11,11 +11,11 @@ use Rattle.channel_tables.proofs.Windows.{slice_get-append_left, slice_get-flat_
 use Rattle.channel_tables.proofs.Lengths.{length_next, length_even, length_times}
 use Rattle.channel_tables.proofs.Rising.{length-rises, rises-if, rises-filter, rises-below, beginnings-rise, length-joined}
 use Rattle.arch_file.specs.Architecture.{IsSegmentLength}
-use Rattle.arch_file.specs.declared.parts.Segment.{Segment}
-use Rattle.arch_file.specs.declared.parts.SegmentLength.{SegmentLength}
-use Rattle.arch_file.specs.declared.parts.SegmentLength.TheVariants.{Places, Longline}
-use Rattle.channel_tables.specs.declared.parts.Mode.{Mode}
-use Rattle.channel_tables.specs.declared.parts.Mode.TheVariants.{Detailed, Global}
+use Rattle.arch_file.specs.declared.entries.Segment.{Segment}
+use Rattle.arch_file.specs.declared.entries.SegmentLength.{SegmentLength}
+use Rattle.arch_file.specs.declared.entries.SegmentLength.TheVariants.{Places, Longline}
+use Rattle.channel_tables.specs.declared.node.Mode.{Mode}
+use Rattle.channel_tables.specs.declared.node.Mode.TheVariants.{Detailed, Global}
 use Rattle.channel_tables.specs.Fabric.{Fabric, IsFabric, numbers_below, is_between}
 use Rattle.channel_tables.specs.Wires.{tracks_in, places_of_length, places_of_type, length_by, length_of, type_of, rank_of, begins, last_of, beginnings_at}
 use Rattle.channel_tables.specs.Channels.{first_of, starting_at, wires_before, wire_number, wire_at, beginning_of, beginnings_of}

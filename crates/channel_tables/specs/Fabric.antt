@@ -4,7 +4,7 @@ use Rattle.std.specs.Prelude.{ℕ, ◌+◌, ◌≤◌, ◌==◌, Bool, ◌&&◌,
 use Rattle.std.specs.List.{range_with_len}
 use Rattle.arch_file.specs.Architecture.{Architecture, IsWithinLimits}
 pub use Rattle.arch_file.specs.Architecture.{longest_side}
-use Rattle.channel_tables.specs.declared.parts.Mode.{Mode}
+use Rattle.channel_tables.specs.declared.node.Mode.{Mode}
 
 pub record Fabric : Type 0 where
   pub architecture : Architecture

@@ -4,16 +4,16 @@ use Rattle.std.specs.Prelude.{ℕ, ◌+◌, ◌-◌, ◌*◌, ◌/◌, ◌%◌, 
 use Rattle.std.specs.List.{list_any, filter}
 use Rattle.std.specs.Option.{option_map}
 use Rattle.arch_file.specs.Architecture.{Architecture, class_count, class_direction}
-use Rattle.arch_file.specs.declared.parts.Direction.{Direction}
-use Rattle.arch_file.specs.declared.parts.Direction.TheVariants.{Input, Output}
-use Rattle.arch_file.specs.declared.parts.FcType.{FcType}
-use Rattle.arch_file.specs.declared.parts.FcType.TheVariants.{Absolute, Fractional}
-use Rattle.arch_file.specs.declared.parts.Pin.{Pin}
-use Rattle.channel_tables.specs.declared.parts.Mode.{Mode}
-use Rattle.channel_tables.specs.declared.parts.Mode.TheVariants.{Detailed, Global}
-use Rattle.channel_tables.specs.declared.parts.Kind.{Kind}
-use Rattle.channel_tables.specs.declared.parts.Kind.TheVariants.{Opin, Chanx, Chany}
-use Rattle.channel_tables.specs.declared.parts.Node.{Node}
+use Rattle.arch_file.specs.declared.entries.Direction.{Direction}
+use Rattle.arch_file.specs.declared.entries.Direction.TheVariants.{Input, Output}
+use Rattle.arch_file.specs.declared.entries.FcType.{FcType}
+use Rattle.arch_file.specs.declared.entries.FcType.TheVariants.{Absolute, Fractional}
+use Rattle.arch_file.specs.declared.entries.Pin.{Pin}
+use Rattle.channel_tables.specs.declared.node.Mode.{Mode}
+use Rattle.channel_tables.specs.declared.node.Mode.TheVariants.{Detailed, Global}
+use Rattle.channel_tables.specs.declared.node.Kind.{Kind}
+use Rattle.channel_tables.specs.declared.node.Kind.TheVariants.{Opin, Chanx, Chany}
+use Rattle.channel_tables.specs.declared.node.Node.{Node}
 use Rattle.channel_tables.specs.Fabric.{Fabric, numbers_below, is_block}
 use Rattle.channel_tables.specs.Wires.{Place, runs_through}
 use Rattle.channel_tables.specs.declared.pins.TapCounts.{TapCounts}

@@ -1,9 +1,9 @@
 -- The input pins and pads that tap a track: pins by the side of the block where they are reached.
 use Rattle.std.specs.Prelude.{ℕ, ◌==◌, Bool, ◌&&◌, not, false, List, slice_get, Option, Some, None}
 use Rattle.std.specs.List.{list_any}
-use Rattle.arch_file.specs.declared.parts.Direction.TheVariants.{Input}
-use Rattle.arch_file.specs.declared.parts.Pin.{Pin}
-use Rattle.arch_file.specs.declared.parts.Sides.{Sides}
+use Rattle.arch_file.specs.declared.entries.Direction.TheVariants.{Input}
+use Rattle.arch_file.specs.declared.entries.Pin.{Pin}
+use Rattle.arch_file.specs.declared.entries.Sides.{Sides}
 use Rattle.channel_tables.specs.Fabric.{Fabric, numbers_below}
 use Rattle.channel_tables.specs.Pins.{pins_of, tapped_tracks, is_marked_global}
 use Rattle.channel_tables.specs.Picks.{picks}

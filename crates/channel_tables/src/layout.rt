@@ -5,7 +5,7 @@ ghost use Rattle.arch_file.specs.Architecture.{longest_side};
 ghost use Rattle.channel_tables.specs.Fabric.{IsFabric, is_block, is_pad, most_tracks};
 ghost use Rattle.channel_tables.specs.Wires.{tracks_in};
 
-use crate::parts::Mode;
+use crate::node::Mode;
 use arch_file::{Arch, Segment};
 use std::alloc::{AllocError, Global};
 use std::marker::Model;
@@ -70,9 +70,9 @@ impl Layout {
             }) }
         ensures limits { IfOk result IsFabric }
     {
-        let _limits = arch.io_rat();
+        let arch = arch.copy(alloc)?;
         Ok(Layout {
-            arch: arch.copy(alloc)?,
+            arch,
             nx,
             ny,
             width,
@@ -90,7 +90,8 @@ impl Layout {
 
     /// The architecture.
     pub fn architecture(&self) -> &Arch
-        ensures { result.now ≡ self.now.architecture }
+        ensures architecture { result.now ≡ self.now.architecture }
+        ensures limits { IsFabric self.now }
     {
         &self.arch
     }

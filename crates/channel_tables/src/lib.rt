@@ -4,7 +4,7 @@
 
 mod channel;
 mod layout;
-mod parts;
+mod node;
 mod pins;
 mod reaches;
 mod sides;
@@ -14,7 +14,7 @@ mod wires;
 
 pub use channel::{Beginning, Wire};
 pub use layout::Layout;
-pub use parts::{Kind, Label, Mode, Node, NodeRange, Span};
+pub use node::{Kind, Label, Mode, Node, NodeRange, Span};
 pub use pins::{TapCounts, has_class};
 pub use sides::Side;
 pub use tables::ChannelTables;

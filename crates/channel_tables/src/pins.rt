@@ -9,7 +9,7 @@ ghost use Rattle.channel_tables.specs.Pins.{has_direction, classes_of, pins_of, 
 ghost use Rattle.channel_tables.specs.Fabric.{most_tracks};
 
 use crate::layout::Layout;
-use crate::parts::{Kind, Mode, Node};
+use crate::node::{Kind, Mode, Node};
 use arch_file::{Direction, FcType, Pin};
 use std::alloc::{AllocError, Global};
 

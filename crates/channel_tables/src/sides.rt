@@ -2,7 +2,7 @@
 
 ghost use Rattle.std.specs.Prelude.{◌≡◌, ℕ, ◌+◌, ◌≤◌, ◌<◌, ◌++◌, length, map, IfOk, OnOk, vec_len};
 ghost use Rattle.arch_file.specs.Architecture.{most_pins};
-ghost use Rattle.channel_tables.specs.Fabric.{numbers_below};
+ghost use Rattle.channel_tables.specs.Fabric.{IsFabric, numbers_below, most_tracks};
 ghost use Rattle.channel_tables.specs.Wires.{tracks_in};
 ghost use Rattle.channel_tables.specs.Pins.{tap_count};
 ghost use Rattle.channel_tables.specs.Picks.{picks};
@@ -101,11 +101,12 @@ impl Layout {
     /// Whether an input pin on a side, or a pad, taps the track, where `count` is how many tracks it taps.
     #[tactic(auto, unfolding(crate::specs::Pins::tapped_tracks))]
     fn taps_from(&self, side: Side, count: u32, track: u32, pin: u32) -> bool
-        requires { count ≡ tap_count self.now.architecture.fc_type
+        requires some { 1 ≤ count }
+        requires few { count ≤ most_tracks }
+        requires count { count ≡ tap_count self.now.architecture.fc_type
             (fc_on side self.now) self.now.width }
         ensures { result ≡ taps_from side self.now track pin }
     {
-        let _limits = self.width();
         match side {
             Side::Pad => self.taps_by_count(count, pin, track),
             _ => {
@@ -126,7 +127,9 @@ impl Layout {
         count: u32,
         track: u32,
     ) -> Result<(), AllocError>
-        requires few { length pins.now ≤ most_pins }
+        requires pins { length pins.now ≤ most_pins }
+        requires some { 1 ≤ count }
+        requires few { count ≤ most_tracks }
         requires count { count ≡ tap_count self.now.architecture.fc_type
             (fc_on side self.now) self.now.width }
         ensures places { OnOk result (places.new.items
@@ -161,12 +164,12 @@ impl Layout {
     /// The places, among a block's input pins or the pads of a place, of those that tap a track on a side.
     #[tactic(auto, using(crate::proofs::TappingTables::places_of_track_are, crate::proofs::TappingTables::few_pins, crate::proofs::TappingTables::few_pads))]
     pub(crate) fn tapping_on<'a>(&self, sides: &'a BlockSides, side: Side, track: u32) -> &'a [u8]
+        requires limits { IsFabric self.now }
         requires sides { IsSides self.now sides.now }
         requires track { track < tracks_in self.now.mode self.now.width }
         ensures places { result.now ≡ tapping_on side self.now track }
         ensures few { length result.now ≤ most_pins }
     {
-        let _limits = self.nx();
         match side {
             Side::Top => sides.top.of_track(track),
             Side::Bottom => sides.bottom.of_track(track),

@@ -2,7 +2,7 @@
 
 ghost use Rattle.std.specs.Prelude.{◌≡◌, ◌+◌, ◌≤◌, ◌<◌, length, slice_get, Some, IfOk};
 ghost use Rattle.arch_file.specs.Architecture.{most_pins, longest_side};
-ghost use Rattle.channel_tables.specs.Fabric.{fabric_with, most_tracks};
+ghost use Rattle.channel_tables.specs.Fabric.{IsFabric, fabric_with, most_tracks};
 ghost use Rattle.channel_tables.specs.Wires.{tracks_in};
 ghost use Rattle.channel_tables.specs.Channels.{starting_at, wires_before, beginnings_of, wire_at};
 ghost use Rattle.channel_tables.specs.Pins.{IsTapCounts};
@@ -10,7 +10,7 @@ ghost use Rattle.channel_tables.specs.Sides.{tapping_on};
 
 use crate::channel::{Beginning, Channel, Wire};
 use crate::layout::Layout;
-use crate::parts::Mode;
+use crate::node::Mode;
 use crate::pins::TapCounts;
 use crate::sides::{BlockSides, Side};
 use arch_file::Arch;
@@ -92,7 +92,8 @@ impl ChannelTables {
 
     /// What the device is made from.
     pub fn layout(&self) -> &Layout
-        ensures { result.now ≡ self.now }
+        ensures layout { result.now ≡ self.now }
+        ensures limits { IsFabric self.now }
     {
         &self.layout
     }
@@ -110,7 +111,7 @@ impl ChannelTables {
         requires track { track < tracks_in self.now.mode self.now.width }
         ensures { result ≡ wire_at self.now self.now.nx x track }
     {
-        self.layout.wire_at(&self.rows, self.layout.nx(), x, track)
+        self.layout.wire_at(&self.rows, x, track)
     }
 
     /// The wire of a track through place `y` of the channels right of columns.
@@ -119,8 +120,7 @@ impl ChannelTables {
         requires track { track < tracks_in self.now.mode self.now.width }
         ensures { result ≡ wire_at self.now self.now.ny y track }
     {
-        self.layout
-            .wire_at(&self.columns, self.layout.ny(), y, track)
+        self.layout.wire_at(&self.columns, y, track)
     }
 
     /// How many wires of a channel above a row begin before place `x`.
@@ -129,7 +129,7 @@ impl ChannelTables {
         ensures before { result ≡ wires_before self.now self.now.nx x }
         ensures few { result ≤ 25856 }
     {
-        self.layout.wires_before(&self.rows, self.layout.nx(), x)
+        self.layout.wires_before(&self.rows, x)
     }
 
     /// How many wires of a channel above a row begin at place `x`: so much greater is the number of a wire one row up.
@@ -139,8 +139,7 @@ impl ChannelTables {
         ensures step { result ≡ length (starting_at self.now self.now.nx x) }
         ensures few { result ≤ 25856 }
     {
-        let _ = &self.layout;
-        self.above_before(x + 1) - self.above_before(x)
+        self.layout.wires_before(&self.rows, x + 1) - self.layout.wires_before(&self.rows, x)
     }
 
     /// How many wires a channel right of a column has: so much greater is the number of a wire one column on.
@@ -148,8 +147,8 @@ impl ChannelTables {
         ensures step { result ≡ wires_before self.now self.now.ny (self.now.ny + 1) }
         ensures few { result ≤ 25856 }
     {
-        let ny = self.layout.ny();
-        self.layout.wires_before(&self.columns, ny, ny + 1)
+        self.layout
+            .wires_before(&self.columns, self.columns.places + 1)
     }
 
     /// The wire of an index among those of a channel above a row.
@@ -157,8 +156,7 @@ impl ChannelTables {
         requires { index < wires_before self.now self.now.nx (self.now.nx + 1) }
         ensures { slice_get (beginnings_of self.now self.now.nx) index ≡ Some result }
     {
-        self.layout
-            .beginning_at(&self.rows, self.layout.nx(), index)
+        self.layout.beginning_at(&self.rows, index)
     }
 
     /// The wire of an index among those of a channel right of a column.
@@ -166,8 +164,7 @@ impl ChannelTables {
         requires { index < wires_before self.now self.now.ny (self.now.ny + 1) }
         ensures { slice_get (beginnings_of self.now self.now.ny) index ≡ Some result }
     {
-        self.layout
-            .beginning_at(&self.columns, self.layout.ny(), index)
+        self.layout.beginning_at(&self.columns, index)
     }
 
     /// The places, among a block's input pins or the pads of a place, of those that tap a track on a side.

@@ -83,17 +83,12 @@ impl Layout {
         Ok(order)
     }
 
-    /// The tracks of a channel of `places` places in the order of where their wires through a place begin.
-    pub(crate) fn tracks_through<'a>(
-        &self,
-        channel: &'a Channel,
-        places: u32,
-        place: u32,
-    ) -> &'a [u8]
-        requires few { places ≤ longest_side }
-        requires within { place ≤ places }
-        requires tables { IsChannel self.now places channel.now }
-        ensures { result.now ≡ tracks_through self.now places place }
+    /// The tracks of a channel in the order of where their wires through a place begin.
+    pub(crate) fn tracks_through<'a>(&self, channel: &'a Channel, place: u32) -> &'a [u8]
+        requires few { channel.now.places ≤ longest_side }
+        requires within { place ≤ channel.now.places }
+        requires tables { IsChannel self.now channel.now }
+        ensures { result.now ≡ tracks_through self.now channel.now.places place }
     {
         let width = self.tracks();
         let start = place.saturating_sub(1) * width;
@@ -107,8 +102,7 @@ impl ChannelTables {
         requires { column ≤ self.now.nx }
         ensures { result.now ≡ tracks_through self.now self.now.nx column }
     {
-        self.layout
-            .tracks_through(&self.rows, self.layout.nx(), column)
+        self.layout.tracks_through(&self.rows, column)
     }
 
     /// The tracks in the order of where their wires through a row, right of a column, begin.
@@ -116,8 +110,7 @@ impl ChannelTables {
         requires { row ≤ self.now.ny }
         ensures { result.now ≡ tracks_through self.now self.now.ny row }
     {
-        self.layout
-            .tracks_through(&self.columns, self.layout.ny(), row)
+        self.layout.tracks_through(&self.columns, row)
     }
 
     /// How many of the tracks stand before the first one whose wire through a column does not begin at place `first`.

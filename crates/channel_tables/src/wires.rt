@@ -4,10 +4,10 @@ ghost use Rattle.std.specs.Prelude.{◌≡◌, ℕ, ◌+◌, ◌-◌, ◌*◌, �
 ghost use Rattle.arch_file.specs.Architecture.{most_segments};
 ghost use Rattle.channel_tables.specs.Wires.{tracks_in, total_frequency, weight_of_first, type_of, length_of, runs_through};
 ghost use Rattle.channel_tables.specs.LastPlaces.{last_by};
-ghost use Rattle.channel_tables.specs.Fabric.{most_tracks};
+ghost use Rattle.channel_tables.specs.Fabric.{IsFabric, most_tracks};
 
 use crate::layout::Layout;
-use crate::parts::{Kind, Mode, Node};
+use crate::node::{Kind, Mode, Node};
 use arch_file::{Segment, SegmentLength};
 
 fn total_frequency(segments: &[Segment]) -> u128
@@ -74,6 +74,7 @@ impl Layout {
         ensures tracks { result ≡ tracks_in self.now.mode self.now.width }
         ensures few { result ≤ most_tracks }
         ensures within { result ≤ self.now.width }
+        ensures limits { IsFabric self.now }
     {
         self.tracks
     }

@@ -1,19 +1,18 @@
 -- Counts of nodes, and how many nodes are overused, when one count changes.
-use Rattle.std.proofs.Common.{◌≡◌, ◌≢◌, inl, inr, ℕ, ◌+◌, ◌-◌, ◌<◌, ◌≤◌, ◌==◌, ◌^◌, zero, suc, Bool, false, nat_lt, List, [], ◌∷◌, ◌++◌, length, get_or, set, replicate, Option, Some, None, refl, sym, ap, subst, ◌∙◌, arith, add-one, length-set, get_or-set_other}
-use Rattle.std.specs.Prelude.{count_by, map, take}
-use Rattle.std.specs.Option.{option_map}
+use Rattle.std.proofs.Common.{◌≡◌, ◌≢◌, inl, inr, ℕ, ◌+◌, ◌-◌, ◌<◌, ◌≤◌, ◌==◌, ◌^◌, zero, suc, Bool, false, nat_lt, List, [], ◌∷◌, ◌++◌, length, get_or, set, replicate, Some, refl, sym, ap, subst, ◌∙◌, arith, add-one, length-set, get_or-set_other}
+use Rattle.std.specs.Prelude.{count_by, take}
 use Rattle.std.proofs.lemmas.Bool.{cases_eq, eq-eqb, ne_eqb}
 use Rattle.std.proofs.lemmas.Bool.Decides.{nat_tests}
 use Rattle.std.proofs.lemmas.Grind.{get_or-set_at}
-use Rattle.std.proofs.lemmas.List.{get_or-set_same, same_lists, get_or_default}
-use Rattle.std.proofs.lemmas.Option.{slice_get_cases, same_Some, none-some}
+use Rattle.std.proofs.lemmas.List.{get_or-set_same}
+use Rattle.std.proofs.lemmas.Option.{slice_get_cases}
 use Rattle.std.proofs.lemmas.List.Sums.{sum_by-append, sum_by-cons, count_by-le-length}
 use Rattle.std.proofs.lemmas.List.FromFn.{length-range_with_len}
 use Rattle.routing_problem.specs.Fabric.{Fabric, IsFabric, numbers_below}
-use Rattle.routing_problem.specs.parts.Node.{Node}
-use Rattle.routing_problem.specs.Nodes.{node_at, nodes_of, node_count_of, capacity_of}
+use Rattle.routing_problem.specs.node.Node.{Node}
+use Rattle.routing_problem.specs.Nodes.{node_at, nodes_of, node_count_of}
 use Rattle.routing_problem.proofs.Capacities.{some_capacity}
-use Rattle.routing_problem.proofs.Ranges.{below_next, length_below, get_below}
+use Rattle.routing_problem.proofs.Ranges.{below_next}
 pub use Rattle.routing_problem.proofs.Ranges.{sum_next}
 use Rattle.routing_problem.proofs.Order.{node_count_below}
 use Rattle.route_tree.specs.declared.tree.Row.{Row}
@@ -22,14 +21,7 @@ use Rattle.route_tree.specs.kept.Marked as tree
 use Rattle.route_tree.specs.Usage.{room_of}
 use Rattle.congestion_book.specs.Turns.{one_if}
 use Rattle.congestion_book.specs.kept.Usage.{is_over, overused_by, times_in, AddsEach, TakesEach}
-
--- a list that has the value of f at each place below n
-pub listed_below : (f : ℕ → ℕ) (n : ℕ) (xs : List ℕ) → length xs ≡ n → ((a : ℕ) → a < n → get_or xs a 0 ≡ f a) → xs ≡ map f (numbers_below n)
-listed_below f n xs size at =
-    same_lists xs (map f (numbers_below n)) (size ∙ sym (length_below f n))
-    (λ k d l.
-    let within : k < n = omega (arith, l, size) in
-    get_or_default xs k d 0 l ∙ (at k within ∙ sym (get_below f n k d within)))
+use Rattle.route_report.proofs.Counting.{zeros}
 
 -- ---- one test of many changes
 count_next : (p : ℕ → Bool) (n : ℕ) → count_by p (numbers_below (suc n)) ≡ count_by p (numbers_below n) + one_if (p n)
@@ -86,14 +78,6 @@ some_room f within i l = elim (slice_get_cases (nodes_of f) i).1 [
   | inr past ↦ absurd (omega (arith, past.0, l))
 ]
 
-pub room_is : (f : Fabric) (o : Option Node) (capacity : ℕ) → Some capacity ≡ option_map (capacity_of f) o → room_of f o ≡ capacity
-room_is f (Some n) capacity e = sym (same_Some capacity (capacity_of f n) e)
-room_is f None capacity e = absurd (none-some capacity (sym e))
-
-pub no_room : (f : Fabric) (o : Option Node) → None ≡ option_map (capacity_of f) o → room_of f o ≡ 0
-no_room f (Some n) e = absurd (none-some (capacity_of f n) e)
-no_room f None e = refl
-
 -- ---- one count changes
 module _ (f : Fabric) (counts : List ℕ) (a : ℕ) (low : a < length counts) where
   abbrev room : ℕ
@@ -140,11 +124,6 @@ overused_few f within counts size =
     let count = length-range_with_len 0 (length counts) in
     let below = node_count_below f within in
     omega (arith, few, count, below, size)
-
-pub zeros : (nodes a : ℕ) → get_or (replicate nodes zero) a zero ≡ zero
-zeros zero a = refl
-zeros (suc n) zero = refl
-zeros (suc n) (suc a) = zeros n a
 
 zero_is_not_over : (f : Fabric) (nodes a : ℕ) → is_over f (replicate nodes 0) a ≡ false
 zero_is_not_over f nodes a = let none = zeros nodes a in grind (arith, nat_tests, none)

@@ -1,5 +1,5 @@
 -- The nodes of a recorded tree are those that its net covers, each once.
-use Rattle.std.proofs.Common.{◌≡◌, ℕ, ◌+◌, ◌<◌, ◌≤◌, ◌==◌, true, List, [], ◌∷◌, length, map, get_or, All, Some, refl, sym, ap, ap₂, ◌∙◌, arith}
+use Rattle.std.proofs.Common.{◌≡◌, ℕ, ◌+◌, ◌<◌, ◌≤◌, ◌==◌, true, List, [], ◌∷◌, length, get_or, All, Some, refl, sym, ap, ◌∙◌, arith}
 use Rattle.std.proofs.lemmas.List.Elements.{Contains-get_or}
 use Rattle.std.proofs.lemmas.Bool.{eqb-true, eq-eqb, and_parts}
 use Rattle.routing_problem.specs.Nodes.{node_count_of}
@@ -18,16 +18,13 @@ use Rattle.route_tree.proofs.Members.{one_passes}
 use Rattle.congestion_book.specs.Turns.{one_if}
 use Rattle.congestion_book.specs.kept.Usage.{times_in, AddsEach, TakesEach}
 use Rattle.congestion_book.specs.kept.Counts.{GainsNet, LosesNet}
-
-ends_are : (f : Row → Pair) → ((r : Row) → (f r).1 ≡ r.node) → (rows : List Row) → nodes_of rows ≡ ends_of (map f rows)
-ends_are f same [] = refl
-ends_are f same (r ∷ rs) = ap₂ (λ n ns. n ∷ ns) (sym (same r)) (ends_are f same rs)
+use Rattle.route_tree.proofs.RowTests.{ends_of_rows}
 
 -- the first node, and where the pairs end
 nodes_are : (rows : List Row) → IsTree rows → nodes_of rows ≡ node_in rows 0 ∷ ends_of (pairs_of rows)
 unfolding pairs_of
 nodes_are [] t = let l = t.some in absurd (omega (arith, l))
-nodes_are (r ∷ rs) t = ap (λ ns. r.node ∷ ns) (ends_are (pair_of (r ∷ rs)) (λ q. refl) rs)
+nodes_are (r ∷ rs) t = ap (λ ns. r.node ∷ ns) (ends_of_rows (pair_of (r ∷ rs)) (λ q. refl) rs)
 
 -- the first pair of a list in order begins at the source
 first_begins : (f : Fabric) (n : Net) (p : Pair) (ps : List Pair) → IsListed f n (p ∷ ps) → p.0 ≡ n.source

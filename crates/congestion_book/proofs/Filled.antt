@@ -6,7 +6,7 @@ use Rattle.std.specs.List.{list_any}
 use Rattle.std.proofs.lemmas.Bool.Decides.{nat_tests}
 use Rattle.std.proofs.lemmas.Option.{slice_get_cases, slice_get_past, none-some}
 use Rattle.routing_problem.specs.Fabric.{Fabric}
-use Rattle.routing_problem.specs.parts.Node.{Node}
+use Rattle.routing_problem.specs.node.Node.{Node}
 use Rattle.routing_problem.specs.Nodes.{node_at, nodes_of, node_count_of, capacity_of}
 use Rattle.routing_problem.specs.Problems.{RoutingProblem, net_in}
 use Rattle.route_tree.specs.declared.tree.Row.{Row}
@@ -17,7 +17,7 @@ use Rattle.node_cost.specs.Views.{NetView, others_in}
 use Rattle.congestion_book.specs.Looks.{fills, has_filled}
 use Rattle.congestion_book.specs.kept.Counts.{AreRecorded}
 use Rattle.congestion_book.specs.kept.Views.{filled_by}
-use Rattle.congestion_book.proofs.Counting.{room_is, no_room}
+use Rattle.route_report.proofs.Overusing.{room_is, no_room}
 
 -- a node that has a capacity is one of the device
 there : (f : Fabric) (a room : ℕ) (o : Option Node) → node_at f a ≡ o → Some room ≡ option_map (capacity_of f) o → a < node_count_of f

@@ -7,7 +7,7 @@ use Rattle.std.proofs.lemmas.List.Sums.{sum_by-append, sum_by-cons, sum_by-le, s
 use Rattle.std.proofs.lemmas.Nat.{mul-le}
 use Rattle.congestion_book.specs.Histories.{Amount, amount_in, history_of, histories_of}
 use Rattle.congestion_book.specs.kept.HistoryTables.{AreHistories, GrowsByRow}
-use Rattle.congestion_book.proofs.Counting.{zeros, listed_below}
+use Rattle.route_report.proofs.Counting.{listed_below, zeros}
 
 -- what an entry adds to the amount of node a
 abbrev part : ℕ → Amount → ℕ

@@ -14,11 +14,12 @@ use Rattle.route_tree.specs.Faults.{IsRoute}
 use Rattle.route_tree.specs.Usage.{use_by, use_of, Lists, list_in}
 use Rattle.route_tree.specs.TreeLists.{list_of_tree, lists_of_trees}
 use Rattle.route_tree.proofs.Uses.{use_replaced, own_within, few_uses, unused}
-use Rattle.congestion_book.proofs.Counting.{zeros, none_overused, listed_below}
+use Rattle.congestion_book.proofs.Counting.{none_overused}
 use Rattle.congestion_book.specs.Turns.{one_if}
 use Rattle.congestion_book.specs.kept.Usage.{overused_by}
 use Rattle.congestion_book.specs.Recorded.{occupancies_of, unrouted_in}
 use Rattle.congestion_book.specs.kept.Counts.{RoutesOrNone, ChangesNet, AreRecorded}
+use Rattle.route_report.proofs.Counting.{listed_below, zeros}
 
 -- counts that are exact are the occupancies by the lists
 pub occupied_by : (p : RoutingProblem) (lists : Lists) (counts : List ℕ) (overused unrouted : ℕ) → AreRecorded p lists counts overused unrouted →

@@ -77,9 +77,6 @@ sees_others p i list counts histories shown view same is leaves = record {
   remembered = λ a. leaves.histories a ∙ (ap (λ v. history_in v a) is ∙ history_at counts histories a same);
 }
 
-pub used_there : (counts histories : List ℕ) (a : ℕ) → length histories ≡ length counts → others_in (zip counts histories) a ≡ get_or counts a 0
-used_there counts histories a same = others_at counts histories a same
-
 -- ---- the view of a sound book
 module _ (c : Content) (sound : IsSound c) (i : ℕ) (low : i < net_count c)
     (view : NetView) (sees : SeesOthers c.problem i (list_in c.lists i) c.occupancies c.histories view) where

@@ -24,9 +24,9 @@ use Rattle.congestion_book.specs.kept.Closing.{IsNext}
 use Rattle.congestion_book.specs.kept.Fields.{content_of, IsBookInside}
 use Rattle.congestion_book.proofs.Turning.{none_held, close_in_order}
 use Rattle.congestion_book.proofs.Recording.{none_listed}
-use Rattle.congestion_book.proofs.Counting.{zeros}
 use Rattle.congestion_book.proofs.Growing.{none_yet, histories_are}
 use Rattle.congestion_book.proofs.Rows.{row_formed}
+use Rattle.route_report.proofs.Counting.{zeros}
 
 pub none_in_order : (nets : ℕ) → AreInOrder (first_table nets)
 none_in_order nets = record {

@@ -1,9 +1,10 @@
 //! Whether the others have filled a node since a net looked.
 
-ghost use Rattle.std.specs.Prelude.{◌≡◌, ◌<◌, ◌≤◌, ◌-◌, get_or, length, true, Some};
+ghost use Rattle.std.specs.Prelude.{◌≡◌, ℕ, ◌<◌, ◌≤◌, ◌-◌, get_or, length, true, Some};
 ghost use Rattle.std.specs.List.{list_any};
 ghost use Rattle.routing_problem.specs.Nodes.{node_count_of};
-ghost use Rattle.routing_problem.specs.Problems.{net_in};
+ghost use Rattle.routing_problem.specs.Problems.{RoutingProblem, net_in};
+ghost use Rattle.route_tree.specs.Faults.{IsRoute};
 ghost use Rattle.route_tree.specs.Rows.{node_in, pairs_of};
 ghost use Rattle.route_tree.specs.TreeLists.{list_of_tree};
 ghost use Rattle.route_tree.specs.Usage.{covers, use_by};
@@ -32,11 +33,11 @@ fn covers_at(tree: &Tree, row: usize, id: u32) -> bool
     stands_in(tree, row, id) || tree.covers(id)
 }
 
-/// What a net with the tree adds to the use of a node, which may stand in this row of it.
+/// What a net that the tree routes adds to the use of a node, which may stand in this row of it.
 #[tactic(auto, using(crate::proofs::Covering::use_covers))]
-fn use_of_tree(problem: &Problem, net: u32, tree: &Tree, row: usize, id: u32) -> u32
-    requires { RoutesOrNone problem.now net (Some (pairs_of tree.now)) }
-    ensures { result ≡ use_by (net_in problem.now.nets net) (Some (pairs_of tree.now)) id }
+fn use_of_tree(tree: &Tree, row: usize, id: u32) -> u32
+    ensures { (p : RoutingProblem) (net : ℕ) → IsRoute p net (pairs_of tree.now)
+        → result ≡ use_by (net_in p.nets net) (Some (pairs_of tree.now)) id }
 {
     let _tree = tree.as_slice();
     one_if(covers_at(tree, row, id))
@@ -44,35 +45,34 @@ fn use_of_tree(problem: &Problem, net: u32, tree: &Tree, row: usize, id: u32) ->
 
 /// What a net with this tree, or none, adds to the use of a node, which may stand in this row of
 /// it.
-fn own_use(problem: &Problem, net: u32, tree: &Option<Tree>, row: usize, id: u32) -> u32
-    requires { RoutesOrNone problem.now net (list_of_tree tree.now) }
-    ensures { result ≡ use_by (net_in problem.now.nets net) (list_of_tree tree.now) id }
+fn own_use(tree: &Option<Tree>, row: usize, id: u32) -> u32
+    ensures { (p : RoutingProblem) (net : ℕ) → RoutesOrNone p net (list_of_tree tree.now)
+        → result ≡ use_by (net_in p.nets net) (list_of_tree tree.now) id }
 {
     match tree {
         None => 0,
-        Some(tree) => use_of_tree(problem, net, tree, row, id),
+        Some(tree) => use_of_tree(tree, row, id),
     }
 }
 
-/// Whether a node stands in this row of the tree of a net, which uses it then.
-fn uses_in(problem: &Problem, net: u32, tree: &Tree, row: usize, id: u32) -> bool
-    requires { RoutesOrNone problem.now net (Some (pairs_of tree.now)) }
-    ensures { result ≡ true
-        → use_by (net_in problem.now.nets net) (Some (pairs_of tree.now)) id ≡ 1 }
+/// Whether a node stands in this row of a tree: a net that the tree routes uses it then.
+fn uses_in(tree: &Tree, row: usize, id: u32) -> bool
+    ensures { result ≡ true → (p : RoutingProblem) (net : ℕ) → IsRoute p net (pairs_of tree.now)
+        → use_by (net_in p.nets net) (Some (pairs_of tree.now)) id ≡ 1 }
 {
     let _tree = tree.as_slice();
     stands_in(tree, row, id)
 }
 
 /// The same of a net that may have no tree.
-fn uses_at(problem: &Problem, net: u32, tree: &Option<Tree>, row: usize, id: u32) -> bool
-    requires { RoutesOrNone problem.now net (list_of_tree tree.now) }
-    ensures { result ≡ true
-        → use_by (net_in problem.now.nets net) (list_of_tree tree.now) id ≡ 1 }
+fn uses_at(tree: &Option<Tree>, row: usize, id: u32) -> bool
+    ensures { result ≡ true → (p : RoutingProblem) (net : ℕ)
+        → RoutesOrNone p net (list_of_tree tree.now)
+        → use_by (net_in p.nets net) (list_of_tree tree.now) id ≡ 1 }
 {
     match tree {
         None => false,
-        Some(tree) => uses_in(problem, net, tree, row, id),
+        Some(tree) => uses_in(tree, row, id),
     }
 }
 
@@ -96,7 +96,7 @@ fn none_came(
 {
     let count = counts.get(id);
     let others = view.others(id);
-    count <= others || (count - 1 <= others && uses_at(problem, net, tree, row, id))
+    count <= others || (count - 1 <= others && uses_at(tree, row, id))
 }
 
 /// Whether a node with so much room is full by these counts without the net's own, and was not by
@@ -128,7 +128,7 @@ fn fills_room(
     if room <= view.others(id) {
         return false;
     }
-    room <= count - own_use(problem, net, tree, row, id)
+    room <= count - own_use(tree, row, id)
 }
 
 /// Whether a node is full by these counts without the net's own, and was not by the view. It may

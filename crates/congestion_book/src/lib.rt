@@ -3,13 +3,13 @@
 #![tactic(auto)]
 
 mod book;
+mod book_state;
 mod events;
 mod faults;
 mod filling;
 mod history;
-mod look_ups;
+mod net_view;
 mod routes;
-mod showing;
 mod turn;
 mod turns;
 mod usage;

@@ -20,7 +20,7 @@ ghost use Rattle.congestion_book.specs.kept.Counts.{RoutesOrNone, HasRoom, HasRo
 
 use crate::filling::any_filled;
 use crate::history::OveruseRow;
-use crate::showing::show;
+use crate::net_view::show;
 use crate::usage::{Usage, one_if};
 use node_cost::{Histories, View};
 use route_tree::{Row, Tree};
@@ -48,9 +48,7 @@ fn gain_rows(usage: &mut Usage, problem: &Problem, net: u32, rows: &[Row])
         usage.old.counts usage.new.counts }
     ensures counted { usage.new.overused ≡ overused_by problem.now.device usage.new.counts }
 {
-    let device = problem.device();
-    let _limits = device.nx();
-    usage.add_each(device, rows);
+    usage.add_each(problem.device(), rows);
 }
 
 /// A net with this tree, or none, is one that uses its nodes more.
@@ -81,9 +79,7 @@ fn lose_rows(usage: &mut Usage, problem: &Problem, net: u32, rows: &[Row])
         usage.old.counts usage.new.counts }
     ensures counted { usage.new.overused ≡ overused_by problem.now.device usage.new.counts }
 {
-    let device = problem.device();
-    let _limits = device.nx();
-    usage.take_each(device, rows);
+    usage.take_each(problem.device(), rows);
 }
 
 /// A net with this tree, or none, is one that uses its nodes no more.
@@ -214,9 +210,8 @@ impl Routes {
         ensures there { IfOk result (λ r. All (λ e. e.0 < node_count_of problem.now.device) r) }
         ensures bounded { IfOk result (λ r. (a : ℕ) → amount_in r a ≤ 65535) }
     {
-        let device = problem.device();
-        let _limits = (device.nx(), problem.nets());
-        let amounts = self.usage.row(alloc, device)?;
+        let _limits = problem.nets();
+        let amounts = self.usage.row(alloc, problem.device())?;
         Ok(OveruseRow { amounts })
     }
 }

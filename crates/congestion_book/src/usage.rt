@@ -21,7 +21,7 @@ pub(crate) struct Usage {
 }
 
 /// Whether so many nets are just as many as a node has room for: one at least.
-#[tactic(auto, using(crate::proofs::Counting::some_room, crate::proofs::Counting::room_is, crate::proofs::Counting::no_room))]
+#[tactic(auto, using(crate::proofs::Counting::some_room, route_report::proofs::Overusing::room_is, route_report::proofs::Overusing::no_room))]
 fn fills(device: &Device, id: u32, count: u32) -> bool
     requires limits { IsFabric device.now }
     requires there { id < node_count_of device.now }
@@ -122,7 +122,7 @@ impl Usage {
     }
 
     /// By how many nets more than it has room for a node is used: a node has room for one at least.
-    #[tactic(auto, using(crate::proofs::Counting::some_room, crate::proofs::Counting::room_is, crate::proofs::Counting::no_room))]
+    #[tactic(auto, using(crate::proofs::Counting::some_room, route_report::proofs::Overusing::room_is, route_report::proofs::Overusing::no_room))]
     fn excess(&self, device: &Device, id: u32) -> u32
         requires limits { IsFabric device.now }
         requires each { length self.now.counts ≡ node_count_of device.now }

@@ -34,18 +34,18 @@ fn places_of(device: &Device, rows: &[Row]) -> u64
 fn length_of_rows(problem: &Problem, net: u32, rows: &[Row]) -> u64
     requires tree { IsTree rows.now }
     requires route { IsRoute problem.now net (pairs_of rows.now) }
-    ensures { result ≡ length_by problem.now net (Some (pairs_of rows.now)) }
+    ensures exact { result ≡ length_by problem.now net (Some (pairs_of rows.now)) }
+    ensures short { result ≤ 2 ^ 40 }
 {
-    let device = problem.device();
-    let _limits = device.nx();
-    places_of(device, rows)
+    places_of(problem.device(), rows)
 }
 
 /// The wirelength of a net with this tree, or none.
 #[tactic(auto, using(crate::proofs::Lengths::none_long))]
 fn length_of(problem: &Problem, net: u32, tree: &Option<Tree>) -> u64
     requires routes { RoutesOrNone problem.now net (list_of_tree tree.now) }
-    ensures { result ≡ length_by problem.now net (list_of_tree tree.now) }
+    ensures exact { result ≡ length_by problem.now net (list_of_tree tree.now) }
+    ensures short { result ≤ 2 ^ 40 }
 {
     match tree {
         None => 0,
@@ -55,15 +55,13 @@ fn length_of(problem: &Problem, net: u32, tree: &Option<Tree>) -> u64
 
 impl Routes {
     /// The wirelength of a net by its recorded tree.
-    #[tactic(auto, using(crate::proofs::Lengths::length_few))]
     fn wirelength_of(&self, problem: &Problem, net: u32) -> u64
         requires there { net < length problem.now.nets }
         requires recorded { AreExact problem.now self.now }
         ensures exact { result ≡ wirelength_of problem.now (lists_kept self.now) net }
         ensures short { result ≤ 2 ^ 40 }
     {
-        let device = problem.device();
-        let _limits = (device.nx(), problem.nets());
+        let _limits = problem.nets();
         let tree = &self.trees[net as usize];
         length_of(problem, net, tree)
     }

@@ -1,11 +1,10 @@
 -- What going on from tracks of a group does.
-use Rattle.std.proofs.Common.{◌≡◌, ℕ, suc, ◌+◌, ◌<◌, ◌≤◌, ◌⊎◌, Bool, true, false, cond, List, [], ◌∷◌, length, get_or, map, Contains, Some, inl, inr, refl, sym, ap, ◌∙◌, subst, arith}
-use Rattle.std.specs.Prelude.{◌||◌, ◌&&◌}
+use Rattle.std.proofs.Common.{◌≡◌, ℕ, suc, ◌+◌, ◌<◌, ◌≤◌, ◌⊎◌, Bool, true, false, cond, List, [], ◌∷◌, length, get_or, map, Contains, Some, inl, inr, sym, ap, ◌∙◌, subst, arith}
 use Rattle.std.specs.List.{list_any}
 use Rattle.std.specs.Int.{bit_at}
-use Rattle.std.proofs.lemmas.Bool.{eqb-true, false≢true}
+use Rattle.std.proofs.lemmas.Bool.{eqb-true, false≢true, and_parts, or_cases}
 use Rattle.std.proofs.lemmas.List.Elements.{All-get_or}
-use Rattle.routing_problem.specs.parts.Kind.TheVariants.{Ipin}
+use Rattle.routing_problem.specs.node.Kind.TheVariants.{Ipin}
 use Rattle.routing_problem.specs.Nodes.{is_wire_at, kind_of_node}
 use Rattle.track_groups.specs.declared.group.Tap.{Tap}
 use Rattle.track_groups.specs.Groups.{IsOn, group_at, on_track, wire_on}
@@ -35,19 +34,10 @@ mapped f (x ∷ xs) d y h = elim (contains_cases (f x) y (map f xs) h) [
   | inr later ↦ let r = mapped f xs d y later in (suc r.0, (let lt = r.1 in omega (arith, lt)), r.2)
 ]
 
-first_or : (a b : Bool) → (a || b) ≡ true → (a ≡ true) ⊎ (b ≡ true)
-first_or true b e = inl refl
-first_or false b e = inr e
-
-both_so : (a b : Bool) → (a && b) ≡ true → (a ≡ true) × (b ≡ true)
-both_so true true e = (refl, refl)
-both_so true false e = absurd (false≢true e)
-both_so false b e = absurd (false≢true e)
-
 any_tap : (pin j : ℕ) (ts : List Tap) (d : Tap) → list_any (taps_track pin j) ts ≡ true → (k : ℕ) × (k < length ts) × ((get_or ts k d).pin ≡ pin) × (bit_at (get_or ts k d).tracks j ≡ 1)
 any_tap pin j [] d e = absurd (false≢true e)
-any_tap pin j (t ∷ ts) d e = elim (first_or (taps_track pin j t) (list_any (taps_track pin j) ts) e) [
-  | inl here ↦ let h = both_so _ _ here in (0, omega arith, eqb-true t.pin pin h.0, eqb-true _ _ h.1)
+any_tap pin j (t ∷ ts) d e = elim (or_cases (taps_track pin j t) (list_any (taps_track pin j) ts) e) [
+  | inl here ↦ let h = and_parts _ _ here in (0, omega arith, eqb-true t.pin pin h.0, eqb-true _ _ h.1)
   | inr later ↦ let r = any_tap pin j ts d later in (suc r.0, (let lt = r.1 in omega (arith, lt)), r.2, r.3)
 ]
 

@@ -1,7 +1,7 @@
 -- The first way, which leads over the only output pin of the source, where the wave starts.
 use Rattle.std.proofs.Common.{◌≡◌, ℕ, ◌<◌, List, [], ◌∷◌, ◌++◌, length, slice_index, Contains, Some, inl, inr, refl, sym, ap, ◌∙◌, subst, arith}
 use Rattle.std.specs.Prelude.{◌↔◌}
-use Rattle.routing_problem.specs.parts.Kind.TheVariants.{Opin}
+use Rattle.routing_problem.specs.node.Kind.TheVariants.{Opin}
 use Rattle.routing_problem.specs.Nodes.{kind_of_node}
 use Rattle.route_tree.specs.declared.tree.Row.{Row}
 use Rattle.route_tree.specs.Paths.{ends_of}

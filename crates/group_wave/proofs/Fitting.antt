@@ -5,7 +5,7 @@ use Rattle.std.specs.List.Sorted.{IsPermutation}
 use Rattle.std.specs.List.{AllByRecursion}
 use Rattle.std.proofs.lemmas.List.Sorted.{All-permutation}
 use Rattle.std.proofs.lemmas.List.Elements.{All-from_recursion, recursion_from_All}
-use Rattle.wave_queue.specs.declared.queue.Entry.{Entry}
+use Rattle.wave_queue.specs.declared.queue.QueueEntry.{QueueEntry}
 use Rattle.wave_queue.specs.kept.Queues.{IsPast, Waiting, entry_of}
 use Rattle.group_wave.specs.kept.WaveFields.{IsFitting}
 
@@ -18,6 +18,6 @@ module _ {K : Type 0} (value : K → ℕ) (greatest : ℕ) (old new : List Waiti
   popped_fits e moved = (both e moved).0
 
   -- and those that are left
-  pub left_fit : (r : Option (Entry K)) (bound : ℕ) → IfSome r (λ e. IsPermutation old (entry_of value e ∷ new)) → IfNone r (IsPast old new bound) → All (IsFitting greatest) new
+  pub left_fit : (r : Option (QueueEntry K)) (bound : ℕ) → IfSome r (λ e. IsPermutation old (entry_of value e ∷ new)) → IfNone r (IsPast old new bound) → All (IsFitting greatest) new
   left_fit None bound some none = subst (All (IsFitting greatest)) (sym none.same) fits
   left_fit (Some e) bound some none = All-from_recursion (IsFitting greatest) new (both (entry_of value e) some).1

@@ -3,7 +3,7 @@ use Rattle.std.proofs.Common.{◌≡◌, ℕ, ◌<◌, ◌≤◌, ◌↔◌, tru
 use Rattle.std.specs.Prelude.{nat_le}
 use Rattle.std.proofs.lemmas.Bool.{cases_lt}
 use Rattle.std.proofs.lemmas.Bool.Decides.{nat_tests}
-use Rattle.group_wave.specs.declared.labels.Row.{Row}
+use Rattle.group_wave.specs.declared.labels.LabelRow.{LabelRow}
 use Rattle.group_wave.specs.kept.Labels.{label_of, widened}
 use Rattle.group_wave.specs.kept.WaveState.{FAR, Wave}
 use Rattle.group_wave.specs.kept.Wave.{IsOrigin, cost_at, label_at}
@@ -14,7 +14,7 @@ exact greatest cost less = let test : nat_le greatest cost ≡ false = grind (ar
 pub far : (greatest cost : ℕ) → greatest ≤ cost → widened greatest cost ≡ FAR
 far greatest cost more = let test : nat_le greatest cost ≡ true = grind (arith, nat_tests) in rw test refl
 
-module _ {K : Type 0} (value : K → ℕ) (greatest : ℕ) (w : Wave) (node : ℕ) (row : Row K) (at : label_of value greatest row ≡ label_at w node) where
+module _ {K : Type 0} (value : K → ℕ) (greatest : ℕ) (w : Wave) (node : ℕ) (row : LabelRow K) (at : label_of value greatest row ≡ label_at w node) where
   cost_is : widened greatest (value row.cost) ≡ cost_at w node
   cost_is = ap (λ l. l.cost) at
 

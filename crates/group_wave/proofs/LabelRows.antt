@@ -6,42 +6,42 @@ use Rattle.std.proofs.lemmas.Bool.{cases_eq, cases_lt}
 use Rattle.std.proofs.lemmas.Bool.Decides.{nat_tests}
 use Rattle.std.proofs.lemmas.List.{length-set, map-set, get_or-map, get_or_default, length-map}
 use Rattle.std.proofs.lemmas.List.Elements.{recursion_from_All, All-push, All-set, Contains-push, Contains-append_left}
-use Rattle.group_wave.specs.declared.labels.Row.{Row}
+use Rattle.group_wave.specs.declared.labels.LabelRow.{LabelRow}
 use Rattle.group_wave.specs.kept.WaveState.{FAR, Label}
 use Rattle.group_wave.specs.kept.Wave.{unreached}
 use Rattle.group_wave.specs.kept.Labels.{AreNoted, Notes, label_of}
 
 module _ {K : Type 0} (value : K → ℕ) (greatest : ℕ) where
-  abbrev pub Fits : List (Row K) → Type 0
-  Fits rows = All (λ (row : Row K). value row.cost ≤ greatest) rows
+  abbrev pub Fits : List (LabelRow K) → Type 0
+  Fits rows = All (λ (row : LabelRow K). value row.cost ≤ greatest) rows
 
-  abbrev pub AreBlank : List (Row K) → Type 0
-  AreBlank rows = All (λ (row : Row K). label_of value greatest row ≡ unreached) rows
+  abbrev pub AreBlank : List (LabelRow K) → Type 0
+  AreBlank rows = All (λ (row : LabelRow K). label_of value greatest row ≡ unreached) rows
 
-  pub blank_is : (row : Row K) → value row.cost ≡ greatest → row.parent ≡ 0 → label_of value greatest row ≡ unreached
+  pub blank_is : (row : LabelRow K) → value row.cost ≡ greatest → row.parent ≡ 0 → label_of value greatest row ≡ unreached
   blank_is row most none = let all : nat_le greatest (value row.cost) ≡ true = grind (arith, nat_tests) in rw (all, none) refl
 
-  pub reached_is : (row : Row K) → value row.cost < greatest → label_of value greatest row ≡ record { cost = value row.cost; parent = row.parent }
+  pub reached_is : (row : LabelRow K) → value row.cost < greatest → label_of value greatest row ≡ record { cost = value row.cost; parent = row.parent }
   reached_is row below = let less : nat_le greatest (value row.cost) ≡ false = grind (arith, nat_tests) in rw less refl
 
-  all_blank : (rows : List (Row K)) → AllByRecursion (λ (row : Row K). label_of value greatest row ≡ unreached) rows → map (label_of value greatest) rows ≡ replicate (length rows) unreached
+  all_blank : (rows : List (LabelRow K)) → AllByRecursion (λ (row : LabelRow K). label_of value greatest row ≡ unreached) rows → map (label_of value greatest) rows ≡ replicate (length rows) unreached
   all_blank [] none = refl
   all_blank (row ∷ rows) (first, rest) = rw (first, all_blank rows rest) refl
 
-  pub blank_rows : (rows : List (Row K)) (count : ℕ) → AreBlank rows → length rows ≡ count → map (label_of value greatest) rows ≡ replicate count unreached
+  pub blank_rows : (rows : List (LabelRow K)) (count : ℕ) → AreBlank rows → length rows ≡ count → map (label_of value greatest) rows ≡ replicate count unreached
   blank_rows rows count blank size = all_blank rows (recursion_from_All _ _ blank) ∙ ap (λ n. replicate n unreached) size
 
   -- rows that are all blank need no node to be noted
-  pub none_noted : (rows : List (Row K)) (nodes : List ℕ) → AreBlank rows → AreNoted value greatest rows nodes
+  pub none_noted : (rows : List (LabelRow K)) (nodes : List ℕ) → AreBlank rows → AreNoted value greatest rows nodes
   none_noted rows nodes blank k d within = inl (blank k d within)
 
   -- ---- a label is put
-  pub label_put : (rows : List (Row K)) (labels : List Label) (node : ℕ) (row : Row K) → value row.cost < greatest → map (label_of value greatest) rows ≡ labels
+  pub label_put : (rows : List (LabelRow K)) (labels : List Label) (node : ℕ) (row : LabelRow K) → value row.cost < greatest → map (label_of value greatest) rows ≡ labels
       → map (label_of value greatest) (slice_set rows node row) ≡ slice_set labels node (record { cost = value row.cost; parent = row.parent })
   label_put rows labels node row below e = map-set (label_of value greatest) rows node row ∙ rw (e, reached_is row below) refl
 
   -- a row that is reached keeps its cost
-  pub parent_put : (rows : List (Row K)) (labels : List Label) (node parent : ℕ) (row : Row K) → row ≡ get_or rows node row → node < length labels → map (label_of value greatest) rows ≡ labels
+  pub parent_put : (rows : List (LabelRow K)) (labels : List Label) (node parent : ℕ) (row : LabelRow K) → row ≡ get_or rows node row → node < length labels → map (label_of value greatest) rows ≡ labels
       → (get_or labels node unreached).cost < FAR
       → map (label_of value greatest) (slice_set rows node (record { cost = row.cost; parent = parent })) ≡ slice_set labels node (record { cost = (get_or labels node unreached).cost; parent = parent })
   parent_put rows labels node parent row there within e near =
@@ -59,7 +59,7 @@ module _ {K : Type 0} (value : K → ℕ) (greatest : ℕ) where
             absurd (omega (arith, near, cost, far))
       ]
 
-  pub noted_put : (rows : List (Row K)) (old new : List ℕ) (node : ℕ) (row put : Row K) → greatest ≤ FAR → row ≡ get_or rows node row → AreNoted value greatest rows old → Notes value greatest row node old new
+  pub noted_put : (rows : List (LabelRow K)) (old new : List ℕ) (node : ℕ) (row put : LabelRow K) → greatest ≤ FAR → row ≡ get_or rows node row → AreNoted value greatest rows old → Notes value greatest row node old new
       → AreNoted value greatest (slice_set rows node put) new
   noted_put rows old new node row put narrow there noted notes k d within =
       let size : length (slice_set rows node put) ≡ length rows = length-set rows node put in
@@ -85,10 +85,10 @@ module _ {K : Type 0} (value : K → ℕ) (greatest : ℕ) where
         ]
       ]
 
-  pub fits_put : (rows : List (Row K)) (node : ℕ) (put : Row K) → value put.cost < greatest → Fits rows → Fits (slice_set rows node put)
-  fits_put rows node put below fits = All-set (λ (row : Row K). value row.cost ≤ greatest) rows node put (omega (arith, below)) fits
+  pub fits_put : (rows : List (LabelRow K)) (node : ℕ) (put : LabelRow K) → value put.cost < greatest → Fits rows → Fits (slice_set rows node put)
+  fits_put rows node put below fits = All-set (λ (row : LabelRow K). value row.cost ≤ greatest) rows node put (omega (arith, below)) fits
 
-  pub within_put : (rows : List (Row K)) (old new : List ℕ) (node : ℕ) (row put : Row K) → node < length rows → All (λ n. n < length rows) old → Notes value greatest row node old new
+  pub within_put : (rows : List (LabelRow K)) (old new : List ℕ) (node : ℕ) (row put : LabelRow K) → node < length rows → All (λ n. n < length rows) old → Notes value greatest row node old new
       → All (λ n. n < length (slice_set rows node put)) new
   within_put rows old new node row put there all notes = rw (length-set rows node put) (elim notes [
     | inl reached ↦ rw reached.1 all
@@ -100,16 +100,16 @@ module _ {K : Type 0} (value : K → ℕ) (greatest : ℕ) where
   abbrev pub IsNotedFrom : (nodes : List ℕ) → (i node : ℕ) → Type 0
   IsNotedFrom nodes i node = (j : ℕ) × (i ≤ j) × (j < length nodes) × (get_or nodes j node ≡ node)
 
-  abbrev pub AreNotedFrom : (rows : List (Row K)) → (nodes : List ℕ) → (i : ℕ) → Type 0
-  AreNotedFrom rows nodes i = (k : ℕ) (d : Row K) → k < length rows → (label_of value greatest (get_or rows k d) ≡ unreached) ⊎ IsNotedFrom nodes i k
+  abbrev pub AreNotedFrom : (rows : List (LabelRow K)) → (nodes : List ℕ) → (i : ℕ) → Type 0
+  AreNotedFrom rows nodes i = (k : ℕ) (d : LabelRow K) → k < length rows → (label_of value greatest (get_or rows k d) ≡ unreached) ⊎ IsNotedFrom nodes i k
 
-  pub from_first : (rows : List (Row K)) (nodes : List ℕ) → AreNoted value greatest rows nodes → AreNotedFrom rows nodes 0
+  pub from_first : (rows : List (LabelRow K)) (nodes : List ℕ) → AreNoted value greatest rows nodes → AreNotedFrom rows nodes 0
   from_first rows nodes noted k d within = elim (noted k d within) [
     | inl blank ↦ inl blank
     | inr has ↦ inr (has.0, omega arith, has.1, has.2)
   ]
 
-  pub one_off : (rows : List (Row K)) (nodes : List ℕ) (i node : ℕ) (put : Row K) → node ≡ get_or nodes i node → label_of value greatest put ≡ unreached → AreNotedFrom rows nodes i
+  pub one_off : (rows : List (LabelRow K)) (nodes : List ℕ) (i node : ℕ) (put : LabelRow K) → node ≡ get_or nodes i node → label_of value greatest put ≡ unreached → AreNotedFrom rows nodes i
       → AreNotedFrom (slice_set rows node put) nodes (i + 1)
   one_off rows nodes i node put is blank noted k d within =
       let size : length (slice_set rows node put) ≡ length rows = length-set rows node put in
@@ -127,7 +127,7 @@ module _ {K : Type 0} (value : K → ℕ) (greatest : ℕ) where
         ]
       ]
 
-  pub all_off : (rows : List (Row K)) (nodes : List ℕ) (i : ℕ) → length nodes ≤ i → AreNotedFrom rows nodes i → AreBlank rows
+  pub all_off : (rows : List (LabelRow K)) (nodes : List ℕ) (i : ℕ) → length nodes ≤ i → AreNotedFrom rows nodes i → AreBlank rows
   all_off rows nodes i ends noted k d within = elim (noted k d within) [
     | inl blank ↦ blank
     | inr has ↦ absurd (omega (arith, has.1, has.2, ends))

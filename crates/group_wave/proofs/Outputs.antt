@@ -1,27 +1,25 @@
 -- Where output pins lead, and what offering their wires a way does.
-use Rattle.std.proofs.Common.{◌≡◌, ℕ, suc, ◌+◌, ◌*◌, ◌-◌, ◌<◌, ◌≤◌, ◌^◌, ◌⊎◌, Bool, true, false, List, [], ◌∷◌, length, get_or, Option, Some, None, sum_by, inl, inr, refl, sym, ap, ◌∙◌, subst, arith, w64}
-use Rattle.std.specs.Prelude.{Contains, ◌&&◌, ◌||◌}
+use Rattle.std.proofs.Common.{◌≡◌, ℕ, suc, ◌+◌, ◌*◌, ◌-◌, ◌<◌, ◌≤◌, ◌^◌, ◌⊎◌, true, false, List, [], ◌∷◌, length, get_or, Option, Some, None, sum_by, inl, inr, refl, sym, ap, ◌∙◌, subst, arith, w64}
+use Rattle.std.specs.Prelude.{Contains}
 use Rattle.std.specs.List.{list_any}
 use Rattle.std.specs.Option.{option_map, option_map_or}
 use Rattle.std.specs.Int.{bit_at, trailing_zeros}
-use Rattle.std.proofs.lemmas.Bool.{cases_lt, eq-eqb, eqb-true, false≢true}
-use Rattle.std.proofs.lemmas.List.{get_or_default, get_or_past}
+use Rattle.std.proofs.lemmas.Bool.{cases_lt, eq-eqb, eqb-true, false≢true, and_parts, or_right, or_left, or_cases}
+use Rattle.std.proofs.lemmas.List.{get_or_default}
 use Rattle.std.proofs.lemmas.Nat.Bits.{bit_at-trailing_zeros}
 use Rattle.std.proofs.lemmas.Option.{none-some, same_Some}
-use Rattle.routing_problem.specs.parts.Kind.{Kind}
-use Rattle.routing_problem.specs.parts.Kind.TheVariants.{Source, Sink, Opin, Ipin, Chanx, Chany}
-use Rattle.routing_problem.specs.parts.Node.{Node}
+use Rattle.routing_problem.specs.node.Kind.{Kind}
+use Rattle.routing_problem.specs.node.Kind.TheVariants.{Source, Sink, Opin, Ipin, Chanx, Chany}
+use Rattle.routing_problem.specs.node.Node.{Node}
 use Rattle.routing_problem.specs.Fabric.{Fabric}
 use Rattle.routing_problem.specs.Nodes.{is_wire, is_wire_at, kind_of_node, node_at}
 use Rattle.routing_problem.specs.Edges.{edge_between, edge_between_nodes, edge_by, is_edge}
 use Rattle.routing_problem.specs.Problems.{any_node, is_sink, is_sink_kind, is_source, is_source_kind}
 use Rattle.track_groups.specs.declared.group.Drive.{Drive}
-use Rattle.track_groups.specs.declared.group.Group.{Group}
 use Rattle.track_groups.specs.declared.group.GroupTrack.{GroupTrack}
 use Rattle.track_groups.specs.Drives.{AreDrivenBy, drive_track, drives}
-use Rattle.track_groups.specs.Groups.{HasPlace, IsOn, group_at, no_group, on_track, place_of, wire_on}
+use Rattle.track_groups.specs.Groups.{HasPlace, IsOn, group_at, on_track, place_of, wire_on}
 use Rattle.wavefront.specs.Boxes.{box_of_net, is_in_box, touches}
-use Rattle.std.proofs.Math.Nat.{mul-le-mul}
 use Rattle.route_tree.specs.Usage.{room_of}
 use Rattle.node_cost.specs.Views.{history_in, others_in}
 use Rattle.wavefront.specs.Space.{HasEdge, IsInside, Space, base_cost, entry_cost}
@@ -35,6 +33,8 @@ use Rattle.group_wave.proofs.Entered.{spreads_refl, spreads_then}
 use Rattle.group_wave.proofs.Grouped.{group_inside}
 use Rattle.group_wave.proofs.Lower.{label_here, label_there, lowers_then, set_enters, set_lowers, set_wave, set_work, went_lower, went_up}
 use Rattle.group_wave.proofs.Sinks.{sinks_best}
+use Rattle.track_groups.proofs.OnTracks.{on_within}
+use Rattle.wavefront.proofs.Spaces.{product_positive}
 
 -- ---- kinds
 from_output : (l : Kind) (f : Fabric) (a b : Node) → edge_by Opin l f a b ≡ true → is_wire l ≡ true
@@ -114,19 +114,10 @@ unfolding is_sink
 output_no_sink f v k is = no_sink_node (node_at f v) k is
 
 -- ---- drives
-one_of : (a b : Bool) → (a || b) ≡ true → (a ≡ true) ⊎ (b ≡ true)
-one_of true b e = inl refl
-one_of false b e = inr e
-
-both_of : (a b : Bool) → (a && b) ≡ true → (a ≡ true) × (b ≡ true)
-both_of true true e = (refl, refl)
-both_of true false e = absurd (false≢true e)
-both_of false b e = absurd (false≢true e)
-
 any_drive : (p : GroupTrack) (ds : List Drive) (d : Drive) → list_any (drives p) ds ≡ true → (k : ℕ) × (k < length ds) × ((get_or ds k d).group ≡ p.group) × (bit_at (get_or ds k d).tracks p.track ≡ 1)
 any_drive p [] d e = absurd (false≢true e)
-any_drive p (x ∷ xs) d e = elim (one_of (drives p x) (list_any (drives p) xs) e) [
-  | inl here ↦ let h = both_of _ _ here in (0, omega arith, eqb-true x.group p.group h.0, eqb-true _ _ h.1)
+any_drive p (x ∷ xs) d e = elim (or_cases (drives p x) (list_any (drives p) xs) e) [
+  | inl here ↦ let h = and_parts _ _ here in (0, omega arith, eqb-true x.group p.group h.0, eqb-true _ _ h.1)
   | inr later ↦ let r = any_drive p xs d later in (suc r.0, (let lt = r.1 in omega (arith, lt)), r.2, r.3)
 ]
 
@@ -134,34 +125,19 @@ pub drive_there : (ds : List Drive) (p : GroupTrack) (d : Drive) → drive_track
 unfolding drive_track
 drive_there ds p d e = any_drive p ds d e
 
-or_first : (a b : Bool) → a ≡ true → (a || b) ≡ true
-or_first a b e = rw e refl
-
-or_second : (a b : Bool) → b ≡ true → (a || b) ≡ true
-or_second true b e = refl
-or_second false b e = e
-
 drives_here : (p : GroupTrack) (d : Drive) → d.group ≡ p.group → bit_at d.tracks p.track ≡ 1 → drives p d ≡ true
 drives_here p d same bit = rw (eq-eqb d.group p.group same) (eq-eqb (bit_at d.tracks p.track) 1 bit)
 
 any_bit : (p : GroupTrack) (ds : List Drive) (d : Drive) → Contains ds d → drives p d ≡ true → list_any (drives p) ds ≡ true
 any_bit p [] d h e = absurd (contains_none d h)
 any_bit p (x ∷ xs) d h e = elim (contains_cases x d xs h) [
-  | inl same ↦ or_first (drives p x) _ (rw (← same) e)
-  | inr later ↦ or_second (drives p x) _ (any_bit p xs d later e)
+  | inl same ↦ or_left (drives p x) _ (rw (← same) e)
+  | inr later ↦ or_right (drives p x) _ (any_bit p xs d later e)
 ]
 
 pub drive_bit : (ds : List Drive) (d : Drive) (j : ℕ) → Contains ds d → bit_at d.tracks j ≡ 1 → drive_track ds (on_track d.group j) ≡ true
 unfolding drive_track
 drive_bit ds d j h bit = any_bit (on_track d.group j) ds d h (drives_here (on_track d.group j) d refl bit)
-
--- a group that has a track is there
-pub on_there : (groups : List Group) (p : GroupTrack) → IsOn groups p → p.group < length groups
-unfolding group_at
-on_there groups p on = elim (cases_lt p.group (length groups)) [
-  | inl within ↦ within
-  | inr past ↦ absurd (let none = ap (λ (x : Group). x.tracks) (get_or_past groups p.group no_group past) in omega (arith, on, none))
-]
 
 -- of the drives before place i, all were offered the way
 pub record IsDriving (g : Ground) (pin : ℕ) (s t : Wave) (label i : ℕ) : Type 0 where
@@ -183,7 +159,7 @@ module _ (g : Ground) (ok : IsGround g) (pin : ℕ) (kind : kind_of_node g.space
     drive_edge j bit = told.edges (on_track d.group j) (drive_on j bit) ∙ drive_bit driven d j there bit
 
     pub drive_group : 0 < d.tracks → d.tracks < 2 ^ 64 → d.group < length (groups_of g)
-    drive_group some fits = on_there (groups_of g) (on_track d.group (trailing_zeros w64 d.tracks)) (drive_on _ (bit_at-trailing_zeros w64 d.tracks some fits).1)
+    drive_group some fits = on_within (groups_of g) (on_track d.group (trailing_zeros w64 d.tracks)) (drive_on _ (bit_at-trailing_zeros w64 d.tracks some fits).1)
 
     inside_of : (j : ℕ) → bit_at d.tracks j ≡ 1 → is_in_box g.space.device g.space.bb g.space.net (wire_on (groups_of g) (on_track d.group j)) ≡ touches g.space.bb (box_of_net g.space.device g.space.net) (group_at (groups_of g) d.group).span
     inside_of j bit = group_inside g ok (on_track d.group j) (drive_on j bit)
@@ -236,14 +212,11 @@ module _ (g : Ground) (ok : IsGround g) (pin : ℕ) (kind : kind_of_node g.space
       subst (WentOn g t label) same (done.took there.0 none (omega (arith, lt, all)) lt p.track there.3 (subst (IsInside g.space) (sym same) inside))
 
 -- ---- an output pin is entered from the source
-some_product : (a b : ℕ) → 1 ≤ a → 1 ≤ b → 0 < a * b
-some_product a b h i = let p : 1 * 1 ≤ a * b = mul-le-mul h i in omega (arith, p)
-
 pub output_costs : (s : Space) (v : ℕ) → kind_of_node s.device v ≡ Some Opin → 0 < entry_cost s v
 unfolding entry_cost
 output_costs s v kind =
     let base : option_map_or base_cost (kind_of_node s.device v) 0 ≡ 20 = ap (λ o. option_map_or base_cost o 0) kind in
-    some_product (option_map_or base_cost (kind_of_node s.device v) 0 + history_in s.view v) (16 + s.present * (others_in s.view v + 1 - room_of s.device (node_at s.device v))) (omega (arith, base)) (omega arith)
+    product_positive (option_map_or base_cost (kind_of_node s.device v) 0 + history_in s.view v) (16 + s.present * (others_in s.view v + 1 - room_of s.device (node_at s.device v))) (omega (arith, base)) (omega arith)
 
 module _ (g : Ground) (ok : IsGround g) (s : Wave) (wave : IsWave g s) (pin : ℕ) (start : IsOrigin s g.space.net.source) (edge : HasEdge g.space g.space.net.source pin) where
   pub output_kind : kind_of_node g.space.device pin ≡ Some Opin

@@ -2,9 +2,7 @@
 use Rattle.std.proofs.Common.{◌≡◌, ℕ, true, false, Option, Some, None, inl, inr, sym, ap, ◌∙◌, arith}
 use Rattle.std.specs.Option.{option_map, option_map_or}
 use Rattle.std.proofs.lemmas.Bool.{false≢true}
-use Rattle.routing_problem.specs.parts.Kind.{Kind}
-use Rattle.routing_problem.specs.parts.Kind.TheVariants.{Source, Sink, Opin, Ipin, Chanx, Chany}
-use Rattle.routing_problem.specs.parts.Node.{Node}
+use Rattle.routing_problem.specs.node.Node.{Node}
 use Rattle.routing_problem.specs.Fabric.{Fabric}
 use Rattle.routing_problem.specs.Nodes.{node_at, is_wire, is_wire_at}
 use Rattle.routing_problem.specs.Problems.{any_node, is_sink, is_sink_kind}
@@ -13,18 +11,11 @@ use Rattle.group_wave.specs.kept.WaveState.{Wave}
 use Rattle.group_wave.specs.kept.Wave.{IsBest}
 use Rattle.group_wave.specs.kept.Steps.{KeepsSinks, SameOrigins}
 use Rattle.group_wave.proofs.Lower.{keeps, still_open}
-
-wire_kind : (k : Kind) → is_wire k ≡ true → is_sink_kind k ≡ true → ⊥
-wire_kind Chanx e h = false≢true h
-wire_kind Chany e h = false≢true h
-wire_kind Source e h = false≢true e
-wire_kind Sink e h = false≢true e
-wire_kind Opin e h = false≢true e
-wire_kind Ipin e h = false≢true e
+use Rattle.wavefront.proofs.WaysLeft.{wire_no_sink as no_sink_kind}
 
 wire_node : (o : Option Node) → option_map_or is_wire (option_map (λ n. n.kind) o) false ≡ true → any_node is_sink_kind o ≡ true → ⊥
 wire_node None e h = false≢true e
-wire_node (Some n) e h = wire_kind n.kind e h
+wire_node (Some n) e h = no_sink_kind n.kind e h
 
 pub wire_no_sink : (f : Fabric) (v : ℕ) → is_wire_at f v ≡ true → is_sink f v ≡ true → ⊥
 unfolding is_sink

@@ -1,10 +1,10 @@
 -- Tracks that are tapped.
-use Rattle.std.proofs.Common.{◌≡◌, ℕ, zero, suc, ◌+◌, ◌<◌, ◌≤◌, Bool, true, false, List, [], ◌∷◌, length, get_or, inl, inr, refl, sym, ap, ◌∙◌, subst, arith}
+use Rattle.std.proofs.Common.{◌≡◌, ℕ, zero, suc, ◌+◌, ◌<◌, ◌≤◌, Bool, true, List, [], ◌∷◌, length, get_or, inl, inr, refl, sym, ap, ◌∙◌, subst, arith}
 use Rattle.std.specs.Prelude.{◌||◌, ◌&&◌}
 use Rattle.std.specs.List.{list_any}
 use Rattle.std.specs.Int.{bit_at}
 use Rattle.std.specs.Int.Bits.{bit_and}
-use Rattle.std.proofs.lemmas.Bool.{cases_lt, eq-eqb}
+use Rattle.std.proofs.lemmas.Bool.{cases_lt, eq-eqb, or_right}
 use Rattle.std.proofs.lemmas.List.{get_or_default}
 use Rattle.std.proofs.lemmas.List.Elements.{All-get_or}
 use Rattle.std.proofs.lemmas.Nat.Bits.{bit_at-lt, bit_at-zero, bit_at_and}
@@ -33,14 +33,10 @@ first_one a b j one = let both = bit_at_and a b j in let few = bit_at-lt a j in 
 pub second_one : (a b j : ℕ) → bit_at (bit_and a b) j ≡ 1 → bit_at b j ≡ 1
 second_one a b j one = let both = bit_at_and a b j in let few = bit_at-lt b j in omega (arith, both, few, one)
 
-later_so : (a b : Bool) → b ≡ true → (a || b) ≡ true
-later_so true b e = refl
-later_so false b e = e
-
 any_at : (test : Tap → Bool) (ts : List Tap) (k : ℕ) (d : Tap) → k < length ts → test (get_or ts k d) ≡ true → list_any test ts ≡ true
 any_at test [] k d lt e = absurd (omega (arith, lt))
 any_at test (t ∷ ts) zero d lt e = subst (λ b. (b || list_any test ts) ≡ true) (sym e) refl
-any_at test (t ∷ ts) (suc k) d lt e = later_so (test t) (list_any test ts) (any_at test ts k d (omega (arith, lt)) e)
+any_at test (t ∷ ts) (suc k) d lt e = or_right (test t) (list_any test ts) (any_at test ts k d (omega (arith, lt)) e)
 
 both_so : (a b : Bool) → a ≡ true → b ≡ true → (a && b) ≡ true
 both_so a b ea eb = rw (ea, eb) refl

@@ -12,25 +12,25 @@ use wave_queue::Key;
 /// The cost of a way to a node, which is the greatest that there is where none was found, and the
 /// node before it on that way. At a start the cost is 0, and it is itself that node.
 #[derive(Clone, Copy, Drop)]
-pub(crate) struct Row<K> {
+pub(crate) struct LabelRow<K> {
     pub(crate) cost: K,
     pub(crate) parent: u32,
 }
 
 /// The row of a node that is not reached.
 #[tactic(auto, using(crate::proofs::LabelRows::blank_is))]
-fn blank<K: Key>() -> Row<K>
+fn blank<K: Key>() -> LabelRow<K>
     ensures blank { label_of K.value K.greatest result ≡ unreached }
     ensures fits { K.value result.cost ≤ K.greatest }
 {
-    Row {
+    LabelRow {
         cost: K::greatest(),
         parent: 0,
     }
 }
 
 /// So many rows of nodes that are not reached.
-fn blank_rows<K: Key>(alloc: Global, nodes: usize) -> Result<Vec<Row<K>>, AllocError>
+fn blank_rows<K: Key>(alloc: Global, nodes: usize) -> Result<Vec<LabelRow<K>>, AllocError>
     ensures count { IfOk result (λ rows. length rows.items ≡ nodes) }
     ensures blank { IfOk result (λ rows.
         All (λ row. label_of K.value K.greatest row ≡ unreached) rows.items) }
@@ -44,7 +44,7 @@ fn blank_rows<K: Key>(alloc: Global, nodes: usize) -> Result<Vec<Row<K>>, AllocE
 }
 
 /// Takes the labels of these nodes off.
-fn take_off<K: Key>(rows: &mut Vec<Row<K>>, nodes: &[u32])
+fn take_off<K: Key>(rows: &mut Vec<LabelRow<K>>, nodes: &[u32])
     requires within { All (λ node. node < length rows.old.items) nodes.now }
     requires fits { All (λ row. K.value row.cost ≤ K.greatest) rows.old.items }
     requires noted { AreNoted K.value K.greatest rows.old.items nodes.now }
@@ -59,7 +59,7 @@ fn take_off<K: Key>(rows: &mut Vec<Row<K>>, nodes: &[u32])
 
 /// Notes a node that is not reached yet. An `Err` changes nothing.
 #[inline(always)]
-fn note<K: Key>(reached: &mut Vec<u32>, row: Row<K>, node: u32) -> Result<(), AllocError>
+fn note<K: Key>(reached: &mut Vec<u32>, row: LabelRow<K>, node: u32) -> Result<(), AllocError>
     ensures ok { OnOk result (Notes K.value K.greatest row node
         reached.old.items reached.new.items) }
     ensures err { OnErr result (reached.new.items ≡ reached.old.items) }
@@ -74,7 +74,7 @@ fn note<K: Key>(reached: &mut Vec<u32>, row: Row<K>, node: u32) -> Result<(), Al
 /// A label for each node. Contracts see the list of them.
 #[derive(Drop)]
 pub(crate) struct Labels<K: Key> {
-    rows: Vec<Row<K>>,
+    rows: Vec<LabelRow<K>>,
     /// The nodes that are reached.
     reached: Vec<u32>,
 }
@@ -112,7 +112,7 @@ impl<K: Key> Labels<K> {
 
     /// A node's label.
     #[inline(always)]
-    pub(crate) fn row(&self, node: u32) -> Row<K>
+    pub(crate) fn row(&self, node: u32) -> LabelRow<K>
         requires { node < length self.now }
         ensures label { label_of K.value K.greatest result
             ≡ slice_index_or self.now node unreached }
@@ -132,7 +132,7 @@ impl<K: Key> Labels<K> {
     {
         let row = self.rows[node as usize];
         note(&mut self.reached, row, node)?;
-        self.rows[node as usize] = Row { cost, parent };
+        self.rows[node as usize] = LabelRow { cost, parent };
         Ok(())
     }
 
@@ -145,7 +145,7 @@ impl<K: Key> Labels<K> {
             (record { cost = (slice_index_or self.old node unreached).cost; parent = parent }) }
     {
         let row = self.rows[node as usize];
-        self.rows[node as usize] = Row {
+        self.rows[node as usize] = LabelRow {
             cost: row.cost,
             parent,
         };

@@ -10,11 +10,11 @@ mod spreading;
 mod starting;
 mod tracing;
 
-use crate::labels::{Labels, Row};
+use crate::labels::{LabelRow, Labels};
 use std::alloc::{AllocError, Global};
 use std::marker::Model;
 use wave_ground::{Ground, Nearest, PIN};
-use wave_queue::{Entry, Key, Queue};
+use wave_queue::{Key, Queue, QueueEntry};
 
 /// What a wire costs at least.
 pub(crate) const WIRE: u128 = 320;
@@ -76,7 +76,7 @@ impl<K: Key> Wave<K> {
 
     /// Lets an entry wait.
     #[inline(always)]
-    fn wait(&mut self, entry: Entry<K>) -> Result<(), AllocError>
+    fn wait(&mut self, entry: QueueEntry<K>) -> Result<(), AllocError>
         requires label { K.value entry.label < K.greatest }
         requires key { K.value entry.key ≤ K.greatest }
         ensures pushed { OnOk result (IsPushed self.old self.new (entry_of K.value entry)) }
@@ -98,7 +98,7 @@ impl<K: Key> Wave<K> {
 
     /// Of ways that cost the same keeps the one over the least node, where none costs less than the
     /// one that is offered; and notes that it is left out where it doesn't fit.
-    fn keep_least(&mut self, node: u32, parent: u32, row: Row<K>, cost: K)
+    fn keep_least(&mut self, node: u32, parent: u32, row: LabelRow<K>, cost: K)
         requires there { node < length self.old.labels }
         requires row { label_of K.value K.greatest row ≡ label_at self.old node }
         requires fits { K.value row.cost ≤ K.greatest }

@@ -5,7 +5,7 @@ use Rattle.node_cost.specs.Options.{RouterOptions, present_of}
 use Rattle.congestion_book.specs.Recorded.{unrouted_in, overused_in}
 use Rattle.congestion_book.specs.Contents.{Content, IsSound, opening}
 use Rattle.congestion_book.specs.Steps.{after_close}
-use Rattle.net_workers.specs.declared.report.Entry.{Entry}
+use Rattle.net_workers.specs.declared.report.ReportEntry.{ReportEntry}
 use Rattle.net_workers.specs.Agreement.{Agrees}
 
 -- how many nets of a book have no tree, and how many nodes are overused
@@ -18,7 +18,7 @@ overused_of c = overused_in c.problem c.lists
 -- One iteration, by so many workers: their reports agree with the book that they leave, which is then closed.
 pub record IsIteration (o : RouterOptions) (workers : ℕ) (old new : Content) : Type 0 where
   pub between : Content
-  pub reports : List (List Entry)
+  pub reports : List (List ReportEntry)
   pub agrees : Agrees old between (present_of o (length old.rows + 1)) o.bb workers reports
   pub closed : new ≡ after_close between
   pub sound : IsSound new

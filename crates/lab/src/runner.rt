@@ -121,7 +121,7 @@ impl Answer {
 
 /// A script that is run.
 #[derive(Drop)]
-struct Run<'a, R, I> {
+struct ScriptRun<'a, R, I> {
     rt: &'a R,
     script: Script<'a, I>,
     session: Session,
@@ -132,7 +132,7 @@ struct Run<'a, R, I> {
     is_good: bool,
 }
 
-impl<R: Runtime + Threads + Wait + Sync + AllocGlobal, I: BufRead> Run<'_, R, I> {
+impl<R: Runtime + Threads + Wait + Sync + AllocGlobal, I: BufRead> ScriptRun<'_, R, I> {
     /// Runs the script to its end; whether all answers were as wanted.
     fn run(&mut self) -> IoResult<bool> {
         let mut line = Vec::with_capacity(self.rt.alloc(), ROOM)?;
@@ -290,7 +290,7 @@ pub fn run_script<R: Runtime + Threads + Wait + Sync + AllocGlobal, I: Read + Dr
 ) -> IoResult<bool> {
     let mut text = String::new(rt.alloc());
     text.reserve(ROOM)?;
-    let mut run = Run {
+    let mut run = ScriptRun {
         rt,
         script: Script {
             name,

@@ -62,7 +62,7 @@ fn put_write<D: Display + Drop>(
 
 /// A terminal that keeps what is written to it, a line for each write, and a clock that stands.
 #[derive(Drop)]
-struct Terminal<'a, R> {
+struct Screen<'a, R> {
     rt: &'a R,
     /// The line of the script that is at work.
     line: AtomicU32,
@@ -72,10 +72,10 @@ struct Terminal<'a, R> {
     lacked: AtomicBool,
 }
 
-impl<'a, R: Wait> Terminal<'a, R> {
+impl<'a, R: Wait> Screen<'a, R> {
     /// One to which nothing was written.
-    fn new(rt: &'a R, alloc: Global) -> Terminal<'a, R> {
-        Terminal {
+    fn new(rt: &'a R, alloc: Global) -> Screen<'a, R> {
+        Screen {
             rt,
             line: AtomicU32::new(0),
             milliseconds: AtomicU64::new(BEGIN),
@@ -112,7 +112,7 @@ impl<'a, R: Wait> Terminal<'a, R> {
     }
 }
 
-impl<R: Wait> Eprint for Terminal<'_, R> {
+impl<R: Wait> Eprint for Screen<'_, R> {
     fn eprint<D: Display + Drop>(&self, value: D) -> IoResult<()> {
         self.keep(value, "");
         Ok(())
@@ -124,7 +124,7 @@ impl<R: Wait> Eprint for Terminal<'_, R> {
     }
 }
 
-impl<R: Wait> Clock for Terminal<'_, R> {
+impl<R: Wait> Clock for Screen<'_, R> {
     fn monotonic(&self) -> IoResult<Duration> {
         Ok(Duration::from_millis(self.milliseconds.load(Ordering::SeqCst)))
     }
@@ -160,7 +160,7 @@ fn show(
     let Ok(text) = str::from_utf8(text) else {
         return Err(Unanswered::Misread(PROGRESS));
     };
-    let terminal = Terminal::new(rt, rt.alloc());
+    let terminal = Screen::new(rt, rt.alloc());
     let progress = Progress::new(&terminal, is_wanted);
     show_lines(rt.alloc(), &terminal, &progress, text)?;
     terminal.put(out)
@@ -169,8 +169,8 @@ fn show(
 /// Tells the progress what some lines say.
 fn show_lines<R: Wait>(
     alloc: Global,
-    terminal: &Terminal<'_, R>,
-    progress: &Progress<'_, Terminal<'_, R>>,
+    terminal: &Screen<'_, R>,
+    progress: &Progress<'_, Screen<'_, R>>,
     text: &str,
 ) -> Result<(), Unanswered> {
     for line in text.lines() {
@@ -183,8 +183,8 @@ fn show_lines<R: Wait>(
 /// Sets the clock, or tells the progress what a line says.
 fn show_line<R: Wait>(
     alloc: Global,
-    terminal: &Terminal<'_, R>,
-    progress: &Progress<'_, Terminal<'_, R>>,
+    terminal: &Screen<'_, R>,
+    progress: &Progress<'_, Screen<'_, R>>,
     line: &str,
 ) -> Result<(), Unanswered> {
     let words = words(alloc, line)?;
@@ -196,7 +196,7 @@ fn show_line<R: Wait>(
 }
 
 /// Sets the clock to the milliseconds that a word is.
-fn set_clock<R: Wait>(terminal: &Terminal<'_, R>, word: &str) -> Result<(), Unanswered> {
+fn set_clock<R: Wait>(terminal: &Screen<'_, R>, word: &str) -> Result<(), Unanswered> {
     match number(word) {
         Some(time) => {
             terminal.set_clock(time);

@@ -12,7 +12,7 @@ use lab_session::session::{NO_BOOK, Session};
 use lab_session::trees::put_tree;
 use lab_session::unanswered::Unanswered;
 use lab_session::words::{Call, NO_WORDS};
-use net_workers::{Entry, Report, Workspace, iterate, iterate_in};
+use net_workers::{Report, ReportEntry, Workspace, iterate, iterate_in};
 use node_cost::Settings;
 use std::alloc::Global;
 use std::rt::Runtime;
@@ -269,7 +269,7 @@ fn put_reports(reports: &[Report], out: &mut String) -> Result<(), Unanswered> {
 }
 
 /// Adds a line for each turn of a worker.
-fn put_entries(entries: &[Entry], out: &mut String) -> Result<(), Unanswered> {
+fn put_entries(entries: &[ReportEntry], out: &mut String) -> Result<(), Unanswered> {
     for entry in entries {
         put_entry(entry, out)?;
     }
@@ -288,11 +288,11 @@ fn put_nets(reports: &[Report], nets: u32, out: &mut String) -> Result<(), Unans
 }
 
 /// The turn of a worker at a net.
-fn entry_of(report: &Report, net: u32) -> Option<&Entry> {
+fn entry_of(report: &Report, net: u32) -> Option<&ReportEntry> {
     report.entries().iter().find(|entry| entry.net == net)
 }
 
-fn put_entry(entry: &Entry, out: &mut String) -> Result<(), Unanswered> {
+fn put_entry(entry: &ReportEntry, out: &mut String) -> Result<(), Unanswered> {
     write!(out, "net {}: ", entry.net)?;
     match &entry.tree {
         Some(tree) => put_tree(tree, out),

@@ -5,7 +5,7 @@ use Rattle.vpr_text.specs.Words.{Line}
 use Rattle.line_reader.specs.Word.{is_text}
 use Rattle.net_file.specs.declared.fault.LineFault.TheVariants.{BadLine, DoubleName}
 use Rattle.net_file.specs.declared.fault.NetFault.TheVariants as net
-use Rattle.net_file.specs.declared.parts.BlockKind.TheVariants.{InputPad, OutputPad}
+use Rattle.net_file.specs.declared.terminal.BlockKind.TheVariants.{InputPad, OutputPad}
 use Rattle.net_file.specs.Blocks.{block_of, block_at, blocks_of, pinlists, pinlist_numbers}
 use Rattle.net_file.specs.Connections.{is_repeated, connection_at, connections_of, connections, on_net, by_net}
 use Rattle.net_file.specs.Judge.{is_bad_line, is_bad_count, is_double, are_too_many, fault_of_next}

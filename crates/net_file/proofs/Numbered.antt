@@ -10,6 +10,7 @@ use Rattle.std.specs.Str.{bytes_eq}
 use Rattle.std.proofs.lemmas.List.{map-append, length-map}
 use Rattle.std.proofs.lemmas.Map.Text.{btree_map_updates_str}
 use Rattle.std.proofs.lemmas.Slice.Eq.{bytes_eq-Decides}
+use Rattle.std.proofs.lemmas.Bool.{or_parts}
 use Rattle.net_file.specs.kept.NameNumbers.{names_in, AreNumbered}
 use Rattle.net_file.specs.Names.{number_among, is_among, with_name}
 
@@ -24,13 +25,9 @@ same_itself a = (bytes_eq-Decides a a).1 refl
 same_both : (a b : List ℕ) → bytes_eq a b ≡ bytes_eq b a
 same_both a b = one_answer (bytes_eq a b) (bytes_eq b a) (bytes_eq-Decides a b) (λ e. sym (one_from_same b a e), λ e. (bytes_eq-Decides b a).1 (sym e))
 
-or_false : (a b : Bool) → (a || b) ≡ false → (a ≡ false) × (b ≡ false)
-or_false true b e = absurd cc
-or_false false b e = (refl, e)
-
 -- ---- the place of a name
 
-position_is_any : (p : List ℕ → Bool) (k : ℕ) (names : List (List ℕ)) → is_some (position_from p k names) ≡ list_any p names
+pub position_is_any : {X : Type 0} (p : X → Bool) (k : ℕ) (xs : List X) → is_some (position_from p k xs) ≡ list_any p xs
 position_is_any p k [] = refl
 position_is_any p k (x ∷ xs) = one_more (p x) k (position_from p (k + 1) xs) (list_any p xs) (position_is_any p (k + 1) xs)
   where
@@ -46,7 +43,7 @@ numbered names name = position_is_any (bytes_eq name) 0 names
 position_new : (p : List ℕ → Bool) (k : ℕ) (names : List (List ℕ)) (x : List ℕ) → list_any p names ≡ false → p x ≡ true → position_from p k (names ++ x ∷ []) ≡ Some (k + length names)
 position_new p k [] x none here = let e : k + 0 ≡ k = omega arith in rw (here, e) refl
 position_new p k (y ∷ ys) x none here =
-    let split = or_false (p y) (list_any p ys) none in
+    let split = or_parts (p y) (list_any p ys) none in
     let next : (k + 1) + length ys ≡ k + length (y ∷ ys) = omega arith in
     rw split.0 (position_new p (k + 1) ys x split.1 here ∙ ap Some next)
 

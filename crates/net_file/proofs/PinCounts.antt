@@ -3,10 +3,10 @@ use Rattle.std.proofs.Common.{◌≡◌, ℕ, zero, suc, ◌+◌, ◌-◌, ◌<�
 use Rattle.std.specs.Prelude.{is_some}
 use Rattle.std.specs.Option.{option_map_or}
 use Rattle.std.proofs.Math.Seq.{take-suc}
-use Rattle.std.proofs.lemmas.Bool.{eqb-true}
+use Rattle.std.proofs.lemmas.Bool.{eqb-true, not-false}
 use Rattle.std.proofs.lemmas.List.{append-nil, append_assoc}
 use Rattle.vpr_text.specs.Words.{Line, no_line, words_at}
-use Rattle.net_file.specs.declared.parts.BlockKind.{BlockKind}
+use Rattle.net_file.specs.declared.terminal.BlockKind.{BlockKind}
 use Rattle.net_file.specs.Judge.{pin_count, first_fault, stands, is_bad_line, is_bad_count, is_double, fault_of_next}
 use Rattle.net_file.specs.Lines.{kind_at, is_pinlist, opened, latest}
 use Rattle.net_file.specs.Reads.{AreAccepted}
@@ -32,11 +32,7 @@ HasPins pins element words = (kind : BlockKind) × (element ≡ Some kind) × (l
 
 has_pins : (pins : ℕ) (o : Option BlockKind) (words : List (List ℕ)) → is_some o ≡ true → option_map_or (λ kind. not (eqb (length words) (pin_count pins kind + 1))) o false ≡ false → HasPins pins o words
 has_pins pins None words e h = absurd cc
-has_pins pins (Some kind) words e h = (kind, refl, eqb-true _ _ (not_false _ h))
-  where
-    not_false : (b : Bool) → not b ≡ false → b ≡ true
-    not_false true h = refl
-    not_false false h = absurd cc
+has_pins pins (Some kind) words e h = (kind, refl, eqb-true _ _ (not-false _ h))
 
 pinlist_after : (pins : ℕ) (before : List Line) (l : Line) → fault_of_next pins before l ≡ None → is_pinlist l.words ≡ true → HasPins pins (opened before) l.words
 unfolding fault_of_next is_bad_line is_bad_count

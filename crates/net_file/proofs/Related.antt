@@ -8,11 +8,11 @@ use Rattle.vpr_text.specs.Readings.{with_fault}
 use Rattle.vpr_text.specs.Words.{Line}
 use Rattle.vpr_text.specs.Text.{lines_of}
 use Rattle.line_reader.proofs.Readings.{bind_ok, not_faulty, with_fault_ok}
-use Rattle.arch_file.specs.declared.parts.Pin.{Pin}
+use Rattle.arch_file.specs.declared.entries.Pin.{Pin}
 use Rattle.net_file.specs.declared.fault.LineFault.{LineFault}
 use Rattle.net_file.specs.declared.fault.NetFault.{NetFault}
 use Rattle.net_file.specs.declared.fault.NetFault.TheVariants as net
-use Rattle.net_file.specs.declared.parts.BlockKind.{BlockKind}
+use Rattle.net_file.specs.declared.terminal.BlockKind.{BlockKind}
 use Rattle.net_file.specs.Judge.{fault_of_next}
 use Rattle.net_file.specs.Lines.{net_names, global_names, opened}
 use Rattle.net_file.specs.Netlist.{Netlist}

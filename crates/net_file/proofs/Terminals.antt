@@ -8,14 +8,14 @@ use Rattle.std.proofs.lemmas.List.Sums.{sum_by-cons}
 use Rattle.std.proofs.lemmas.List.Elements.{All-from_recursion, All-get_or}
 use Rattle.std.proofs.lemmas.List.FromFn.{get_or-map-range_with_len}
 use Rattle.vpr_text.specs.Words.{Line, words_at}
-use Rattle.arch_file.specs.declared.parts.Direction.{Direction}
-use Rattle.arch_file.specs.declared.parts.Direction.TheVariants.{Input, Output}
-use Rattle.arch_file.specs.declared.parts.Pin.{Pin}
+use Rattle.arch_file.specs.declared.entries.Direction.{Direction}
+use Rattle.arch_file.specs.declared.entries.Direction.TheVariants.{Input, Output}
+use Rattle.arch_file.specs.declared.entries.Pin.{Pin}
 use Rattle.net_file.specs.declared.connection.Connection.{Connection}
 use Rattle.net_file.specs.declared.fault.NetFault.{NetFault}
-use Rattle.net_file.specs.declared.parts.BlockKind.{BlockKind}
-use Rattle.net_file.specs.declared.parts.BlockKind.TheVariants.{InputPad, OutputPad, LogicBlock}
-use Rattle.net_file.specs.declared.parts.Terminal.{Terminal}
+use Rattle.net_file.specs.declared.terminal.BlockKind.{BlockKind}
+use Rattle.net_file.specs.declared.terminal.BlockKind.TheVariants.{InputPad, OutputPad, LogicBlock}
+use Rattle.net_file.specs.declared.terminal.Terminal.{Terminal}
 use Rattle.net_file.specs.Blocks.{net_of, block_of, block_at, blocks_of, pinlists, pinlist_numbers}
 use Rattle.net_file.specs.Connections.{is_output, role_of_pin, role_of_pad, role_of, net_at, connection_at, connections_of, no_block, connections_at, connections, on_net, by_net}
 use Rattle.net_file.specs.Judge.{pin_count}

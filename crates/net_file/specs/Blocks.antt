@@ -2,7 +2,7 @@
 use Rattle.std.specs.Prelude.{ℕ, ◌-◌, if◌then◌else◌, List, length, drop, map, filter, Option, None, unwrap_or}
 use Rattle.std.specs.List.{range_with_len}
 use Rattle.vpr_text.specs.Words.{Line, words_at, number_at}
-use Rattle.net_file.specs.declared.parts.BlockKind.TheVariants.{InputPad}
+use Rattle.net_file.specs.declared.terminal.BlockKind.TheVariants.{InputPad}
 use Rattle.net_file.specs.Lines.{kind_at, name_in, is_pinlist, is_open}
 use Rattle.net_file.specs.Names.{number_among}
 use Rattle.net_file.specs.Netlist.{Block}

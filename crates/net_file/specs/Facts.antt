@@ -1,7 +1,7 @@
 -- What is true of every netlist (VPR and T-VPack manual 4.30; the limits are this project's profile).
 use Rattle.std.specs.Prelude.{◌≡◌, ℕ, ◌<◌, ◌≤◌, All, List, length, map, is_some, IfSome, slice_index_or}
 use Rattle.vpr_text.specs.Text.{IsWord}
-use Rattle.net_file.specs.declared.parts.Terminal.{Terminal}
+use Rattle.net_file.specs.declared.terminal.Terminal.{Terminal}
 use Rattle.net_file.specs.Connections.{no_block}
 use Rattle.net_file.specs.Judge.{is_logic_block}
 use Rattle.net_file.specs.Names.{AreDifferent}

@@ -5,8 +5,8 @@ use Rattle.std.specs.Option.{option_map_or}
 use Rattle.vpr_text.specs.Words.{Line}
 use Rattle.net_file.specs.declared.fault.LineFault.{LineFault}
 use Rattle.net_file.specs.declared.fault.LineFault.TheVariants.{BadLine, PinCount, DoubleName, TooMany}
-use Rattle.net_file.specs.declared.parts.BlockKind.{BlockKind}
-use Rattle.net_file.specs.declared.parts.BlockKind.TheVariants.{InputPad, OutputPad, LogicBlock}
+use Rattle.net_file.specs.declared.terminal.BlockKind.{BlockKind}
+use Rattle.net_file.specs.declared.terminal.BlockKind.TheVariants.{InputPad, OutputPad, LogicBlock}
 use Rattle.net_file.specs.Lines.{is_element, is_pinlist, is_subblock, is_global, name_in, block_names, net_names, opened, latest}
 use Rattle.net_file.specs.Names.{is_among}
 

@@ -3,8 +3,8 @@ use Rattle.std.specs.Prelude.{ℕ, Bool, not, if◌then◌else◌, List, [], ◌
 use Rattle.std.specs.List.{flat_map}
 use Rattle.vpr_text.specs.Words.{Line}
 use Rattle.line_reader.specs.Word.{is_text, word_at, is_at}
-use Rattle.net_file.specs.declared.parts.BlockKind.{BlockKind}
-use Rattle.net_file.specs.declared.parts.BlockKind.TheVariants.{InputPad, OutputPad, LogicBlock}
+use Rattle.net_file.specs.declared.terminal.BlockKind.{BlockKind}
+use Rattle.net_file.specs.declared.terminal.BlockKind.TheVariants.{InputPad, OutputPad, LogicBlock}
 use Rattle.net_file.specs.Names.{distinct}
 
 -- the kind of block that an element's first word tells

@@ -1,7 +1,7 @@
 -- A netlist as the record of its blocks and nets (VPR and T-VPack manual 4.30, "The Netlist File Format").
 use Rattle.std.specs.Prelude.{ℕ, Bool, List, Option}
-use Rattle.net_file.specs.declared.parts.BlockKind.{BlockKind}
-use Rattle.net_file.specs.declared.parts.Terminal.{Terminal}
+use Rattle.net_file.specs.declared.terminal.BlockKind.{BlockKind}
+use Rattle.net_file.specs.declared.terminal.Terminal.{Terminal}
 
 -- a block: its kind, the bytes of its name, and for each of its pins the number of the net there, if there is one
 pub record Block : Type 0 where

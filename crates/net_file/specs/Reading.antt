@@ -5,13 +5,13 @@ use Rattle.std.specs.Option.{option_map}
 use Rattle.vpr_text.specs.Readings.{◌>>=◌, unless_faulty, with_fault}
 use Rattle.vpr_text.specs.Words.{Line}
 use Rattle.vpr_text.specs.Text.{lines_of}
-use Rattle.arch_file.specs.declared.parts.Pin.{Pin}
+use Rattle.arch_file.specs.declared.entries.Pin.{Pin}
 use Rattle.net_file.specs.declared.connection.Connection.{Connection}
 use Rattle.net_file.specs.declared.fault.LineFault.{LineFault}
 use Rattle.net_file.specs.declared.fault.LineFault.TheVariants.{BadLine, PinCount, DoubleName, TooMany}
 use Rattle.net_file.specs.declared.fault.NetFault.{NetFault}
 use Rattle.net_file.specs.declared.fault.NetFault.TheVariants as net
-use Rattle.net_file.specs.declared.parts.Terminal.{Terminal}
+use Rattle.net_file.specs.declared.terminal.Terminal.{Terminal}
 use Rattle.net_file.specs.Blocks.{numbers_below, blocks_of, pinlist_numbers}
 use Rattle.net_file.specs.Connections.{connections, by_net, is_sink}
 use Rattle.net_file.specs.Judge.{fault_of_next}

@@ -2,7 +2,7 @@
 use Rattle.std.specs.Prelude.{◌≡◌, ℕ, ◌<◌, List, [], ◌∷◌, ◌++◌, length, None, Ok}
 use Rattle.vpr_text.specs.Words.{Line}
 use Rattle.vpr_text.specs.Text.{lines_of}
-use Rattle.arch_file.specs.declared.parts.Pin.{Pin}
+use Rattle.arch_file.specs.declared.entries.Pin.{Pin}
 use Rattle.net_file.specs.Blocks.{blocks_of}
 use Rattle.net_file.specs.Judge.{fault_of_next}
 use Rattle.net_file.specs.Lines.{net_names, global_names, opened}

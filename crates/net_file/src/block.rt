@@ -3,7 +3,7 @@
 ghost use Rattle.std.specs.Prelude.{◌≡◌};
 ghost use Rattle.net_file.specs.Connections.{net_at};
 
-use crate::parts::BlockKind;
+use crate::terminal::BlockKind;
 use std::marker::Model;
 
 /// A block: a pad or a logic block, with its name and the nets of its pins.

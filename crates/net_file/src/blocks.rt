@@ -7,7 +7,7 @@ ghost use Rattle.vpr_text.specs.Words.{number_at};
 use crate::block::Block;
 use crate::line::{is_open, is_pinlist, kind_at, name_in};
 use crate::names::Names;
-use crate::parts::BlockKind;
+use crate::terminal::BlockKind;
 use line_reader::{Words, line_number};
 use std::alloc::{AllocError, Global};
 use vpr_text::Lines;

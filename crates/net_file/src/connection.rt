@@ -4,7 +4,7 @@ ghost use Rattle.std.specs.Prelude.{◌≡◌, IfOk};
 ghost use Rattle.net_file.specs.Connections.{is_output, role_of_pin, role_of_pad, role_of, net_at, are_alike, is_repeated, connection_at, connections_of};
 
 use crate::block::Block;
-use crate::parts::{BlockKind, Terminal};
+use crate::terminal::{BlockKind, Terminal};
 use arch_file::{Direction, Pin};
 use std::alloc::{AllocError, Global};
 

@@ -8,8 +8,8 @@ ghost use Rattle.net_file.specs.kept.LinesSeen.{Judges};
 use crate::fault::LineFault;
 use crate::line::{is_element, is_global, is_pinlist, is_subblock, name_in};
 use crate::names::Names;
-use crate::parts::BlockKind;
 use crate::seen::Seen;
+use crate::terminal::BlockKind;
 use line_reader::Words;
 use std::alloc::AllocError;
 

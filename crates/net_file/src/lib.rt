@@ -10,15 +10,15 @@ mod line;
 mod names;
 mod net;
 mod netlist;
-mod parts;
 mod reading;
 mod rows;
 mod seen;
+mod terminal;
 mod whole_file;
 
 pub use block::Block;
 pub use fault::NetFault;
 pub use net::Net;
 pub use netlist::Netlist;
-pub use parts::{BlockKind, Terminal};
 pub use reading::parse;
+pub use terminal::{BlockKind, Terminal};

@@ -8,8 +8,8 @@ ghost use Rattle.net_file.specs.WholeFile.{is_global_net};
 
 use crate::connection::Connection;
 use crate::names::Names;
-use crate::parts::Terminal;
-use crate::rows::{Row, row_of};
+use crate::rows::{NetRow, row_of};
+use crate::terminal::Terminal;
 use std::alloc::{AllocError, Global};
 use std::marker::Model;
 
@@ -121,7 +121,7 @@ fn net_at<'a>(
     alloc: Global,
     nets: &Names<'a>,
     globals: &Names<'a>,
-    rows: &[Row],
+    rows: &[NetRow],
     n: usize,
 ) -> Result<Net<'a>, AllocError>
     ensures { IfOk result (λ net. net ≡ net_at nets.now globals.now rows.now n) }
@@ -137,7 +137,7 @@ pub(crate) fn nets_of<'a>(
     alloc: Global,
     nets: &Names<'a>,
     globals: &Names<'a>,
-    rows: &[Row],
+    rows: &[NetRow],
 ) -> Result<Vec<Net<'a>>, AllocError>
     ensures { IfOk result (λ v. v.items ≡ nets_of nets.now globals.now rows.now) }
 {

@@ -19,7 +19,7 @@ use crate::judge::judge;
 use crate::names::Names;
 use crate::net::nets_of;
 use crate::netlist::Netlist;
-use crate::rows::{Row, by_net};
+use crate::rows::{NetRow, by_net};
 use crate::seen::Seen;
 use crate::whole_file::whole_fault;
 use arch_file::{Arch, Pin};
@@ -75,7 +75,7 @@ fn completed<'a>(
     alloc: Global,
     seen: Seen<'a>,
     blocks: Vec<Block<'a>>,
-    rows: &[Row],
+    rows: &[NetRow],
 ) -> Result<Netlist<'a>, NetFault>
     requires names { seen.blocks ≡ names_of_blocks blocks.items }
     requires facts { whole_fault seen.nets seen.globals rows.now ≡ None

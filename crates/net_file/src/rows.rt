@@ -12,11 +12,11 @@ use std::marker::Model;
 
 /// The connections of one net, in the order of the blocks and their pins.
 #[derive(Drop)]
-pub(crate) struct Row {
+pub(crate) struct NetRow {
     connections: Vec<Connection>,
 }
 
-impl Model for Row {
+impl Model for NetRow {
     ghost use Rattle.std.specs.Prelude.{List};
     ghost use Rattle.net_file.specs.declared.connection.Connection.{Connection};
 
@@ -25,12 +25,12 @@ impl Model for Row {
     ghost view = { λ r. r.connections.items };
 }
 
-impl Row {
+impl NetRow {
     /// No connections.
-    fn new(alloc: Global) -> Row
+    fn new(alloc: Global) -> NetRow
         ensures { result ≡ [] }
     {
-        Row {
+        NetRow {
             connections: Vec::new(alloc),
         }
     }
@@ -50,7 +50,7 @@ impl Row {
 }
 
 /// The connections of net `n`; none past the last net.
-pub(crate) fn row_of(rows: &[Row], n: usize) -> &[Connection]
+pub(crate) fn row_of(rows: &[NetRow], n: usize) -> &[Connection]
     ensures { result.now ≡ slice_index_or rows.now n [] }
 {
     match rows.get(n) {
@@ -60,19 +60,19 @@ pub(crate) fn row_of(rows: &[Row], n: usize) -> &[Connection]
 }
 
 /// Rows without a connection.
-fn empty_rows(alloc: Global, count: usize) -> Result<Vec<Row>, AllocError>
+fn empty_rows(alloc: Global, count: usize) -> Result<Vec<NetRow>, AllocError>
     ensures count { IfOk result (λ v. length v.items ≡ count) }
     ensures empty { IfOk result (λ v. (n : ℕ) → slice_index_or v.items n [] ≡ []) }
 {
     let mut rows = Vec::new(alloc);
     for _ in 0..count {
-        rows.push(Row::new(alloc))?;
+        rows.push(NetRow::new(alloc))?;
     }
     Ok(rows)
 }
 
 /// Adds a connection to the row of its net, if there is one.
-fn file(rows: &mut [Row], connection: Connection) -> Result<(), AllocError>
+fn file(rows: &mut [NetRow], connection: Connection) -> Result<(), AllocError>
     ensures { OnOk result (Files rows.old rows.new connection) }
 {
     if connection.net < rows.len() {
@@ -82,7 +82,7 @@ fn file(rows: &mut [Row], connection: Connection) -> Result<(), AllocError>
 }
 
 /// Adds the connections, each to the row of its net.
-fn file_all(rows: &mut [Row], connections: &[Connection]) -> Result<(), AllocError>
+fn file_all(rows: &mut [NetRow], connections: &[Connection]) -> Result<(), AllocError>
     ensures { OnOk result (FilesAll rows.old rows.new connections.now) }
 {
     for connection in connections {
@@ -116,7 +116,7 @@ pub(crate) fn by_net(
     numbers: &[u32],
     blocks: &[Block],
     count: usize,
-) -> Result<Vec<Row>, AllocError>
+) -> Result<Vec<NetRow>, AllocError>
     ensures { IfOk result (λ v. v.items ≡ by_net
         (connections pins.now numbers.now blocks.now) count) }
 {

@@ -8,7 +8,7 @@ use crate::connection::Connection;
 use crate::fault::NetFault;
 use crate::names::Names;
 use crate::net::is_global_net;
-use crate::rows::{Row, row_of};
+use crate::rows::{NetRow, row_of};
 
 /// How many pins drive the net.
 fn driver_count(row: &[Connection]) -> usize
@@ -78,7 +78,12 @@ fn net_fault(global: bool, row: &[Connection]) -> Option<NetFault>
 }
 
 /// The first fault of net `n`.
-fn fault_at<'a>(nets: &Names<'a>, globals: &Names<'a>, rows: &[Row], n: usize) -> Option<NetFault>
+fn fault_at<'a>(
+    nets: &Names<'a>,
+    globals: &Names<'a>,
+    rows: &[NetRow],
+    n: usize,
+) -> Option<NetFault>
     ensures { result ≡ fault_at nets.now globals.now rows.now n }
 {
     net_fault(is_global_net(nets, globals, n), row_of(rows, n))
@@ -89,7 +94,7 @@ fn fault_at<'a>(nets: &Names<'a>, globals: &Names<'a>, rows: &[Row], n: usize) -
 pub(crate) fn whole_fault<'a>(
     nets: &Names<'a>,
     globals: &Names<'a>,
-    rows: &[Row],
+    rows: &[NetRow],
 ) -> Option<NetFault>
     ensures { result ≡ whole_fault nets.now globals.now rows.now }
 {

@@ -8,7 +8,7 @@ use Rattle.std.specs.Prelude.{All, sum_by, count_by}
 use Rattle.congestion_book.specs.declared.turn.Turn.{Turn}
 use Rattle.congestion_book.specs.Turns.{AreInOrder, NameEachOnce, holder_in, one_if}
 use Rattle.congestion_book.specs.Contents.{Content, IsSound, net_count, table_in}
-use Rattle.net_workers.specs.declared.report.Entry.{Entry}
+use Rattle.net_workers.specs.declared.report.ReportEntry.{ReportEntry}
 use Rattle.net_workers.specs.Agreement.{IsReportOf, reported_turn}
 use Rattle.net_workers.specs.kept.ReportsSoFar.{Begins}
 
@@ -132,10 +132,10 @@ module _ (c : Content) (sound : IsSound c) (full : length c.turns ≡ net_count 
 
 -- ---- reports with as many entries as there are turns
 -- the entries of the first n reports
-abbrev entries_of : ℕ → List (List Entry) → ℕ
+abbrev entries_of : ℕ → List (List ReportEntry) → ℕ
 entries_of n rs = sum_by length (take n rs)
 
-module _ (c : Content) (rs : List (List Entry)) (known : All (λ t. t.worker < length rs) c.turns) (count : sum_by length rs ≡ length c.turns)
+module _ (c : Content) (rs : List (List ReportEntry)) (known : All (λ t. t.worker < length rs) c.turns) (count : sum_by length rs ≡ length c.turns)
     (begins : (w : ℕ) → w < length rs → (n : ℕ) × Begins c c.turns w n (get_or rs w [])) where
   abbrev of_worker : ℕ → ℕ
   of_worker w = at (λ t. t.worker) w c.turns
@@ -144,7 +144,7 @@ module _ (c : Content) (rs : List (List Entry)) (known : All (λ t. t.worker < l
   entries w = length (get_or rs w [])
 
   -- a report that begins with the worker's turns has no fewer entries
-  begun : (w n : ℕ) (es : List Entry) → Begins c c.turns w n es → of_worker w ≡ n
+  begun : (w n : ℕ) (es : List ReportEntry) → Begins c c.turns w n es → of_worker w ≡ n
   begun w n es b =
       sym (length-filter (λ t. t.worker == w) c.turns) ∙ ap length b.reported ∙ length-map (take n es) (reported_turn w) ∙ length-take-le n es b.within
 
@@ -155,13 +155,13 @@ module _ (c : Content) (rs : List (List Entry)) (known : All (λ t. t.worker < l
   sum_is_entries zero low = refl
   sum_is_entries (suc n) low =
       let next : entries_of (suc n) rs ≡ entries_of n rs + entries n =
-      ap (λ k. entries_of k rs) (sym (add-one n)) ∙ sum_by_more (λ (es : List Entry). length es) rs n [] (omega (arith, low)) in
+      ap (λ k. entries_of k rs) (sym (add-one n)) ∙ sum_by_more (λ (es : List ReportEntry). length es) rs n [] (omega (arith, low)) in
       omega (arith, next, sum_is_entries n (omega (arith, low)))
 
   all_whole : (w : ℕ) → w < length rs → of_worker w ≡ entries w
   all_whole w low =
       let all = below_all (λ t. t.worker) c.turns (length rs) known in
-      let whole : entries_of (length rs) rs ≡ sum_by length rs = ap (λ (es : List (List Entry)). sum_by length es) (take_all (length rs) rs (omega arith)) in
+      let whole : entries_of (length rs) rs ≡ sum_by length rs = ap (λ (es : List (List ReportEntry)). sum_by length es) (take_all (length rs) rs (omega arith)) in
       let sum = sum_is_entries (length rs) (omega arith) in
       each_full (λ t. t.worker) c.turns entries (length rs) few_turns (length rs) (omega arith) (omega (arith, all, whole, sum, count)) w low
 

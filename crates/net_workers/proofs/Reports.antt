@@ -12,7 +12,7 @@ use Rattle.congestion_book.specs.declared.turn.Turn.{Turn}
 use Rattle.congestion_book.specs.Turns.{one_if, turns_at}
 use Rattle.route_tree.specs.Usage.{list_in}
 use Rattle.congestion_book.specs.Contents.{Content, net_count}
-use Rattle.net_workers.specs.declared.report.Entry.{Entry}
+use Rattle.net_workers.specs.declared.report.ReportEntry.{ReportEntry}
 use Rattle.net_workers.specs.Agreement.{Agrees, IsRecorded, reported_turn}
 use Rattle.net_workers.specs.Searches.{IsFoundIn, IsFound, IsStuckNet}
 
@@ -49,7 +49,7 @@ module _ (i : ℕ) where
       ]
 
   -- a report with a turn at the net has an entry for it
-  has_entry : (P : Entry → Type 0) (w : ℕ) (es : List Entry) → All P es → 1 ≤ turns_at (map (reported_turn w) es) i → (e : Entry) × (e.net ≡ i) × P e
+  has_entry : (P : ReportEntry → Type 0) (w : ℕ) (es : List ReportEntry) → All P es → 1 ≤ turns_at (map (reported_turn w) es) i → (e : ReportEntry) × (e.net ≡ i) × P e
   has_entry P w [] all some = absurd (omega (arith, some))
   has_entry P w (e ∷ es) all some = elim (cases_eq e.net i) [
     | inl is ↦ (e, is, All-head P e es all)
@@ -62,16 +62,16 @@ no_tree : (tree : Option (List Row)) → list_of_tree tree ≡ None → tree ≡
 no_tree None none = refl
 no_tree (Some rows) none = cc
 
-stuck_entry : (c : Content) (present bb : ℕ) (e : Entry) → IsFound c present bb e → e.tree ≡ None → IsStuckNet c present bb e.net
+stuck_entry : (c : Content) (present bb : ℕ) (e : ReportEntry) → IsFound c present bb e → e.tree ≡ None → IsStuckNet c present bb e.net
 unfolding IsFound IsStuckNet
 stuck_entry c present bb e found none = (found.0, found.1, subst (IsFoundIn (space_of c.problem e.net found.0 present bb)) none found.2)
 
-module _ (old new : Content) (present bb workers : ℕ) (reports : List (List Entry)) (agrees : Agrees old new present bb workers reports) where
+module _ (old new : Content) (present bb workers : ℕ) (reports : List (List ReportEntry)) (agrees : Agrees old new present bb workers reports) where
   -- what is true of each entry
-  abbrev IsReported : Entry → Type 0
+  abbrev IsReported : ReportEntry → Type 0
   IsReported e = IsRecorded new e × IsFound old present bb e
 
-  pub entry_of : (i : ℕ) → i < net_count new → (e : Entry) × (e.net ≡ i) × IsReported e
+  pub entry_of : (i : ℕ) → i < net_count new → (e : ReportEntry) × (e.net ≡ i) × IsReported e
   entry_of i low =
       let one = agrees.once i in
       let some : 1 ≤ turns_at new.turns i = grind (arith, nat_tests, one) in

@@ -5,7 +5,7 @@ use Rattle.route_tree.specs.declared.tree.Row.{Row}
 use Rattle.node_cost.specs.Views.{NetView}
 use Rattle.wavefront.specs.Growth.{space_of}
 use Rattle.congestion_book.specs.Contents.{Content}
-use Rattle.net_workers.specs.declared.report.Entry.{Entry}
+use Rattle.net_workers.specs.declared.report.ReportEntry.{ReportEntry}
 use Rattle.net_workers.specs.Searches.{IsFoundIn, IsFound, AreFound}
 use Rattle.net_workers.specs.kept.Attempts.{IsFoundAgain, entry_with}
 
@@ -16,6 +16,6 @@ unfolding IsFound
 entry_found c present bb net tree copy view found =
     (view, found.seen, subst (IsFoundIn (space_of c.problem net view present bb)) (sym found.copy) found.here)
 
-pub found_more : (c : Content) (present bb net : ℕ) (tree : Option (List Row)) (entries : List Entry) → AreFound c present bb entries →
+pub found_more : (c : Content) (present bb net : ℕ) (tree : Option (List Row)) (entries : List ReportEntry) → AreFound c present bb entries →
     IsFound c present bb (entry_with net tree) → AreFound c present bb (entries ++ entry_with net tree ∷ [])
 found_more c present bb net tree entries all found = All-push (IsFound c present bb) entries (entry_with net tree) all found

@@ -5,11 +5,11 @@ use Rattle.std.proofs.lemmas.List.Elements.{filter-append, All-more}
 use Rattle.std.specs.Prelude.{filter}
 use Rattle.congestion_book.specs.declared.turn.Turn.{Turn}
 use Rattle.congestion_book.specs.Contents.{Content}
-use Rattle.net_workers.specs.declared.report.Entry.{Entry}
+use Rattle.net_workers.specs.declared.report.ReportEntry.{ReportEntry}
 use Rattle.net_workers.specs.Agreement.{IsRecorded, reported_turn}
 use Rattle.net_workers.specs.kept.ReportsSoFar.{Begins}
 
-pub begins_more : (c : Content) (ts : List Turn) (i w n : ℕ) (es : List Entry) (d : Turn) (e x : Entry) → i < length ts → n < length es
+pub begins_more : (c : Content) (ts : List Turn) (i w n : ℕ) (es : List ReportEntry) (d : Turn) (e x : ReportEntry) → i < length ts → n < length es
     → x ≡ get_or es n e → get_or ts i d ≡ reported_turn w x → IsRecorded c x
     → Begins c (take i ts) w n es → Begins c (take (i + 1) ts) w (n + 1) es
 begins_more c ts i w n es d e x h k is tells_x recorded_x was =

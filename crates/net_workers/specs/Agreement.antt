@@ -6,26 +6,26 @@ use Rattle.congestion_book.specs.declared.turn.Turn.{Turn}
 use Rattle.congestion_book.specs.Turns.{NameEachOnce, holder_in, turn_of}
 use Rattle.route_tree.specs.Usage.{list_in}
 use Rattle.congestion_book.specs.Contents.{Content, net_count}
-use Rattle.net_workers.specs.declared.report.Entry.{Entry}
+use Rattle.net_workers.specs.declared.report.ReportEntry.{ReportEntry}
 use Rattle.net_workers.specs.Parts.{IsOfIteration}
 use Rattle.net_workers.specs.Searches.{AreFound}
 
 -- the turn that a worker's entry reports
-abbrev pub reported_turn : (worker : ℕ) → Entry → Turn
+abbrev pub reported_turn : (worker : ℕ) → ReportEntry → Turn
 reported_turn worker e = turn_of worker e.net (is_none e.tree)
 
 -- the book records the pairs of the entry's tree, or none where it has none
-abbrev pub IsRecorded : Content → Entry → Type 0
+abbrev pub IsRecorded : Content → ReportEntry → Type 0
 IsRecorded c e = list_in c.lists e.net ≡ list_of_tree e.tree
 
 -- the worker's turns are these entries, in order, and the book records their trees
-pub record IsReportOf (c : Content) (worker : ℕ) (entries : List Entry) : Type 0 where
+pub record IsReportOf (c : Content) (worker : ℕ) (entries : List ReportEntry) : Type 0 where
   pub turns : filter (λ t. t.worker == worker) c.turns ≡ map (reported_turn worker) entries
   pub recorded : All (IsRecorded c) entries
 
 -- The new book is the old one after an iteration of so many workers, with this present-congestion factor and this margin of the
 -- boxes, and these are their reports.
-pub record Agrees (old new : Content) (present bb workers : ℕ) (reports : List (List Entry)) : Type 0 where
+pub record Agrees (old new : Content) (present bb workers : ℕ) (reports : List (List ReportEntry)) : Type 0 where
   -- all but the open iteration is as it was
   pub within : IsOfIteration old new
   -- each net had one turn, and none is held

@@ -1,7 +1,7 @@
 -- A worker's part of an iteration, and which books are of one iteration.
 use Rattle.std.specs.Prelude.{◌≡◌, ℕ, ◌+◌, ◌<◌, List, [], length, get_or}
 use Rattle.arch_file.specs.Reading.{architecture_from}
-use Rattle.routing_problem.specs.parts.Mode.TheVariants.{Detailed}
+use Rattle.routing_problem.specs.node.Mode.TheVariants.{Detailed}
 use Rattle.routing_problem.specs.Fabric.{fabric_with}
 use Rattle.congestion_book.specs.Turns.{turns_at}
 use Rattle.route_tree.specs.Usage.{list_in}

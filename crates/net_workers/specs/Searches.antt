@@ -6,7 +6,7 @@ use Rattle.wavefront.specs.Space.{Space}
 use Rattle.wavefront.specs.Growth.{IsWhole, IsStuck, space_of}
 use Rattle.congestion_book.specs.declared.faults.DrawFault.{DrawFault}
 use Rattle.congestion_book.specs.Contents.{Content, IsSound, net_count, view_of}
-use Rattle.net_workers.specs.declared.report.Entry.{Entry}
+use Rattle.net_workers.specs.declared.report.ReportEntry.{ReportEntry}
 use Rattle.net_workers.specs.Parts.{IsOfIteration}
 
 -- what a net may see in the iteration that opens with a book: what a sound book of that iteration shows of it
@@ -28,10 +28,10 @@ IsFoundIn s (Some rows) = IsWhole s rows
 IsFoundIn s None = (sink : ℕ) × IsStuck s sink
 
 -- the entry's tree, or that it has none, is what a search finds that sees what its net may see
-unfoldable pub IsFound : Content → (present bb : ℕ) → Entry → Type 0
+unfoldable pub IsFound : Content → (present bb : ℕ) → ReportEntry → Type 0
 IsFound c present bb e = (view : NetView) × IsSeenIn c e.net view × IsFoundIn (space_of c.problem e.net view present bb) e.tree
 
-abbrev pub AreFound : Content → (present bb : ℕ) → List Entry → Type 0
+abbrev pub AreFound : Content → (present bb : ℕ) → List ReportEntry → Type 0
 AreFound c present bb entries = All (IsFound c present bb) entries
 
 -- a search for the net, which sees what the net may see in an iteration of the book, finds it stuck

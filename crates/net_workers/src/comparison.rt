@@ -7,7 +7,7 @@ ghost use Rattle.net_workers.specs.Agreement.{IsRecorded, reported_turn};
 ghost use Rattle.net_workers.specs.kept.ReportsSoFar.{Begins};
 
 use crate::desk::open_turns;
-use crate::report::{Entry, Report};
+use crate::report::{Report, ReportEntry};
 use congestion_book::{Book, Turn};
 
 /// Whether each net had its turn.
@@ -19,7 +19,7 @@ pub(crate) fn is_done(book: &Book) -> bool
 }
 
 /// Whether the book records the entry's tree, or none where it has none.
-fn is_recorded(book: &Book, entry: &Entry) -> bool
+fn is_recorded(book: &Book, entry: &ReportEntry) -> bool
     ensures { IsTrue result → IsRecorded book.now entry.now }
 {
     match (book.tree(entry.net), &entry.tree) {
@@ -30,7 +30,7 @@ fn is_recorded(book: &Book, entry: &Entry) -> bool
 }
 
 /// Whether the entry of a worker tells of the turn, and the book records its tree.
-fn is_reported(book: &Book, worker: u32, turn: &Turn, entry: &Entry) -> bool
+fn is_reported(book: &Book, worker: u32, turn: &Turn, entry: &ReportEntry) -> bool
     ensures turn { IsTrue result → turn.now ≡ reported_turn worker entry.now }
     ensures recorded { IsTrue result → IsRecorded book.now entry.now }
 {

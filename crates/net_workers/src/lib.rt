@@ -16,7 +16,7 @@ pub use desk::Desk;
 pub use fault::WorkFault;
 pub use gates::{BothGates, Gate, OpenGate, TrialEnd};
 pub use iteration::{iterate, iterate_in};
-pub use report::{Entry, Report};
+pub use report::{Report, ReportEntry};
 pub use share::{Round, Share};
 pub use turn_or_look::TurnOrLook;
 pub use workspace::Workspace;

@@ -7,7 +7,7 @@ use std::marker::Model;
 
 /// One turn: the net, and a copy of the tree that was committed, or none where the net was passed.
 #[derive(Debug, Drop)]
-pub struct Entry {
+pub struct ReportEntry {
     pub net: u32,
     pub tree: Option<Tree>,
 }
@@ -15,28 +15,28 @@ pub struct Entry {
 /// The turns of one worker, in the order in which it made them. Contracts see the list.
 #[derive(Debug, Drop)]
 pub struct Report {
-    entries: Vec<Entry>,
+    entries: Vec<ReportEntry>,
 }
 
 impl Model for Report {
     ghost use Rattle.std.specs.Prelude.{List};
-    ghost use Rattle.net_workers.specs.declared.report.Entry.{Entry};
+    ghost use Rattle.net_workers.specs.declared.report.ReportEntry.{ReportEntry};
 
-    ghost Value = { List Entry };
+    ghost Value = { List ReportEntry };
 
     ghost view = { λ r. r.entries.items };
 }
 
 impl Report {
     /// The report of these turns.
-    pub(crate) fn of(entries: Vec<Entry>) -> Report
+    pub(crate) fn of(entries: Vec<ReportEntry>) -> Report
         ensures { result ≡ entries.items }
     {
         Report { entries }
     }
 
     /// The turns.
-    pub fn entries(&self) -> &[Entry]
+    pub fn entries(&self) -> &[ReportEntry]
         ensures { result.now ≡ self.now }
     {
         &self.entries

@@ -12,7 +12,7 @@ ghost use Rattle.congestion_book.specs.Contents.{net_count};
 
 use crate::desk::Desk;
 use crate::fault::WorkFault;
-use crate::report::{Entry, Report};
+use crate::report::{Report, ReportEntry};
 use crate::share::{Round, Share};
 use crate::turn_or_look::TurnOrLook;
 use crate::workspace::Tools;
@@ -232,9 +232,9 @@ pub(crate) struct Finished<L: Round> {
 impl<L: Round> Model for Finished<L> {
     ghost use Rattle.std.specs.Prelude.{◌≡◌, List, length};
     ghost use Rattle.net_workers.specs.Searches.{AreFound};
-    ghost use Rattle.net_workers.specs.declared.report.Entry.{Entry};
+    ghost use Rattle.net_workers.specs.declared.report.ReportEntry.{ReportEntry};
 
-    ghost Value = { List Entry };
+    ghost Value = { List ReportEntry };
 
     ghost view = { λ f. f.report };
 
@@ -262,7 +262,7 @@ impl<L: Round> Finished<L> {
 #[derive(Drop)]
 struct Worker<L: Round> {
     share: Share<L>,
-    entries: Vec<Entry>,
+    entries: Vec<ReportEntry>,
     view: View,
     scratch: Scratch,
 }
@@ -271,9 +271,9 @@ impl<L: Round> Model for Worker<L> {
     ghost use Rattle.std.specs.Prelude.{◌≡◌, List, length};
     ghost use Rattle.routing_problem.specs.Nodes.{node_count_of};
     ghost use Rattle.net_workers.specs.Searches.{AreFound};
-    ghost use Rattle.net_workers.specs.declared.report.Entry.{Entry};
+    ghost use Rattle.net_workers.specs.declared.report.ReportEntry.{ReportEntry};
 
-    ghost Value = { List Entry };
+    ghost Value = { List ReportEntry };
 
     ghost view = { λ w. w.entries.items };
 
@@ -335,7 +335,7 @@ impl<L: Round> Worker<L> {
         let copy = settle(
             rt, alloc, desk, prepared, options, share, net, found, view, scratch, gate,
         )?;
-        entries.push_reserved(Entry { net, tree: copy });
+        entries.push_reserved(ReportEntry { net, tree: copy });
         Ok(true)
     }
 

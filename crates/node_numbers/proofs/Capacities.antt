@@ -7,14 +7,14 @@ use Rattle.std.proofs.lemmas.Bool.{both_ways}
 use Rattle.std.proofs.lemmas.List.Sums.{sum_by-cons}
 use Rattle.std.proofs.lemmas.Option.{none-some, same_Some}
 use Rattle.arch_file.specs.Architecture.{Architecture, class_size, class_direction}
-use Rattle.arch_file.specs.declared.parts.Direction.{Direction}
-use Rattle.arch_file.specs.declared.parts.Direction.TheVariants.{Input, Output}
-use Rattle.arch_file.specs.declared.parts.Pin.{Pin}
-use Rattle.channel_tables.specs.declared.parts.Kind.{Kind}
-use Rattle.channel_tables.specs.declared.parts.Kind.TheVariants.{Source, Sink, Opin, Ipin, Chanx, Chany}
-use Rattle.channel_tables.specs.declared.parts.Mode.{Mode}
-use Rattle.channel_tables.specs.declared.parts.Mode.TheVariants.{Detailed, Global}
-use Rattle.channel_tables.specs.declared.parts.Node.{Node}
+use Rattle.arch_file.specs.declared.entries.Direction.{Direction}
+use Rattle.arch_file.specs.declared.entries.Direction.TheVariants.{Input, Output}
+use Rattle.arch_file.specs.declared.entries.Pin.{Pin}
+use Rattle.channel_tables.specs.declared.node.Kind.{Kind}
+use Rattle.channel_tables.specs.declared.node.Kind.TheVariants.{Source, Sink, Opin, Ipin, Chanx, Chany}
+use Rattle.channel_tables.specs.declared.node.Mode.{Mode}
+use Rattle.channel_tables.specs.declared.node.Mode.TheVariants.{Detailed, Global}
+use Rattle.channel_tables.specs.declared.node.Node.{Node}
 use Rattle.channel_tables.specs.Fabric.{Fabric, IsFabric, numbers_below, is_block, is_pad}
 use Rattle.channel_tables.specs.Pins.{has_direction, classes_of}
 use Rattle.node_numbers.specs.Nodes.{numbers_at, node_at, capacity_by, capacity_of, wire_capacity, terminals_at}

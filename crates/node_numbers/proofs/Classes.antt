@@ -4,9 +4,9 @@ use Rattle.std.specs.Prelude.{slice_get}
 use Rattle.std.specs.List.{filter, fold}
 use Rattle.std.proofs.lemmas.Option.{slice_get_within, get_or_from_slice_get}
 use Rattle.arch_file.specs.Architecture.{Architecture, IsWithinLimits, class_count, class_direction}
-use Rattle.arch_file.specs.declared.parts.Direction.{Direction}
-use Rattle.arch_file.specs.declared.parts.Direction.TheVariants.{Input, Output}
-use Rattle.arch_file.specs.declared.parts.Pin.{Pin}
+use Rattle.arch_file.specs.declared.entries.Direction.{Direction}
+use Rattle.arch_file.specs.declared.entries.Direction.TheVariants.{Input, Output}
+use Rattle.arch_file.specs.declared.entries.Pin.{Pin}
 use Rattle.channel_tables.specs.Fabric.{numbers_below}
 use Rattle.channel_tables.specs.Pins.{has_direction, classes_of}
 use Rattle.node_numbers.proofs.NumbersAtPlaces.{kept_at}

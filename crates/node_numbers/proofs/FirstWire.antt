@@ -5,10 +5,10 @@ use Rattle.std.specs.Option.{option_map, option_map_or}
 use Rattle.std.proofs.lemmas.Bool.{cases_lt}
 use Rattle.std.proofs.lemmas.Bool.Decides.{nat_tests}
 use Rattle.std.proofs.lemmas.Option.{slice_get_within}
-use Rattle.channel_tables.specs.declared.parts.Kind.{Kind}
-use Rattle.channel_tables.specs.declared.parts.Kind.TheVariants.{Source, Sink, Opin, Ipin, Chanx, Chany}
-use Rattle.channel_tables.specs.declared.parts.Node.{Node}
-use Rattle.channel_tables.specs.declared.parts.Span.{Span}
+use Rattle.channel_tables.specs.declared.node.Kind.{Kind}
+use Rattle.channel_tables.specs.declared.node.Kind.TheVariants.{Source, Sink, Opin, Ipin, Chanx, Chany}
+use Rattle.channel_tables.specs.declared.node.Node.{Node}
+use Rattle.channel_tables.specs.declared.node.Span.{Span}
 use Rattle.channel_tables.specs.Fabric.{Fabric}
 use Rattle.channel_tables.specs.Wires.{reach_of}
 use Rattle.node_numbers.specs.Nodes.{nodes_of, nodes_of_kind, node_count_of, node_at, is_wire, is_wire_at, span_of, wire_in}

@@ -5,9 +5,9 @@ use Rattle.std.specs.List.{flat_map}
 use Rattle.std.specs.Option.{option_map}
 use Rattle.std.proofs.lemmas.Option.{none-some, slice_get-map, slice_get-get_or}
 use Rattle.std.proofs.lemmas.List.Concat.{flat_map-append}
-use Rattle.channel_tables.specs.declared.parts.Kind.{Kind}
-use Rattle.channel_tables.specs.declared.parts.Kind.TheVariants.{Source, Sink, Opin, Ipin, Chanx, Chany}
-use Rattle.channel_tables.specs.declared.parts.Node.{Node}
+use Rattle.channel_tables.specs.declared.node.Kind.{Kind}
+use Rattle.channel_tables.specs.declared.node.Kind.TheVariants.{Source, Sink, Opin, Ipin, Chanx, Chany}
+use Rattle.channel_tables.specs.declared.node.Node.{Node}
 use Rattle.channel_tables.specs.Fabric.{Fabric, numbers_below}
 use Rattle.node_numbers.specs.Nodes.{numbers_at, node_of, nodes_at, nodes_of_column, nodes_of_kind, nodes_of, kinds, node_count_of, node_at}
 use Rattle.node_numbers.specs.Starts.{kind_start, column_start, place_start}

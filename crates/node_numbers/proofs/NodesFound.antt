@@ -8,8 +8,8 @@ use Rattle.std.proofs.lemmas.Bool.Decides.{nat_tests}
 use Rattle.std.proofs.lemmas.Nat.{div-add-mod'}
 use Rattle.std.proofs.Math.Nat.{div-add-mod, mod-lt, mul-le-mul_left, div-lt_iff_lt-mul}
 use Rattle.std.proofs.lemmas.Option.{slice_get_past, slice_get_within, slice_get-get_or, slice_get-map, none-some, same_Some}
-use Rattle.channel_tables.specs.declared.parts.Kind.{Kind}
-use Rattle.channel_tables.specs.declared.parts.Kind.TheVariants.{Chanx, Chany}
+use Rattle.channel_tables.specs.declared.node.Kind.{Kind}
+use Rattle.channel_tables.specs.declared.node.Kind.TheVariants.{Chanx, Chany}
 use Rattle.channel_tables.specs.declared.channel.Beginning.{Beginning}
 use Rattle.channel_tables.specs.Fabric.{Fabric, numbers_below, is_between, is_block, is_pad}
 use Rattle.node_numbers.specs.Nodes.{numbers_at, node_of, node_at, nodes_of, node_count_of}

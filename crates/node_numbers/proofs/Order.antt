@@ -8,9 +8,9 @@ use Rattle.std.proofs.lemmas.List.Quantifiers.{position-Some}
 use Rattle.std.proofs.lemmas.Option.{slice_get_within, get_or_from_slice_get, slice_get-get_or}
 use Rattle.std.proofs.lemmas.List.{length-map}
 use Rattle.std.proofs.lemmas.Nat.{mul-le}
-use Rattle.channel_tables.specs.declared.parts.Kind.{Kind}
-use Rattle.channel_tables.specs.declared.parts.Kind.TheVariants.{Source, Sink, Opin, Ipin, Chanx, Chany}
-use Rattle.channel_tables.specs.declared.parts.Node.{Node}
+use Rattle.channel_tables.specs.declared.node.Kind.{Kind}
+use Rattle.channel_tables.specs.declared.node.Kind.TheVariants.{Source, Sink, Opin, Ipin, Chanx, Chany}
+use Rattle.channel_tables.specs.declared.node.Node.{Node}
 use Rattle.channel_tables.specs.Fabric.{Fabric, IsFabric, numbers_below, is_block, is_pad}
 use Rattle.channel_tables.specs.Wires.{beginnings_at}
 use Rattle.node_numbers.specs.Nodes.{numbers_at, terminals_at, node_of, nodes_at, nodes_of_column, nodes_of_kind, nodes_of, node_count_of, node_at, number_of, rank_of_kind, is_same}

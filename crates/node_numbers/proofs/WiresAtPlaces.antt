@@ -6,8 +6,8 @@ use Rattle.std.proofs.lemmas.Bool.{and_parts, and_from, leb-true}
 use Rattle.std.proofs.lemmas.Option.{none-some, slice_get_within, get_or_from_slice_get}
 use Rattle.std.proofs.lemmas.List.Elements.{All-filter, filter_passes}
 use Rattle.std.proofs.lemmas.List.FromFn.{length-range_with_len, get_or-range_with_len}
-use Rattle.channel_tables.specs.declared.parts.Kind.TheVariants.{Chanx, Chany}
-use Rattle.channel_tables.specs.declared.parts.Node.{Node}
+use Rattle.channel_tables.specs.declared.node.Kind.TheVariants.{Chanx, Chany}
+use Rattle.channel_tables.specs.declared.node.Node.{Node}
 use Rattle.channel_tables.specs.Fabric.{Fabric, numbers_below, is_between}
 use Rattle.channel_tables.specs.Wires.{tracks_in, begins}
 use Rattle.node_numbers.specs.Nodes.{numbers_at, node_at}

@@ -3,15 +3,15 @@ use Rattle.std.specs.Prelude.{ℕ, ◌+◌, ◌==◌, Bool, true, false, ◌&&�
 use Rattle.std.specs.List.{flat_map, position}
 use Rattle.std.specs.Option.{option_map, option_map_or}
 use Rattle.arch_file.specs.Architecture.{class_size}
-use Rattle.arch_file.specs.declared.parts.Direction.TheVariants.{Input, Output}
-use Rattle.channel_tables.specs.declared.parts.Mode.{Mode}
-use Rattle.channel_tables.specs.declared.parts.Mode.TheVariants.{Detailed, Global}
-use Rattle.channel_tables.specs.declared.parts.Kind.{Kind}
-use Rattle.channel_tables.specs.declared.parts.Kind.TheVariants.{Source, Sink, Opin, Ipin, Chanx, Chany}
-use Rattle.channel_tables.specs.declared.parts.Node.{Node}
-use Rattle.channel_tables.specs.declared.parts.Label.{Label}
-use Rattle.channel_tables.specs.declared.parts.Label.TheVariants.{Class, Pin, Pad, Track}
-use Rattle.channel_tables.specs.declared.parts.Span.{Span}
+use Rattle.arch_file.specs.declared.entries.Direction.TheVariants.{Input, Output}
+use Rattle.channel_tables.specs.declared.node.Mode.{Mode}
+use Rattle.channel_tables.specs.declared.node.Mode.TheVariants.{Detailed, Global}
+use Rattle.channel_tables.specs.declared.node.Kind.{Kind}
+use Rattle.channel_tables.specs.declared.node.Kind.TheVariants.{Source, Sink, Opin, Ipin, Chanx, Chany}
+use Rattle.channel_tables.specs.declared.node.Node.{Node}
+use Rattle.channel_tables.specs.declared.node.Label.{Label}
+use Rattle.channel_tables.specs.declared.node.Label.TheVariants.{Class, Pin, Pad, Track}
+use Rattle.channel_tables.specs.declared.node.Span.{Span}
 use Rattle.channel_tables.specs.Fabric.{Fabric, numbers_below, is_between, is_block, is_pad}
 use Rattle.channel_tables.specs.Wires.{last_of, reach_of, beginnings_at}
 use Rattle.channel_tables.specs.Pins.{classes_of, pins_of}

@@ -1,8 +1,8 @@
 -- How many nodes stand before those of a kind, of a column and of a place.
 use Rattle.std.specs.Prelude.{ℕ, ◌+◌, length}
 use Rattle.std.specs.List.{flat_map}
-use Rattle.channel_tables.specs.declared.parts.Kind.{Kind}
-use Rattle.channel_tables.specs.declared.parts.Kind.TheVariants.{Source, Sink, Opin, Ipin, Chanx, Chany}
+use Rattle.channel_tables.specs.declared.node.Kind.{Kind}
+use Rattle.channel_tables.specs.declared.node.Kind.TheVariants.{Source, Sink, Opin, Ipin, Chanx, Chany}
 use Rattle.channel_tables.specs.Fabric.{Fabric, numbers_below}
 use Rattle.node_numbers.specs.Nodes.{nodes_at, nodes_of_column, nodes_of_kind}
 

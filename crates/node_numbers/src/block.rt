@@ -2,6 +2,7 @@
 
 ghost use Rattle.std.specs.Prelude.{◌≡◌, ◌≤◌, length, IfOk};
 ghost use Rattle.arch_file.specs.Architecture.{most_pins};
+ghost use Rattle.channel_tables.specs.Fabric.{Fabric};
 ghost use Rattle.node_numbers.specs.Numbering.{block_numbers};
 ghost use Rattle.node_numbers.specs.kept.Numbers.{IsBlock};
 
@@ -11,7 +12,7 @@ use std::alloc::{AllocError, Global};
 
 /// The numbers of a block's nodes, by kind, ascending.
 #[derive(Debug, Drop)]
-pub(crate) struct Block {
+pub(crate) struct BlockNumbers {
     pub(crate) sources: Vec<u32>,
     pub(crate) sinks: Vec<u32>,
     pub(crate) opins: Vec<u32>,
@@ -20,10 +21,10 @@ pub(crate) struct Block {
 
 /// What stands at a block.
 #[tactic(auto, unfolding(crate::specs::Numbering::block_numbers))]
-pub(crate) fn block_of(alloc: Global, layout: &Layout) -> Result<Block, AllocError>
+pub(crate) fn block_of(alloc: Global, layout: &Layout) -> Result<BlockNumbers, AllocError>
     ensures { IfOk result (IsBlock layout.now) }
 {
-    Ok(Block {
+    Ok(BlockNumbers {
         sources: layout.classes_by(alloc, Direction::Output)?,
         sinks: layout.classes_by(alloc, Direction::Input)?,
         opins: layout.pins_by(alloc, Direction::Output)?,
@@ -33,9 +34,8 @@ pub(crate) fn block_of(alloc: Global, layout: &Layout) -> Result<Block, AllocErr
 
 /// The numbers of the nodes of a kind at a block, at which no wire stands.
 #[tactic(auto, unfolding(crate::specs::Numbering::block_numbers))]
-pub(crate) fn numbers<'a>(layout: &Layout, block: &'a Block, kind: Kind) -> &'a [u32]
-    requires { IsBlock layout.now block.now }
-    ensures { result.now ≡ block_numbers layout.now kind }
+pub(crate) fn numbers(block: &BlockNumbers, kind: Kind) -> &[u32]
+    ensures { (f : Fabric) → IsBlock f block.now → result.now ≡ block_numbers f kind }
 {
     match kind {
         Kind::Source => &block.sources,
@@ -48,11 +48,11 @@ pub(crate) fn numbers<'a>(layout: &Layout, block: &'a Block, kind: Kind) -> &'a 
 
 /// How many nodes of a kind stand at a block.
 #[tactic(auto, using(crate::proofs::PlaceStarts::few_numbers))]
-pub(crate) fn count_at_block(layout: &Layout, block: &Block, kind: Kind) -> u32
+pub(crate) fn count_at_block(layout: &Layout, block: &BlockNumbers, kind: Kind) -> u32
     requires { IsBlock layout.now block.now }
     ensures count { result ≡ length (block_numbers layout.now kind) }
     ensures few { result ≤ most_pins }
 {
     let _limits = layout.nx();
-    numbers(layout, block, kind).len() as u32
+    numbers(block, kind).len() as u32
 }

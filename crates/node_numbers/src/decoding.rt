@@ -11,7 +11,7 @@ ghost use Rattle.node_numbers.specs.Starts.{kind_length, kind_start, column_star
 ghost use Rattle.node_numbers.specs.kept.Numbers.{IsBlock};
 ghost use Rattle.node_numbers.specs.kept.Strides.{stride_at, column_stride};
 
-use crate::block::{Block, count_at_block, numbers};
+use crate::block::{BlockNumbers, count_at_block, numbers};
 use crate::divisor::Divisor;
 use crate::numbers::NodeNumbers;
 use channel_tables::{Kind, Layout, Node};
@@ -89,7 +89,6 @@ fn side_row_found(layout: &Layout, rest: u32) -> LinePlace
     ensures before { (result.line - 1) * layout.now.architecture.io_rat + result.rest ≡ rest }
     ensures rest { result.rest < layout.now.architecture.io_rat }
 {
-    let _limits = layout.ny();
     let pads = layout.architecture().io_rat();
     LinePlace {
         line: rest / pads + 1,
@@ -112,7 +111,7 @@ fn is_row_of_blocks(layout: &Layout, y: u32) -> bool
 }
 
 /// The number of what stands behind `index` others at row `y` of a column of blocks.
-fn inner_number(layout: &Layout, block: &Block, kind: Kind, y: u32, index: u32) -> u32
+fn inner_number(layout: &Layout, block: &BlockNumbers, kind: Kind, y: u32, index: u32) -> u32
     requires block { IsBlock layout.now block.now }
     requires within { index < inner_place_length layout.now
         (length (block_numbers layout.now kind)) y }
@@ -122,7 +121,7 @@ fn inner_number(layout: &Layout, block: &Block, kind: Kind, y: u32, index: u32) 
     ensures few { is_between 1 layout.now.ny y ≡ false → index < layout.now.architecture.io_rat }
 {
     if is_row_of_blocks(layout, y) {
-        numbers(layout, block, kind)[index as usize]
+        numbers(block, kind)[index as usize]
     } else {
         index
     }
@@ -130,7 +129,7 @@ fn inner_number(layout: &Layout, block: &Block, kind: Kind, y: u32, index: u32) 
 
 /// The terminal or pin in a column of blocks, before which `rest` stand there.
 #[inline(always)]
-fn in_block_column(layout: &Layout, block: &Block, kind: Kind, x: u32, rest: u32) -> Node
+fn in_block_column(layout: &Layout, block: &BlockNumbers, kind: Kind, x: u32, rest: u32) -> Node
     requires block { IsBlock layout.now block.now }
     requires terminal { is_terminal kind ≡ true }
     requires inside { is_between 1 layout.now.nx x ≡ true }
@@ -168,7 +167,7 @@ fn in_side_column(layout: &Layout, kind: Kind, x: u32, rest: u32) -> Node
 
 /// The column of a terminal or pin of a kind before which `at` of the kind stand.
 #[tactic(auto, using(crate::proofs::PlaceStarts::terminal_length, crate::proofs::NodesFound::terminal_column))]
-fn column_of(layout: &Layout, block: &Block, kind: Kind, at: u32) -> LinePlace
+fn column_of(layout: &Layout, block: &BlockNumbers, kind: Kind, at: u32) -> LinePlace
     requires block { IsBlock layout.now block.now }
     requires terminal { is_terminal kind ≡ true }
     requires within { at < kind_length layout.now kind }
@@ -184,7 +183,7 @@ fn column_of(layout: &Layout, block: &Block, kind: Kind, at: u32) -> LinePlace
 /// The terminal or pin of a kind before which `at` of the kind stand.
 #[inline(always)]
 #[tactic(auto, using(crate::proofs::NodesFound::inner_column_length, crate::proofs::NodesFound::side_column_length))]
-fn terminal_found(layout: &Layout, block: &Block, kind: Kind, at: u32) -> Node
+fn terminal_found(layout: &Layout, block: &BlockNumbers, kind: Kind, at: u32) -> Node
     requires block { IsBlock layout.now block.now }
     requires terminal { is_terminal kind ≡ true }
     requires within { at < kind_length layout.now kind }

@@ -73,8 +73,8 @@ impl NodeNumbers {
         ensures number { result ≡ wire_id self.now Kind.Chanx x y track }
         ensures limits { IsFabric self.now }
     {
-        let _ = &self.tables;
-        self.above_first(track, x) + y * self.tables.above_step(x)
+        let step = self.tables.above_step(x);
+        self.above_first(track, x) + y * step
     }
 
     /// The number of a wire right of column `x` that begins at `y`.
@@ -87,8 +87,8 @@ impl NodeNumbers {
         ensures number { result ≡ wire_id self.now Kind.Chany x y track }
         ensures limits { IsFabric self.now }
     {
-        let _ = &self.tables;
-        self.right_first(track, y) + x * self.tables.right_step()
+        let step = self.tables.right_step();
+        self.right_first(track, y) + x * step
     }
 
     /// The number of a wire above a row; None for what is no wire.

@@ -1,6 +1,7 @@
 //! What a node is: its label, its capacity by its kind, and its span.
 
 ghost use Rattle.std.specs.Prelude.{◌≡◌};
+ghost use Rattle.channel_tables.specs.Fabric.{Fabric};
 ghost use Rattle.channel_tables.specs.LastPlaces.{last_by};
 ghost use Rattle.node_numbers.specs.Nodes.{label_of, terminal_capacity, wire_capacity, span_of};
 
@@ -25,7 +26,6 @@ pub(crate) fn label_of(layout: &Layout, node: Node) -> Label
 pub(crate) fn terminal_capacity(layout: &Layout, node: Node) -> u32
     ensures { result ≡ terminal_capacity layout.now node }
 {
-    let _limits = layout.nx();
     if layout.is_block(node.x, node.y) {
         layout.architecture().class_size(node.number) as u32
     } else {
@@ -44,9 +44,8 @@ pub(crate) fn wire_capacity(layout: &Layout) -> u32
 }
 
 /// The first and the last place of the node; `last` is its last along its channel.
-pub(crate) fn span_of(layout: &Layout, node: Node, last: u32) -> Span
-    requires { last ≡ last_by node.kind layout.now node }
-    ensures { result ≡ span_of layout.now node }
+pub(crate) fn span_of(node: Node, last: u32) -> Span
+    ensures { (f : Fabric) → last ≡ last_by node.kind f node → result ≡ span_of f node }
 {
     let (x2, y2) = match node.kind {
         Kind::Chanx => (last, node.y),

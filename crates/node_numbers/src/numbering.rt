@@ -1,6 +1,6 @@
 //! The numbers of nodes at a place, by arithmetic.
 
-ghost use Rattle.std.specs.Prelude.{◌≡◌, ◌+◌, ◌≤◌, ◌<◌, true, length, Some};
+ghost use Rattle.std.specs.Prelude.{◌≡◌, ℕ, ◌+◌, ◌≤◌, ◌<◌, true, length, Some};
 ghost use Rattle.arch_file.specs.Architecture.{most_pins};
 ghost use Rattle.channel_tables.specs.Fabric.{IsFabric};
 ghost use Rattle.channel_tables.specs.Wires.{tracks_in, begins};
@@ -56,7 +56,7 @@ impl NodeNumbers {
         ensures numbers { result.now ≡ block_numbers self.now kind }
         ensures limits { IsFabric self.now }
     {
-        numbers(self.layout(), &self.block, kind)
+        numbers(&self.block, kind)
     }
 
     /// How many nodes of a kind stand at a block.
@@ -75,7 +75,7 @@ impl NodeNumbers {
         ensures start { result ≡ kind_start self.now kind }
         ensures few { result < 8388608 }
     {
-        kind_start(self.layout(), self.starts, kind)
+        kind_start(self.starts, kind)
     }
 
     /// How many nodes stand before the terminals or pins of a kind at (x, y).
@@ -121,8 +121,8 @@ impl NodeNumbers {
 
     /// The last place along its channel of the node of a number; of no wire its x.
     #[tactic(auto, using(crate::proofs::NumbersAtPlaces::last_above, crate::proofs::NumbersAtPlaces::last_right, crate::proofs::NumbersAtPlaces::place_above, crate::proofs::NumbersAtPlaces::track_above, crate::proofs::NumbersAtPlaces::place_right, crate::proofs::NumbersAtPlaces::track_right))]
-    pub fn last_of(&self, id: u32, node: Node) -> u32
-        requires { node_at self.now id ≡ Some node }
+    pub fn last_of(&self, node: Node) -> u32
+        requires { (id : ℕ) × (node_at self.now id ≡ Some node) }
         ensures { result ≡ last_by node.kind self.now node }
     {
         match node.kind {

@@ -2,9 +2,10 @@
 
 ghost use Rattle.std.specs.Prelude.{◌≡◌, ℕ, ◌^◌, ◌<◌, ◌≤◌, nat_le, IfOk, IfSome, Some};
 ghost use Rattle.std.specs.Option.{option_map};
+ghost use Rattle.channel_tables.specs.Fabric.{IsFabric};
 ghost use Rattle.node_numbers.specs.Nodes.{node_count_of, node_at, kind_of_node, is_wire_at, number_of, label_of, capacity_of, span_of, wire_in};
 
-use crate::block::{Block, block_of};
+use crate::block::{BlockNumbers, block_of};
 use crate::nodes::{label_of, span_of, terminal_capacity, wire_capacity};
 use crate::starts::{Starts, starts_of};
 use crate::strides::{Strides, strides_of};
@@ -17,7 +18,7 @@ use std::marker::Model;
 #[derive(Drop)]
 pub struct NodeNumbers {
     pub(crate) tables: ChannelTables,
-    pub(crate) block: Block,
+    pub(crate) block: BlockNumbers,
     pub(crate) starts: Starts,
     pub(crate) strides: Strides,
 }
@@ -38,9 +39,9 @@ impl Model for NodeNumbers {
 impl NodeNumbers {
     /// The numbers of a device's nodes, from its tables.
     pub fn new(alloc: Global, tables: ChannelTables) -> Result<NodeNumbers, AllocError>
-        ensures { IfOk result (λ n. n ≡ tables) }
+        ensures made { IfOk result (λ n. n ≡ tables) }
+        ensures limits { IfOk result IsFabric }
     {
-        let _limits = tables.layout().nx();
         let block = block_of(alloc, tables.layout())?;
         let starts = starts_of(&tables, &block);
         let strides = strides_of(alloc, &tables)?;
@@ -62,7 +63,8 @@ impl NodeNumbers {
     /// The tables of the device's channels and pins.
     #[inline(always)]
     pub fn tables(&self) -> &ChannelTables
-        ensures { result.now ≡ self.now }
+        ensures tables { result.now ≡ self.now }
+        ensures limits { IsFabric self.now }
     {
         &self.tables
     }
@@ -70,7 +72,8 @@ impl NodeNumbers {
     /// What the device is made from.
     #[inline(always)]
     pub fn layout(&self) -> &Layout
-        ensures { result.now ≡ self.now }
+        ensures layout { result.now ≡ self.now }
+        ensures limits { IsFabric self.now }
     {
         self.tables.layout()
     }
@@ -147,7 +150,7 @@ impl NodeNumbers {
     {
         match self.node(id) {
             None => None,
-            Some(node) => Some(span_of(self.layout(), node, self.last_of(id, node))),
+            Some(node) => Some(span_of(node, self.last_of(node))),
         }
     }
 
@@ -163,7 +166,7 @@ impl NodeNumbers {
         match self.node_of(id) {
             None => None,
             Some(node) => {
-                let span = span_of(self.layout(), node, self.last_of(id, node));
+                let span = span_of(node, self.last_of(node));
                 Some((node.kind, span, self.tables.reach_of(node.number)))
             }
         }

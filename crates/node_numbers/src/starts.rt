@@ -2,12 +2,13 @@
 
 ghost use Rattle.std.specs.Prelude.{◌≡◌, ◌≤◌, true};
 ghost use Rattle.arch_file.specs.Architecture.{most_pins};
+ghost use Rattle.channel_tables.specs.Fabric.{Fabric};
 ghost use Rattle.node_numbers.specs.Starts.{kind_length, kind_start};
 ghost use Rattle.node_numbers.specs.Numbering.{is_terminal};
 ghost use Rattle.node_numbers.specs.kept.Columns.{terminals_length};
 ghost use Rattle.node_numbers.specs.kept.Numbers.{IsBlock, IsStarts};
 
-use crate::block::{Block, numbers};
+use crate::block::{BlockNumbers, numbers};
 use channel_tables::{ChannelTables, Kind, Layout};
 
 /// How many nodes stand before those of each kind, and how many there are.
@@ -35,15 +36,14 @@ fn terminal_count(layout: &Layout, count: usize) -> u32
 
 /// How many nodes there are of a kind of terminals or pins.
 #[tactic(auto, using(crate::proofs::PlaceStarts::few_numbers, crate::proofs::PlaceStarts::terminal_length))]
-fn terminals_of(tables: &ChannelTables, block: &Block, kind: Kind) -> u32
+fn terminals_of(tables: &ChannelTables, block: &BlockNumbers, kind: Kind) -> u32
     requires terminal { is_terminal kind ≡ true }
     requires block { IsBlock tables.now block.now }
     ensures count { result ≡ kind_length tables.now kind }
     ensures few { result ≤ 1000000 }
 {
     let layout = tables.layout();
-    let _limits = layout.nx();
-    terminal_count(layout, numbers(layout, block, kind).len())
+    terminal_count(layout, numbers(block, kind).len())
 }
 
 /// How many wires lie above rows.
@@ -67,7 +67,7 @@ fn wires_right(tables: &ChannelTables) -> u32
 
 /// How many nodes stand before those of each kind, and how many there are.
 #[tactic(auto, unfolding(crate::specs::Starts::kind_start))]
-pub(crate) fn starts_of(tables: &ChannelTables, block: &Block) -> Starts
+pub(crate) fn starts_of(tables: &ChannelTables, block: &BlockNumbers) -> Starts
     requires { IsBlock tables.now block.now }
     ensures { IsStarts tables.now result }
 {
@@ -89,9 +89,8 @@ pub(crate) fn starts_of(tables: &ChannelTables, block: &Block) -> Starts
 
 /// How many nodes stand before those of a kind.
 #[tactic(auto, unfolding(crate::specs::Starts::kind_start))]
-pub(crate) fn kind_start(layout: &Layout, starts: Starts, kind: Kind) -> u32
-    requires { IsStarts layout.now starts }
-    ensures { result ≡ kind_start layout.now kind }
+pub(crate) fn kind_start(starts: Starts, kind: Kind) -> u32
+    ensures { (f : Fabric) → IsStarts f starts → result ≡ kind_start f kind }
 {
     match kind {
         Kind::Source => 0,

@@ -5,8 +5,8 @@ use Rattle.std.specs.Prelude.{codes}
 use Rattle.vpr_text.specs.Words.{Line}
 use Rattle.line_reader.specs.ArraySize.{begins_size_line}
 use Rattle.line_reader.specs.Word.{is_text}
-use Rattle.net_file.specs.declared.parts.BlockKind.{BlockKind}
-use Rattle.net_file.specs.declared.parts.BlockKind.TheVariants.{InputPad, LogicBlock}
+use Rattle.net_file.specs.declared.terminal.BlockKind.{BlockKind}
+use Rattle.net_file.specs.declared.terminal.BlockKind.TheVariants.{InputPad, LogicBlock}
 use Rattle.net_file.specs.Names.{number_among}
 use Rattle.net_file.specs.Netlist.{Block}
 use Rattle.place_file.specs.declared.fault.PlaceFault.TheVariants.{BadLine, UnknownBlock, PlacedTwice, OffSite, Occupied}

@@ -8,6 +8,7 @@ use Rattle.std.proofs.lemmas.Bool.Decides.{nat_tests}
 use Rattle.std.proofs.lemmas.List.{take_all, length-map, ext_get_or}
 use Rattle.std.proofs.lemmas.List.Folds.{list_any_none}
 use Rattle.std.proofs.lemmas.Option.{slice_get-get_or}
+use Rattle.std.specs.Cmp.{both_ways}
 use Rattle.vpr_text.specs.Words.{Line, no_line, words_at, number_at}
 use Rattle.net_file.specs.Netlist.{Block}
 use Rattle.net_file.proofs.Each.{each_mapped}
@@ -37,12 +38,7 @@ one_site s t e =
     λ i. record { x = x i; y = y i; subblk = subblk i }
 
 same_tests : (a b c d : ℕ) → (a ≡ b → c ≡ d) → (c ≡ d → a ≡ b) → eqb a b ≡ eqb c d
-same_tests a b c d f g = by_tests (eqb a b) (eqb c d) (λ e. eq-eqb c d (f (eqb-true a b e))) (λ e. eq-eqb a b (g (eqb-true c d e)))
-  where
-    by_tests : (x y : Bool) → (x ≡ true → y ≡ true) → (y ≡ true → x ≡ true) → x ≡ y
-    by_tests true y f g = sym (f refl)
-    by_tests false true f g = g refl
-    by_tests false false f g = refl
+same_tests a b c d f g = both_ways (eqb a b) (eqb c d) (λ e. eq-eqb c d (f (eqb-true a b e))) (λ e. eq-eqb a b (g (eqb-true c d e)))
 
 -- the site that is reported by row r is known after row r, and not before
 next_site : (r k : ℕ) (site : Option Site) (t : Site) → (r ≡ k → site ≡ Some t) → option_or (cond (ltb r k) site None) (cond (eqb r k) (Some t) None) ≡ cond (ltb r (k + 1)) site None

@@ -4,8 +4,9 @@ use Rattle.std.specs.Prelude.{IfSome}
 use Rattle.std.specs.List.{list_any}
 use Rattle.std.proofs.lemmas.Bool.Decides.{nat_tests}
 use Rattle.std.proofs.lemmas.List.{get_or-set_same, get_or-set_other, get_or-replicate, length-map, length-set, length-replicate}
-use Rattle.net_file.specs.declared.parts.BlockKind.{BlockKind}
-use Rattle.net_file.specs.declared.parts.BlockKind.TheVariants.{InputPad, OutputPad, LogicBlock}
+use Rattle.std.proofs.lemmas.Bool.{true≢false}
+use Rattle.net_file.specs.declared.terminal.BlockKind.{BlockKind}
+use Rattle.net_file.specs.declared.terminal.BlockKind.TheVariants.{InputPad, OutputPad, LogicBlock}
 use Rattle.net_file.specs.Facts.{names_of_blocks}
 use Rattle.net_file.specs.Names.{number_among}
 use Rattle.net_file.specs.Netlist.{Block}
@@ -66,9 +67,6 @@ any_set p [] b t within free none = absurd (omega (arith, within))
 any_set p (x ∷ xs) zero t within free none = let skip : p x ≡ false = ap p free ∙ none in rw skip refl
 any_set p (x ∷ xs) (suc b) t within free none = ap (λ r. p x || r) (any_set p xs b t (omega (arith, within)) free none) ∙ or_swap (p x) (p t) (list_any p xs)
 
-true-false : true ≡ false → ⊥
-true-false e = absurd cc
-
 tells_more : (a : Array) (xs : List (Option Site)) (taken : List Bool) (t s : Site) (one : Bool) → same_site s t ≡ one → is_in_table a t ≡ true → is_in_table a s ≡ true → IsTable a xs taken
     → get_or (set taken (entry_of t) true) (entry_of s) false ≡ (one || list_any (is_on s) xs)
 unfolding is_occupied
@@ -76,7 +74,7 @@ tells_more a xs taken t s true e j i table =
     let within : entry_of t < length taken = subst (λ n. entry_of t < n) (sym table.size) (entry_within a t j) in
     ap (λ n. get_or (set taken (entry_of t) true) n false) (entries_from_one s t e) ∙ get_or-set_same taken (entry_of t) true false within
 tells_more a xs taken t s false e j i table =
-    let apart : entry_of s ≢ entry_of t = λ h. true-false (sym (one_from_entries a s t i j h) ∙ e) in
+    let apart : entry_of s ≢ entry_of t = λ h. true≢false (sym (one_from_entries a s t i j h) ∙ e) in
     get_or-set_other taken (entry_of t) (entry_of s) true false apart ∙ table.tells s i
 
 pub one_taken : (a : Array) (xs : List (Option Site)) (taken : List Bool) (b : ℕ) (t : Site) (entry : ℕ) → entry ≡ entry_of t → IsTable a xs taken → b < length xs → get_or xs b None ≡ None → is_in_table a t ≡ true → IsTable a (set xs b (Some t)) (set taken entry true)

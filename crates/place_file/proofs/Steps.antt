@@ -5,9 +5,9 @@ use Rattle.std.specs.Option.{option_or, option_map}
 use Rattle.std.specs.List.{range_with_len}
 use Rattle.std.proofs.Math.Bool.{and-false}
 use Rattle.std.proofs.Math.Seq.{drop-cons}
-use Rattle.std.proofs.lemmas.Bool.{eqb-true, eqb-false, ltb-false, lt-ltb, le-ltb}
+use Rattle.std.proofs.lemmas.Bool.{eqb-true, eqb-false, ltb-false, lt-ltb, le-ltb, not-false}
 use Rattle.std.proofs.lemmas.Bool.Decides.{nat_tests}
-use Rattle.std.proofs.lemmas.List.{get_or-drop, drop_all, take_all, length-map, length-set, get_or-set_same, get_or-set_other, ext_get_or}
+use Rattle.std.proofs.lemmas.List.{drop_all, take_all, length-map, length-set, get_or-set_same, get_or-set_other, ext_get_or}
 use Rattle.std.proofs.lemmas.List.Folds.{find-append}
 use Rattle.std.proofs.lemmas.List.FromFn.{length-range_with_len, get_or-map-range_with_len}
 use Rattle.vpr_text.specs.Words.{Line, no_line, number_at, words_at}
@@ -41,10 +41,6 @@ has_none n false false false true e h = absurd cc
 has_none n false false false false true h = absurd cc
 has_none n false false false false false h = record { good = refl; known = refl; once = refl; fitting = refl; alone = refl }
 
-true_from_not : (b : Bool) → not b ≡ false → b ≡ true
-true_from_not true e = refl
-true_from_not false e = absurd cc
-
 none_from_not : {X : Type 0} (r : Option X) → is_some r ≡ false → r ≡ None
 none_from_not None e = refl
 none_from_not (Some x) e = absurd cc
@@ -61,7 +57,7 @@ pub good_row : (array : Array) (blocks : List Block) (sites : List (Option Site)
 unfolding row_fault
 good_row array blocks sites n words e =
     let h = has_none n _ _ _ _ _ e in
-    record { form = true_from_not _ h.good; known = true_from_not _ h.known; once = none_from_not _ h.once; fitting = true_from_not _ h.fitting; alone = h.alone }
+    record { form = not-false _ h.good; known = not-false _ h.known; once = none_from_not _ h.once; fitting = not-false _ h.fitting; alone = h.alone }
 
 pub row_faultless : (array : Array) (blocks : List Block) (sites : List (Option Site)) (n : ℕ) (words : List (List ℕ)) → IsGood array blocks sites words → row_fault array blocks sites n words ≡ None
 unfolding row_fault
@@ -197,7 +193,7 @@ header_by io_rat lines false false false true e = absurd cc
 header_by io_rat lines false false false false e = record { titled = refl; long = refl; sized = refl; fitting = refl }
 
 second_true : (a b : Bool) → a ≡ true → (a && not b) ≡ false → b ≡ true
-second_true true b e f = true_from_not b f
+second_true true b e f = not-false b f
 second_true false b e f = absurd cc
 
 pub header_good : (io_rat : ℕ) (lines : List Line) → header_fault io_rat lines ≡ None → IsHead io_rat lines
@@ -208,8 +204,8 @@ header_good io_rat lines e =
     record {
       long = long;
       title = second_true (ltb 0 (length lines)) (is_title (words_at lines 0)) (lt-ltb 0 (length lines) (omega (arith, long))) h.titled;
-      size_line = true_from_not _ h.sized;
-      size = true_from_not _ h.fitting;
+      size_line = not-false _ h.sized;
+      size = not-false _ h.fitting;
     }
 
 pub header_faultless : (io_rat : ℕ) (lines : List Line) → IsHead io_rat lines → header_fault io_rat lines ≡ None
@@ -231,12 +227,3 @@ header_fit io_rat lines few e =
 pub no_rows : (blocks : List Block) (sites : List (Option Site)) (n : ℕ) → n ≡ length blocks → sites ≡ map (λ _. None) (range_with_len 0 n) → sites ≡ sites_in blocks []
 unfolding sites_in site_in
 no_rows blocks sites n count e = e ∙ ap (λ k. map (λ _. None) (range_with_len 0 k)) count
-
-row_line : (lines : List Line) (row : ℕ) → get_or lines (row + 2) no_line ≡ get_or (drop 2 lines) row no_line
-row_line lines row = let e : row + 2 ≡ 2 + row = omega arith in rw e (sym (get_or-drop 2 lines row no_line))
-
-pub row_number : (lines : List Line) (row : ℕ) → number_at lines (row + 2) ≡ number_at (drop 2 lines) row
-row_number lines row = ap (λ l. l.number) (row_line lines row)
-
-pub row_words : (lines : List Line) (row : ℕ) → words_at lines (row + 2) ≡ words_at (drop 2 lines) row
-row_words lines row = ap (λ l. l.words) (row_line lines row)

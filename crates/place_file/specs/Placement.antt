@@ -1,8 +1,8 @@
 -- A placement, and what it is to be placed (VPR and T-VPack manual 4.30, "The Placement File Format").
 use Rattle.std.specs.Prelude.{◌≡◌, ℕ, ◌+◌, ◌≤◌, Bool, true, ◌&&◌, ◌||◌, ◌==◌, nat_le, nat_lt, List, length, Some, slice_get, slice_index_or}
 pub use Rattle.arch_file.specs.Architecture.{longest_side}
-use Rattle.net_file.specs.declared.parts.BlockKind.{BlockKind}
-use Rattle.net_file.specs.declared.parts.BlockKind.TheVariants.{InputPad, OutputPad, LogicBlock}
+use Rattle.net_file.specs.declared.terminal.BlockKind.{BlockKind}
+use Rattle.net_file.specs.declared.terminal.BlockKind.TheVariants.{InputPad, OutputPad, LogicBlock}
 use Rattle.net_file.specs.Connections.{no_block}
 use Rattle.net_file.specs.Netlist.{Block}
 use Rattle.place_file.specs.declared.site.Array.{Array}

@@ -1,6 +1,6 @@
 //! A row, given the sites that the rows before it tell.
 
-ghost use Rattle.std.specs.Prelude.{◌≡◌, None, Some, length, slice_set};
+ghost use Rattle.std.specs.Prelude.{◌≡◌, None, Some, IfSome, is_some, length, slice_set};
 ghost use Rattle.place_file.specs.Judge.{row_fault};
 ghost use Rattle.place_file.specs.kept.OccupiedSites.{IsFit};
 ghost use Rattle.place_file.specs.Lines.{is_row, site_on, block_on};
@@ -12,23 +12,18 @@ use crate::sites::Sites;
 use line_reader::Words;
 use net_file::{BlockKind, Netlist};
 
-/// Whether the line is a name and three numbers.
+/// The site that a row tells: the line is a name and three numbers.
 #[tactic(auto, unfolding(crate::specs::Lines::is_row))]
-fn is_row(words: &Words) -> bool
-    ensures { result ≡ is_row words.now }
+fn site_on(words: &Words) -> Option<Site>
+    ensures row { is_some result ≡ is_row words.now }
+    ensures site { IfSome result (λ s. s ≡ site_on words.now) }
 {
-    words.len() == 4 && words.is_number(1) && words.is_number(2) && words.is_number(3)
-}
-
-/// The site that a row tells.
-fn site_on(words: &Words) -> Site
-    ensures { result ≡ site_on words.now }
-{
-    Site {
-        x: words.number_or_0(1),
-        y: words.number_or_0(2),
-        subblk: words.number_or_0(3),
+    if words.len() != 4 {
+        return None;
     }
+    let (x, y) = (words.number(1)?, words.number(2)?);
+    let subblk = words.number(3)?;
+    Some(Site { x, y, subblk })
 }
 
 /// The kind of block number `block`; that of an input past the last one.
@@ -58,16 +53,15 @@ pub(crate) fn judge(
     ensures put { result ≡ None → sites.new.sites ≡ slice_set sites.old.sites
         (block_on netlist.now.blocks words.now) (Some (site_on words.now)) }
 {
-    if !is_row(words) {
+    let Some(site) = site_on(words) else {
         return Some(PlaceFault::BadLine(line));
-    }
+    };
     let Some(block) = netlist.block_named(words.word(0)) else {
         return Some(PlaceFault::UnknownBlock(line));
     };
     if sites.at(block).is_some() {
         return Some(PlaceFault::PlacedTwice(line));
     }
-    let site = site_on(words);
     if !is_site(array, kind_at(netlist, block), site) {
         return Some(PlaceFault::OffSite(line));
     }

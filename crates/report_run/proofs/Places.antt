@@ -1,7 +1,7 @@
 -- Of which places the numbers of the map are.
 use Rattle.std.proofs.Common.{◌≡◌, ℕ, ◌+◌, ◌<◌, ◌≤◌, List, ◌++◌, length, get_or, sym, ap, ◌∙◌, arith}
 use Rattle.std.proofs.lemmas.List.{get_or_append_left, get_or-append-add}
-use Rattle.rr_graph.specs.parts.Kind.TheVariants.{Chanx, Chany}
+use Rattle.rr_graph.specs.node.Kind.TheVariants.{Chanx, Chany}
 use Rattle.rr_graph.specs.Fabric.{Fabric}
 use Rattle.rr_graph.proofs.Ranges.{get_below, length_below}
 use Rattle.route_report.specs.Channels.{Channel, channel_with, channels_along, channels_of, occupancies_in, occupancy_at, place_in}

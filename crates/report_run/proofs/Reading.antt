@@ -5,7 +5,7 @@ use Rattle.vpr_text.specs.Text.{lines_of}
 use Rattle.vpr_text.specs.Words.{Line}
 use Rattle.vpr_text.specs.declared.fault.TextFault.{TextFault}
 use Rattle.net_file.specs.Netlist.{Netlist}
-use Rattle.rr_graph.specs.parts.Mode.{Mode}
+use Rattle.rr_graph.specs.node.Mode.{Mode}
 use Rattle.rr_graph.specs.Problems.{RoutingProblem}
 use Rattle.route_tree.specs.Usage.{Lists}
 use Rattle.route_file.specs.declared.fault.RouteFileFault.{RouteFileFault}

@@ -1,8 +1,8 @@
 -- The lines on the channels (ours).
 use Rattle.std.specs.Prelude.{ℕ, List, ◌++◌, codes, decimal}
 use Rattle.std.specs.List.{flat_map}
-use Rattle.rr_graph.specs.parts.Kind.{Kind}
-use Rattle.rr_graph.specs.parts.Kind.TheVariants.{Chany}
+use Rattle.rr_graph.specs.node.Kind.{Kind}
+use Rattle.rr_graph.specs.node.Kind.TheVariants.{Chany}
 use Rattle.rr_graph.specs.Fabric.{Fabric}
 use Rattle.route_report.specs.Channels.{Channel}
 use Rattle.report_run.specs.Texts.{mean_text}

@@ -1,7 +1,7 @@
 -- The map of a routing: the array, with the occupancy of each place of its channels (ours).
 use Rattle.std.specs.Prelude.{ℕ, ◌+◌, ◌-◌, nat_lt, if◌then◌else◌, List, [], ◌++◌, codes, decimal, get_or}
 use Rattle.std.specs.List.{flat_map}
-use Rattle.rr_graph.specs.parts.Kind.TheVariants.{Chanx}
+use Rattle.rr_graph.specs.node.Kind.TheVariants.{Chanx}
 use Rattle.rr_graph.specs.Fabric.{Fabric, numbers_below}
 use Rattle.route_report.specs.Channels.{Channel, channel_with}
 

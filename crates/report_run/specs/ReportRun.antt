@@ -3,7 +3,7 @@ use Rattle.std.specs.Prelude.{ℕ, Bool, List, [], Result, Ok, Err}
 use Rattle.vpr_text.specs.declared.fault.TextFault.{TextFault}
 use Rattle.vpr_text.specs.Text.{lines_of}
 use Rattle.vpr_text.specs.Words.{Line}
-use Rattle.rr_graph.specs.parts.Mode.{Mode}
+use Rattle.rr_graph.specs.node.Mode.{Mode}
 use Rattle.route_tree.specs.Usage.{Lists}
 use Rattle.run_inputs.specs.declared.fault.AppFault.{AppFault}
 use Rattle.run_inputs.specs.declared.fault.InputFile.TheVariants as file

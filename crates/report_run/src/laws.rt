@@ -2,7 +2,7 @@
 //! definitions. Of its numbers each is the occupancy of its place.
 
 ghost use Rattle.std.specs.Prelude.{◌≡◌, ◌≤◌, ◌<◌};
-ghost use Rattle.rr_graph.specs.parts.Kind.TheVariants.{Chanx, Chany};
+ghost use Rattle.rr_graph.specs.node.Kind.TheVariants.{Chanx, Chany};
 ghost use Rattle.route_report.specs.Channels.{channels_of, occupancy_at, place_in};
 ghost use Rattle.report_run.specs.Map.{occupied_at, right_of};
 

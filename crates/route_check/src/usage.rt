@@ -8,7 +8,8 @@ ghost use Rattle.route_tree.specs.Paths.{ends_of};
 ghost use Rattle.route_tree.specs.Faults.{IsRoute};
 ghost use Rattle.route_check.specs.Routed.{IsNetRouted};
 ghost use Rattle.route_tree.specs.Usage.{list_in};
-ghost use Rattle.route_check.specs.kept.Counted.{Counts, HasRoom, AreUses, excess_of};
+ghost use Rattle.route_tree.specs.kept.Counting.{Counts};
+ghost use Rattle.route_check.specs.kept.Counted.{HasRoom, AreUses, excess_of};
 ghost use Rattle.route_check.specs.kept.Answers.{TellsExcess, JudgesRouting};
 
 use crate::fault::RouteFault;
@@ -17,7 +18,7 @@ use routing_problem::{Device, Problem};
 use std::alloc::{AllocError, Global};
 
 /// Counts a node once more.
-#[tactic(auto, using(crate::proofs::Counting::counts_one))]
+#[tactic(auto, using(route_tree::proofs::Counting::counts_one))]
 fn count_node(counts: &mut [u16], node: u32)
     requires there { node < length counts.old }
     requires room { get_or counts.old node 0 < 65535 }
@@ -94,10 +95,10 @@ fn excess(device: &Device, counts: &[u16], node: u32) -> u32
 
 /// The least node whose count is above its capacity.
 fn least_overused(device: &Device, counts: &[u16]) -> Option<RouteFault>
-    requires { length counts.now ≡ node_count_of device.now }
+    requires limits { IsFabric device.now }
+    requires each { length counts.now ≡ node_count_of device.now }
     ensures { TellsExcess device.now counts.now result }
 {
-    let _limits = device.nx();
     for node in 0..device.node_count() {
         let by = excess(device, counts, node);
         if by > 0 {

@@ -11,14 +11,7 @@ use Rattle.route_explain.specs.Steps.{begins_at, begins_of, ends_at, ends_before
 use Rattle.route_explain.specs.declared.index.NetIndex.{NetIndex}
 use Rattle.route_explain.specs.declared.places.Places.{Places}
 use Rattle.route_explain.specs.kept.Places.{ArePlaces, HasMore, IsIndex, first_place, is_before, place_in, with_place}
-
-one_more : (b : Bool) (k : ℕ) (r : Option ℕ) (c : Bool) → is_some r ≡ c → is_some (cond b (Some k) r) ≡ (b || c)
-one_more true k r c e = refl
-one_more false k r c e = e
-
-position_is_any : (p : ℕ → Bool) (k : ℕ) (xs : List ℕ) → is_some (position_from p k xs) ≡ list_any p xs
-position_is_any p k [] = refl
-position_is_any p k (x ∷ xs) = one_more (p x) k (position_from p (k + 1) xs) (list_any p xs) (position_is_any p (k + 1) xs)
+use Rattle.net_file.proofs.Numbered.{position_is_any}
 
 -- a node has a place where it is among the nodes
 pub placed_is_among : (nodes : List ℕ) (a : ℕ) → is_some (first_place nodes a) ≡ is_among nodes a

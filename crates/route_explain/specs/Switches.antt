@@ -1,8 +1,8 @@
 -- Why no switch leads from one node to another, in words (ours).
 use Rattle.std.specs.Prelude.{ℕ, ◌==◌, Bool, true, false, if◌then◌else◌, List, [], codes, Option, Some}
-use Rattle.rr_graph.specs.parts.Kind.{Kind}
-use Rattle.rr_graph.specs.parts.Kind.TheVariants.{Source, Sink, Opin, Ipin, Chanx, Chany}
-use Rattle.rr_graph.specs.parts.Node.{Node}
+use Rattle.rr_graph.specs.node.Kind.{Kind}
+use Rattle.rr_graph.specs.node.Kind.TheVariants.{Source, Sink, Opin, Ipin, Chanx, Chany}
+use Rattle.rr_graph.specs.node.Node.{Node}
 use Rattle.rr_graph.specs.Fabric.{Fabric}
 use Rattle.rr_graph.specs.Nodes.{node_at}
 use Rattle.route_tree.specs.Paths.{Pair}

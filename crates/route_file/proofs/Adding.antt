@@ -4,6 +4,7 @@ use Rattle.std.specs.List.{list_any, last_or}
 use Rattle.std.proofs.lemmas.Bool.{eqb-true, eqb-false, eq-eqb, ne_eqb, or_left, or_right, both_ways}
 use Rattle.std.proofs.lemmas.List.{length-set, get_or-set_same, get_or-set_other}
 use Rattle.std.proofs.lemmas.Option.{same_Some}
+use Rattle.std.proofs.Math.Bool.{or-false}
 use Rattle.vpr_text.specs.Words.{Line}
 use Rattle.net_file.specs.Netlist.{Netlist}
 use Rattle.net_file.specs.Routed.{is_routed_at}
@@ -11,7 +12,7 @@ use Rattle.rr_graph.specs.Fabric.{Fabric}
 use Rattle.rr_graph.specs.Nodes.{node_count_of}
 use Rattle.route_tree.specs.Legality.{is_among}
 use Rattle.route_tree.specs.Paths.{Pair}
-use Rattle.route_file.specs.declared.entry.Entry.{Entry}
+use Rattle.route_file.specs.declared.entry.FileEntry.{FileEntry}
 use Rattle.route_file.specs.declared.seen.Seen.{Seen}
 use Rattle.route_file.specs.Judge.{is_detached, judge}
 use Rattle.route_file.specs.NetLine.{is_net_line, is_global_at, net_on}
@@ -20,10 +21,6 @@ use Rattle.route_file.specs.kept.LinesSeen.{IsSeen, NotesNet, NotesNode, Notes, 
 use Rattle.route_file.specs.Sections.{is_net, is_line_of, had_line, latest, lines_after, nodes_in, list_along, list_of_net}
 use Rattle.route_file.proofs.Growing.{any_push, after_more, after_none_more, latest_more, had_more, section_net, section_other, section_here, nodes_same, nodes_none, nodes_more, last_push, among_push, list_push}
 use Rattle.route_file.proofs.Judged.{net_within, net_is, section_is}
-
-or_false : (b : Bool) → (b || false) ≡ b
-or_false true = refl
-or_false false = refl
 
 clash : {P : Type 0} (b : Bool) → b ≡ true → b ≡ false → P
 clash b t f = absurd (both_ways b f t)
@@ -71,7 +68,7 @@ module _ (netlist : Netlist) (f : Fabric) (before : List Line) (l : Line) where
   mark_by had n m true b e lt old =
       let one = eqb-true n m e in
       ap (λ k. get_or (set had k true) m false) one ∙ get_or-set_same had m true false lt ∙ sym (or_right b true refl)
-  mark_by had n m false b e lt old = get_or-set_other had n m true false (apart n m e) ∙ old ∙ sym (or_false b)
+  mark_by had n m false b e lt old = get_or-set_other had n m true false (apart n m e) ∙ old ∙ sym (or-false b)
 
   ended_by : (n m : ℕ) (t u : Bool) → IsNew n → had_line netlist before m ≡ t → eqb n m ≡ u → (t || u) ≡ true → list_any is_net_line (lines_after (is_line_of netlist m) now) ≡ not u
   unfolding had_line
@@ -113,7 +110,7 @@ module _ (netlist : Netlist) (f : Fabric) (before : List Line) (l : Line) where
   latest_kept is = latest_more netlist before l ∙ ap (λ t. cond t (net_on netlist l.words) (latest netlist before)) is
 
   had_kept : is_net_line l ≡ false → (m : ℕ) → had_line netlist now m ≡ had_line netlist before m
-  had_kept is m = had_more netlist before l m ∙ ap (λ t. had_line netlist before m || cond t (is_net m (net_on netlist l.words)) false) is ∙ or_false (had_line netlist before m)
+  had_kept is m = had_more netlist before l m ∙ ap (λ t. had_line netlist before m || cond t (is_net m (net_on netlist l.words)) false) is ∙ or-false (had_line netlist before m)
 
   ended_kept : is_net_line l ≡ false → (m : ℕ) → had_line netlist before m ≡ true → list_any is_net_line (lines_after (is_line_of netlist m) before) ≡ not (is_net m (latest netlist before))
       → list_any is_net_line (lines_after (is_line_of netlist m) now) ≡ not (is_net m (latest netlist now))
@@ -123,7 +120,7 @@ module _ (netlist : Netlist) (f : Fabric) (before : List Line) (l : Line) where
       ap (list_any is_net_line) (after_more own before l had)
       ∙ any_push is_net_line (lines_after own before) l
       ∙ ap (λ t. list_any is_net_line (lines_after own before) || t) is
-      ∙ or_false (list_any is_net_line (lines_after own before))
+      ∙ or-false (list_any is_net_line (lines_after own before))
       ∙ ended
       ∙ sym (ap (λ o. not (is_net m o)) (latest_kept is))
 
@@ -229,7 +226,7 @@ module _ (netlist : Netlist) (f : Fabric) (before : List Line) (l : Line) where
       let within : a < length old.owners.items = subst (λ k. a < k) (sym seen.owners_count) h.within in
       ap (λ xs. get_or xs b no_owner) new ∙ ap (λ k. get_or (set old.owners.items a n) k no_owner) (sym (eqb-true a b e)) ∙ get_or-set_same old.owners.items a n no_owner within
   owns_by old owners n a b false seen h e new among =
-      let before_it : is_among (nodes_in netlist f before n) b ≡ true = sym (or_false (is_among (nodes_in netlist f before n) b)) ∙ sym (ap (λ t. is_among (nodes_in netlist f before n) b || t) e) ∙ sym (among_here old n a b seen h) ∙ among in
+      let before_it : is_among (nodes_in netlist f before n) b ≡ true = sym (or-false (is_among (nodes_in netlist f before n) b)) ∙ sym (ap (λ t. is_among (nodes_in netlist f before n) b || t) e) ∙ sym (among_here old n a b seen h) ∙ among in
       ap (λ xs. get_or xs b no_owner) new ∙ get_or-set_other old.owners.items a b n no_owner (apart a b e) ∙ seen.owns n b h.at h.routed before_it
 
   node_added : (old new : Seen) (n a : ℕ) → IsSeen netlist f before old → IsPlaced n a → NotesNode f old new a → IsSeen netlist f now new
@@ -264,7 +261,7 @@ module _ (netlist : Netlist) (f : Fabric) (before : List Line) (l : Line) where
   global_apart : (n : ℕ) → is_global_at netlist n ≡ true → is_routed_at netlist n ≡ false
   global_apart n e = rw e refl
 
-  added_by : (old new : Seen) (e : Entry) (t : Bool) → IsSeen netlist f before old → is_net_line l ≡ t → judge netlist f before l ≡ Ok e → Notes f old new e → IsSeen netlist f now new
+  added_by : (old new : Seen) (e : FileEntry) (t : Bool) → IsSeen netlist f before old → is_net_line l ≡ t → judge netlist f before l ≡ Ok e → Notes f old new e → IsSeen netlist f now new
   unfolding judge
   added_by old new e true seen is ok notes =
       net_is netlist (had_line netlist before) l.number l.words e (rw is at ok)
@@ -276,5 +273,5 @@ module _ (netlist : Netlist) (f : Fabric) (before : List Line) (l : Line) where
       subst (IsSeen netlist f now) (sym same) (block_kept old n seen is at (global_apart n global)))
       (λ n a at routed node within entry. node_added old new n a seen (record { is = is; at = at; routed = routed; node = node; within = within }) (subst (Notes f old new) entry notes))
 
-  pub line_added : (old new : Seen) (e : Entry) → IsSeen netlist f before old → judge netlist f before l ≡ Ok e → Notes f old new e → IsSeen netlist f now new
+  pub line_added : (old new : Seen) (e : FileEntry) → IsSeen netlist f before old → judge netlist f before l ≡ Ok e → Notes f old new e → IsSeen netlist f now new
   line_added old new e seen ok notes = added_by old new e (is_net_line l) seen refl ok notes

@@ -1,15 +1,15 @@
 -- Texts of routings that are known.
 use Rattle.std.proofs.Common.{◌≡◌, true, false, [], ◌∷◌, Some, None, codes, refl}
 use Rattle.std.specs.Fmt.{digits}
-use Rattle.arch_file.specs.declared.parts.Direction.TheVariants.{Input, Output}
-use Rattle.arch_file.specs.declared.parts.FcType.TheVariants.{Fractional}
-use Rattle.arch_file.specs.declared.parts.SegmentLength.TheVariants.{Places}
+use Rattle.arch_file.specs.declared.entries.Direction.TheVariants.{Input, Output}
+use Rattle.arch_file.specs.declared.entries.FcType.TheVariants.{Fractional}
+use Rattle.arch_file.specs.declared.entries.SegmentLength.TheVariants.{Places}
 use Rattle.net_file.specs.Netlist.{Netlist}
-use Rattle.net_file.specs.declared.parts.BlockKind.TheVariants.{InputPad, LogicBlock}
+use Rattle.net_file.specs.declared.terminal.BlockKind.TheVariants.{InputPad, LogicBlock}
 use Rattle.place_file.specs.Placement.{Placement}
-use Rattle.rr_graph.specs.parts.Kind.TheVariants.{Chanx}
-use Rattle.rr_graph.specs.parts.Label.TheVariants.{Track}
-use Rattle.rr_graph.specs.parts.Mode.TheVariants.{Detailed}
+use Rattle.rr_graph.specs.node.Kind.TheVariants.{Chanx}
+use Rattle.rr_graph.specs.node.Label.TheVariants.{Track}
+use Rattle.rr_graph.specs.node.Mode.TheVariants.{Detailed}
 use Rattle.rr_graph.specs.Fabric.{Fabric}
 use Rattle.rr_graph.specs.Problems.{is_sink}
 use Rattle.rr_graph.specs.Nodes.{nodes_of, numbers_at}

@@ -7,6 +7,7 @@ use Rattle.std.proofs.lemmas.Bool.{or_left, or_right}
 use Rattle.std.proofs.lemmas.List.Elements.{filter-append, filter_map-append}
 use Rattle.std.proofs.lemmas.List.Folds.{list_any-append}
 use Rattle.std.proofs.lemmas.List.Sums.{fold_push}
+use Rattle.std.proofs.Math.Bool.{or-false}
 use Rattle.vpr_text.specs.Words.{Line}
 use Rattle.net_file.specs.Netlist.{Netlist}
 use Rattle.rr_graph.specs.Fabric.{Fabric}
@@ -18,12 +19,8 @@ use Rattle.route_file.specs.NodeLine.{node_on}
 use Rattle.route_file.specs.kept.LinesSeen.{pair_after, list_more}
 use Rattle.route_file.specs.Sections.{is_line_of, had_line, latest, lines_after, lines_before, section_of, nodes_in, neighbours, pairs_along, list_along}
 
-or_false : (b : Bool) → (b || false) ≡ b
-or_false true = refl
-or_false false = refl
-
 pub any_push : {X : Type 0} (p : X → Bool) (xs : List X) (x : X) → list_any p (xs ++ x ∷ []) ≡ (list_any p xs || p x)
-any_push p xs x = list_any-append p xs (x ∷ []) ∙ ap (λ t. list_any p xs || t) (or_false (p x))
+any_push p xs x = list_any-append p xs (x ∷ []) ∙ ap (λ t. list_any p xs || t) (or-false (p x))
 
 -- ---- the lines after one that passes, and before one
 

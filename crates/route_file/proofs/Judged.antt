@@ -1,5 +1,5 @@
 -- A line judged by what is kept of those before it, and what a line without a fault is.
-use Rattle.std.proofs.Common.{◌≡◌, ℕ, ◌<◌, Bool, true, false, not, ◌&&◌, ◌||◌, cond, eqb, List, length, map, get_or, Option, Some, None, Result, Ok, Err, refl, sym, ap, subst, ◌∙◌}
+use Rattle.std.proofs.Common.{◌≡◌, ℕ, ◌<◌, Bool, true, false, not, ◌&&◌, ◌||◌, cond, eqb, List, length, map, get_or, Option, Some, None, Result, Ok, Err, refl, ap, subst, ◌∙◌}
 use Rattle.std.specs.List.{last_or}
 use Rattle.std.specs.Option.{option_map_or}
 use Rattle.std.proofs.lemmas.Bool.{eqb-true, eq-eqb}
@@ -8,17 +8,18 @@ use Rattle.vpr_text.specs.Words.{Line}
 use Rattle.line_reader.specs.Word.{is_at}
 use Rattle.std.specs.Prelude.{codes, option_and_then}
 use Rattle.std.proofs.lemmas.Option.{option_and_then_some, cond_some}
+use Rattle.std.specs.Cmp.{both_ways}
 use Rattle.net_file.specs.Names.{number_among}
 use Rattle.net_file.specs.Netlist.{Netlist}
 use Rattle.net_file.specs.Routed.{is_routed_at}
 use Rattle.rr_graph.specs.Fabric.{Fabric}
 use Rattle.rr_graph.specs.Nodes.{nodes_of, node_count_of}
 use Rattle.rr_graph.specs.Problems.{is_sink}
-use Rattle.rr_graph.specs.parts.Kind.TheVariants.{Source}
-use Rattle.rr_graph.specs.parts.Node.{Node}
+use Rattle.rr_graph.specs.node.Kind.TheVariants.{Source}
+use Rattle.rr_graph.specs.node.Node.{Node}
 use Rattle.route_tree.specs.Legality.{is_among}
-use Rattle.route_file.specs.declared.entry.Entry.{Entry}
-use Rattle.route_file.specs.declared.entry.Entry.TheVariants.{NetLine, BlockLine, NodeLine}
+use Rattle.route_file.specs.declared.entry.FileEntry.{FileEntry}
+use Rattle.route_file.specs.declared.entry.FileEntry.TheVariants.{NetLine, BlockLine, NodeLine}
 use Rattle.route_file.specs.declared.fault.RouteFileFault.{RouteFileFault}
 use Rattle.route_file.specs.declared.fault.RouteFileFault.TheVariants as route
 use Rattle.route_file.specs.declared.node_line.NodeText.{NodeText}
@@ -77,18 +78,13 @@ section_same netlist f off other line words None h = refl
 section_same netlist f off other line words (Some n) h =
     ap (λ r. cond (is_global_at netlist n) (block_entry line words) r) (routed_same f (off n) (other n) line words (is_routed_at netlist n) (h n refl))
 
-same_tests : (s t : Bool) → (s ≡ true → t ≡ true) → (t ≡ true → s ≡ true) → s ≡ t
-same_tests true t h g = sym (h refl)
-same_tests false true h g = g refl
-same_tests false false h g = refl
-
 off_same : (netlist : Netlist) (f : Fabric) (before : List Line) (seen : Seen) (n a : ℕ) → IsSeen netlist f before seen → latest netlist before ≡ Some n → is_routed_at netlist n ≡ true
     → is_off f seen n a ≡ is_detached f (nodes_in netlist f before n) a
 unfolding is_detached
 off_same netlist f before seen n a h e routed =
     let nodes = nodes_in netlist f before n in
     let owner = get_or seen.owners.items a no_owner in
-    let one : eqb owner n ≡ is_among nodes a = same_tests (eqb owner n) (is_among nodes a) (λ t. h.owned n a (h.opened n e).0 routed (eqb-true owner n t)) (λ t. eq-eqb owner n (h.owns n a e routed t)) in
+    let one : eqb owner n ≡ is_among nodes a = both_ways (eqb owner n) (is_among nodes a) (λ t. h.owned n a (h.opened n e).0 routed (eqb-true owner n t)) (λ t. eq-eqb owner n (h.owns n a e routed t)) in
     ap (λ last. option_map_or (is_sink f) last false && not (eqb owner n)) (h.last n e routed)
     ∙ ap (λ t. option_map_or (is_sink f) (last_or None nodes) false && not t) one
 
@@ -106,57 +102,57 @@ judged_same netlist f before l seen h =
 
 -- ---- what a line without a fault is
 
-abbrev same_entry : (e d : Entry) → (let r : Result Entry RouteFileFault = Ok e in r) ≡ Ok d → d ≡ e
+abbrev same_entry : (e d : FileEntry) → (let r : Result FileEntry RouteFileFault = Ok e in r) ≡ Ok d → d ≡ e
 same_entry e d h = cc
 
-twice_is : {P : Type 0} (t : Bool) (line n : ℕ) (e : Entry) → cond t (Err (route.NetTwice line)) (Ok (NetLine n)) ≡ Ok e → (t ≡ false → e ≡ NetLine n → P) → P
+twice_is : {P : Type 0} (t : Bool) (line n : ℕ) (e : FileEntry) → cond t (Err (route.NetTwice line)) (Ok (NetLine n)) ≡ Ok e → (t ≡ false → e ≡ NetLine n → P) → P
 twice_is true line n e h g = absurd cc
 twice_is false line n e h g = g refl (same_entry (NetLine n) e h)
 
-named_is : {P : Type 0} (had : ℕ → Bool) (line : ℕ) (o : Option ℕ) (e : Entry) → named_entry had line o ≡ Ok e → ((n : ℕ) → o ≡ Some n → had n ≡ false → e ≡ NetLine n → P) → P
+named_is : {P : Type 0} (had : ℕ → Bool) (line : ℕ) (o : Option ℕ) (e : FileEntry) → named_entry had line o ≡ Ok e → ((n : ℕ) → o ≡ Some n → had n ≡ false → e ≡ NetLine n → P) → P
 named_is had line None e h g = absurd cc
 named_is had line (Some n) e h g = twice_is (had n) line n e h (λ new is. g n refl new is)
 
-form_is : {P : Type 0} (t : Bool) (had : ℕ → Bool) (line : ℕ) (o : Option ℕ) (e : Entry) → cond t (named_entry had line o) (Err (route.BadLine line)) ≡ Ok e → ((n : ℕ) → o ≡ Some n → had n ≡ false → e ≡ NetLine n → P) → P
+form_is : {P : Type 0} (t : Bool) (had : ℕ → Bool) (line : ℕ) (o : Option ℕ) (e : FileEntry) → cond t (named_entry had line o) (Err (route.BadLine line)) ≡ Ok e → ((n : ℕ) → o ≡ Some n → had n ≡ false → e ≡ NetLine n → P) → P
 form_is true had line o e h g = named_is had line o e h g
 form_is false had line o e h g = absurd cc
 
-pub net_is : {P : Type 0} (netlist : Netlist) (had : ℕ → Bool) (line : ℕ) (words : List (List ℕ)) (e : Entry) → net_entry netlist had line words ≡ Ok e → ((n : ℕ) → net_on netlist words ≡ Some n → had n ≡ false → e ≡ NetLine n → P) → P
+pub net_is : {P : Type 0} (netlist : Netlist) (had : ℕ → Bool) (line : ℕ) (words : List (List ℕ)) (e : FileEntry) → net_entry netlist had line words ≡ Ok e → ((n : ℕ) → net_on netlist words ≡ Some n → had n ≡ false → e ≡ NetLine n → P) → P
 unfolding net_entry
 net_is netlist had line words e h g = form_is (is_plain_form words || is_global_form words) had line (net_on netlist words) e h g
 
-block_is : {P : Type 0} (t : Bool) (line : ℕ) (e : Entry) → cond t (Ok BlockLine) (Err (route.BadLine line)) ≡ Ok e → (e ≡ BlockLine → P) → P
+block_is : {P : Type 0} (t : Bool) (line : ℕ) (e : FileEntry) → cond t (Ok BlockLine) (Err (route.BadLine line)) ≡ Ok e → (e ≡ BlockLine → P) → P
 block_is true line e h g = g (same_entry BlockLine e h)
 block_is false line e h g = absurd cc
 
-off_is : {P : Type 0} (t : Bool) (line a : ℕ) (e : Entry) → cond t (Err (route.Detached line)) (Ok (NodeLine a)) ≡ Ok e → (e ≡ NodeLine a → P) → P
+off_is : {P : Type 0} (t : Bool) (line a : ℕ) (e : FileEntry) → cond t (Err (route.Detached line)) (Ok (NodeLine a)) ≡ Ok e → (e ≡ NodeLine a → P) → P
 off_is true line a e h g = absurd cc
 off_is false line a e h g = g (same_entry (NodeLine a) e h)
 
-placed_is : {P : Type 0} (off : ℕ → Bool) (line : ℕ) (o : Option ℕ) (e : Entry) → placed_entry off line o ≡ Ok e → ((a : ℕ) → o ≡ Some a → e ≡ NodeLine a → P) → P
+placed_is : {P : Type 0} (off : ℕ → Bool) (line : ℕ) (o : Option ℕ) (e : FileEntry) → placed_entry off line o ≡ Ok e → ((a : ℕ) → o ≡ Some a → e ≡ NodeLine a → P) → P
 placed_is off line None e h g = absurd cc
 placed_is off line (Some a) e h g = off_is (off a) line a e h (λ is. g a refl is)
 
-reported_is : {P : Type 0} (f : Fabric) (off : ℕ → Bool) (line : ℕ) (o : Option NodeText) (e : Entry) → reported_entry f off line o ≡ Ok e → ((a : ℕ) → option_and_then (node_reported f) o ≡ Some a → a < node_count_of f → e ≡ NodeLine a → P) → P
+reported_is : {P : Type 0} (f : Fabric) (off : ℕ → Bool) (line : ℕ) (o : Option NodeText) (e : FileEntry) → reported_entry f off line o ≡ Ok e → ((a : ℕ) → option_and_then (node_reported f) o ≡ Some a → a < node_count_of f → e ≡ NodeLine a → P) → P
 reported_is f off line None e h g = absurd cc
 reported_is f off line (Some text) e h g = placed_is off line (node_reported f text) e h (λ a at is. g a at (node_within f text a at) is)
 
-node_is : {P : Type 0} (f : Fabric) (off : ℕ → Bool) (line : ℕ) (words : List (List ℕ)) (e : Entry) → node_entry f off line words ≡ Ok e → ((a : ℕ) → node_on f words ≡ Some a → a < node_count_of f → e ≡ NodeLine a → P) → P
+node_is : {P : Type 0} (f : Fabric) (off : ℕ → Bool) (line : ℕ) (words : List (List ℕ)) (e : FileEntry) → node_entry f off line words ≡ Ok e → ((a : ℕ) → node_on f words ≡ Some a → a < node_count_of f → e ≡ NodeLine a → P) → P
 unfolding node_entry node_on
 node_is f off line words e h g = reported_is f off line (text_of (node_words words)) e h g
 
-routed_is : {P : Type 0} (f : Fabric) (off : ℕ → Bool) (line : ℕ) (words : List (List ℕ)) (t : Bool) (e : Entry) → cond t (node_entry f off line words) (Err (route.BadLine line)) ≡ Ok e
+routed_is : {P : Type 0} (f : Fabric) (off : ℕ → Bool) (line : ℕ) (words : List (List ℕ)) (t : Bool) (e : FileEntry) → cond t (node_entry f off line words) (Err (route.BadLine line)) ≡ Ok e
     → ((a : ℕ) → t ≡ true → node_on f words ≡ Some a → a < node_count_of f → e ≡ NodeLine a → P) → P
 routed_is f off line words true e h g = node_is f off line words e h (λ a at lt is. g a refl at lt is)
 routed_is f off line words false e h g = absurd cc
 
-inner_is : {P : Type 0} (netlist : Netlist) (f : Fabric) (off : ℕ → ℕ → Bool) (line : ℕ) (words : List (List ℕ)) (n : ℕ) (t : Bool) (e : Entry)
+inner_is : {P : Type 0} (netlist : Netlist) (f : Fabric) (off : ℕ → ℕ → Bool) (line : ℕ) (words : List (List ℕ)) (n : ℕ) (t : Bool) (e : FileEntry)
     → cond t (block_entry line words) (cond (is_routed_at netlist n) (node_entry f (off n) line words) (Err (route.BadLine line))) ≡ Ok e
     → (t ≡ true → e ≡ BlockLine → P) → ((a : ℕ) → is_routed_at netlist n ≡ true → node_on f words ≡ Some a → a < node_count_of f → e ≡ NodeLine a → P) → P
 inner_is netlist f off line words n true e h block node = block_is (is_at words 0 (codes "Block")) line e h (λ is. block refl is)
 inner_is netlist f off line words n false e h block node = routed_is f (off n) line words (is_routed_at netlist n) e h node
 
-pub section_is : {P : Type 0} (netlist : Netlist) (f : Fabric) (off : ℕ → ℕ → Bool) (line : ℕ) (words : List (List ℕ)) (net : Option ℕ) (e : Entry) → section_entry netlist f off line words net ≡ Ok e
+pub section_is : {P : Type 0} (netlist : Netlist) (f : Fabric) (off : ℕ → ℕ → Bool) (line : ℕ) (words : List (List ℕ)) (net : Option ℕ) (e : FileEntry) → section_entry netlist f off line words net ≡ Ok e
     → ((n : ℕ) → net ≡ Some n → is_global_at netlist n ≡ true → e ≡ BlockLine → P)
     → ((n a : ℕ) → net ≡ Some n → is_routed_at netlist n ≡ true → node_on f words ≡ Some a → a < node_count_of f → e ≡ NodeLine a → P) → P
 section_is netlist f off line words None e h block node = absurd cc

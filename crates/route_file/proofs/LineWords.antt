@@ -2,11 +2,11 @@
 use Rattle.std.proofs.Common.{◌≡◌, ℕ, ◌^◌, ◌<◌, ◌≤◌, Bool, true, false, List, [], ◌∷◌, ◌++◌, Option, Some, None, if◌then◌else◌, decimal, codes, refl, sym, ap, ◌∙◌, append_assoc, arith}
 use Rattle.std.proofs.lemmas.Bool.Decides.{nat_tests}
 use Rattle.vpr_text.specs.Words.{is_filled, words_on, goes_on, ends_in_backslash}
-use Rattle.rr_graph.specs.parts.Kind.{Kind}
-use Rattle.rr_graph.specs.parts.Kind.TheVariants as kind
-use Rattle.rr_graph.specs.parts.Label.{Label}
-use Rattle.rr_graph.specs.parts.Label.TheVariants as label
-use Rattle.rr_graph.specs.parts.Span.{Span}
+use Rattle.rr_graph.specs.node.Kind.{Kind}
+use Rattle.rr_graph.specs.node.Kind.TheVariants as kind
+use Rattle.rr_graph.specs.node.Label.{Label}
+use Rattle.rr_graph.specs.node.Label.TheVariants as label
+use Rattle.rr_graph.specs.node.Span.{Span}
 use Rattle.route_file.specs.TextLine.{TextLine, Size, Blank, Heading, RoutedNet, GlobalNet, Block, NodeLine, kind_field, class_text, bytes_on}
 use Rattle.text_output.specs.NodeTexts.{label_text, place_text, is_one_place, span_text}
 use Rattle.route_file.proofs.Digits.{all_digits}

@@ -10,7 +10,7 @@ use Rattle.std.proofs.lemmas.List.FromFn.{get_or-range_with_len, length-range_wi
 use Rattle.net_file.specs.Blocks.{numbers_below}
 use Rattle.net_file.specs.Netlist.{Netlist, Net}
 use Rattle.net_file.specs.Routed.{no_net, is_routed_net, is_routed_at}
-use Rattle.net_file.specs.declared.parts.Terminal.{Terminal}
+use Rattle.net_file.specs.declared.terminal.Terminal.{Terminal}
 use Rattle.place_file.specs.Placement.{Placement}
 use Rattle.rr_graph.specs.Fabric.{Fabric}
 use Rattle.rr_graph.specs.Problems.{RoutingProblem}

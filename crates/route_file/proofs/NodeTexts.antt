@@ -4,9 +4,9 @@ use Rattle.std.specs.List.{flat_map}
 use Rattle.std.specs.Option.{option_map}
 use Rattle.std.proofs.lemmas.List.{append-nil}
 use Rattle.std.proofs.lemmas.Grind.{flat_map-append}
-use Rattle.rr_graph.specs.parts.Node.{Node}
-use Rattle.rr_graph.specs.parts.Label.{Label}
-use Rattle.rr_graph.specs.parts.Span.{Span}
+use Rattle.rr_graph.specs.node.Node.{Node}
+use Rattle.rr_graph.specs.node.Label.{Label}
+use Rattle.rr_graph.specs.node.Span.{Span}
 use Rattle.rr_graph.specs.Fabric.{Fabric}
 use Rattle.rr_graph.specs.Nodes.{node_at, label_of, span_of}
 use Rattle.route_tree.specs.Paths.{Pair}
@@ -38,7 +38,7 @@ pairs_next f before pairs i d within =
     ap (λ (ps : List Pair). nodes_text f (nodes_after f before ps)) (drop_next pairs i d within)
     ∙ nodes_text-append f (nodes_for f before (get_or pairs i d)) (nodes_after f (Some (get_or pairs i d).1) (drop (i + 1) pairs))
 
-some_is : {A B : Type 0} (g : A → B) (o : Option A) (a : A) (b : B) → Some a ≡ o → Some b ≡ option_map g o → b ≡ g a
+pub some_is : {A B : Type 0} (g : A → B) (o : Option A) (a : A) (b : B) → Some a ≡ o → Some b ≡ option_map g o → b ≡ g a
 some_is {A} {B} g o a b e f =
     let h : Some b ≡ option_map g (Some a) = f ∙ ap (option_map g) (sym e) in cc
 

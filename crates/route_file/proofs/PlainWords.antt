@@ -2,7 +2,7 @@
 use Rattle.std.proofs.Common.{◌≡◌, ℕ, suc, ◌+◌, ◌^◌, ◌<◌, ◌≤◌, Bool, true, false, cond, not, ◌&&◌, ◌||◌, List, [], ◌∷◌, ◌++◌, length, take, get_or, All, decimal, refl, sym, ap, ◌∙◌, arith, one-add, append-nil, ◌==◌}
 use Rattle.std.specs.Prelude.{filter}
 use Rattle.std.specs.List.{AllByRecursion, slice_split, before_first, list_all, position_or_len}
-use Rattle.std.proofs.lemmas.Bool.{false≢true}
+use Rattle.std.proofs.lemmas.Bool.{false≢true, and_parts}
 use Rattle.std.proofs.lemmas.Bool.Decides.{nat_tests}
 use Rattle.std.proofs.lemmas.Fmt.{decimal_is_IsNumeral, decimal_nonempty}
 use Rattle.std.proofs.lemmas.Str.Parse.{digit_at}
@@ -33,10 +33,6 @@ pub record IsPlain (word : List ℕ) : Type 0 where
 
 -- ---- tests
 
-pub both_true : (a b : Bool) → (a && b) ≡ true → (a ≡ true) × (b ≡ true)
-both_true true b e = (refl, e)
-both_true false b e = absurd (false≢true e)
-
 none_of : (a b c d : Bool) → not (a || b || c || d) ≡ true → (a ≡ false) × (b ≡ false) × (c ≡ false) × (d ≡ false)
 none_of true b c d e = absurd (false≢true e)
 none_of false true c d e = absurd (false≢true e)
@@ -53,7 +49,7 @@ fine_byte b e = let h = plain_byte b e in ap (λ t. not (t || is_bad b)) h.1 ∙
 pub all_weaker : (p q : ℕ → Bool) (xs : List ℕ) → ((x : ℕ) → p x ≡ true → q x ≡ true) → list_all p xs ≡ true → list_all q xs ≡ true
 all_weaker p q [] f e = refl
 all_weaker p q (x ∷ xs) f e =
-    let h = both_true (p x) (list_all p xs) e in
+    let h = and_parts (p x) (list_all p xs) e in
     ap (λ t. t && list_all q xs) (f x h.0) ∙ all_weaker p q xs f h.1
 
 pub all_append : (p : ℕ → Bool) (xs ys : List ℕ) → list_all p xs ≡ true → list_all p ys ≡ true → list_all p (xs ++ ys) ≡ true
@@ -71,17 +67,17 @@ cons_before p x xs e =
 pub before_plain : (w rest : List ℕ) → are_plain w ≡ true → before_first is_comment_sign (w ++ rest) ≡ w ++ before_first is_comment_sign rest
 before_plain [] rest e = refl
 before_plain (b ∷ w) rest e =
-    let h = both_true (is_plain b) (are_plain w) e in
+    let h = and_parts (is_plain b) (are_plain w) e in
     cons_before is_comment_sign b (w ++ rest) (plain_byte b h.0).2 ∙ ap (λ s. b ∷ s) (before_plain w rest h.1)
 
 none_cut : (w : List ℕ) → are_plain w ≡ true → AllByRecursion (λ b. is_separator b ≡ false) w
 none_cut [] e = tt
-none_cut (b ∷ w) e = let h = both_true (is_plain b) (are_plain w) e in ((plain_byte b h.0).0, none_cut w h.1)
+none_cut (b ∷ w) e = let h = and_parts (is_plain b) (are_plain w) e in ((plain_byte b h.0).0, none_cut w h.1)
 
 apart : (w : List ℕ) → are_plain w ≡ true → All (λ b. is_separator b ≡ false) w
 apart w e = All-from_recursion (λ b. is_separator b ≡ false) w (none_cut w e)
 
-kept_word : (w : List ℕ) (parts : List (List ℕ)) → is_filled w ≡ true → filter is_filled (w ∷ parts) ≡ w ∷ filter is_filled parts
+pub kept_word : (w : List ℕ) (parts : List (List ℕ)) → is_filled w ≡ true → filter is_filled (w ∷ parts) ≡ w ∷ filter is_filled parts
 kept_word w parts e = ap (λ t. cond t (w ∷ filter is_filled parts) (filter is_filled parts)) e
 
 -- a blank is passed over
@@ -140,7 +136,7 @@ not_true false e = refl
 no_backslash : (w : List ℕ) → list_all (λ b. not (b == 92)) w ≡ true → ends_in_backslash w ≡ false
 no_backslash [] e = refl
 no_backslash (b ∷ []) e = not_true (b == 92) e
-no_backslash (b ∷ c ∷ w) e = no_backslash (c ∷ w) (both_true (not (b == 92)) (list_all (λ b. not (b == 92)) (c ∷ w)) e).1
+no_backslash (b ∷ c ∷ w) e = no_backslash (c ∷ w) (and_parts (not (b == 92)) (list_all (λ b. not (b == 92)) (c ∷ w)) e).1
 
 digit_no_backslash : (b : ℕ) → 48 ≤ b → b ≤ 57 → not (b == 92) ≡ true
 digit_no_backslash b low high = grind (arith, nat_tests)

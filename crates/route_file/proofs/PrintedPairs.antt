@@ -3,7 +3,8 @@ use Rattle.std.proofs.Common.{◌≡◌, ℕ, Bool, true, false, cond, eqb, not,
 use Rattle.std.specs.Prelude.{filter}
 use Rattle.std.specs.List.{AllByRecursion, last_or}
 use Rattle.std.specs.Option.{option_map_or}
-use Rattle.std.proofs.lemmas.Bool.{false≢true, eqb-true, eq-eqb}
+use Rattle.std.proofs.lemmas.Bool.{false≢true, eqb-true, eq-eqb, and_parts, or_left}
+use Rattle.std.proofs.Math.Bool.{and-false}
 use Rattle.rr_graph.specs.Fabric.{Fabric}
 use Rattle.rr_graph.specs.Problems.{is_sink}
 use Rattle.route_tree.specs.Paths.{Pair}
@@ -11,7 +12,6 @@ use Rattle.route_tree.specs.Legality.{is_among, may_begin, is_listed_after}
 use Rattle.route_file.specs.PrintedNodes.{nodes_for, nodes_after, printed_nodes}
 use Rattle.route_file.specs.Sections.{neighbours, pairs_along}
 use Rattle.route_file.specs.Judge.{is_detached}
-use Rattle.route_file.proofs.PlainWords.{both_true}
 
 -- no pair begins at a sink
 abbrev pub LeaveSinks : Fabric → List Pair → Type 0
@@ -52,11 +52,7 @@ joint_by f e p false false te se h = absurd (false≢true (sym se ∙ h (turned 
 joint : (f : Fabric) (source e : ℕ) (es : List ℕ) (p : Pair) → may_begin f source (e ∷ es) p.0 ≡ true → Joint f e p
 joint f source e es p h =
     joint_by f e p (eqb p.0 e) (is_sink f e) refl refl
-    (λ apart. (both_true (is_sink f e) (is_among (source ∷ e ∷ es) p.0) (either (eqb e p.0) (is_sink f e && is_among (source ∷ e ∷ es) p.0) h apart)).0)
-
-and_false : (t : Bool) → (t && false) ≡ false
-and_false true = refl
-and_false false = refl
+    (λ apart. (and_parts (is_sink f e) (is_among (source ∷ e ∷ es) p.0) (either (eqb e p.0) (is_sink f e && is_among (source ∷ e ∷ es) p.0) h apart)).0)
 
 kept_pair : (f : Fabric) (a b : ℕ) (rest : List ℕ) → is_sink f a ≡ false → kept f (a ∷ b ∷ rest) ≡ (a, b) ∷ kept f (b ∷ rest)
 kept_pair f a b rest e = ap (λ s. cond (not s) ((a, b) ∷ kept f (b ∷ rest)) (kept f (b ∷ rest))) e
@@ -69,7 +65,7 @@ second_alone f e p te se = ap (λ t. cond (t && not (is_sink f e)) (p.1 ∷ []) 
 
 both_nodes : (f : Fabric) (e : ℕ) (p : Pair) → is_sink f e ≡ true → nodes_for f (Some e) p ≡ p.0 ∷ p.1 ∷ []
 both_nodes f e p se =
-    ap (λ s. cond (eqb p.0 e && not s) (p.1 ∷ []) (p.0 ∷ p.1 ∷ [])) se ∙ ap (λ t. cond t (p.1 ∷ []) (p.0 ∷ p.1 ∷ [])) (and_false (eqb p.0 e))
+    ap (λ s. cond (eqb p.0 e && not s) (p.1 ∷ []) (p.0 ∷ p.1 ∷ [])) se ∙ ap (λ t. cond t (p.1 ∷ []) (p.0 ∷ p.1 ∷ [])) (and-false (eqb p.0 e))
 
 one_more : (f : Fabric) (e : ℕ) (p : Pair) (ps : List Pair) → is_sink f p.0 ≡ false → Joint f e p → kept f (p.1 ∷ nodes_after f (Some p.1) ps) ≡ ps → kept f (e ∷ nodes_after f (Some e) (p ∷ ps)) ≡ p ∷ ps
 one_more f e p ps leaves (goes same te se) h =
@@ -84,14 +80,14 @@ one_more f e p ps leaves (joins se) h =
 pub pairs_after : (f : Fabric) (source e : ℕ) (es : List ℕ) (pairs : List Pair) → LeaveSinks f pairs → is_listed_after f source (e ∷ es) pairs ≡ true → kept f (e ∷ nodes_after f (Some e) pairs) ≡ pairs
 pairs_after f source e es [] leaves listed = refl
 pairs_after f source e es (p ∷ ps) leaves listed =
-    let h = both_true (may_begin f source (e ∷ es) p.0) (is_listed_after f source (p.1 ∷ e ∷ es) ps) listed in
+    let h = and_parts (may_begin f source (e ∷ es) p.0) (is_listed_after f source (p.1 ∷ e ∷ es) ps) listed in
     one_more f e p ps leaves.0 (joint f source e es p h.0) (pairs_after f source p.1 (e ∷ es) ps leaves.1 h.1)
 
 -- the nodes that are named for a list that is in order, and leaves no sink, are read as the list
 pub pairs_read : (f : Fabric) (source : ℕ) (p : Pair) (ps : List Pair) → LeaveSinks f (p ∷ ps) → is_listed_after f source [] (p ∷ ps) ≡ true → pairs_along f (printed_nodes f (p ∷ ps)) ≡ p ∷ ps
 unfolding pairs_along
 pairs_read f source p ps leaves listed =
-    let h = both_true (may_begin f source [] p.0) (is_listed_after f source (p.1 ∷ []) ps) listed in
+    let h = and_parts (may_begin f source [] p.0) (is_listed_after f source (p.1 ∷ []) ps) listed in
     kept_pair f p.0 p.1 (nodes_after f (Some p.1) ps) leaves.0 ∙ ap (λ (qs : List Pair). p ∷ qs) (pairs_after f source p.1 [] ps leaves.1 h.1)
 
 -- ---- no node is detached
@@ -108,16 +104,13 @@ among_append (x ∷ xs) c a = ap (λ t. eqb x a || t) (among_append xs c a) ∙ 
     regrouped true y z = refl
     regrouped false y z = refl
 
-or_true : (a b : Bool) → a ≡ true → (a || b) ≡ true
-or_true a b e = ap (λ t. t || b) e
-
 still_among : (xs : List ℕ) (c a : ℕ) → is_among xs a ≡ true → is_among (xs ++ c ∷ []) a ≡ true
-still_among xs c a e = among_append xs c a ∙ or_true (is_among xs a) (eqb c a || false) e
+still_among xs c a e = among_append xs c a ∙ or_left (is_among xs a) (eqb c a || false) e
 
 now_among_by : (x y z w : Bool) → ((x || z) ≡ true → w ≡ true) → (x || (y || z)) ≡ true → (w || (y || false)) ≡ true
 now_among_by x true z true h e = refl
 now_among_by x true z false h e = refl
-now_among_by x false z w h e = or_true w false (h e)
+now_among_by x false z w h e = or_left w false (h e)
 
 covers_next : (before : List ℕ) (s c : ℕ) (xs : List ℕ) → Covers before (s ∷ xs) → Covers (before ++ c ∷ []) (s ∷ c ∷ xs)
 covers_next before s c xs h a e = among_append before c a ∙ now_among_by (eqb s a) (eqb c a) (is_among xs a) (is_among before a) (h a) e
@@ -134,7 +127,7 @@ free f before e a last se =
 tied : (f : Fabric) (before : List ℕ) (a : ℕ) → is_among before a ≡ true → is_detached f before a ≡ false
 unfolding is_detached
 tied f before a among =
-    ap (λ t. option_map_or (is_sink f) (last_or None before) false && not t) among ∙ and_false (option_map_or (is_sink f) (last_or None before) false)
+    ap (λ t. option_map_or (is_sink f) (last_or None before) false && not t) among ∙ and-false (option_map_or (is_sink f) (last_or None before) false)
 
 -- after nodes that end with `e` and have the source and all ends so far, the nodes of a pair are attached
 attached_by : (f : Fabric) (e : ℕ) (p : Pair) (before later : List ℕ) → is_sink f p.0 ≡ false → last_or None before ≡ Some e → is_among before p.0 ≡ true → Joint f e p
@@ -162,7 +155,7 @@ attached_after : (f : Fabric) (source e : ℕ) (es : List ℕ) (pairs : List Pai
     → last_or None before ≡ Some e → Covers before (source ∷ e ∷ es) → AreAttached f before (nodes_after f (Some e) pairs)
 attached_after f source e es [] before leaves listed last covers = tt
 attached_after f source e es (p ∷ ps) before leaves listed last covers =
-    let h = both_true (may_begin f source (e ∷ es) p.0) (is_listed_after f source (p.1 ∷ e ∷ es) ps) listed in
+    let h = and_parts (may_begin f source (e ∷ es) p.0) (is_listed_after f source (p.1 ∷ e ∷ es) ps) listed in
     let later = nodes_after f (Some p.1) ps in
     attached_by f e p before later leaves.0 last (begins_among f source e es p before h.0 covers) (joint f source e es p h.0)
     (attached_after f source p.1 (e ∷ es) ps (before ++ p.1 ∷ []) leaves.1 h.1 (last_append None before p.1) (covers_next before source p.1 (e ∷ es) covers))
@@ -173,7 +166,7 @@ attached_after f source e es (p ∷ ps) before leaves listed last covers =
 pub nodes_attached : (f : Fabric) (source : ℕ) (p : Pair) (ps : List Pair) → LeaveSinks f (p ∷ ps) → is_listed_after f source [] (p ∷ ps) ≡ true → AreAttached f [] (printed_nodes f (p ∷ ps))
 unfolding is_detached
 nodes_attached f source p ps leaves listed =
-    let h = both_true (may_begin f source [] p.0) (is_listed_after f source (p.1 ∷ []) ps) listed in
+    let h = and_parts (may_begin f source [] p.0) (is_listed_after f source (p.1 ∷ []) ps) listed in
     let begins : p.0 ≡ source = eqb-true p.0 source h.0 in
     let covers : Covers (p.0 ∷ p.1 ∷ []) (source ∷ p.1 ∷ []) = subst (λ (s : ℕ). Covers (p.0 ∷ p.1 ∷ []) (s ∷ p.1 ∷ [])) begins (λ a e. e) in
     (refl, (free f (p.0 ∷ []) p.0 p.1 refl leaves.0, attached_after f source p.1 [] ps (p.0 ∷ p.1 ∷ []) leaves.1 h.1 refl covers))

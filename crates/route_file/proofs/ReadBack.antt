@@ -2,7 +2,7 @@
 use Rattle.std.proofs.Common.{◌≡◌, ℕ, ◌^◌, ◌<◌, ◌≤◌, true, eqb, List, [], length, map, get_or, Option, Some, None, refl, sym, ap, subst, ◌∙◌, arith}
 use Rattle.std.specs.Prelude.{filter, slice_index_or}
 use Rattle.std.specs.List.{flat_map, list_all, range_with_len}
-use Rattle.std.proofs.lemmas.Bool.{eqb-true}
+use Rattle.std.proofs.lemmas.Bool.{eqb-true, and_parts}
 use Rattle.std.proofs.lemmas.List.{get_or-map, length-map}
 use Rattle.std.proofs.lemmas.List.Sums.{AllPass-from_list_all}
 use Rattle.vpr_text.specs.Words.{Line, has_words}
@@ -24,7 +24,6 @@ use Rattle.route_file.specs.Design.{IsDesign}
 use Rattle.route_file.specs.ReadBack.{TellsWhole}
 use Rattle.route_file.specs.Sections.{had_line, list_of_net}
 use Rattle.route_file.specs.Reads.{ReadsRoute, ReadsBytes}
-use Rattle.route_file.proofs.PlainWords.{both_true}
 use Rattle.route_file.proofs.TextWords.{AreClear, numbered, lines_of_text}
 use Rattle.route_file.proofs.ReadNets.{IsNamed}
 use Rattle.route_file.proofs.ReadSections.{AreDone}
@@ -41,7 +40,7 @@ module _ (netlist : Netlist) (placement : Placement) (p : RoutingProblem) (lists
 
   fit : (eqb (length lists) (length p.nets) ≡ true) × (list_all (are_nodes p.device) lists ≡ true)
   unfolding fits_problem
-  fit = both_true (eqb (length lists) (length p.nets)) (list_all (are_nodes p.device) lists) fits
+  fit = and_parts (eqb (length lists) (length p.nets)) (list_all (are_nodes p.device) lists) fits
 
   same_length : length lists ≡ length p.nets
   same_length = eqb-true (length lists) (length p.nets) fit.0

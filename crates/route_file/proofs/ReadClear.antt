@@ -10,7 +10,7 @@ use Rattle.net_file.specs.Connections.{no_block}
 use Rattle.net_file.specs.Facts.{IsNetlist, IsTerminal, names_of_blocks, names_of_nets}
 use Rattle.net_file.specs.Netlist.{Netlist, Net, Block}
 use Rattle.net_file.specs.Routed.{no_net, is_routed_net}
-use Rattle.net_file.specs.declared.parts.Terminal.{Terminal}
+use Rattle.net_file.specs.declared.terminal.Terminal.{Terminal}
 use Rattle.place_file.specs.Placement.{Placement}
 use Rattle.rr_graph.specs.Fabric.{Fabric}
 use Rattle.rr_graph.specs.Nodes.{node_at}

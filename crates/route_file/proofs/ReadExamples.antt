@@ -5,9 +5,9 @@ use Rattle.vpr_text.specs.Words.{Line}
 use Rattle.line_reader.specs.Word.{is_text}
 use Rattle.net_file.specs.Names.{number_among}
 use Rattle.net_file.specs.Netlist.{Netlist, Net}
-use Rattle.rr_graph.specs.parts.Kind.TheVariants.{Ipin, Chanx}
-use Rattle.rr_graph.specs.parts.Label.TheVariants.{Pin, Track}
-use Rattle.route_file.specs.declared.entry.Entry.TheVariants.{NetLine}
+use Rattle.rr_graph.specs.node.Kind.TheVariants.{Ipin, Chanx}
+use Rattle.rr_graph.specs.node.Label.TheVariants.{Pin, Track}
+use Rattle.route_file.specs.declared.entry.FileEntry.TheVariants.{NetLine}
 use Rattle.route_file.specs.declared.fault.RouteFileFault.TheVariants.{BadLine, UnknownNet, NetTwice}
 use Rattle.route_file.specs.Judge.{net_entry}
 use Rattle.route_file.specs.NetLine.{before_ending, enclosed, is_plain_form, is_global_form, name_on, net_on}

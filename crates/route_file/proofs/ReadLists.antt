@@ -1,11 +1,11 @@
 -- Lists that can be read back.
-use Rattle.std.proofs.Common.{◌≡◌, ℕ, Bool, true, false, cond, not, ◌&&◌, ◌||◌, List, [], ◌∷◌, ◌++◌, length, get_or, Option, Some, None, refl, sym}
+use Rattle.std.proofs.Common.{◌≡◌, ℕ, Bool, true, false, cond, not, ◌&&◌, List, [], ◌∷◌, ◌++◌, length, get_or, Option, Some, None}
 use Rattle.std.specs.Prelude.{nat_lt}
 use Rattle.std.specs.List.{list_any, list_all}
-use Rattle.std.proofs.lemmas.Bool.{false≢true, ltb-true}
+use Rattle.std.proofs.lemmas.Bool.{false≢true, ltb-true, and_parts, or_parts, not-true}
 use Rattle.std.proofs.lemmas.Option.{slice_get-get_or}
-use Rattle.rr_graph.specs.parts.Kind.TheVariants.{Source}
-use Rattle.rr_graph.specs.parts.Node.{Node}
+use Rattle.rr_graph.specs.node.Kind.TheVariants.{Source}
+use Rattle.rr_graph.specs.node.Node.{Node}
 use Rattle.rr_graph.specs.Fabric.{Fabric, IsFabric}
 use Rattle.rr_graph.specs.Nodes.{nodes_of, node_at, node_count_of}
 use Rattle.rr_graph.specs.Problems.{Net, is_sink}
@@ -14,7 +14,6 @@ use Rattle.route_tree.specs.Legality.{is_listed}
 use Rattle.route_tree.specs.Fits.{is_below, are_nodes}
 use Rattle.route_file.specs.PrintedNodes.{goes_on, nodes_after}
 use Rattle.route_file.specs.ReadBack.{tells_whole}
-use Rattle.route_file.proofs.PlainWords.{both_true}
 use Rattle.route_file.proofs.PrintedPairs.{LeaveSinks}
 use Rattle.route_file.proofs.ReadReported.{IsSmall}
 use Rattle.route_file.proofs.ReadSmall.{node_small}
@@ -37,21 +36,13 @@ both_there f p false rest h k m = (h, (k, m))
 nodes_there : (f : Fabric) → IsFabric f → (before : Option ℕ) (pairs : List Pair) → list_all (is_below (node_count_of f)) pairs ≡ true → AreNodes f (nodes_after f before pairs)
 nodes_there f l before [] e = tt
 nodes_there f l before (p ∷ ps) e =
-    let h = both_true (is_below (node_count_of f) p) (list_all (is_below (node_count_of f)) ps) e in
-    let ends = both_true (nat_lt p.0 (node_count_of f)) (nat_lt p.1 (node_count_of f)) h.0 in
+    let h = and_parts (is_below (node_count_of f) p) (list_all (is_below (node_count_of f)) ps) e in
+    let ends = and_parts (nat_lt p.0 (node_count_of f)) (nat_lt p.1 (node_count_of f)) h.0 in
     both_there f p (goes_on f before p) (nodes_after f (Some p.1) ps) (there f l p.0 ends.0) (there f l p.1 ends.1) (nodes_there f l (Some p.1) ps h.1)
-
-not_false : (a : Bool) → not a ≡ true → a ≡ false
-not_false true e = absurd (false≢true e)
-not_false false e = refl
-
-neither : (a b : Bool) → (a || b) ≡ false → (a ≡ false) × (b ≡ false)
-neither true b e = absurd (false≢true (sym e))
-neither false b e = (refl, e)
 
 leaves : (f : Fabric) (pairs : List Pair) → list_any (λ p. is_sink f p.0) pairs ≡ false → LeaveSinks f pairs
 leaves f [] e = tt
-leaves f (p ∷ ps) e = let h = neither (is_sink f p.0) (list_any (λ q. is_sink f q.0) ps) e in (h.0, leaves f ps h.1)
+leaves f (p ∷ ps) e = let h = or_parts (is_sink f p.0) (list_any (λ q. is_sink f q.0) ps) e in (h.0, leaves f ps h.1)
 
 pub list_readable : (f : Fabric) → IsFabric f → (n : Net) (list : Option (List Pair)) → are_nodes f list ≡ true → tells_whole f n list ≡ true → IsReadable f list
 unfolding is_listed
@@ -60,6 +51,6 @@ list_readable f l n (Some []) nodes whole = absurd (false≢true whole)
 list_readable f l n (Some (p ∷ ps)) nodes whole =
     let kept = is_listed f n (p ∷ ps) in
     let sound = not (list_any (λ q. is_sink f q.0) (p ∷ ps)) in
-    let h = both_true (nat_lt 0 (length (p ∷ ps)) && kept) sound whole in
-    let listed = both_true (nat_lt 0 (length (p ∷ ps))) kept h.0 in
-    (n.source, leaves f (p ∷ ps) (not_false (list_any (λ q. is_sink f q.0) (p ∷ ps)) h.1), listed.1, nodes_there f l None (p ∷ ps) nodes)
+    let h = and_parts (nat_lt 0 (length (p ∷ ps)) && kept) sound whole in
+    let listed = and_parts (nat_lt 0 (length (p ∷ ps))) kept h.0 in
+    (n.source, leaves f (p ∷ ps) (not-true (list_any (λ q. is_sink f q.0) (p ∷ ps)) h.1), listed.1, nodes_there f l None (p ∷ ps) nodes)

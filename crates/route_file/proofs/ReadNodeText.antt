@@ -1,8 +1,8 @@
 -- What the words of a node's line say.
 use Rattle.std.proofs.Common.{◌≡◌, ℕ, ◌^◌, ◌<◌, true, [], ◌∷◌, Some, decimal, codes, refl}
 use Rattle.line_reader.specs.Word.{is_text}
-use Rattle.rr_graph.specs.parts.Kind.{Kind}
-use Rattle.rr_graph.specs.parts.Label.{Label}
+use Rattle.rr_graph.specs.node.Kind.{Kind}
+use Rattle.rr_graph.specs.node.Label.{Label}
 use Rattle.route_file.specs.declared.node_line.NodeText.{NodeText}
 use Rattle.route_file.specs.NodeLine.{takes, is_wire, is_place_line, is_span_line, place_text, span_text, text_of}
 use Rattle.route_file.proofs.LineWords.{kind_word, label_word}

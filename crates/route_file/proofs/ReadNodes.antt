@@ -1,55 +1,48 @@
 -- A node's line is read as its node.
-use Rattle.std.proofs.Common.{◌≡◌, ℕ, ◌^◌, ◌<◌, ◌≤◌, Bool, true, false, cond, not, List, [], ◌∷◌, ◌++◌, All, Some, if◌then◌else◌, decimal, codes, refl, ap, ◌∙◌, arith}
+use Rattle.std.proofs.Common.{◌≡◌, ℕ, ◌^◌, ◌<◌, ◌≤◌, Bool, true, false, not, List, [], ◌∷◌, ◌++◌, All, Some, if◌then◌else◌, decimal, codes, refl, ap, ◌∙◌, arith}
 use Rattle.std.specs.Prelude.{filter}
 use Rattle.std.specs.List.{AllByRecursion, flat_map, slice_split, list_all}
-use Rattle.std.proofs.lemmas.Bool.{false≢true}
+use Rattle.std.proofs.lemmas.Bool.{and_parts, not-true}
 use Rattle.std.proofs.lemmas.Bool.Decides.{nat_tests}
 use Rattle.std.proofs.lemmas.List.Elements.{All-from_recursion}
 use Rattle.std.proofs.lemmas.List.Splits.{slice_split_at, slice_split_none}
 use Rattle.vpr_text.specs.Words.{is_filled}
 use Rattle.line_reader.specs.Word.{is_text}
-use Rattle.rr_graph.specs.parts.Kind.{Kind}
-use Rattle.rr_graph.specs.parts.Kind.TheVariants as kind
-use Rattle.rr_graph.specs.parts.Label.{Label}
-use Rattle.rr_graph.specs.parts.Label.TheVariants as label
-use Rattle.rr_graph.specs.parts.Span.{Span}
+use Rattle.rr_graph.specs.node.Kind.{Kind}
+use Rattle.rr_graph.specs.node.Kind.TheVariants as kind
+use Rattle.rr_graph.specs.node.Label.{Label}
+use Rattle.rr_graph.specs.node.Label.TheVariants as label
+use Rattle.rr_graph.specs.node.Span.{Span}
 use Rattle.rr_graph.specs.Nodes.{label_by}
 use Rattle.route_file.specs.TextLine.{NodeLine}
 use Rattle.text_output.specs.NodeTexts.{place_text, is_one_place}
 use Rattle.route_file.specs.NodeWords.{is_mark, pieces_of, node_words}
 use Rattle.route_file.specs.NodeLine.{kind_of, label_from, takes}
-use Rattle.route_file.proofs.PlainWords.{both_true, plain_number, all_of_number}
+use Rattle.route_file.proofs.PlainWords.{plain_number, all_of_number, kept_word}
 use Rattle.route_file.proofs.LineWords.{IsClearSpan, kind_word, label_word, line_words}
 
 digit_unmarked : (b : ℕ) → 48 ≤ b → b ≤ 57 → not (is_mark b) ≡ true
 digit_unmarked b low high = grind (arith, nat_tests)
 
-not_true : (t : Bool) → not t ≡ true → t ≡ false
-not_true true e = absurd (false≢true e)
-not_true false e = refl
-
 unmarked : (w : List ℕ) → list_all (λ b. not (is_mark b)) w ≡ true → AllByRecursion (λ b. is_mark b ≡ false) w
 unmarked [] e = tt
-unmarked (b ∷ w) e = let h = both_true (not (is_mark b)) (list_all (λ b. not (is_mark b)) w) e in (not_true (is_mark b) h.0, unmarked w h.1)
+unmarked (b ∷ w) e = let h = and_parts (not (is_mark b)) (list_all (λ b. not (is_mark b)) w) e in (not-true (is_mark b) h.0, unmarked w h.1)
 
 number_unmarked : (n : ℕ) → n < 2 ^ 64 → All (λ b. is_mark b ≡ false) (decimal n)
 number_unmarked n h = All-from_recursion (λ b. is_mark b ≡ false) (decimal n) (unmarked (decimal n) (all_of_number (λ b. not (is_mark b)) n h digit_unmarked))
 
-kept_piece : (w : List ℕ) (parts : List (List ℕ)) → is_filled w ≡ true → filter is_filled (w ∷ parts) ≡ w ∷ filter is_filled parts
-kept_piece w parts e = ap (λ t. cond t (w ∷ filter is_filled parts) (filter is_filled parts)) e
-
 number_pieces : (n : ℕ) → n < 2 ^ 64 → pieces_of (decimal n) ≡ decimal n ∷ []
 unfolding pieces_of
-number_pieces n h = ap (filter is_filled) (slice_split_none is_mark (decimal n) (number_unmarked n h)) ∙ kept_piece (decimal n) [] (plain_number n h).filled
+number_pieces n h = ap (filter is_filled) (slice_split_none is_mark (decimal n) (number_unmarked n h)) ∙ kept_word (decimal n) [] (plain_number n h).filled
 
 -- a place is cut into its two numbers
 place_pieces : (x y : ℕ) → x < 2 ^ 64 → y < 2 ^ 64 → pieces_of (place_text x y) ≡ decimal x ∷ decimal y ∷ []
 unfolding pieces_of place_text
 place_pieces x y h k =
     ap (filter is_filled) (slice_split_at is_mark (decimal x) 44 (decimal y ++ 41 ∷ []) (number_unmarked x h) refl)
-    ∙ (kept_piece (decimal x) (slice_split is_mark (decimal y ++ 41 ∷ [])) (plain_number x h).filled
+    ∙ (kept_word (decimal x) (slice_split is_mark (decimal y ++ 41 ∷ [])) (plain_number x h).filled
     ∙ ap (λ (ws : List (List ℕ)). decimal x ∷ ws)
-    (ap (filter is_filled) (slice_split_at is_mark (decimal y) 41 [] (number_unmarked y k) refl) ∙ kept_piece (decimal y) ([] ∷ []) (plain_number y k).filled))
+    (ap (filter is_filled) (slice_split_at is_mark (decimal y) 41 [] (number_unmarked y k) refl) ∙ kept_word (decimal y) ([] ∷ []) (plain_number y k).filled))
 
 to_pieces : pieces_of (codes "to") ≡ codes "to" ∷ []
 unfolding pieces_of

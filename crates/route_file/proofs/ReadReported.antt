@@ -2,12 +2,12 @@
 use Rattle.std.proofs.Common.{◌≡◌, ℕ, ◌^◌, ◌<◌, Bool, true, false, eqb, min, ◌&&◌, Some, refl, sym, ap, ◌∙◌, arith}
 use Rattle.std.specs.Prelude.{option_and_then}
 use Rattle.std.specs.Option.{option_map_or}
-use Rattle.std.proofs.lemmas.Bool.{eqb-true, eq-eqb, false≢true}
-use Rattle.rr_graph.specs.parts.Kind.{Kind}
-use Rattle.rr_graph.specs.parts.Kind.TheVariants as kind
-use Rattle.rr_graph.specs.parts.Label.{Label}
-use Rattle.rr_graph.specs.parts.Node.{Node}
-use Rattle.rr_graph.specs.parts.Span.{Span}
+use Rattle.std.proofs.lemmas.Bool.{eqb-true, eq-eqb, false≢true, and_parts}
+use Rattle.rr_graph.specs.node.Kind.{Kind}
+use Rattle.rr_graph.specs.node.Kind.TheVariants as kind
+use Rattle.rr_graph.specs.node.Label.{Label}
+use Rattle.rr_graph.specs.node.Node.{Node}
+use Rattle.rr_graph.specs.node.Span.{Span}
 use Rattle.rr_graph.specs.Fabric.{Fabric, IsFabric, is_block}
 use Rattle.rr_graph.specs.Nodes.{node_at, number_of, label_of, span_of, span_by}
 use Rattle.rr_graph.proofs.Order.{number_of_node}
@@ -17,7 +17,6 @@ use Rattle.route_file.specs.NodeWords.{node_words}
 use Rattle.route_file.specs.NodeLine.{is_wire, are_ends, same_label, rank_of_label, text_of, node_reported, node_on}
 use Rattle.route_file.specs.TextLine.{NodeLine}
 use Rattle.text_output.specs.NodeTexts.{is_one_place}
-use Rattle.route_file.proofs.PlainWords.{both_true}
 use Rattle.route_file.proofs.LineWords.{IsClearSpan, line_words}
 use Rattle.route_file.proofs.ReadNodes.{label_taken, words_of_node, node_words_cut}
 use Rattle.route_file.proofs.ReadNodeText.{text_with, place_read, span_read}
@@ -55,7 +54,7 @@ text_by : (f : Fabric) (n : Node) (one : Bool) → is_one_place (span_of f n) �
 text_by f n true e h =
     let s = span_of f n in
     let taken = label_taken n.kind (is_block f n.x n.y) in
-    let ends = both_true (eqb s.x1 s.x2) (eqb s.y1 s.y2) e in
+    let ends = and_parts (eqb s.x1 s.x2) (eqb s.y1 s.y2) e in
     place_read n.kind (label_of f n) s.x1 s.y1 n.number h.x1 h.y1 h.number taken
     ∙ (ap (λ (x : ℕ). Some (text_with n.kind (label_of f n) s.x1 s.y1 x s.y1 n.number)) (eqb-true s.x1 s.x2 ends.0)
     ∙ ap (λ (y : ℕ). Some (text_with n.kind (label_of f n) s.x1 s.y1 s.x2 y n.number)) (eqb-true s.y1 s.y2 ends.1))

@@ -2,14 +2,14 @@
 use Rattle.std.proofs.Common.{◌≡◌, ℕ, ◌+◌, ◌≤◌, ◌<◌, Bool, true, false, cond, eqb, ◌||◌, List, [], ◌∷◌, ◌++◌, Option, Some, None, Ok, Err, inl, inr, refl, sym, ap, subst, ◌∙◌, arith, codes}
 use Rattle.std.specs.Prelude.{option_and_then}
 use Rattle.std.specs.List.{list_any}
-use Rattle.std.proofs.lemmas.Bool.{false≢true, eq-eqb, ne_eqb, cases_lt}
+use Rattle.std.proofs.lemmas.Bool.{false≢true, eq-eqb, ne_eqb, cases_lt, or_right}
 use Rattle.vpr_text.specs.Words.{Line}
 use Rattle.line_reader.specs.Word.{is_at}
 use Rattle.net_file.specs.Netlist.{Netlist}
 use Rattle.net_file.specs.Routed.{is_routed_at}
 use Rattle.rr_graph.specs.Fabric.{Fabric}
 use Rattle.route_tree.specs.Paths.{Pair}
-use Rattle.route_file.specs.declared.entry.Entry.TheVariants as entry
+use Rattle.route_file.specs.declared.entry.FileEntry.TheVariants as entry
 use Rattle.route_file.specs.declared.fault.RouteFileFault.TheVariants.{BadLine}
 use Rattle.route_file.specs.declared.node_line.NodeText.{NodeText}
 use Rattle.route_file.specs.NetLine.{is_net_line, is_plain_form, is_global_form, is_global_at, net_on}
@@ -18,10 +18,6 @@ use Rattle.route_file.specs.NodeLine.{text_of, node_reported, node_on}
 use Rattle.route_file.specs.Sections.{is_net, is_line_of, had_line, latest, lines_after, section_of, nodes_in, list_along, list_of_net}
 use Rattle.route_file.specs.Judge.{block_entry, fault_in, judge, line_fault, net_entry, placed_entry, reported_entry, node_entry, is_detached}
 use Rattle.route_file.proofs.Growing.{any_push, after_more, after_none_more, latest_more, had_more, section_net, section_other, section_here, nodes_same, nodes_none, nodes_more}
-
-pub or_right : (a b : Bool) → b ≡ true → (a || b) ≡ true
-or_right true b e = refl
-or_right false b e = e
 
 or_none : (a b : Bool) → a ≡ false → b ≡ false → (a || b) ≡ false
 or_none a b e g = ap (λ t. t || b) e ∙ g

@@ -4,10 +4,10 @@ use Rattle.std.specs.List.{range_with_len}
 use Rattle.std.proofs.lemmas.Option.{slice_get_within, get_or_from_slice_get}
 use Rattle.std.proofs.lemmas.List.FromFn.{length-range_with_len}
 use Rattle.std.proofs.lemmas.List.Sums.{prefix_len-le-length}
-use Rattle.rr_graph.specs.parts.Kind.{Kind}
-use Rattle.rr_graph.specs.parts.Kind.TheVariants as kind
-use Rattle.rr_graph.specs.parts.Node.{Node}
-use Rattle.rr_graph.specs.parts.Span.{Span}
+use Rattle.rr_graph.specs.node.Kind.{Kind}
+use Rattle.rr_graph.specs.node.Kind.TheVariants as kind
+use Rattle.rr_graph.specs.node.Node.{Node}
+use Rattle.rr_graph.specs.node.Span.{Span}
 use Rattle.rr_graph.specs.Fabric.{Fabric, IsFabric}
 use Rattle.rr_graph.specs.Nodes.{nodes_of, node_at, span_by}
 use Rattle.rr_graph.specs.Wires.{begins, steps_of, last_of}

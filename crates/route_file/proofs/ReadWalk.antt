@@ -2,18 +2,18 @@
 use Rattle.std.proofs.Common.{◌≡◌, ℕ, zero, suc, ◌+◌, ◌<◌, ◌^◌, true, false, not, ◌&&◌, ◌||◌, List, [], ◌∷◌, ◌++◌, length, map, Option, Some, None, inl, inr, refl, sym, ap, subst, ◌∙◌, arith, append_assoc, append-nil, decimal}
 use Rattle.std.specs.Prelude.{filter, nat_lt, slice_index_or}
 use Rattle.std.specs.List.{AllByRecursion, flat_map, range_with_len}
-use Rattle.std.proofs.lemmas.Bool.{cases_Bool, false≢true}
+use Rattle.std.proofs.lemmas.Bool.{cases_Bool, false≢true, or_right}
 use Rattle.vpr_text.specs.Words.{Line, has_words}
 use Rattle.line_reader.specs.Word.{is_text}
 use Rattle.net_file.specs.Netlist.{Netlist, Net}
 use Rattle.net_file.specs.Routed.{no_net, is_routed_at}
-use Rattle.net_file.specs.declared.parts.Terminal.{Terminal}
+use Rattle.net_file.specs.declared.terminal.Terminal.{Terminal}
 use Rattle.place_file.specs.Placement.{Placement}
-use Rattle.rr_graph.specs.parts.Kind.{Kind}
-use Rattle.rr_graph.specs.parts.Kind.TheVariants as kind
-use Rattle.rr_graph.specs.parts.Label.{Label}
-use Rattle.rr_graph.specs.parts.Span.{Span}
-use Rattle.rr_graph.specs.parts.Node.{Node}
+use Rattle.rr_graph.specs.node.Kind.{Kind}
+use Rattle.rr_graph.specs.node.Kind.TheVariants as kind
+use Rattle.rr_graph.specs.node.Label.{Label}
+use Rattle.rr_graph.specs.node.Span.{Span}
+use Rattle.rr_graph.specs.node.Node.{Node}
 use Rattle.rr_graph.specs.Fabric.{Fabric, IsFabric}
 use Rattle.rr_graph.specs.Nodes.{node_at, label_of, span_of}
 use Rattle.route_tree.specs.Paths.{Pair}
@@ -32,7 +32,7 @@ use Rattle.route_file.proofs.TextWords.{numbered}
 use Rattle.route_file.proofs.PrintedPairs.{LeaveSinks, AreAttached, pairs_read, nodes_attached}
 use Rattle.route_file.proofs.ReadReported.{IsSmall, node_read}
 use Rattle.route_file.proofs.ReadNets.{IsNamed, plain_form, global_form, routed_net_read, global_net_read}
-use Rattle.route_file.proofs.ReadSections.{AreDone, EndInSection, begins, goes_on, node_goes_on, ends, passes, net_accepted, node_accepted, block_accepted, or_right}
+use Rattle.route_file.proofs.ReadSections.{AreDone, EndInSection, begins, goes_on, node_goes_on, ends, passes, net_accepted, node_accepted, block_accepted}
 
 -- the lines with words, numbered from k on
 abbrev pub worded : ℕ → List TextLine → List Line

@@ -5,10 +5,11 @@ use Rattle.std.specs.Option.{option_map_or}
 use Rattle.std.proofs.lemmas.Bool.{ne_eqb, eq-eqb, and_parts, and_from}
 use Rattle.std.proofs.lemmas.Bool.Decides.{nat_tests}
 use Rattle.std.proofs.lemmas.Iterator.Adapters.{position_from-zero}
-use Rattle.rr_graph.specs.parts.Kind.{Kind}
-use Rattle.rr_graph.specs.parts.Kind.TheVariants.{Source, Sink, Opin, Ipin, Chanx, Chany}
-use Rattle.rr_graph.specs.parts.Node.{Node}
-use Rattle.rr_graph.specs.parts.Span.{Span}
+use Rattle.std.proofs.Math.Bool.{and-false, and-true}
+use Rattle.rr_graph.specs.node.Kind.{Kind}
+use Rattle.rr_graph.specs.node.Kind.TheVariants.{Source, Sink, Opin, Ipin, Chanx, Chany}
+use Rattle.rr_graph.specs.node.Node.{Node}
+use Rattle.rr_graph.specs.node.Span.{Span}
 use Rattle.rr_graph.specs.Fabric.{Fabric}
 use Rattle.rr_graph.specs.Nodes.{nodes_of, node_at, number_of, is_same, rank_of_kind, label_of, span_of, span_by}
 use Rattle.rr_graph.proofs.Order.{is_same-true}
@@ -75,16 +76,8 @@ reported_each f t m = told_by f t m (is_reported f t m) (is_same m (beginning_of
 place_by : {X : Type 0} (p q : X → Bool) (b : Bool) (k : ℕ) (xs : List X) → ((x : X) → p x ≡ (q x && b)) → position_from p k xs ≡ cond b (position_from q k xs) None
 place_by p q true k [] h = refl
 place_by p q false k [] h = refl
-place_by p q true k (x ∷ xs) h = ap (λ t. cond t (Some k) (position_from p (k + 1) xs)) (h x ∙ and_true (q x)) ∙ ap (cond (q x) (Some k)) (place_by p q true (k + 1) xs h)
-  where
-    and_true : (t : Bool) → (t && true) ≡ t
-    and_true true = refl
-    and_true false = refl
-place_by p q false k (x ∷ xs) h = ap (λ t. cond t (Some k) (position_from p (k + 1) xs)) (h x ∙ and_false (q x)) ∙ place_by p q false (k + 1) xs h
-  where
-    and_false : (t : Bool) → (t && false) ≡ false
-    and_false true = refl
-    and_false false = refl
+place_by p q true k (x ∷ xs) h = ap (λ t. cond t (Some k) (position_from p (k + 1) xs)) (h x ∙ and-true (q x)) ∙ ap (cond (q x) (Some k)) (place_by p q true (k + 1) xs h)
+place_by p q false k (x ∷ xs) h = ap (λ t. cond t (Some k) (position_from p (k + 1) xs)) (h x ∙ and-false (q x)) ∙ place_by p q false (k + 1) xs h
 
 -- the node that begins at the lower end, if it is reported
 pub reported_is : (f : Fabric) (t : NodeText) → node_reported f t ≡ cond (is_reported f t (beginning_of t)) (number_of f (beginning_of t)) None

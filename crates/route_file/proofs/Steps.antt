@@ -1,14 +1,14 @@
 -- Reading line by line, as the loop does.
-use Rattle.std.proofs.Common.{◌≡◌, ℕ, ◌+◌, ◌<◌, ◌≤◌, List, [], ◌∷◌, length, get_or, take, drop, Option, Some, None, Result, Ok, Err, refl, sym, ap, subst, ◌∙◌, add-one, zero-add, arith}
+use Rattle.std.proofs.Common.{◌≡◌, ℕ, ◌+◌, ◌<◌, ◌≤◌, List, [], ◌∷◌, length, get_or, take, drop, Option, Some, None, Result, Ok, Err, refl, sym, ap, subst, ◌∙◌, add-one, zero-add}
 use Rattle.std.specs.List.{range_with_len}
 use Rattle.std.specs.Option.{option_or}
 use Rattle.std.proofs.Math.Seq.{drop-cons}
-use Rattle.std.proofs.lemmas.List.{drop_all, take_all, take_more, get_or-drop, ext_get_or, length-map}
+use Rattle.std.proofs.lemmas.List.{drop_all, take_all, take_more, ext_get_or, length-map}
 use Rattle.std.proofs.lemmas.List.FromFn.{length-range_with_len, get_or-map-range_with_len}
 use Rattle.vpr_text.specs.Words.{Line, no_line, number_at, words_at}
 use Rattle.net_file.specs.Netlist.{Netlist}
 use Rattle.rr_graph.specs.Fabric.{Fabric}
-use Rattle.route_file.specs.declared.entry.Entry.{Entry}
+use Rattle.route_file.specs.declared.entry.FileEntry.{FileEntry}
 use Rattle.route_file.specs.declared.fault.RouteFileFault.{RouteFileFault}
 use Rattle.route_file.specs.declared.fault.RouteFileFault.TheVariants as route
 use Rattle.route_file.specs.declared.seen.Seen.{Seen}
@@ -41,10 +41,10 @@ module _ (netlist : Netlist) (f : Fabric) (ls : List Line) where
   pub so_far_none : (seen : Seen) → IsSeen netlist f [] seen → IsSoFar 0 seen
   so_far_none seen h = (h, refl)
 
-  judged_at : (i line : ℕ) (words : List (List ℕ)) (seen : Seen) (r : Result Entry RouteFileFault) → line ≡ number_at ls i → words ≡ words_at ls i → r ≡ entry_after netlist f seen line words → IsSoFar i seen → r ≡ judge netlist f (take i ls) (line_at i)
+  judged_at : (i line : ℕ) (words : List (List ℕ)) (seen : Seen) (r : Result FileEntry RouteFileFault) → line ≡ number_at ls i → words ≡ words_at ls i → r ≡ entry_after netlist f seen line words → IsSoFar i seen → r ≡ judge netlist f (take i ls) (line_at i)
   judged_at i line words seen r at here is h = is ∙ rw (at, here) (judged_same netlist f (take i ls) (line_at i) seen h.0)
 
-  pub stepped : (i line : ℕ) (words : List (List ℕ)) (old new : Seen) (r : Result Entry RouteFileFault) (e : Entry) → i < length ls → line ≡ number_at ls i → words ≡ words_at ls i → r ≡ entry_after netlist f old line words
+  pub stepped : (i line : ℕ) (words : List (List ℕ)) (old new : Seen) (r : Result FileEntry RouteFileFault) (e : FileEntry) → i < length ls → line ≡ number_at ls i → words ≡ words_at ls i → r ≡ entry_after netlist f old line words
       → r ≡ Ok e → Notes f old new e → IsSoFar i old → IsSoFar (i + 1) new
   stepped i line words old new r e lt at here is ok notes h =
       let judged : judge netlist f (take i ls) (line_at i) ≡ Ok e = sym (judged_at i line words old r at here is h) ∙ ok in
@@ -53,7 +53,7 @@ module _ (netlist : Netlist) (f : Fabric) (ls : List Line) where
         ap (λ x. option_or x (first_from (i + 1))) (sym no_fault) ∙ sym (opens i lt) ∙ h.1,
       )
 
-  pub refused : (i line : ℕ) (words : List (List ℕ)) (seen : Seen) (r : Result Entry RouteFileFault) (fault : RouteFileFault) → i < length ls → line ≡ number_at ls i → words ≡ words_at ls i → r ≡ entry_after netlist f seen line words
+  pub refused : (i line : ℕ) (words : List (List ℕ)) (seen : Seen) (r : Result FileEntry RouteFileFault) (fault : RouteFileFault) → i < length ls → line ≡ number_at ls i → words ≡ words_at ls i → r ≡ entry_after netlist f seen line words
       → r ≡ Err fault → IsSoFar i seen → fault_from netlist f [] ls ≡ Some fault
   refused i line words seen r fault lt at here is faulty h =
       let judged : judge netlist f (take i ls) (line_at i) ≡ Err fault = sym (judged_at i line words seen r at here is h) ∙ faulty in
@@ -74,12 +74,3 @@ module _ (netlist : Netlist) (f : Fabric) (ls : List Line) where
       )
 
 -- ---- the lines after the first two
-
-row_line : (lines : List Line) (row : ℕ) → get_or lines (row + 2) no_line ≡ get_or (drop 2 lines) row no_line
-row_line lines row = let e : row + 2 ≡ 2 + row = omega arith in rw e (sym (get_or-drop 2 lines row no_line))
-
-pub row_number : (lines : List Line) (row : ℕ) → number_at lines (row + 2) ≡ number_at (drop 2 lines) row
-row_number lines row = ap (λ l. l.number) (row_line lines row)
-
-pub row_words : (lines : List Line) (row : ℕ) → words_at lines (row + 2) ≡ words_at (drop 2 lines) row
-row_words lines row = ap (λ l. l.words) (row_line lines row)

@@ -2,13 +2,13 @@
 use Rattle.std.proofs.Common.{◌≡◌, ℕ, ◌+◌, ◌^◌, ◌≤◌, Bool, true, false, cond, not, ◌||◌, List, [], ◌∷◌, length, Some, None, Ok, if◌then◌else◌, codes, refl, ap, ◌∙◌, append_assoc}
 use Rattle.std.specs.Prelude.{filter}
 use Rattle.std.specs.List.{AllByRecursion, flat_map, slice_split, list_any, position_from}
-use Rattle.std.proofs.lemmas.Bool.{false≢true, le-ltb}
+use Rattle.std.proofs.lemmas.Bool.{false≢true, le-ltb, and_parts}
 use Rattle.std.proofs.lemmas.List.Elements.{All-from_recursion}
 use Rattle.std.proofs.lemmas.List.Splits.{slice_split_at}
 use Rattle.vpr_text.specs.Words.{Line, is_line_feed, goes_on, given_up, continued, lines_from, has_words, words_of}
 use Rattle.vpr_text.specs.Text.{is_bad, bad_line_from, lines_of}
 use Rattle.route_file.specs.TextLine.{TextLine, bytes_on, line_text}
-use Rattle.route_file.proofs.PlainWords.{is_fine, are_fine, both_true}
+use Rattle.route_file.proofs.PlainWords.{is_fine, are_fine}
 use Rattle.route_file.proofs.LineWords.{IsClear, line_words, words_on_line, ends_there, fine_line}
 
 abbrev pub AreClear : List TextLine → Type 0
@@ -27,13 +27,13 @@ none_of_two false false e = (refl, refl)
 no_feed : (xs : List ℕ) → are_fine xs ≡ true → AllByRecursion (λ b. is_line_feed b ≡ false) xs
 no_feed [] e = tt
 no_feed (b ∷ xs) e =
-    let h = both_true (is_fine b) (are_fine xs) e in
+    let h = and_parts (is_fine b) (are_fine xs) e in
     ((none_of_two (is_line_feed b) (is_bad b) h.0).0, no_feed xs h.1)
 
 no_bad : (xs : List ℕ) → are_fine xs ≡ true → list_any is_bad xs ≡ false
 no_bad [] e = refl
 no_bad (b ∷ xs) e =
-    let h = both_true (is_fine b) (are_fine xs) e in
+    let h = and_parts (is_fine b) (are_fine xs) e in
     ap (λ t. t || list_any is_bad xs) (none_of_two (is_line_feed b) (is_bad b) h.0).1 ∙ no_bad xs h.1
 
 -- the physical lines

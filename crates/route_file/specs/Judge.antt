@@ -11,8 +11,8 @@ use Rattle.net_file.specs.Routed.{is_routed_at}
 use Rattle.rr_graph.specs.Fabric.{Fabric}
 use Rattle.rr_graph.specs.Problems.{is_sink}
 use Rattle.route_tree.specs.Legality.{is_among}
-use Rattle.route_file.specs.declared.entry.Entry.{Entry}
-use Rattle.route_file.specs.declared.entry.Entry.TheVariants.{NetLine, BlockLine, NodeLine}
+use Rattle.route_file.specs.declared.entry.FileEntry.{FileEntry}
+use Rattle.route_file.specs.declared.entry.FileEntry.TheVariants.{NetLine, BlockLine, NodeLine}
 use Rattle.route_file.specs.declared.fault.RouteFileFault.{RouteFileFault}
 use Rattle.route_file.specs.declared.fault.RouteFileFault.TheVariants.{BadLine, ArraySize, UnknownNet, NetTwice, NoNode, Detached}
 use Rattle.route_file.specs.declared.node_line.NodeText.{NodeText}
@@ -49,32 +49,32 @@ header_fault f lines =
 -- ---- the lines after them: each is an entry, or its first fault
 
 -- the line of a net; `had` tells whether a line before is that of net n
-abbrev pub named_entry : (had : ℕ → Bool) → (line : ℕ) → Option ℕ → Result Entry RouteFileFault
+abbrev pub named_entry : (had : ℕ → Bool) → (line : ℕ) → Option ℕ → Result FileEntry RouteFileFault
 named_entry had line None = Err (UnknownNet line)
 named_entry had line (Some n) = if had n then Err (NetTwice line) else Ok (NetLine n)
 
-unfoldable pub net_entry : Netlist → (had : ℕ → Bool) → (line : ℕ) → List (List ℕ) → Result Entry RouteFileFault
+unfoldable pub net_entry : Netlist → (had : ℕ → Bool) → (line : ℕ) → List (List ℕ) → Result FileEntry RouteFileFault
 net_entry netlist had line words =
     if is_plain_form words || is_global_form words then named_entry had line (net_on netlist words) else Err (BadLine line)
 
 -- a line after that of a global net
-abbrev pub block_entry : (line : ℕ) → List (List ℕ) → Result Entry RouteFileFault
+abbrev pub block_entry : (line : ℕ) → List (List ℕ) → Result FileEntry RouteFileFault
 block_entry line words = if is_at words 0 (codes "Block") then Ok BlockLine else Err (BadLine line)
 
 -- a line after that of a routed net; `detached` tells of which nodes it may not be
-abbrev pub placed_entry : (detached : ℕ → Bool) → (line : ℕ) → Option ℕ → Result Entry RouteFileFault
+abbrev pub placed_entry : (detached : ℕ → Bool) → (line : ℕ) → Option ℕ → Result FileEntry RouteFileFault
 placed_entry detached line None = Err (NoNode line)
 placed_entry detached line (Some a) = if detached a then Err (Detached line) else Ok (NodeLine a)
 
-abbrev pub reported_entry : Fabric → (detached : ℕ → Bool) → (line : ℕ) → Option NodeText → Result Entry RouteFileFault
+abbrev pub reported_entry : Fabric → (detached : ℕ → Bool) → (line : ℕ) → Option NodeText → Result FileEntry RouteFileFault
 reported_entry f detached line None = Err (BadLine line)
 reported_entry f detached line (Some text) = placed_entry detached line (node_reported f text)
 
-unfoldable pub node_entry : Fabric → (detached : ℕ → Bool) → (line : ℕ) → List (List ℕ) → Result Entry RouteFileFault
+unfoldable pub node_entry : Fabric → (detached : ℕ → Bool) → (line : ℕ) → List (List ℕ) → Result FileEntry RouteFileFault
 node_entry f detached line words = reported_entry f detached line (text_of (node_words words))
 
 -- a line of a net's section: of a net that is neither global nor has sinks there is none
-abbrev pub section_entry : Netlist → Fabric → (detached : ℕ → ℕ → Bool) → (line : ℕ) → List (List ℕ) → (net : Option ℕ) → Result Entry RouteFileFault
+abbrev pub section_entry : Netlist → Fabric → (detached : ℕ → ℕ → Bool) → (line : ℕ) → List (List ℕ) → (net : Option ℕ) → Result FileEntry RouteFileFault
 section_entry netlist f detached line words None = Err (BadLine line)
 section_entry netlist f detached line words (Some n) =
     if is_global_at netlist n then block_entry line words
@@ -85,7 +85,7 @@ unfoldable pub is_detached : Fabric → (nodes : List ℕ) → ℕ → Bool
 is_detached f nodes a = option_map_or (is_sink f) (last_or None nodes) false && not (is_among nodes a)
 
 -- a line, after those before it
-unfoldable pub judge : Netlist → Fabric → (before : List Line) → Line → Result Entry RouteFileFault
+unfoldable pub judge : Netlist → Fabric → (before : List Line) → Line → Result FileEntry RouteFileFault
 judge netlist f before l =
     if is_net_line l then net_entry netlist (had_line netlist before) l.number l.words
     else section_entry netlist f (λ n. is_detached f (nodes_in netlist f before n)) l.number l.words (latest netlist before)

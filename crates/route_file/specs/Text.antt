@@ -5,10 +5,10 @@ use Rattle.net_file.specs.Blocks.{numbers_below}
 use Rattle.net_file.specs.Connections.{no_block}
 use Rattle.net_file.specs.Netlist.{Netlist, Net}
 use Rattle.net_file.specs.Routed.{no_net, is_routed_net, is_routed_at}
-use Rattle.net_file.specs.declared.parts.Terminal.{Terminal}
+use Rattle.net_file.specs.declared.terminal.Terminal.{Terminal}
 use Rattle.place_file.specs.declared.site.Site.{Site}
 use Rattle.place_file.specs.Placement.{Placement}
-use Rattle.rr_graph.specs.parts.Node.{Node}
+use Rattle.rr_graph.specs.node.Node.{Node}
 use Rattle.rr_graph.specs.Fabric.{Fabric}
 use Rattle.rr_graph.specs.Nodes.{node_at, span_of, label_of}
 use Rattle.rr_graph.specs.Problems.{RoutingProblem}

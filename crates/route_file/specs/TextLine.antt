@@ -1,9 +1,9 @@
 -- The lines of a routing's text, and their bytes (VPR and T-VPack manual 4.30, "Routing File Format"; the layout is ours).
 use Rattle.std.specs.Prelude.{ℕ, List, ◌++◌, Option, Some, None, codes, decimal}
-use Rattle.rr_graph.specs.parts.Kind.{Kind}
-use Rattle.rr_graph.specs.parts.Kind.TheVariants.{Source, Sink, Opin, Ipin, Chanx, Chany}
-use Rattle.rr_graph.specs.parts.Label.{Label}
-use Rattle.rr_graph.specs.parts.Span.{Span}
+use Rattle.rr_graph.specs.node.Kind.{Kind}
+use Rattle.rr_graph.specs.node.Kind.TheVariants.{Source, Sink, Opin, Ipin, Chanx, Chany}
+use Rattle.rr_graph.specs.node.Label.{Label}
+use Rattle.rr_graph.specs.node.Span.{Span}
 use Rattle.text_output.specs.NodeTexts.{label_text, place_text, span_text}
 
 pub data TextLine : Type 0 where

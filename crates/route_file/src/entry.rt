@@ -2,7 +2,7 @@
 
 /// What a line after the first two is, where it has no fault.
 #[derive(Clone, Copy, Debug)]
-pub(crate) enum Entry {
+pub(crate) enum FileEntry {
     /// The line of a net, by its number in the netlist.
     NetLine(u32),
     /// A block of a global net.

@@ -1,54 +1,48 @@
 //! A line, given what is kept of those before it.
 
-ghost use Rattle.std.specs.Prelude.{◌≡◌, ◌||◌};
+ghost use Rattle.std.specs.Prelude.{◌≡◌};
 ghost use Rattle.route_file.specs.Judge.{net_entry, block_entry, node_entry, section_entry};
-ghost use Rattle.route_file.specs.NetLine.{is_net_words, is_plain_form, is_global_form};
+ghost use Rattle.route_file.specs.NetLine.{is_net_words};
 ghost use Rattle.route_file.specs.kept.LinesSeen.{had_net, is_off, entry_after};
 
-use crate::entry::Entry;
+use crate::entry::FileEntry;
 use crate::fault::RouteFileFault;
-use crate::net_line::{is_global_at, is_global_form, is_plain_form, is_routed_at, net_on};
+use crate::net_line::{heading_on, is_global_at, is_routed_at, net_on};
 use crate::node_line::{node_reported, text_of};
 use crate::seen::Seen;
 use line_reader::Words;
 use net_file::Netlist;
 use rr_graph::Device;
 
-/// Whether the line has a form of nets' lines.
-fn is_net_form(words: &Words) -> bool
-    ensures { result ≡ (is_plain_form words.now || is_global_form words.now) }
-{
-    is_plain_form(words) || is_global_form(words)
-}
-
 /// The line of a net.
-#[tactic(auto, unfolding(crate::specs::Judge::net_entry))]
+#[tactic(auto, unfolding(crate::specs::Judge::net_entry, crate::specs::NetLine::net_on))]
 fn net_entry(
     seen: &Seen,
     netlist: &Netlist,
     line: u32,
     words: &Words,
-) -> Result<Entry, RouteFileFault>
+) -> Result<FileEntry, RouteFileFault>
     ensures { result ≡ net_entry netlist.now (had_net seen.now) line words.now }
 {
-    if !is_net_form(words) {
+    let heading = heading_on(words);
+    if !heading.is_plain && !heading.is_global {
         return Err(RouteFileFault::BadLine(line));
     }
-    let Some(net) = net_on(netlist, words) else {
+    let Some(net) = net_on(netlist, &heading) else {
         return Err(RouteFileFault::UnknownNet(line));
     };
     if seen.had(net) {
         return Err(RouteFileFault::NetTwice(line));
     }
-    Ok(Entry::NetLine(net))
+    Ok(FileEntry::NetLine(net))
 }
 
 /// A line after that of a global net.
-fn block_entry(line: u32, words: &Words) -> Result<Entry, RouteFileFault>
+fn block_entry(line: u32, words: &Words) -> Result<FileEntry, RouteFileFault>
     ensures { result ≡ block_entry line words.now }
 {
     if words.is(0, "Block") {
-        Ok(Entry::BlockLine)
+        Ok(FileEntry::BlockLine)
     } else {
         Err(RouteFileFault::BadLine(line))
     }
@@ -62,7 +56,7 @@ fn node_entry(
     net: u32,
     line: u32,
     words: &Words,
-) -> Result<Entry, RouteFileFault>
+) -> Result<FileEntry, RouteFileFault>
     ensures { result ≡ node_entry device.now (is_off device.now seen.now net) line words.now }
 {
     let Some(text) = text_of(words) else {
@@ -74,7 +68,7 @@ fn node_entry(
     if seen.is_off(device, net, node) {
         return Err(RouteFileFault::Detached(line));
     }
-    Ok(Entry::NodeLine(node))
+    Ok(FileEntry::NodeLine(node))
 }
 
 /// A line of a net's section.
@@ -84,7 +78,7 @@ fn section_entry(
     device: &Device,
     line: u32,
     words: &Words,
-) -> Result<Entry, RouteFileFault>
+) -> Result<FileEntry, RouteFileFault>
     ensures { result ≡ section_entry netlist.now device.now (is_off device.now seen.now) line
         words.now seen.now.net }
 {
@@ -108,7 +102,7 @@ pub(crate) fn judge(
     device: &Device,
     line: u32,
     words: &Words,
-) -> Result<Entry, RouteFileFault>
+) -> Result<FileEntry, RouteFileFault>
     ensures { result ≡ entry_after netlist.now device.now seen.now line words.now }
 {
     if words.is(0, "Net") {

@@ -6,7 +6,7 @@ ghost use Rattle.route_file.specs.NetLine.{is_net_words};
 ghost use Rattle.route_file.specs.NodeLine.{node_on};
 ghost use Rattle.route_file.specs.Sections.{net_begun};
 
-use crate::net_line::net_on;
+use crate::net_line::{heading_on, net_on};
 use crate::node_line::{node_reported, text_of};
 use line_reader::Words;
 use net_file::Netlist;
@@ -32,12 +32,13 @@ pub fn begins_section(lines: &Lines, line: usize) -> bool
 }
 
 /// The number in the netlist of the net whose section a line begins, if it begins one and the netlist has the net.
+#[tactic(auto, unfolding(crate::specs::NetLine::net_on))]
 pub fn net_begun(lines: &Lines, netlist: &Netlist, line: usize) -> Option<u32>
     ensures { result ≡ net_begun netlist.now (words_at lines.now line) }
 {
     let words = Words::new(lines, line);
     if words.is(0, "Net") {
-        net_on(netlist, &words)
+        net_on(netlist, &heading_on(&words))
     } else {
         None
     }

@@ -1,9 +1,11 @@
 //! The lines that nets' sections begin with.
 
-ghost use Rattle.std.specs.Prelude.{◌≡◌};
+ghost use Rattle.std.specs.Prelude.{◌≡◌, option_and_then};
 ghost use Rattle.std.specs.Option.{option_copied};
+ghost use Rattle.net_file.specs.Facts.{names_of_nets};
+ghost use Rattle.net_file.specs.Names.{number_among};
 ghost use Rattle.net_file.specs.Routed.{is_routed_at};
-ghost use Rattle.route_file.specs.NetLine.{enclosed, before_ending, is_plain_form, is_global_form, name_on, is_global_at, net_on};
+ghost use Rattle.route_file.specs.NetLine.{enclosed, before_ending, is_plain_form, is_global_form, name_on, is_global_at, if_global};
 
 use line_reader::{Words, is_text};
 use net_file::Netlist;
@@ -32,9 +34,17 @@ fn enclosed<'a>(word: &'a [u8], ending: &str) -> Option<&'a [u8]>
     }
 }
 
+/// What the line of a net tells: which form it has, and the name.
+#[derive(Clone, Copy)]
+pub(crate) struct NetHeading<'a> {
+    pub(crate) is_plain: bool,
+    pub(crate) is_global: bool,
+    pub(crate) name: &'a [u8],
+}
+
 /// Whether the line has the form of nets that aren't global.
 #[tactic(auto, unfolding(crate::specs::NetLine::is_plain_form))]
-pub(crate) fn is_plain_form(words: &Words) -> bool
+fn is_plain_form(words: &Words) -> bool
     ensures { result ≡ is_plain_form words.now }
 {
     words.len() == 3 && words.is_number(1) && enclosed(words.word(2), ")").is_some()
@@ -42,7 +52,7 @@ pub(crate) fn is_plain_form(words: &Words) -> bool
 
 /// Whether the line has the form of global nets.
 #[tactic(auto, unfolding(crate::specs::NetLine::is_global_form))]
-pub(crate) fn is_global_form(words: &Words) -> bool
+fn is_global_form(words: &Words) -> bool
     ensures { result ≡ is_global_form words.now }
 {
     words.len() == 6
@@ -53,15 +63,23 @@ pub(crate) fn is_global_form(words: &Words) -> bool
         && words.is(5, "connecting:")
 }
 
-/// The name that a line tells.
+/// What the line of a net tells.
 #[tactic(auto, unfolding(crate::specs::NetLine::name_on))]
-fn name_on<'a>(words: &Words<'_, 'a>) -> &'a [u8]
-    ensures { result.now ≡ name_on words.now }
+pub(crate) fn heading_on<'a>(words: &Words<'_, 'a>) -> NetHeading<'a>
+    ensures plain { result.is_plain ≡ is_plain_form words.now }
+    ensures global { result.is_global ≡ is_global_form words.now }
+    ensures name { result.name.now ≡ name_on words.now }
 {
-    let ending = if is_global_form(words) { "):" } else { ")" };
-    match enclosed(words.word(2), ending) {
+    let is_global = is_global_form(words);
+    let ending = if is_global { "):" } else { ")" };
+    let name = match enclosed(words.word(2), ending) {
         Some(name) => name,
         None => &[],
+    };
+    NetHeading {
+        is_plain: is_plain_form(words),
+        is_global,
+        name,
     }
 }
 
@@ -86,13 +104,14 @@ pub(crate) fn is_routed_at(netlist: &Netlist, n: usize) -> bool
 }
 
 /// The number of the net whose line this is: of a global net in the form of global nets, else of another one.
-#[tactic(auto, using(crate::proofs::Named::within), unfolding(crate::specs::NetLine::net_on))]
-pub(crate) fn net_on(netlist: &Netlist, words: &Words) -> Option<u32>
-    ensures { result ≡ net_on netlist.now words.now }
+#[tactic(auto, using(crate::proofs::Named::within))]
+pub(crate) fn net_on(netlist: &Netlist, heading: &NetHeading) -> Option<u32>
+    ensures { result ≡ option_and_then (if_global netlist.now heading.now.is_global)
+        (number_among (names_of_nets netlist.now.nets) heading.now.name.now) }
 {
-    let _limits = netlist.nets();
-    let net = netlist.net_named(name_on(words))?;
-    if is_global_at(netlist, net) == is_global_form(words) {
+    let nets = netlist.nets();
+    let net = netlist.net_named(heading.name)?;
+    if nets[net].is_global() == heading.is_global {
         Some(net as u32)
     } else {
         None

@@ -1,6 +1,6 @@
 //! The node that a line names.
 
-ghost use Rattle.std.specs.Prelude.{◌≡◌, false};
+ghost use Rattle.std.specs.Prelude.{◌≡◌, false, Some, IfSome, is_some};
 ghost use Rattle.std.specs.Option.{option_map_or};
 ghost use Rattle.rr_graph.specs.Nodes.{label_by};
 ghost use Rattle.route_file.specs.kept.NodeTexts.{beginning_of, is_reported_at};
@@ -112,12 +112,17 @@ fn takes(kind: Kind, label: Label) -> bool
     same_label(label, label_by(kind, true)) || same_label(label, label_by(kind, false))
 }
 
-fn takes_both(kind: Option<Kind>, label: Option<Label>) -> bool
-    ensures { result ≡ takes_both kind label }
+/// The kind of node that a line tells, and what word `j` says that its number counts, where nodes of the kind have that label.
+fn kind_and_label(words: &NodeWords, j: usize) -> Option<(Kind, Label)>
+    ensures both { is_some result ≡ takes_both (kind_on words.now) (label_on words.now j) }
+    ensures kind { IfSome result (λ p. kind_on words.now ≡ Some p.0) }
+    ensures label { IfSome result (λ p. label_on words.now j ≡ Some p.1) }
 {
-    match (kind, label) {
-        (Some(kind), Some(label)) => takes(kind, label),
-        _ => false,
+    let (kind, label) = (kind_on(words)?, label_on(words, j)?);
+    if takes(kind, label) {
+        Some((kind, label))
+    } else {
+        None
     }
 }
 
@@ -141,62 +146,54 @@ fn begins_wire(words: &NodeWords) -> bool
     }
 }
 
-/// Whether the line tells a node by one place.
-#[tactic(auto, unfolding(crate::specs::NodeLine::is_place_line))]
-fn is_place_line(words: &NodeWords) -> bool
-    ensures { result ≡ is_place_line words.now }
+/// What a line tells that names a node by one place.
+#[tactic(auto, unfolding(crate::specs::NodeLine::is_place_line, crate::specs::NodeLine::place_text))]
+fn place_text(words: &NodeWords) -> Option<NodeText>
+    ensures line { is_some result ≡ is_place_line words.now }
+    ensures text { IfSome result (λ t. t ≡ place_text words.now) }
 {
-    words.len() == 5
-        && words.is_number(1)
-        && words.is_number(2)
-        && takes_both(kind_on(words), label_on(words, 3))
-        && words.is_number(4)
-}
-
-/// Whether the line tells a wire by its two ends.
-#[tactic(auto, unfolding(crate::specs::NodeLine::is_span_line))]
-fn is_span_line(words: &NodeWords) -> bool
-    ensures { result ≡ is_span_line words.now }
-{
-    words.len() == 8
-        && begins_wire(words)
-        && words.is_number(1)
-        && words.is_number(2)
-        && words.is(3, "to")
-        && words.is_number(4)
-        && words.is_number(5)
-        && takes_both(kind_on(words), label_on(words, 6))
-        && words.is_number(7)
-}
-
-#[tactic(auto, unfolding(crate::specs::NodeLine::place_text))]
-fn place_text(words: &NodeWords) -> NodeText
-    ensures { result ≡ place_text words.now }
-{
-    NodeText {
-        kind: kind_on(words).unwrap_or(Kind::Source),
-        x1: words.number_or_0(1),
-        y1: words.number_or_0(2),
-        x2: words.number_or_0(1),
-        y2: words.number_or_0(2),
-        label: label_on(words, 3).unwrap_or(Label::Class),
-        number: words.number_or_0(4),
+    if words.len() != 5 {
+        return None;
     }
+    let (x, y) = (words.number(1)?, words.number(2)?);
+    let (kind, label) = kind_and_label(words, 3)?;
+    let number = words.number(4)?;
+    Some(NodeText {
+        kind,
+        x1: x,
+        y1: y,
+        x2: x,
+        y2: y,
+        label,
+        number,
+    })
 }
 
-#[tactic(auto, unfolding(crate::specs::NodeLine::span_text))]
-fn span_text(words: &NodeWords) -> NodeText
-    ensures { result ≡ span_text words.now }
+/// What a line tells that names a wire by its two ends.
+#[tactic(auto, unfolding(crate::specs::NodeLine::is_span_line, crate::specs::NodeLine::span_text))]
+fn span_text(words: &NodeWords) -> Option<NodeText>
+    ensures line { is_some result ≡ is_span_line words.now }
+    ensures text { IfSome result (λ t. t ≡ span_text words.now) }
 {
-    NodeText {
-        kind: kind_on(words).unwrap_or(Kind::Source),
-        x1: words.number_or_0(1),
-        y1: words.number_or_0(2),
-        x2: words.number_or_0(4),
-        y2: words.number_or_0(5),
-        label: label_on(words, 6).unwrap_or(Label::Class),
-        number: words.number_or_0(7),
+    if words.len() != 8 || !begins_wire(words) {
+        return None;
     }
+    let (x1, y1) = (words.number(1)?, words.number(2)?);
+    if !words.is(3, "to") {
+        return None;
+    }
+    let (x2, y2) = (words.number(4)?, words.number(5)?);
+    let (kind, label) = kind_and_label(words, 6)?;
+    let number = words.number(7)?;
+    Some(NodeText {
+        kind,
+        x1,
+        y1,
+        x2,
+        y2,
+        label,
+        number,
+    })
 }
 
 /// What the words of a node's line tell.
@@ -204,13 +201,10 @@ fn span_text(words: &NodeWords) -> NodeText
 fn text_in(words: &NodeWords) -> Option<NodeText>
     ensures { result ≡ text_of words.now }
 {
-    if is_place_line(words) {
-        return Some(place_text(words));
+    if let Some(text) = place_text(words) {
+        return Some(text);
     }
-    if is_span_line(words) {
-        return Some(span_text(words));
-    }
-    None
+    span_text(words)
 }
 
 /// What a line tells, if it is a node's line.

@@ -3,7 +3,7 @@
 ghost use Rattle.std.specs.Prelude.{◌≡◌, ◌<◌, ◌≤◌, ◌∷◌, ◌++◌, [], not, length, slice_get, MatchOption};
 ghost use Rattle.std.specs.Option.{option_copied};
 ghost use Rattle.std.specs.List.{position, position_or_len};
-ghost use Rattle.line_reader.specs.Word.{is_at, number_in, is_number, number_or_0};
+ghost use Rattle.line_reader.specs.Word.{is_at, number_in};
 ghost use Rattle.route_file.specs.kept.NodeTexts.{CutsPiece, CutsWords};
 ghost use Rattle.route_file.specs.NodeWords.{is_mark, pieces_of, node_words};
 
@@ -155,23 +155,9 @@ impl<'a> NodeWords<'a> {
     }
 
     /// Word `j` as a number.
-    fn number(&self, j: usize) -> Option<u32>
+    pub(crate) fn number(&self, j: usize) -> Option<u32>
         ensures { result ≡ number_in self.now j }
     {
         number(self.get(j)?)
-    }
-
-    /// Whether word `j` is a number.
-    pub(crate) fn is_number(&self, j: usize) -> bool
-        ensures { result ≡ is_number self.now j }
-    {
-        self.number(j).is_some()
-    }
-
-    /// The number that word `j` is.
-    pub(crate) fn number_or_0(&self, j: usize) -> u32
-        ensures { result ≡ number_or_0 self.now j }
-    {
-        self.number(j).unwrap_or(0)
     }
 }

@@ -37,10 +37,8 @@ fn lists_by_net(
     let mut seen = Seen::new(alloc, netlist, device)?;
     for i in 0..lines.len() - 2 {
         let words = Words::new(lines, i + 2);
-        match judge(&seen, netlist, device, line_number(lines, i + 2), &words) {
-            Ok(entry) => seen.note(alloc, device, entry)?,
-            Err(fault) => return Err(fault),
-        }
+        let entry = judge(&seen, netlist, device, line_number(lines, i + 2), &words)?;
+        seen.note(alloc, device, entry)?;
     }
     Ok(seen.into_lists())
 }

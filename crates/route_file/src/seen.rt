@@ -5,7 +5,7 @@ ghost use Rattle.std.specs.Option.{option_map_or};
 ghost use Rattle.rr_graph.specs.Problems.{is_sink};
 ghost use Rattle.route_file.specs.kept.LinesSeen.{IsSeen, NotesNet, NotesNode, Notes, had_net, is_off, no_owner, pair_after};
 
-use crate::entry::Entry;
+use crate::entry::FileEntry;
 use crate::lists::{add_pair, no_lists};
 use net_file::Netlist;
 use route_tree::Pairs;
@@ -146,14 +146,14 @@ impl Seen {
         &mut self,
         alloc: Global,
         device: &Device,
-        entry: Entry,
+        entry: FileEntry,
     ) -> Result<(), AllocError>
         ensures { OnOk result (Notes device.now self.old self.new entry) }
     {
         match entry {
-            Entry::NetLine(net) => self.begin(net),
-            Entry::BlockLine => {}
-            Entry::NodeLine(node) => self.add_node(alloc, device, node)?,
+            FileEntry::NetLine(net) => self.begin(net),
+            FileEntry::BlockLine => {}
+            FileEntry::NodeLine(node) => self.add_node(alloc, device, node)?,
         }
         Ok(())
     }

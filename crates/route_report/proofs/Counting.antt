@@ -1,10 +1,10 @@
 -- Counting the nodes that nets cover.
-use Rattle.std.proofs.Common.{◌≡◌, ℕ, ◌+◌, ◌<◌, ◌≤◌, ◌==◌, zero, suc, Bool, true, false, cond, inl, inr, List, [], ◌∷◌, ◌++◌, length, get_or, set, replicate, All, refl, sym, ap, ◌∙◌, subst, arith, add-one, add_assoc, drop}
+use Rattle.std.proofs.Common.{◌≡◌, ℕ, ◌+◌, ◌<◌, ◌≤◌, ◌==◌, zero, suc, Bool, true, false, cond, inl, inr, List, [], ◌∷◌, ◌++◌, length, get_or, replicate, All, refl, sym, ap, ◌∙◌, subst, arith, add-one, add_assoc, drop}
 use Rattle.std.specs.Prelude.{take, count_by, map}
 use Rattle.std.specs.List.{filter}
 use Rattle.std.proofs.lemmas.Bool.{cases_eq, cases_lt, eq-eqb, ne_eqb}
-use Rattle.std.proofs.lemmas.List.{get_or-set_same, get_or-set_other, length-set, length-take-le, take_more, take_all, get_or_default, take-append-drop, same_lists, length-replicate}
-use Rattle.std.proofs.lemmas.List.Sums.{sum_by-append, sum_by-cons}
+use Rattle.std.proofs.lemmas.List.{length-take-le, take_more, take_all, get_or_default, take-append-drop, same_lists, length-replicate}
+use Rattle.std.proofs.lemmas.List.Sums.{sum_by-append}
 use Rattle.routing_problem.specs.Fabric.{numbers_below}
 use Rattle.routing_problem.specs.Nodes.{node_count_of}
 use Rattle.routing_problem.specs.Problems.{Net, RoutingProblem, net_in, IsProblem}
@@ -14,40 +14,9 @@ use Rattle.routing_problem.proofs.Ranges.{filter_next, length_below, get_below}
 use Rattle.route_tree.specs.Usage.{covers_by, use_by, use_of, Lists, list_in}
 use Rattle.route_tree.proofs.Uses.{few_uses}
 use Rattle.route_report.specs.Covered.{nodes_covered, uses_of}
-use Rattle.route_report.specs.kept.Counting.{Counts, AreUses}
-
--- ---- one node more
-one_more : (a b : ℕ) (t : Bool) → (b == a) ≡ t → count_by (λ x. x == a) (b ∷ []) ≡ cond t 1 0
-one_more a b t e = sum_by-cons (λ x. cond (x == a) 1 0) b [] ∙ ap (λ t. cond t 1 0 + 0) e ∙ closed t
-  where
-    closed : (t : Bool) → cond t 1 0 + 0 ≡ cond t 1 0
-    closed true = refl
-    closed false = refl
-
-pub counts_one : (counts : List ℕ) (node : ℕ) → node < length counts → Counts counts (node ∷ []) (set counts node (get_or counts node 0 + 1))
-counts_one counts node l = record {
-  size = length-set counts node (get_or counts node 0 + 1);
-  each = λ a. elim (cases_eq a node) [
-    | inl same ↦ (
-        let here = get_or-set_same counts node (get_or counts node 0 + 1) 0 l in
-        subst (λ i. get_or (set counts node (get_or counts node 0 + 1)) i 0 ≡ get_or counts i 0 + count_by (λ x. x == i) (node ∷ [])) (sym same)
-        (here ∙ ap (λ k. get_or counts node 0 + k) (sym (one_more node node true (eq-eqb node node refl)))))
-    | inr apart ↦ (
-        let none = one_more a node false (ne_eqb node a (λ e. apart (sym e))) in
-        let kept = get_or-set_other counts node a (get_or counts node 0 + 1) 0 apart in
-        omega (arith, none, kept))
-  ];
-}
-
-counts_then : (a b c : List ℕ) (xs ys : List ℕ) → Counts a xs b → Counts b ys c → Counts a (xs ++ ys) c
-counts_then a b c xs ys f g = record {
-  size = g.size ∙ f.size;
-  each = λ n.
-      let first = f.each n in
-      let second = g.each n in
-      let all = sum_by-append (λ x. cond (x == n) 1 0) xs ys in
-      omega (arith, first, second, all);
-}
+use Rattle.route_tree.specs.kept.Counting.{Counts}
+use Rattle.route_tree.proofs.Counting.{one_more, counts_then}
+use Rattle.route_report.specs.kept.Counting.{AreUses}
 
 -- ---- a list of nodes, one by one
 module _ (nodes old counts : List ℕ) (i : ℕ) where

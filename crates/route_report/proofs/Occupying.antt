@@ -7,11 +7,11 @@ use Rattle.std.proofs.lemmas.List.{get_or-set_same, get_or-set_other, length-set
 use Rattle.std.specs.Option.{option_map_or}
 use Rattle.std.proofs.lemmas.List.Sums.{sum_by-le}
 use Rattle.std.proofs.lemmas.List.FromFn.{length-range_with_len}
-use Rattle.routing_problem.specs.parts.Kind.{Kind}
-use Rattle.routing_problem.specs.parts.Kind.TheVariants.{Source, Sink, Opin, Ipin, Chanx, Chany}
-use Rattle.routing_problem.specs.parts.Mode.{Mode}
-use Rattle.routing_problem.specs.parts.Mode.TheVariants.{Detailed, Global}
-use Rattle.routing_problem.specs.parts.Node.{Node}
+use Rattle.routing_problem.specs.node.Kind.{Kind}
+use Rattle.routing_problem.specs.node.Kind.TheVariants.{Source, Sink, Opin, Ipin, Chanx, Chany}
+use Rattle.routing_problem.specs.node.Mode.{Mode}
+use Rattle.routing_problem.specs.node.Mode.TheVariants.{Detailed, Global}
+use Rattle.routing_problem.specs.node.Node.{Node}
 use Rattle.routing_problem.specs.Wires.{Place, runs_by, runs_through, reach_of}
 use Rattle.routing_problem.specs.Nodes.{node_at, node_count_of, is_wire, span_by, wire_in}
 use Rattle.routing_problem.proofs.Order.{node_count_below}

@@ -15,7 +15,7 @@ use Rattle.std.proofs.lemmas.Option.{same_Some, none-some}
 use Rattle.std.proofs.lemmas.List.{append-nil, same_lists, get_or-map, length-map, length-set, get_or-set_same, get_or-set_other, get_or_default, get_or-take, length-take-le}
 use Rattle.std.proofs.lemmas.List.Elements.{All-head, All-tail}
 use Rattle.std.proofs.lemmas.List.Folds.{list_any_more, list_any_none}
-use Rattle.routing_problem.specs.parts.Node.{Node}
+use Rattle.routing_problem.specs.node.Node.{Node}
 use Rattle.routing_problem.specs.Fabric.{Fabric, numbers_below}
 use Rattle.routing_problem.specs.Nodes.{node_at, node_count_of, capacity_of}
 use Rattle.routing_problem.specs.Problems.{RoutingProblem, net_in}
@@ -28,6 +28,7 @@ use Rattle.route_report.specs.Covered.{nodes_covered, uses_of}
 use Rattle.route_report.specs.Overused.{Overuse, is_over, is_overused}
 use Rattle.route_report.proofs.Covering.{same_filter}
 use Rattle.std.proofs.lemmas.List.FromFn.{length-range_with_len, get_or-range_with_len}
+use Rattle.std.specs.Cmp.{both_ways as same_test}
 use Rattle.route_report.specs.kept.Overused.{bare, with_net, entry_to}
 
 -- ---- the room of a node
@@ -169,17 +170,12 @@ added_next net covered up i l old now new before more =
     ∙ ap (λ b. with_net (λ _. b) net o) (sym (list_any_more (λ x. x == o.node) covered i 0 l)))
 
 -- ---- one net more
-same_bool : (a b : Bool) → (a ≡ true → b ≡ true) → (b ≡ true → a ≡ true) → a ≡ b
-same_bool true b f g = sym (f refl)
-same_bool false true f g = g refl
-same_bool false false f g = refl
-
 among_covered : (p : RoutingProblem) (lists : Lists) (i a : ℕ) → a < node_count_of p.device → is_among (nodes_covered p lists i) a ≡ covers_by (net_in p.nets i) (list_in lists i) a
 unfolding nodes_covered
 among_covered p lists i a l =
     let test = covers_by (net_in p.nets i) (list_in lists i) in
     let n = node_count_of p.device in
-    same_bool (is_among (filter test (numbers_below n)) a) (test a) (λ e. passes_there test (numbers_below n) a (among_contains (filter test (numbers_below n)) a e))
+    same_test (is_among (filter test (numbers_below n)) a) (test a) (λ e. passes_there test (numbers_below n) a (among_contains (filter test (numbers_below n)) a e))
     (λ e. contains_among (filter test (numbers_below n)) a (kept_below test n a l e))
 
 pub covered_ascends : (p : RoutingProblem) (lists : Lists) (i : ℕ) → IsStrictlyIncreasing (nodes_covered p lists i)

@@ -7,11 +7,12 @@ use Rattle.std.proofs.lemmas.Bool.{cases_lt, lt-ltb, eqb-false, both_ways}
 use Rattle.std.proofs.lemmas.List.{take_all}
 use Rattle.std.proofs.lemmas.List.Sums.{fails_before_first, get_or-le-sum_by}
 use Rattle.std.proofs.lemmas.List.FromFn.{get_or-range_with_len}
+use Rattle.std.proofs.Math.Bool.{and-false, and-true}
 use native.Mathlib.Nat.{mul-lt-mul_of_pos_right}
-use Rattle.arch_file.specs.declared.parts.Segment.{Segment}
-use Rattle.routing_problem.specs.parts.Kind.{Kind}
-use Rattle.routing_problem.specs.parts.Kind.TheVariants.{Source, Sink, Opin, Ipin, Chanx, Chany}
-use Rattle.routing_problem.specs.parts.Node.{Node}
+use Rattle.arch_file.specs.declared.entries.Segment.{Segment}
+use Rattle.routing_problem.specs.node.Kind.{Kind}
+use Rattle.routing_problem.specs.node.Kind.TheVariants.{Source, Sink, Opin, Ipin, Chanx, Chany}
+use Rattle.routing_problem.specs.node.Node.{Node}
 use Rattle.routing_problem.specs.Fabric.{Fabric, IsFabric, numbers_below}
 use Rattle.routing_problem.specs.Wires.{reach_of, total_frequency, weight_in, weight_of_first, reaches, type_of}
 use Rattle.routing_problem.specs.Nodes.{node_at, node_count_of, is_wire, is_wire_at, span_of, wire_in}
@@ -95,21 +96,13 @@ module _ (f : Fabric) (within : IsFabric f) (a : ℕ) where
   by_node None x h = sums_zero kinds
   by_node (Some n) x h = by_wire n x h (is_wire n.kind) refl
 
-  and_true : (b : Bool) → (b && true) ≡ b
-  and_true true = refl
-  and_true false = refl
-
-  and_false : (b : Bool) → (b && false) ≡ false
-  and_false true = refl
-  and_false false = refl
-
   of_one_type : (x : ℕ) (used : Bool) → sum_by (λ s. if has_type f s a && used then x else 0) (numbers_below kinds) ≡ (if is_wire_at f a && used then x else 0)
   of_one_type x true =
-      sums_alike (λ s. if has_type f s a && true then x else 0) (λ s. if has_type f s a then x else 0) kinds (λ s l. ap (λ b. if b then x else 0) (and_true (has_type f s a)))
-      ∙ by_node (node_at f a) x refl ∙ ap (λ b. if b then x else 0) (sym (and_true (is_wire_at f a)))
+      sums_alike (λ s. if has_type f s a && true then x else 0) (λ s. if has_type f s a then x else 0) kinds (λ s l. ap (λ b. if b then x else 0) (and-true (has_type f s a)))
+      ∙ by_node (node_at f a) x refl ∙ ap (λ b. if b then x else 0) (sym (and-true (is_wire_at f a)))
   of_one_type x false =
-      sums_alike (λ s. if has_type f s a && false then x else 0) (λ s. 0) kinds (λ s l. ap (λ b. if b then x else 0) (and_false (has_type f s a)))
-      ∙ sums_zero kinds ∙ ap (λ b. if b then x else 0) (sym (and_false (is_wire_at f a)))
+      sums_alike (λ s. if has_type f s a && false then x else 0) (λ s. 0) kinds (λ s l. ap (λ b. if b then x else 0) (and-false (has_type f s a)))
+      ∙ sums_zero kinds ∙ ap (λ b. if b then x else 0) (sym (and-false (is_wire_at f a)))
 
 -- what is no wire has no places
 no_wire : (f : Fabric) (o : Option Node) → option_map_or is_wire (option_map (λ n. n.kind) o) false ≡ false → places_of_wire (wire_in f o) ≡ 0

@@ -1,11 +1,11 @@
 -- The types of tracks.
-use Rattle.std.proofs.Common.{◌≡◌, ℕ, ◌+◌, ◌<◌, ◌≤◌, false, List, length, take, map, ◌++◌, ◌∷◌, [], get_or, sym, ap, ◌∙◌, arith}
+use Rattle.std.proofs.Common.{◌≡◌, ℕ, ◌<◌, ◌≤◌, false, List, length, take, map, get_or, sym, ap, ◌∙◌, arith}
 use Rattle.std.specs.List.{sum_by}
 use Rattle.std.proofs.lemmas.List.{take_all}
-use Rattle.arch_file.specs.declared.parts.Segment.{Segment}
+use Rattle.arch_file.specs.declared.entries.Segment.{Segment}
 use Rattle.routing_problem.specs.Fabric.{numbers_below}
 use Rattle.routing_problem.specs.Wires.{weight_in, weight_of_first, reaches, type_of}
-use Rattle.routing_problem.proofs.Ranges.{first_below, length_below, get_below, mapped_next}
+use Rattle.routing_problem.proofs.Ranges.{first_below, length_below, get_below}
 
 pub weight_all : (segments : List Segment) (count i weight : ℕ) → weight ≡ sum_by (weight_in segments) (take i (take count segments)) →
     length (take count segments) ≤ i → weight ≡ weight_of_first segments count
@@ -17,9 +17,6 @@ pub no_type : (segments : List Segment) (width track kind : ℕ) → length segm
 unfolding type_of
 no_type segments width track kind all none =
     sym (first_below (reaches segments width track) (length segments) (length segments) (omega arith) (λ k l. none k (omega (arith, l, all))) (λ l. absurd (omega (arith, l))))
-
-pub types_next : (f : ℕ → ℕ) (i : ℕ) (now new : List ℕ) → now ≡ map f (numbers_below i) → new ≡ now ++ f i ∷ [] → new ≡ map f (numbers_below (i + 1))
-types_next f i now new so_far more = more ∙ ap (λ ns. ns ++ f i ∷ []) so_far ∙ mapped_next f i
 
 pub type_found : (f : ℕ → ℕ) (n i : ℕ) (types : List ℕ) → types ≡ map f (numbers_below n) → i < length types → get_or types i 0 ≡ f i
 type_found f n i types are l =

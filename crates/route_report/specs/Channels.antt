@@ -2,10 +2,10 @@
 use Rattle.std.specs.Prelude.{ℕ, ◌+◌, Bool, false, min, sum, if◌then◌else◌, List, ◌++◌, map, get_or}
 use Rattle.std.specs.List.{sum_by}
 use Rattle.std.specs.Option.{option_map_or}
-use Rattle.routing_problem.specs.parts.Kind.{Kind}
-use Rattle.routing_problem.specs.parts.Kind.TheVariants.{Chanx, Chany}
-use Rattle.routing_problem.specs.parts.Mode.{Mode}
-use Rattle.routing_problem.specs.parts.Mode.TheVariants.{Detailed, Global}
+use Rattle.routing_problem.specs.node.Kind.{Kind}
+use Rattle.routing_problem.specs.node.Kind.TheVariants.{Chanx, Chany}
+use Rattle.routing_problem.specs.node.Mode.{Mode}
+use Rattle.routing_problem.specs.node.Mode.TheVariants.{Detailed, Global}
 use Rattle.routing_problem.specs.Fabric.{Fabric, numbers_below}
 use Rattle.routing_problem.specs.Wires.{Place, runs_through}
 use Rattle.routing_problem.specs.Nodes.{node_at, node_count_of}

@@ -1,8 +1,8 @@
 -- How many places wires pass, and how long nets are.
 use Rattle.std.specs.Prelude.{ℕ, ◌+◌, ◌-◌, ◌==◌, max, List, [], ◌∷◌, length, map, get_or, Option, Some, None}
 use Rattle.std.specs.List.{sum_by, find}
-use Rattle.routing_problem.specs.parts.Kind.{Kind}
-use Rattle.routing_problem.specs.parts.Span.{Span}
+use Rattle.routing_problem.specs.node.Kind.{Kind}
+use Rattle.routing_problem.specs.node.Span.{Span}
 use Rattle.routing_problem.specs.Fabric.{Fabric, numbers_below}
 use Rattle.routing_problem.specs.Nodes.{node_at, wire_in}
 use Rattle.routing_problem.specs.Problems.{RoutingProblem}

@@ -1,6 +1,7 @@
 //! How full the channels are.
 
 ghost use Rattle.std.specs.Prelude.{◌≡◌, ◌++◌, ◌≤◌, ◌<◌, ◌^◌, ℕ, [], All, IfOk, OnOk, length, get_or};
+ghost use Rattle.routing_problem.specs.Fabric.{IsFabric};
 ghost use Rattle.route_report.specs.Channels.{channel_with, channels_along, channels_of};
 ghost use Rattle.route_report.specs.kept.Channels.{AreSmall, numbered};
 
@@ -100,11 +101,11 @@ fn push_channels_along(
     count: u32,
     list: &mut Vec<ChannelUse>,
 ) -> Result<(), AllocError>
+    requires limits { IsFabric device.now }
     requires few { places ≤ 65535 }
     ensures { OnOk result (list.new.items ≡
         list.old.items ++ channels_along device.now uses.now kind places count) }
 {
-    let _limits = device.nx();
     let channels = occupancies(alloc, device, uses, kind, places, count)?;
     push_channels(alloc, kind, &channels, count, list)?;
     Ok(())

@@ -135,7 +135,6 @@ pub fn figures_of(
 {
     let nets = problem.nets();
     let device = problem.device();
-    let _limits = device.nx();
     let lengths = wirelengths(alloc, problem, routing)?;
     Ok(Figures {
         nets,

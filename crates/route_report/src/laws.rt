@@ -3,7 +3,7 @@
 
 ghost use Rattle.std.specs.Prelude.{◌≡◌, ℕ, sum};
 ghost use Rattle.std.specs.List.{sum_by};
-ghost use Rattle.routing_problem.specs.parts.Mode.TheVariants.{Detailed, Global};
+ghost use Rattle.routing_problem.specs.node.Mode.TheVariants.{Detailed, Global};
 ghost use Rattle.routing_problem.specs.Fabric.{IsFabric};
 ghost use Rattle.route_tree.specs.Usage.{overuse_of};
 ghost use Rattle.route_report.specs.Channels.{channels_of};

@@ -156,21 +156,9 @@ fn occupy_node(device: &Device, uses: &[u16], kind: Kind, channels: &mut [Places
     occupy_stretch(channels, stretch, by);
 }
 
-/// The tracks that all nodes occupy.
-#[tactic(auto, using(crate::proofs::Occupying::none_occupied, crate::proofs::Occupying::node_occupied))]
-fn occupy_all(device: &Device, uses: &[u16], kind: Kind, channels: &mut [Places], places: u32)
-    requires { channels.old ≡ replicate (length channels.old) (replicate places 0) }
-    ensures { IsOccupied device.now uses.now kind places (length channels.old)
-        (node_count_of device.now) channels.new }
-{
-    for node in 0..device.node_count() {
-        occupy_node(device, uses, kind, channels, node);
-    }
-}
-
 /// How many tracks are occupied at each place of the channels of a kind: so many channels, each of
 /// so many places.
-#[tactic(auto, using(crate::proofs::Occupying::all_occupied))]
+#[tactic(auto, using(crate::proofs::Occupying::none_occupied, crate::proofs::Occupying::node_occupied, crate::proofs::Occupying::all_occupied))]
 pub(crate) fn occupancies(
     alloc: Global,
     device: &Device,
@@ -183,6 +171,8 @@ pub(crate) fn occupancies(
         map (occupancies_in device.now uses.now kind places) (numbers_below count)) }
 {
     let mut channels = free_channels(alloc, count, places)?;
-    occupy_all(device, uses, kind, &mut channels, places);
+    for node in 0..device.node_count() {
+        occupy_node(device, uses, kind, &mut channels, node);
+    }
     Ok(channels)
 }

@@ -68,7 +68,7 @@ fn track_type(device: &Device, track: u32) -> usize
 }
 
 /// The types of the tracks of a channel.
-#[tactic(auto, using(crate::proofs::TypesOfTracks::types_next))]
+#[tactic(auto, using(crate::proofs::Lengths::lengths_next))]
 pub(crate) fn track_types(alloc: Global, device: &Device) -> Result<Vec<usize>, AllocError>
     ensures { IfOk result
         (λ v. v.items ≡ map (track_type device.now) (numbers_below device.now.width)) }

@@ -4,7 +4,8 @@ ghost use Rattle.std.specs.Prelude.{◌≡◌, ◌∷◌, [], ◌+◌, ◌<◌, 
 ghost use Rattle.routing_problem.specs.Nodes.{node_count_of};
 ghost use Rattle.routing_problem.specs.Problems.{IsProblem};
 ghost use Rattle.route_report.specs.Covered.{nodes_covered, uses_of, is_used};
-ghost use Rattle.route_report.specs.kept.Counting.{Counts, AreUses};
+ghost use Rattle.route_tree.specs.kept.Counting.{Counts};
+ghost use Rattle.route_report.specs.kept.Counting.{AreUses};
 
 use crate::covered::nodes_covered;
 use route_tree::{Pairs, Routing};
@@ -30,7 +31,7 @@ pub(crate) fn is_used(uses: &[u16], node: u32) -> bool
 }
 
 /// Counts a node once more.
-#[tactic(auto, using(crate::proofs::Counting::counts_one))]
+#[tactic(auto, using(route_tree::proofs::Counting::counts_one))]
 fn count_node(counts: &mut [u16], node: u32)
     requires there { node < length counts.old }
     requires room { get_or counts.old node 0 < 65535 }

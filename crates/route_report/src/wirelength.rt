@@ -2,7 +2,7 @@
 
 ghost use Rattle.std.specs.Prelude.{◌≡◌, ◌*◌, ◌^◌, ◌<◌, ◌≤◌, ℕ, ◌==◌, IfOk, All, length, sum, map, get_or};
 ghost use Rattle.std.specs.List.{sum_by, find};
-ghost use Rattle.routing_problem.specs.Fabric.{numbers_below};
+ghost use Rattle.routing_problem.specs.Fabric.{IsFabric, numbers_below};
 ghost use Rattle.routing_problem.specs.Nodes.{node_count_of};
 ghost use Rattle.route_report.specs.Covered.{nodes_covered};
 ghost use Rattle.route_report.specs.Wirelength.{places_along, places_at, wirelength_of, wirelengths_of, greatest_in, first_greatest};
@@ -21,7 +21,8 @@ fn places_along(span: Span) -> u64
 
 #[tactic(auto, unfolding(crate::specs::Wirelength::places_at))]
 fn places_of_wire(device: &Device, node: u32) -> u64
-    ensures { result ≡ places_at device.now node }
+    ensures places { result ≡ places_at device.now node }
+    ensures limits { IsFabric device.now }
 {
     match device.wire(node) {
         Some((_, span, _)) => places_along(span),
@@ -35,7 +36,6 @@ pub fn places_at(device: &Device, node: u32) -> u64
     ensures places { result ≡ places_at device.now node }
     ensures few { result ≤ 128 }
 {
-    let _limits = device.nx();
     places_of_wire(device, node)
 }
 
@@ -63,7 +63,6 @@ fn wirelength(
     ensures { IfOk result (λ places. places ≡ wirelength_of problem.now lists.now net) }
 {
     let device = problem.device();
-    let _limits = device.nx();
     let nodes = nodes_covered(alloc, problem, lists, net)?;
     Ok(places_of(device, &nodes))
 }

@@ -15,3 +15,4 @@ pub mod FirstTests
 pub mod Lawful
 pub mod LegalLists
 pub mod Examples
+pub mod Counting

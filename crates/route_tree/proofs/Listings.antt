@@ -3,20 +3,17 @@ use Rattle.std.proofs.Common.{◌≡◌, ℕ, ◌+◌, ◌-◌, ◌<◌, ◌==�
 use Rattle.std.specs.Prelude.{take}
 use Rattle.std.specs.List.{list_any, range_with_len}
 use Rattle.std.proofs.lemmas.Bool.{and_parts, not-false, or_cases, or_left, or_right}
-use Rattle.std.proofs.lemmas.Bool.Decides.{nat_tests}
 use Rattle.routing_problem.specs.Fabric.{Fabric}
 use Rattle.routing_problem.specs.Problems.{Net, is_sink}
 use Rattle.route_tree.specs.Paths.{Pair, ends_of}
 use Rattle.route_tree.specs.Legality.{is_among, may_begin, is_listed_after, is_listed}
 use Rattle.route_tree.specs.Faults.{begins_elsewhere}
 use Rattle.route_tree.specs.kept.Ladder.{HangOnEarlier, breaks_at, breaks_off}
+use Rattle.route_tree.proofs.RowTests.{same_test}
 
 any_later : (test shifted : ℕ → Bool) → ((k : ℕ) → test (k + 1) ≡ shifted k) → (a m : ℕ) → list_any test (range_with_len (a + 1) m) ≡ list_any shifted (range_with_len a m)
 any_later test shifted same a zero = refl
 any_later test shifted same a (suc m) = ap₂ (λ b c. b || c) (same a) (any_later test shifted same (a + 1) m)
-
-same_test : (a b : ℕ) → (a == b) ≡ (b == a)
-same_test a b = grind (arith, nat_tests)
 
 swapped : (s x e r : Bool) → (s || (e || (x || r))) ≡ (s || ((x || e) || r))
 swapped true x e r = refl

@@ -58,7 +58,7 @@ moved false true b false = refl
 moved false false b true = refl
 moved false false b false = refl
 
-same_test : (x y : ℕ) → (x == y) ≡ (y == x)
+pub same_test : (x y : ℕ) → (x == y) ≡ (y == x)
 same_test x y = elim (cases_Bool (x == y)) [
   | inl e ↦ e ∙ sym (eq-eqb y x (sym (eqb-true x y e)))
   | inr e ↦ elim (cases_Bool (y == x)) [ inl k ↦ absurd (false≢true (sym e ∙ eq-eqb x y (sym (eqb-true y x k)))) | inr k ↦ e ∙ sym k ]
@@ -110,7 +110,7 @@ count_next p pairs i l = elim (cases_Bool (p (get_or pairs i (0, 0)))) [
   | inr t ↦ (let e = count_by_more_no p pairs i (0, 0) l t in rw t (omega (arith, e)))
 ]
 
-ends_of_rows : (f : Row → Pair) → ((r : Row) → (f r).1 ≡ r.node) → (rows : List Row) → nodes_of rows ≡ ends_of (map f rows)
+pub ends_of_rows : (f : Row → Pair) → ((r : Row) → (f r).1 ≡ r.node) → (rows : List Row) → nodes_of rows ≡ ends_of (map f rows)
 ends_of_rows f same [] = refl
 ends_of_rows f same (r ∷ rs) = ap₂ (λ x xs. x ∷ xs) (sym (same r)) (ends_of_rows f same rs)
 

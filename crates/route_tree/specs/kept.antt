@@ -1,3 +1,4 @@
 pub mod Fields
 pub mod Ladder
 pub mod Marked
+pub mod Counting

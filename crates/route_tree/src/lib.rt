@@ -2,11 +2,11 @@
 #![tactic(auto)]
 
 mod check;
+mod equality;
 mod fault;
 mod marks;
 mod passes;
 mod routing;
-mod same;
 mod stamps;
 mod tree;
 

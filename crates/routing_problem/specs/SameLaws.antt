@@ -7,8 +7,8 @@ use Rattle.std.proofs.lemmas.Bool.{false≢true}
 use Rattle.std.proofs.lemmas.Bool.Decides.{Decides-and, Decides-like}
 use Rattle.arch_file.specs.SameLaws.{decides_from_tests, same_architecture}
 pub use Rattle.arch_file.specs.SameLaws.{equivalence_from_decides}
-use Rattle.channel_tables.specs.declared.parts.Mode.{Mode}
-use Rattle.channel_tables.specs.declared.parts.Mode.TheVariants.{Detailed, Global}
+use Rattle.channel_tables.specs.declared.node.Mode.{Mode}
+use Rattle.channel_tables.specs.declared.node.Mode.TheVariants.{Detailed, Global}
 use Rattle.channel_tables.specs.Fabric.{Fabric}
 use Rattle.routing_problem.specs.Problems.{Net, RoutingProblem}
 use Rattle.routing_problem.specs.Same.{same_mode, is_same_device, is_same_net, is_same_problem}

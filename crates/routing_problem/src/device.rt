@@ -236,7 +236,8 @@ impl Device {
     /// The kind of a wire, the places that it passes, and how many the wires of its track pass at most, from one look-up;
     /// None for what is no wire.
     pub fn wire(&self, id: u32) -> Option<(Kind, Span, u32)>
-        ensures { result ≡ wire_in self.now (node_at self.now id) }
+        ensures wire { result ≡ wire_in self.now (node_at self.now id) }
+        ensures limits { IsFabric self.now }
     {
         self.graph.nodes().wire(id)
     }

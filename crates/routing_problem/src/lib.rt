@@ -3,12 +3,12 @@
 #![tactic(auto)]
 
 mod device;
+mod equality;
 mod fault;
 mod finder;
 mod nets;
 mod parts_fault;
 mod problem;
-mod same;
 
 pub use channel_tables::{Kind, Label, Mode, Node, NodeRange, Span};
 pub use device::Device;

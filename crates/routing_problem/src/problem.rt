@@ -2,7 +2,7 @@
 
 ghost use Rattle.std.specs.Prelude.{◌≡◌, ◌+◌, ◌<◌, length, IfOk};
 ghost use Rattle.std.specs.List.{list_all};
-ghost use Rattle.channel_tables.specs.Fabric.{numbers_below};
+ghost use Rattle.channel_tables.specs.Fabric.{IsFabric, numbers_below};
 ghost use Rattle.routing_problem.specs.Problems.{IsProblem, net_in, net_fault, first_some, parts_fault, problem_of, ascends, are_sinks, is_out_of_order, rises_at};
 ghost use Rattle.node_numbers.specs.Nodes.{is_sink};
 
@@ -154,10 +154,14 @@ impl Problem {
     }
 
     /// The device.
+    #[inline(always)]
     pub fn device(&self) -> &Device
-        ensures { result.now ≡ self.now.device }
+        ensures device { result.now ≡ self.now.device }
+        ensures limits { IsFabric self.now.device }
     {
-        &self.device
+        let device = &self.device;
+        let _limits = device.nx();
+        device
     }
 
     /// How many nets there are; they are counted from 0.

@@ -5,15 +5,16 @@ use Rattle.std.specs.List.{filter, AllPairs}
 use Rattle.std.specs.List.Sorted.{IsStrictlyIncreasing}
 use Rattle.std.proofs.lemmas.Bool.{cases_lt, false≢true}
 use Rattle.std.proofs.lemmas.Option.{slice_get_past, slice_get-get_or, same_Some}
-use Rattle.std.proofs.lemmas.List.Elements.{All-contains, filter_passes, Contains-append_left, Contains-push}
+use Rattle.std.proofs.lemmas.List.Elements.{All-contains, filter_passes, Contains-append_left}
 use Rattle.std.proofs.lemmas.List.Kept.{IsStrictlyIncreasing-filter}
 use Rattle.std.proofs.lemmas.List.FromFn.{length-range_with_len, get_or-range_with_len}
-use Rattle.channel_tables.specs.declared.parts.Node.{Node}
+use Rattle.channel_tables.specs.declared.node.Node.{Node}
 use Rattle.channel_tables.specs.Fabric.{Fabric, IsFabric, numbers_below}
 use Rattle.node_numbers.specs.Nodes.{nodes_of, node_count_of, node_at, number_of}
 use Rattle.rr_edges.specs.Edges.{edge_between_nodes, edge_between, successors_of}
-use Rattle.channel_tables.proofs.Ranges.{filter_next, kept_next}
+use Rattle.channel_tables.proofs.Ranges.{filter_next}
 use Rattle.node_numbers.proofs.Order.{number_of_node}
+use Rattle.node_numbers.proofs.Ascending.{kept_below}
 
 pub nodes_distinct : (f : Fabric) → IsFabric f → AllPairs (λ m n. m ≢ n) (nodes_of f)
 nodes_distinct f l i j d before within e =
@@ -59,12 +60,6 @@ still_kept p j m (suc k) h =
     let e : m + k + 1 ≡ m + suc k = omega arith in
     let more = subst (λ (ns : List ℕ). Contains ns j) (sym (filter_next p (m + k))) (Contains-append_left (filter p (numbers_below (m + k))) _ j (still_kept p j m k h)) in
     subst (λ n. Contains (filter p (numbers_below n)) j) e more
-
-kept_below : (p : ℕ → Bool) (n j : ℕ) → j < n → p j ≡ true → Contains (filter p (numbers_below n)) j
-kept_below p n j l t =
-    let e : j + 1 + (n - (j + 1)) ≡ n = omega arith in
-    let last = subst (λ (ns : List ℕ). Contains ns j) (kept_next p j t) (Contains-push (filter p (numbers_below j)) j) in
-    subst (λ m. Contains (filter p (numbers_below m)) j) e (still_kept p j (j + 1) (n - (j + 1)) last)
 
 pub successors_contain : (f : Fabric) (i j : ℕ) → Contains (successors_of f i) j ↔ (edge_between f i j ≡ true)
 unfolding successors_of

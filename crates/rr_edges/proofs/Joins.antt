@@ -4,8 +4,8 @@ use Rattle.std.specs.Prelude.{◌||◌, ◌&&◌, ◌==◌, not, nat_le}
 use Rattle.std.specs.List.{range_with_len, list_any, flat_map}
 use Rattle.std.proofs.lemmas.Bool.{cases_eq, eq-eqb, ne_eqb, false≢true}
 use Rattle.std.proofs.lemmas.Bool.Decides.{nat_tests}
-use Rattle.channel_tables.specs.declared.parts.Kind.{Kind}
-use Rattle.channel_tables.specs.declared.parts.Kind.TheVariants.{Chanx, Chany}
+use Rattle.channel_tables.specs.declared.node.Kind.{Kind}
+use Rattle.channel_tables.specs.declared.node.Kind.TheVariants.{Chanx, Chany}
 use Rattle.channel_tables.specs.Fabric.{Fabric}
 use Rattle.channel_tables.specs.Wires.{steps_of, last_of}
 use Rattle.node_numbers.specs.Nodes.{node_of, is_same}

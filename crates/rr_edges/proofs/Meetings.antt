@@ -4,6 +4,7 @@ use Rattle.std.specs.Prelude.{◌==◌, ◌&&◌, ◌||◌, not, nat_le, nat_lt}
 use Rattle.std.specs.List.{flat_map}
 use Rattle.std.proofs.lemmas.Bool.{and_left, eqb-false, le-ltb, and_parts, and_right, false_from_ne_true, eqb-true, or_from, cond_both, cases_lt, false≢true, leb-true, leb-false, ltb-true}
 use Rattle.std.proofs.lemmas.Bool.Decides.{nat_tests}
+use Rattle.std.proofs.Math.Bool.{or-false}
 use Rattle.channel_tables.specs.Fabric.{Fabric, numbers_below, is_between}
 use Rattle.channel_tables.specs.Wires.{begins, last_of}
 use Rattle.channel_tables.specs.Channels.{first_of}
@@ -12,10 +13,6 @@ use Rattle.channel_tables.proofs.Rising.{Rises, rises-lower, rises-higher}
 use Rattle.channel_tables.proofs.TrackWires.{IsBeginning, IsLast, beginning, beginning-test, begins_after, first_begins, first_of-is, first_of_grows, is_among, is_first_of, joined_below, last_of-is}
 
 -- ---- tests on a wire from q to l, where w says that one begins at q
-or_false : (b : Bool) → (b || false) ≡ b
-or_false true = refl
-or_false false = refl
-
 at_start : (w : Bool) (q l : ℕ) → (w ≡ true → (1 ≤ q) × (q ≤ l)) → ((w && (nat_le q 1 && nat_le 1 l)) || false) ≡ (w && (nat_le q (0 + 1) && nat_le 0 l))
 at_start false q l h = refl
 at_start true q l h = let d = h refl in grind (arith, nat_tests)
@@ -51,9 +48,9 @@ at_sides false q l x e n le h next =
 at_sides true q l x e n le h next = let d = h refl in grind (arith, nat_tests)
 
 among_sides : (u v : Bool) (a c q : ℕ) → is_among (cond u (a ∷ []) [] ++ cond v (c ∷ []) []) q ≡ ((u && q == a) || (v && q == c))
-among_sides true true a c q = ap (λ r. (q == a) || r) (or_false (q == c))
+among_sides true true a c q = ap (λ r. (q == a) || r) (or-false (q == c))
 among_sides true false a c q = refl
-among_sides false true a c q = or_false (q == c)
+among_sides false true a c q = or-false (q == c)
 among_sides false false a c q = refl
 
 module _ (f : Fabric) (n t : ℕ) where

@@ -5,10 +5,10 @@ use Rattle.std.specs.List.{range_with_len, filter, flat_map}
 use Rattle.std.proofs.lemmas.Bool.{cases_Bool, eqb-true}
 use Rattle.std.proofs.lemmas.Bool.Decides.{nat_tests}
 use Rattle.std.proofs.lemmas.List.{append-nil}
-use Rattle.arch_file.specs.declared.parts.Pin.{Pin}
-use Rattle.arch_file.specs.declared.parts.Sides.{Sides}
-use Rattle.channel_tables.specs.declared.parts.Kind.TheVariants.{Chanx, Chany}
-use Rattle.channel_tables.specs.declared.parts.Node.{Node}
+use Rattle.arch_file.specs.declared.entries.Pin.{Pin}
+use Rattle.arch_file.specs.declared.entries.Sides.{Sides}
+use Rattle.channel_tables.specs.declared.node.Kind.TheVariants.{Chanx, Chany}
+use Rattle.channel_tables.specs.declared.node.Node.{Node}
 use Rattle.channel_tables.specs.Fabric.{Fabric, is_block, is_pad}
 use Rattle.channel_tables.specs.Wires.{tracks_in}
 use Rattle.channel_tables.specs.Pins.{when}

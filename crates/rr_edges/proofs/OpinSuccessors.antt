@@ -5,11 +5,11 @@ use Rattle.std.specs.List.{flat_map, list_any, range_with_len}
 use Rattle.std.proofs.Math.Bool.{or-false}
 use Rattle.std.proofs.lemmas.Bool.{cases_Bool, cases_eq, eq-eqb, ne_eqb, eqb-true, and_parts, leb-true}
 use Rattle.std.proofs.lemmas.Bool.Decides.{nat_tests}
-use Rattle.arch_file.specs.declared.parts.Direction.TheVariants.{Output}
-use Rattle.arch_file.specs.declared.parts.Pin.{Pin}
-use Rattle.channel_tables.specs.declared.parts.Kind.{Kind}
-use Rattle.channel_tables.specs.declared.parts.Kind.TheVariants.{Opin, Chanx, Chany}
-use Rattle.channel_tables.specs.declared.parts.Node.{Node}
+use Rattle.arch_file.specs.declared.entries.Direction.TheVariants.{Output}
+use Rattle.arch_file.specs.declared.entries.Pin.{Pin}
+use Rattle.channel_tables.specs.declared.node.Kind.{Kind}
+use Rattle.channel_tables.specs.declared.node.Kind.TheVariants.{Opin, Chanx, Chany}
+use Rattle.channel_tables.specs.declared.node.Node.{Node}
 use Rattle.channel_tables.specs.Fabric.{Fabric, numbers_below, is_between, is_block, is_pad}
 use Rattle.channel_tables.specs.Wires.{Place, last_of, runs_through, beginnings_at}
 use Rattle.channel_tables.specs.Pins.{channels_of_pin, channel_of_pad, channels_beside, is_marked_global, pins_of, taps, when}

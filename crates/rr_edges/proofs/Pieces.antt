@@ -1,9 +1,9 @@
 -- The successors of a node, kind by kind and place by place.
 use Rattle.std.proofs.Common.{◌≡◌, ℕ, ◌+◌, false, List, [], ◌∷◌, ◌++◌, length, Some, refl, sym, ap, ◌∙◌, append-nil}
 use Rattle.std.specs.List.{flat_map, filter}
-use Rattle.channel_tables.specs.declared.parts.Kind.{Kind}
-use Rattle.channel_tables.specs.declared.parts.Kind.TheVariants.{Source, Sink, Opin, Ipin, Chanx, Chany}
-use Rattle.channel_tables.specs.declared.parts.Node.{Node}
+use Rattle.channel_tables.specs.declared.node.Kind.{Kind}
+use Rattle.channel_tables.specs.declared.node.Kind.TheVariants.{Source, Sink, Opin, Ipin, Chanx, Chany}
+use Rattle.channel_tables.specs.declared.node.Node.{Node}
 use Rattle.channel_tables.specs.Fabric.{Fabric, numbers_below}
 use Rattle.node_numbers.specs.Nodes.{numbers_at, node_of, nodes_at, nodes_of_column, nodes_of_kind, nodes_of, kinds, node_count_of, node_at}
 use Rattle.rr_edges.specs.Edges.{edge_by, edge_between_nodes, edge_between, is_edge, successors_of}

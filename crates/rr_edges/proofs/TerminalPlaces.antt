@@ -4,10 +4,10 @@ use Rattle.std.specs.Prelude.{◌==◌, ◌&&◌, nat_lt, slice_get}
 use Rattle.std.proofs.lemmas.Option.{none-some, same_Some}
 use Rattle.std.proofs.Math.Bool.{and-true}
 use Rattle.arch_file.specs.Architecture.{class_count, class_direction}
-use Rattle.arch_file.specs.declared.parts.Direction.TheVariants.{Input}
-use Rattle.arch_file.specs.declared.parts.Pin.{Pin}
-use Rattle.channel_tables.specs.declared.parts.Kind.TheVariants.{Sink, Opin}
-use Rattle.channel_tables.specs.declared.parts.Node.{Node}
+use Rattle.arch_file.specs.declared.entries.Direction.TheVariants.{Input}
+use Rattle.arch_file.specs.declared.entries.Pin.{Pin}
+use Rattle.channel_tables.specs.declared.node.Kind.TheVariants.{Sink, Opin}
+use Rattle.channel_tables.specs.declared.node.Node.{Node}
 use Rattle.channel_tables.specs.Fabric.{Fabric, IsFabric}
 use Rattle.channel_tables.specs.Pins.{has_direction, has_class, when, classes_of}
 use Rattle.node_numbers.specs.Nodes.{numbers_at, node_at}

@@ -8,8 +8,8 @@ use Rattle.std.proofs.lemmas.Bool.{cases_eq, eq-eqb, ne_eqb, eqb-true, false_fro
 use Rattle.std.proofs.lemmas.List.{map-append}
 use Rattle.std.proofs.lemmas.List.Folds.{list_any-append}
 use Rattle.std.proofs.lemmas.List.Elements.{filter_agree}
-use Rattle.channel_tables.specs.declared.parts.Mode.{Mode}
-use Rattle.channel_tables.specs.declared.parts.Mode.TheVariants.{Detailed, Global}
+use Rattle.channel_tables.specs.declared.node.Mode.{Mode}
+use Rattle.channel_tables.specs.declared.node.Mode.TheVariants.{Detailed, Global}
 use Rattle.channel_tables.specs.Fabric.{Fabric, IsFabric, numbers_below}
 use Rattle.channel_tables.specs.Wires.{tracks_in}
 use Rattle.channel_tables.specs.Pins.{tap_count, tracks_by, tapped_tracks}

@@ -2,10 +2,10 @@
 use Rattle.std.proofs.Common.{◌≡◌, ℕ, ◌+◌, ◌-◌, ◌*◌, ◌<◌, ◌≤◌, ◌⊎◌, Bool, true, false, length, map, zero, refl, sym, ap, ◌∙◌, arith}
 use Rattle.std.specs.Prelude.{◌==◌, if◌then◌else◌}
 use Rattle.std.proofs.lemmas.Bool.Decides.{nat_tests}
-use Rattle.arch_file.specs.declared.parts.Sides.{Sides}
+use Rattle.arch_file.specs.declared.entries.Sides.{Sides}
 use Rattle.channel_tables.specs.declared.channel.Wire.{Wire}
 use Rattle.rr_edges.specs.declared.fanout.Taps.{Taps}
-use Rattle.channel_tables.specs.declared.parts.Kind.TheVariants.{Chanx, Chany, Ipin}
+use Rattle.channel_tables.specs.declared.node.Kind.TheVariants.{Chanx, Chany, Ipin}
 use Rattle.channel_tables.specs.Fabric.{Fabric, is_between, is_block}
 use Rattle.channel_tables.specs.Wires.{begins, last_of}
 use Rattle.channel_tables.specs.Channels.{first_of, starting_at, wires_before, wire_number, wire_at}
@@ -113,10 +113,10 @@ module _ (f : Fabric) where
   pub first_of_column : (x : ℕ) → 1 ≤ x → x ≤ f.nx + 1 → place_start f Ipin x 0 ≡ kind_start f Ipin + (f.ny * f.architecture.io_rat + (x - 1) * pins_of_column f)
   first_of_column x l m = omega (arith, terminal_start f Ipin refl x 0 m (omega arith), columns_from x l, no_rows x)
 
-  pub pins_by_blocks : (x : ℕ) → 1 ≤ x → x ≤ f.nx → pins_of_row f x ≡ pins_of_block
+  pins_by_blocks : (x : ℕ) → 1 ≤ x → x ≤ f.nx → pins_of_row f x ≡ pins_of_block
   pins_by_blocks x l m = let inside : is_between 1 f.nx x ≡ true = grind (arith, nat_tests) in rw inside refl
 
-  pub pins_by_pads : (x : ℕ) → (x ≡ 0) ⊎ (x ≡ f.nx + 1) → pins_of_row f x ≡ f.architecture.io_rat
+  pins_by_pads : (x : ℕ) → (x ≡ 0) ⊎ (x ≡ f.nx + 1) → pins_of_row f x ≡ f.architecture.io_rat
   pins_by_pads x end = let outside : is_between 1 f.nx x ≡ false = grind (arith, nat_tests) in rw outside refl
 
   pub first_of_block : (x y : ℕ) → 1 ≤ x → x ≤ f.nx → 1 ≤ y → y ≤ f.ny + 1 → place_start f Ipin x y ≡ place_start f Ipin x 0 + (f.architecture.io_rat + (y - 1) * pins_of_block)
@@ -150,9 +150,9 @@ module _ (f : Fabric) where
       row_pads which end = here false which (x + k) y k (grind (arith, nat_tests)) (omega (arith, start, ap (λ s. k * s) step, pins_by_column x y k from upto (omega arith)))
 
     -- along a column
-    module _ (x y k : ℕ) (start : taps.start ≡ place_start f Ipin x y) (step : taps.step ≡ pins_of_row f x) (from : 1 ≤ y) (upto : y + k ≤ f.ny) where
-      pub column_pins : taps.places.now ≡ tapping_pins f side t → 1 ≤ x → x ≤ f.nx → pins_at taps k ≡ pins_beside f side x (y + k) t
-      column_pins which l m = here true which x (y + k) k (grind (arith, nat_tests)) (omega (arith, start, ap (λ s. k * s) step, pins_by_row x y k (omega arith) from (omega arith)))
+    module _ (x y k : ℕ) (start : taps.start ≡ place_start f Ipin x y) (from : 1 ≤ y) (upto : y + k ≤ f.ny) where
+      pub column_pins : taps.step ≡ pins_of_block → taps.places.now ≡ tapping_pins f side t → 1 ≤ x → x ≤ f.nx → pins_at taps k ≡ pins_beside f side x (y + k) t
+      column_pins step which l m = here true which x (y + k) k (grind (arith, nat_tests)) (omega (arith, start, ap (λ s. k * s) (step ∙ sym (pins_by_blocks x l m)), pins_by_row x y k (omega arith) from (omega arith)))
 
-      pub column_pads : taps.places.now ≡ tapping_pads f t → (x ≡ 0) ⊎ (x ≡ f.nx + 1) → pins_at taps k ≡ pins_beside f side x (y + k) t
-      column_pads which end = here false which x (y + k) k (grind (arith, nat_tests)) (omega (arith, start, ap (λ s. k * s) step, pins_by_row x y k (omega arith) from (omega arith)))
+      pub column_pads : taps.step ≡ f.architecture.io_rat → taps.places.now ≡ tapping_pads f t → (x ≡ 0) ⊎ (x ≡ f.nx + 1) → pins_at taps k ≡ pins_beside f side x (y + k) t
+      column_pads step which end = here false which x (y + k) k (grind (arith, nat_tests)) (omega (arith, start, ap (λ s. k * s) (step ∙ sym (pins_by_pads x end)), pins_by_row x y k (omega arith) from (omega arith)))

@@ -4,9 +4,9 @@ use Rattle.std.specs.Prelude.{◌||◌, ◌==◌, ◌&&◌, not, nat_le}
 use Rattle.std.specs.List.{range_with_len, flat_map}
 use Rattle.std.proofs.lemmas.Bool.Decides.{nat_tests}
 use Rattle.std.proofs.lemmas.List.Concat.{flat_map_single}
-use Rattle.arch_file.specs.declared.parts.Sides.{Sides}
-use Rattle.channel_tables.specs.declared.parts.Kind.TheVariants.{Chanx, Chany, Ipin}
-use Rattle.channel_tables.specs.declared.parts.Node.{Node}
+use Rattle.arch_file.specs.declared.entries.Sides.{Sides}
+use Rattle.channel_tables.specs.declared.node.Kind.TheVariants.{Chanx, Chany, Ipin}
+use Rattle.channel_tables.specs.declared.node.Node.{Node}
 use Rattle.channel_tables.specs.Fabric.{Fabric, IsFabric, numbers_below, is_between, is_block, is_pad}
 use Rattle.channel_tables.specs.Wires.{tracks_in, begins, steps_of, last_of, places_of, runs_through}
 use Rattle.node_numbers.specs.Nodes.{node_of, node_at}

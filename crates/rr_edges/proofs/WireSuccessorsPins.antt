@@ -6,11 +6,11 @@ use Rattle.std.proofs.lemmas.Bool.{cases_Bool, false≢true}
 use Rattle.std.proofs.lemmas.Bool.Decides.{nat_tests}
 use Rattle.std.proofs.Math.Bool.{or-false}
 use Rattle.std.proofs.lemmas.List.Folds.{list_any-append}
-use Rattle.arch_file.specs.declared.parts.Direction.TheVariants.{Input}
-use Rattle.arch_file.specs.declared.parts.Pin.{Pin}
-use Rattle.arch_file.specs.declared.parts.Sides.{Sides}
-use Rattle.channel_tables.specs.declared.parts.Kind.{Kind}
-use Rattle.channel_tables.specs.declared.parts.Kind.TheVariants.{Chanx, Chany, Ipin}
+use Rattle.arch_file.specs.declared.entries.Direction.TheVariants.{Input}
+use Rattle.arch_file.specs.declared.entries.Pin.{Pin}
+use Rattle.arch_file.specs.declared.entries.Sides.{Sides}
+use Rattle.channel_tables.specs.declared.node.Kind.{Kind}
+use Rattle.channel_tables.specs.declared.node.Kind.TheVariants.{Chanx, Chany, Ipin}
 use Rattle.channel_tables.specs.Fabric.{Fabric, numbers_below, is_block, is_pad}
 use Rattle.channel_tables.specs.Wires.{Place, runs_through}
 use Rattle.channel_tables.specs.Pins.{pins_of, tapped_tracks, is_marked_global, when, channels_of_pin, channel_of_pad, channels_beside, taps}

@@ -2,9 +2,9 @@
 -- "switch_block_type subset").
 use Rattle.std.specs.Prelude.{ℕ, ◌-◌, ◌==◌, Bool, ◌&&◌, not, false, List, [], ◌∷◌, length, Option, Some}
 use Rattle.std.specs.List.{flat_map, filter, list_any, sum_by}
-use Rattle.channel_tables.specs.declared.parts.Kind.{Kind}
-use Rattle.channel_tables.specs.declared.parts.Kind.TheVariants.{Source, Sink, Opin, Ipin, Chanx, Chany}
-use Rattle.channel_tables.specs.declared.parts.Node.{Node}
+use Rattle.channel_tables.specs.declared.node.Kind.{Kind}
+use Rattle.channel_tables.specs.declared.node.Kind.TheVariants.{Source, Sink, Opin, Ipin, Chanx, Chany}
+use Rattle.channel_tables.specs.declared.node.Node.{Node}
 use Rattle.channel_tables.specs.Fabric.{Fabric, numbers_below}
 use Rattle.channel_tables.specs.Wires.{places_of}
 use Rattle.channel_tables.specs.Pins.{taps, belongs}

@@ -1,6 +1,6 @@
 -- Nodes that were found by their numbers.
 use Rattle.std.specs.Prelude.{◌≡◌, ℕ, true, false, Option, Some, None}
-use Rattle.rr_edges.specs.declared.found.FoundNode.{FoundNode}
+use Rattle.rr_edges.specs.declared.found_node.FoundNode.{FoundNode}
 use Rattle.channel_tables.specs.Fabric.{Fabric}
 use Rattle.channel_tables.specs.LastPlaces.{last_by}
 use Rattle.node_numbers.specs.Nodes.{node_at}

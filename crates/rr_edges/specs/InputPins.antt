@@ -1,7 +1,7 @@
 -- Ranges of numbers, and the input pins of a sink.
 use Rattle.std.specs.Prelude.{◌≡◌, ℕ, ◌<◌, ◌≤◌, [], ◌∷◌, Some}
-use Rattle.channel_tables.specs.declared.parts.Kind.TheVariants.{Ipin}
-use Rattle.channel_tables.specs.declared.parts.NodeRange.{NodeRange}
+use Rattle.channel_tables.specs.declared.node.Kind.TheVariants.{Ipin}
+use Rattle.channel_tables.specs.declared.node.NodeRange.{NodeRange}
 use Rattle.channel_tables.specs.Fabric.{Fabric}
 use Rattle.node_numbers.specs.Nodes.{kind_of_node}
 use Rattle.rr_edges.specs.Edges.{successors_of}

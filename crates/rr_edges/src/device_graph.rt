@@ -49,7 +49,6 @@ impl DeviceGraph {
     {
         let tables = ChannelTables::new(alloc, arch, nx, ny, width, mode)?;
         let nodes = NodeNumbers::new(alloc, tables)?;
-        let _limits = nodes.layout().nx();
         Ok(DeviceGraph { nodes })
     }
 
@@ -58,14 +57,14 @@ impl DeviceGraph {
         ensures { IfOk result (λ g. g ≡ self.now) }
     {
         let nodes = self.nodes.copy(alloc)?;
-        let _limits = nodes.layout().nx();
         Ok(DeviceGraph { nodes })
     }
 
     /// The nodes by number.
     #[inline(always)]
     pub fn nodes(&self) -> &NodeNumbers
-        ensures { result.now ≡ self.now }
+        ensures nodes { result.now ≡ self.now }
+        ensures limits { IsFabric self.now }
     {
         &self.nodes
     }
@@ -73,7 +72,8 @@ impl DeviceGraph {
     /// What the device is made from.
     #[inline(always)]
     pub fn layout(&self) -> &Layout
-        ensures { result.now ≡ self.now }
+        ensures layout { result.now ≡ self.now }
+        ensures limits { IsFabric self.now }
     {
         self.nodes.layout()
     }
@@ -81,7 +81,8 @@ impl DeviceGraph {
     /// The tables of the device's channels and pins.
     #[inline(always)]
     pub(crate) fn tables(&self) -> &ChannelTables
-        ensures { result.now ≡ self.now }
+        ensures tables { result.now ≡ self.now }
+        ensures limits { IsFabric self.now }
     {
         self.nodes.tables()
     }
@@ -104,7 +105,8 @@ impl DeviceGraph {
 
     /// Whether each track has wires of its own.
     pub(crate) fn mode(&self) -> Mode
-        ensures { result ≡ self.now.mode }
+        ensures mode { result ≡ self.now.mode }
+        ensures limits { IsFabric self.now }
     {
         self.layout().mode()
     }
@@ -121,13 +123,15 @@ impl DeviceGraph {
     pub(crate) fn node(&self, id: u32) -> Option<Node>
         ensures node { result ≡ node_at self.now id }
         ensures inverse { IfSome result (λ n. number_of self.now n ≡ Some id) }
+        ensures limits { IsFabric self.now }
     {
         self.nodes.node(id)
     }
 
     /// The kind of the node of a number, found without the node.
     pub(crate) fn kind(&self, id: u32) -> Option<Kind>
-        ensures { result ≡ kind_of_node self.now id }
+        ensures kind { result ≡ kind_of_node self.now id }
+        ensures limits { IsFabric self.now }
     {
         self.nodes.kind(id)
     }
@@ -148,7 +152,6 @@ impl DeviceGraph {
         ensures sink { IfSome result (λ sink. successors_of self.now id ≡ sink ∷ []) }
         ensures pin { IsSome result ↔ (kind_of_node self.now id ≡ Some Kind.Ipin) }
     {
-        let _limits = self.nx();
         match self.kind(id) {
             Some(Kind::Ipin) => match self.node(id) {
                 Some(pin) => self.sink_beside(pin),
@@ -164,7 +167,6 @@ impl DeviceGraph {
         ensures count { result ≡ length (successors_of self.now id) }
         ensures few { result < 2 ^ 23 }
     {
-        let _limits = self.nx();
         match self.node(id) {
             None => 0,
             Some(node) => self.degree_of(node),
@@ -208,7 +210,6 @@ impl DeviceGraph {
         ensures room { length (successors_of self.now id) ≤ list.old.capacity → IsOk result }
         ensures kept { list.old.capacity ≤ list.new.capacity }
     {
-        let _limits = self.nx();
         list.clear();
         match self.node(id) {
             None => Ok(()),

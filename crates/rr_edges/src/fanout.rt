@@ -6,7 +6,7 @@ ghost use Rattle.smallvec.specs.SmallVec.{HasRoomFor};
 ghost use Rattle.channel_tables.specs.Fabric.{numbers_below};
 ghost use Rattle.channel_tables.specs.Pins.{when};
 ghost use Rattle.rr_edges.specs.kept.Pushes.{Pushes};
-ghost use Rattle.rr_edges.specs.kept.Fanouts.{numbers_of, runs_of, number_in, run_list, by_run, by_place, pins_at, row_list, column_list, IsSmallRun, IsSmallMeeting, IsSmallTaps, IsSmallRow, IsSmallColumn};
+ghost use Rattle.rr_edges.specs.kept.Fanouts.{numbers_of, runs_of, number_in, run_list, by_run, by_place, pins_at, row_list, column_list, fanout_list, IsSmallRun, IsSmallMeeting, IsSmallTaps, IsSmallFanout};
 
 use smallvec::SmallVec;
 use std::alloc::AllocError;
@@ -20,7 +20,7 @@ pub(crate) struct Pair {
 
 /// Numbers at even distances.
 #[derive(Clone, Copy, Debug)]
-pub(crate) struct Run {
+pub(crate) struct NumberRun {
     pub(crate) first: u32,
     pub(crate) step: u32,
 }
@@ -28,8 +28,8 @@ pub(crate) struct Run {
 /// The wires of a track that meet at the corners of a row or column: one or two at each corner.
 #[derive(Clone, Copy, Debug)]
 pub(crate) struct Meeting {
-    pub(crate) one: Run,
-    pub(crate) two: Option<Run>,
+    pub(crate) one: NumberRun,
+    pub(crate) two: Option<NumberRun>,
 }
 
 /// The pins that tap a wire on one side of it.
@@ -42,26 +42,25 @@ pub(crate) struct Taps<'a> {
     pub(crate) step: u32,
 }
 
-/// What a wire above a row leads to.
-#[derive(Clone, Copy)]
-pub(crate) struct RowFanout<'a> {
-    pub(crate) under: Taps<'a>,
-    pub(crate) over: Taps<'a>,
-    /// How many places the wire passes.
-    pub(crate) places: u32,
-    pub(crate) beside: Pair,
-    pub(crate) crossing: Meeting,
+/// Whether a wire runs above a row or right of a column.
+#[derive(Clone, Copy, Debug)]
+pub(crate) enum Axis {
+    Row,
+    Column,
 }
 
-/// What a wire right of a column leads to.
+/// What a wire leads to.
 #[derive(Clone, Copy)]
-pub(crate) struct ColumnFanout<'a> {
-    pub(crate) before: Taps<'a>,
-    pub(crate) behind: Taps<'a>,
+pub(crate) struct Fanout<'a> {
+    /// It decides in which order the nodes stand.
+    pub(crate) axis: Axis,
+    /// The pins under it or left of it, and those over it or right of it.
+    pub(crate) low: Taps<'a>,
+    pub(crate) high: Taps<'a>,
     /// How many places the wire passes.
     pub(crate) places: u32,
-    pub(crate) crossing: Meeting,
     pub(crate) beside: Pair,
+    pub(crate) crossing: Meeting,
 }
 
 /// Pushes the number if the test holds.
@@ -97,7 +96,7 @@ impl Pair {
     }
 }
 
-impl Run {
+impl NumberRun {
     #[inline(always)]
     #[tactic(auto, using(crate::proofs::Pushes::room_mapped))]
     fn push(self, list: &mut SmallVec<u32, 8>, count: u32)
@@ -115,7 +114,7 @@ impl Run {
 
     /// The numbers of two runs, by turns.
     #[inline(always)]
-    fn push_with(self, other: Run, list: &mut SmallVec<u32, 8>, count: u32)
+    fn push_with(self, other: NumberRun, list: &mut SmallVec<u32, 8>, count: u32)
         requires room { HasRoomFor list.old (length
             (flat_map (λ k. number_in k self ∷ number_in k other ∷ []) (numbers_below count))) }
         requires small { IsSmallRun self }
@@ -232,136 +231,87 @@ impl Taps<'_> {
     }
 }
 
-impl RowFanout<'_> {
+impl Fanout<'_> {
     #[inline(always)]
     pub(crate) fn push(self, list: &mut SmallVec<u32, 8>)
-        requires room { HasRoomFor list.old (length (row_list self)) }
-        requires small { IsSmallRow self }
-        ensures { Pushes list.old (row_list self.entry) list.new }
+        requires room { HasRoomFor list.old (length (fanout_list self)) }
+        requires small { IsSmallFanout self }
+        ensures { Pushes list.old (fanout_list self.entry) list.new }
     {
         self.push_along(list, self.places);
     }
 
     /// Pushes it; for a number of places that is known when this is inlined, without loops.
     #[inline(always)]
-    #[tactic(auto, using(crate::proofs::Pushes::pushed_then, crate::proofs::Pushes::room_first, crate::proofs::Pushes::room_then), unfolding(crate::specs::kept::Fanouts::row_list))]
     fn push_along(self, list: &mut SmallVec<u32, 8>, places: u32)
+        requires room { HasRoomFor list.old (length (fanout_list self)) }
+        requires small { IsSmallFanout self }
+        requires places { places ≡ self.places }
+        ensures { Pushes list.old (fanout_list self.entry) list.new }
+    {
+        match self.axis {
+            Axis::Row => self.push_along_row(list, places),
+            Axis::Column => self.push_along_column(list, places),
+        }
+    }
+
+    /// Pushes it as of a wire above a row.
+    #[inline(always)]
+    #[tactic(auto, using(crate::proofs::Pushes::pushed_then, crate::proofs::Pushes::room_first, crate::proofs::Pushes::room_then), unfolding(crate::specs::kept::Fanouts::row_list))]
+    fn push_along_row(self, list: &mut SmallVec<u32, 8>, places: u32)
         requires room { HasRoomFor list.old (length (row_list self)) }
-        requires small { IsSmallRow self }
+        requires small { IsSmallFanout self }
         requires places { places ≡ self.places }
         ensures { Pushes list.old (row_list self.entry) list.new }
     {
-        self.under.push_with(self.over, list, places);
+        self.low.push_with(self.high, list, places);
         self.beside.push(list);
         self.crossing.push_by_place(list, places + 1);
     }
 
-    #[inline(always)]
-    pub(crate) fn count(self) -> u32
-        requires { IsSmallRow self }
-        ensures count { result ≡ length (row_list self.entry) }
-        ensures few { result ≤ 20000 }
-    {
-        self.count_along(self.places)
-    }
-
-    #[inline(always)]
-    #[tactic(auto, using(crate::proofs::Fanouts::row_length))]
-    fn count_along(self, places: u32) -> u32
-        requires small { IsSmallRow self }
-        requires places { places ≡ self.places }
-        ensures count { result ≡ length (row_list self.entry) }
-        ensures few { result ≤ 20000 }
-    {
-        let pins = self.under.count() + self.over.count();
-        places * pins + self.beside.count() + (places + 1) * self.crossing.count()
-    }
-
-    /// Pushes it, if memory is found for all of it.
-    #[inline(always)]
-    pub(crate) fn fill(self, list: &mut SmallVec<u32, 8>) -> Result<(), AllocError>
-        requires { IsSmallRow self }
-        ensures filled { OnOk result (list.new.items ≡ list.old.items ++ row_list self.entry) }
-        ensures refused { OnErr result (list.new ≡ list.old) }
-        ensures room { HasRoomFor list.old (length (row_list self.entry)) → IsOk result }
-        ensures kept { list.old.capacity ≤ list.new.capacity }
-    {
-        if self.places == 1 {
-            self.fill_along(list, 1)?;
-        } else {
-            self.fill_along(list, self.places)?;
-        }
-        Ok(())
-    }
-
-    #[inline(always)]
-    fn fill_along(self, list: &mut SmallVec<u32, 8>, places: u32) -> Result<(), AllocError>
-        requires small { IsSmallRow self }
-        requires places { places ≡ self.places }
-        ensures filled { OnOk result (list.new.items ≡ list.old.items ++ row_list self.entry) }
-        ensures refused { OnErr result (list.new ≡ list.old) }
-        ensures room { HasRoomFor list.old (length (row_list self.entry)) → IsOk result }
-        ensures kept { list.old.capacity ≤ list.new.capacity }
-    {
-        list.reserve(self.count_along(places) as usize)?;
-        self.push_along(list, places);
-        Ok(())
-    }
-}
-
-impl ColumnFanout<'_> {
-    #[inline(always)]
-    pub(crate) fn push(self, list: &mut SmallVec<u32, 8>)
-        requires room { HasRoomFor list.old (length (column_list self)) }
-        requires small { IsSmallColumn self }
-        ensures { Pushes list.old (column_list self.entry) list.new }
-    {
-        self.push_along(list, self.places);
-    }
-
-    /// Pushes it; for a number of places that is known when this is inlined, without loops.
+    /// Pushes it as of a wire right of a column.
     #[inline(always)]
     #[tactic(auto, using(crate::proofs::Pushes::pushed_then, crate::proofs::Pushes::room_first, crate::proofs::Pushes::room_then), unfolding(crate::specs::kept::Fanouts::column_list))]
-    fn push_along(self, list: &mut SmallVec<u32, 8>, places: u32)
+    fn push_along_column(self, list: &mut SmallVec<u32, 8>, places: u32)
         requires room { HasRoomFor list.old (length (column_list self)) }
-        requires small { IsSmallColumn self }
+        requires small { IsSmallFanout self }
         requires places { places ≡ self.places }
         ensures { Pushes list.old (column_list self.entry) list.new }
     {
-        self.before.push(list, places);
-        self.behind.push(list, places);
+        self.low.push(list, places);
+        self.high.push(list, places);
         self.crossing.push_by_run(list, places + 1);
         self.beside.push(list);
     }
 
     #[inline(always)]
     pub(crate) fn count(self) -> u32
-        requires { IsSmallColumn self }
-        ensures count { result ≡ length (column_list self.entry) }
+        requires { IsSmallFanout self }
+        ensures count { result ≡ length (fanout_list self.entry) }
         ensures few { result ≤ 20000 }
     {
         self.count_along(self.places)
     }
 
     #[inline(always)]
-    #[tactic(auto, using(crate::proofs::Fanouts::column_length))]
+    #[tactic(auto, using(crate::proofs::Fanouts::fanout_length))]
     fn count_along(self, places: u32) -> u32
-        requires small { IsSmallColumn self }
+        requires small { IsSmallFanout self }
         requires places { places ≡ self.places }
-        ensures count { result ≡ length (column_list self.entry) }
+        ensures count { result ≡ length (fanout_list self.entry) }
         ensures few { result ≤ 20000 }
     {
-        let pins = self.before.count() + self.behind.count();
+        let pins = self.low.count() + self.high.count();
         places * pins + self.beside.count() + (places + 1) * self.crossing.count()
     }
 
     /// Pushes it, if memory is found for all of it.
     #[inline(always)]
     pub(crate) fn fill(self, list: &mut SmallVec<u32, 8>) -> Result<(), AllocError>
-        requires { IsSmallColumn self }
-        ensures filled { OnOk result (list.new.items ≡ list.old.items ++ column_list self.entry) }
+        requires { IsSmallFanout self }
+        ensures filled { OnOk result (list.new.items ≡ list.old.items ++ fanout_list self.entry) }
         ensures refused { OnErr result (list.new ≡ list.old) }
-        ensures room { HasRoomFor list.old (length (column_list self.entry)) → IsOk result }
+        ensures room { HasRoomFor list.old (length (fanout_list self.entry)) → IsOk result }
         ensures kept { list.old.capacity ≤ list.new.capacity }
     {
         if self.places == 1 {
@@ -374,11 +324,11 @@ impl ColumnFanout<'_> {
 
     #[inline(always)]
     fn fill_along(self, list: &mut SmallVec<u32, 8>, places: u32) -> Result<(), AllocError>
-        requires small { IsSmallColumn self }
+        requires small { IsSmallFanout self }
         requires places { places ≡ self.places }
-        ensures filled { OnOk result (list.new.items ≡ list.old.items ++ column_list self.entry) }
+        ensures filled { OnOk result (list.new.items ≡ list.old.items ++ fanout_list self.entry) }
         ensures refused { OnErr result (list.new ≡ list.old) }
-        ensures room { HasRoomFor list.old (length (column_list self.entry)) → IsOk result }
+        ensures room { HasRoomFor list.old (length (fanout_list self.entry)) → IsOk result }
         ensures kept { list.old.capacity ≤ list.new.capacity }
     {
         list.reserve(self.count_along(places) as usize)?;

@@ -51,7 +51,6 @@ impl DeviceGraph {
     pub fn pins_beside(&self, sink: u32) -> NodeRange
         ensures { (pin : ℕ) → IsPinOf self.now sink pin → IsInRange result pin }
     {
-        let _limits = self.nx();
         match self.node(sink) {
             Some(node) => self.pins_at(node.x, node.y),
             None => NodeRange { first: 0, end: 0 },

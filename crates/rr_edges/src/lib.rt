@@ -5,11 +5,11 @@
 mod device_graph;
 mod edges;
 mod fanout;
-mod found;
+mod found_node;
 mod input_pins;
 mod opins;
 mod successors;
 mod terminals;
 
 pub use device_graph::DeviceGraph;
-pub use found::FoundNode;
+pub use found_node::FoundNode;

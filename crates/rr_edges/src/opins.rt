@@ -315,7 +315,6 @@ impl DeviceGraph {
         ensures number { result.number ≡ node.number }
         ensures tapper { IsTapper self.now result }
     {
-        let _limits = self.nx();
         let (fc, count) = if self.layout().is_block(node.x, node.y) {
             (
                 self.layout().architecture().fc_output(),
@@ -342,7 +341,6 @@ impl DeviceGraph {
             (all_tracks self.now)) }
         ensures few { result ≤ most_tracks }
     {
-        let _limits = self.nx();
         match self.mode() {
             Mode::Global => 1,
             Mode::Detailed => tapper.count,

@@ -1,6 +1,6 @@
 //! The successors of a node, from its place by arithmetic.
 
-ghost use Rattle.std.specs.Prelude.{◌≡◌, OnOk, OnErr, IsOk, ℕ, ◌+◌, ◌<◌, ◌≤◌, ◌⊎◌, ◌++◌, true, length, map};
+ghost use Rattle.std.specs.Prelude.{◌≡◌, OnOk, OnErr, IsOk, ℕ, ◌+◌, ◌<◌, ◌≤◌, ◌++◌, true, length, map};
 ghost use Rattle.arch_file.specs.Architecture.{most_pins};
 ghost use Rattle.smallvec.specs.SmallVec.{HasRoomFor};
 ghost use Rattle.channel_tables.specs.Fabric.{IsFabric};
@@ -9,13 +9,14 @@ ghost use Rattle.rr_edges.specs.kept.NodeSuccessors.{node_successors, IsAtPlace}
 ghost use Rattle.channel_tables.specs.Wires.{tracks_in, begins, last_of};
 ghost use Rattle.channel_tables.specs.Channels.{first_of};
 ghost use Rattle.rr_edges.specs.kept.Channels.{meeting_of, beside_of};
+ghost use Rattle.node_numbers.specs.Numbering.{block_numbers};
 ghost use Rattle.node_numbers.specs.Starts.{place_start};
 ghost use Rattle.node_numbers.specs.kept.WireIds.{wire_id};
 ghost use Rattle.rr_edges.specs.kept.WireSuccessors.{pins_beside};
-ghost use Rattle.rr_edges.specs.kept.Fanouts.{numbers_of, runs_of, run_above, run_right, pins_of_row, pins_of_column, pins_at, row_list, column_list, row_wire_list, column_wire_list, IsSmallRun, IsSmallMeeting, IsSmallTaps, IsSmallRow, IsSmallColumn};
+ghost use Rattle.rr_edges.specs.kept.Fanouts.{numbers_of, runs_of, run_above, run_right, pins_of_column, pins_at, fanout_list, row_wire_list, column_wire_list, IsSmallRun, IsSmallMeeting, IsSmallTaps, IsSmallFanout};
 
 use crate::device_graph::DeviceGraph;
-use crate::fanout::{ColumnFanout, Meeting, Pair, RowFanout, Run, Taps};
+use crate::fanout::{Axis, Fanout, Meeting, NumberRun, Pair, Taps};
 use channel_tables::{Kind, Node, Side};
 use smallvec::SmallVec;
 use std::alloc::AllocError;
@@ -24,7 +25,7 @@ impl DeviceGraph {
     /// The wires of a track through place `x` above row `y` and the rows over it.
     #[inline(always)]
     #[tactic(auto, using(crate::proofs::WireFanouts::above_number, crate::proofs::WireFanouts::first_upto))]
-    pub(crate) fn run_above(&self, track: u32, x: u32, y: u32) -> Run
+    pub(crate) fn run_above(&self, track: u32, x: u32, y: u32) -> NumberRun
         requires place { (1 ≤ x) × (x ≤ self.now.nx) }
         requires row { y ≤ self.now.ny }
         requires track { track < tracks_in self.now.mode self.now.width }
@@ -35,7 +36,7 @@ impl DeviceGraph {
         let place = u32::from(wire.first);
         let step = self.tables().above_step(place);
         let row = self.ny() * self.tables().above_before(place) + u32::from(wire.number);
-        Run {
+        NumberRun {
             first: self.nodes.kind_start(Kind::Chanx) + row + y * step,
             step,
         }
@@ -44,17 +45,16 @@ impl DeviceGraph {
     /// The wires of a track through place `y` right of column `x` and the columns behind it.
     #[inline(always)]
     #[tactic(auto, using(crate::proofs::WireFanouts::right_number))]
-    pub(crate) fn run_right(&self, track: u32, x: u32, y: u32) -> Run
+    pub(crate) fn run_right(&self, track: u32, x: u32, y: u32) -> NumberRun
         requires place { (1 ≤ y) × (y ≤ self.now.ny) }
         requires column { x ≤ self.now.nx }
         requires track { track < tracks_in self.now.mode self.now.width }
         ensures run { result ≡ run_right self.now track x (first_of self.now self.now.ny track y) }
         ensures small { IsSmallRun result }
     {
-        let _limits = self.nx();
         let step = self.tables().right_step();
         let number = u32::from(self.tables().wire_right(track, y).number);
-        Run {
+        NumberRun {
             first: self.nodes.kind_start(Kind::Chany) + number + x * step,
             step,
         }
@@ -212,7 +212,6 @@ impl DeviceGraph {
         ensures start { result ≡ place_start self.now Kind.Ipin x y }
         ensures few { result < 16777216 }
     {
-        let _limits = self.nx();
         let before = self.layout().architecture().io_rat()
             + (y - 1) * self.nodes.number_count(Kind::Ipin);
         self.column_start(x) + before
@@ -227,7 +226,6 @@ impl DeviceGraph {
         ensures start { result ≡ place_start self.now Kind.Ipin x y }
         ensures few { result < 16777216 }
     {
-        let _limits = self.nx();
         self.column_start(x) + (y - 1) * self.layout().architecture().io_rat()
     }
 
@@ -250,14 +248,12 @@ impl DeviceGraph {
 
     /// Those of the input pins of a column of blocks that stand at `places`, from the one of number `start` on.
     #[inline(always)]
-    #[tactic(auto, using(crate::proofs::WireFanouts::pins_by_blocks))]
-    fn taps_in_column<'a>(&self, places: &'a [u8], x: u32, start: u32) -> Taps<'a>
+    fn taps_in_column<'a>(&self, places: &'a [u8], start: u32) -> Taps<'a>
         requires few { length places.now ≤ most_pins }
         requires small { start < 16777216 }
-        requires column { (1 ≤ x) × (x ≤ self.now.nx) }
         ensures places { result.places.now ≡ places.now }
         ensures start { result.start ≡ start }
-        ensures step { result.step ≡ pins_of_row self.now x }
+        ensures step { result.step ≡ length (block_numbers self.now Kind.Ipin) }
         ensures small { IsSmallTaps result }
     {
         Taps {
@@ -269,17 +265,14 @@ impl DeviceGraph {
 
     /// Those of the input pads of a column beside the blocks that stand at `places`, from the one of number `start` on.
     #[inline(always)]
-    #[tactic(auto, using(crate::proofs::WireFanouts::pins_by_pads))]
-    fn taps_beside<'a>(&self, places: &'a [u8], x: u32, start: u32) -> Taps<'a>
+    fn taps_beside<'a>(&self, places: &'a [u8], start: u32) -> Taps<'a>
         requires few { length places.now ≤ most_pins }
         requires small { start < 16777216 }
-        requires column { (x ≡ 0) ⊎ (x ≡ self.now.nx + 1) }
         ensures places { result.places.now ≡ places.now }
         ensures start { result.start ≡ start }
-        ensures step { result.step ≡ pins_of_row self.now x }
+        ensures step { result.step ≡ self.now.architecture.io_rat }
         ensures small { IsSmallTaps result }
     {
-        let _limits = self.nx();
         Taps {
             places,
             start,
@@ -337,11 +330,10 @@ impl DeviceGraph {
     {
         if x == 0 {
             let start = self.nodes.terminal_start(Kind::Ipin, x, y);
-            return self.taps_beside(self.tables().tapping(Side::Pad, track), x, start);
+            return self.taps_beside(self.tables().tapping(Side::Pad, track), start);
         }
         self.taps_in_column(
             self.tables().tapping(Side::Right, track),
-            x,
             self.block_start(x, y),
         )
     }
@@ -358,10 +350,10 @@ impl DeviceGraph {
     {
         if x == self.nx() {
             let start = self.pad_start(x + 1, y);
-            return self.taps_beside(self.tables().tapping(Side::Pad, track), x + 1, start);
+            return self.taps_beside(self.tables().tapping(Side::Pad, track), start);
         }
         let start = self.block_start(x + 1, y);
-        self.taps_in_column(self.tables().tapping(Side::Left, track), x + 1, start)
+        self.taps_in_column(self.tables().tapping(Side::Left, track), start)
     }
 
     /// Where the wire of a track that begins at place `x` above a row ends.
@@ -374,7 +366,6 @@ impl DeviceGraph {
         ensures within { (x ≤ result) × (result ≤ self.now.nx) }
         ensures limits { IsFabric self.now }
     {
-        let _limits = self.nx();
         u32::from(self.tables().wire_above(track, x).last)
     }
 
@@ -388,23 +379,23 @@ impl DeviceGraph {
         ensures within { (y ≤ result) × (result ≤ self.now.ny) }
         ensures limits { IsFabric self.now }
     {
-        let _limits = self.ny();
         u32::from(self.tables().wire_right(track, y).last)
     }
 
     /// What the wire of a track leads to that begins at place `x` above row `y`.
     #[inline(always)]
-    pub(crate) fn row_fanout(&self, track: u32, x: u32, y: u32) -> RowFanout<'_>
+    pub(crate) fn row_fanout(&self, track: u32, x: u32, y: u32) -> Fanout<'_>
         requires wire { (1 ≤ x) × (x ≤ self.now.nx) × (begins self.now self.now.nx track x ≡ true) }
         requires row { y ≤ self.now.ny }
         requires track { track < tracks_in self.now.mode self.now.width }
-        ensures list { row_list result ≡ row_wire_list self.now x y track }
-        ensures small { IsSmallRow result }
+        ensures list { fanout_list result ≡ row_wire_list self.now x y track }
+        ensures small { IsSmallFanout result }
     {
         let last = self.end_above(track, x);
-        RowFanout {
-            under: self.taps_under(track, x, y),
-            over: self.taps_over(track, x, y),
+        Fanout {
+            axis: Axis::Row,
+            low: self.taps_under(track, x, y),
+            high: self.taps_over(track, x, y),
             places: last - x + 1,
             beside: self.beside_above(track, x, last, y),
             crossing: self.meeting_right(track, x - 1, y),
@@ -413,20 +404,21 @@ impl DeviceGraph {
 
     /// What the wire of a track leads to that begins at place `y` right of column `x`.
     #[inline(always)]
-    pub(crate) fn column_fanout(&self, track: u32, x: u32, y: u32) -> ColumnFanout<'_>
+    pub(crate) fn column_fanout(&self, track: u32, x: u32, y: u32) -> Fanout<'_>
         requires wire { (1 ≤ y) × (y ≤ self.now.ny) × (begins self.now self.now.ny track y ≡ true) }
         requires column { x ≤ self.now.nx }
         requires track { track < tracks_in self.now.mode self.now.width }
-        ensures list { column_list result ≡ column_wire_list self.now x y track }
-        ensures small { IsSmallColumn result }
+        ensures list { fanout_list result ≡ column_wire_list self.now x y track }
+        ensures small { IsSmallFanout result }
     {
         let last = self.end_right(track, y);
-        ColumnFanout {
-            before: self.taps_before(track, x, y),
-            behind: self.taps_behind(track, x, y),
+        Fanout {
+            axis: Axis::Column,
+            low: self.taps_before(track, x, y),
+            high: self.taps_behind(track, x, y),
             places: last - y + 1,
-            crossing: self.meeting_above(track, x, y - 1),
             beside: self.beside_right(track, x, y, last),
+            crossing: self.meeting_above(track, x, y - 1),
         }
     }
 

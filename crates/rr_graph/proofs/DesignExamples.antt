@@ -1,20 +1,20 @@
 -- A worked example that computes: two pads left of one logic block, each the driver of a net that an input pin of the block takes.
 use Rattle.std.proofs.Common.{◌≡◌, ℕ, true, false, List, [], ◌∷◌, Some, None, refl}
 use Rattle.arch_file.specs.Architecture.{Architecture}
-use Rattle.arch_file.specs.declared.parts.Direction.{Direction}
-use Rattle.arch_file.specs.declared.parts.Direction.TheVariants.{Input, Output}
-use Rattle.arch_file.specs.declared.parts.FcType.TheVariants.{Fractional}
-use Rattle.arch_file.specs.declared.parts.Pin.{Pin}
-use Rattle.arch_file.specs.declared.parts.Segment.{Segment}
-use Rattle.arch_file.specs.declared.parts.SegmentLength.TheVariants.{Places}
-use Rattle.net_file.specs.declared.parts.BlockKind.TheVariants.{InputPad, LogicBlock}
-use Rattle.net_file.specs.declared.parts.Terminal.{Terminal}
+use Rattle.arch_file.specs.declared.entries.Direction.{Direction}
+use Rattle.arch_file.specs.declared.entries.Direction.TheVariants.{Input, Output}
+use Rattle.arch_file.specs.declared.entries.FcType.TheVariants.{Fractional}
+use Rattle.arch_file.specs.declared.entries.Pin.{Pin}
+use Rattle.arch_file.specs.declared.entries.Segment.{Segment}
+use Rattle.arch_file.specs.declared.entries.SegmentLength.TheVariants.{Places}
+use Rattle.net_file.specs.declared.terminal.BlockKind.TheVariants.{InputPad, LogicBlock}
+use Rattle.net_file.specs.declared.terminal.Terminal.{Terminal}
 use Rattle.net_file.specs.Netlist as netlist
 use Rattle.net_file.specs.Routed.{routed_numbers}
 use Rattle.place_file.specs.declared.site.Site.{Site}
 use Rattle.place_file.specs.Placement.{Placement}
-use Rattle.channel_tables.specs.declared.parts.Kind.TheVariants.{Source, Sink}
-use Rattle.channel_tables.specs.declared.parts.Mode.TheVariants.{Detailed}
+use Rattle.channel_tables.specs.declared.node.Kind.TheVariants.{Source, Sink}
+use Rattle.channel_tables.specs.declared.node.Mode.TheVariants.{Detailed}
 use Rattle.rr_graph.specs.Designs.{terminal_node, suits_design, nodes_of_sinks, net_of_design, problem_from}
 use Rattle.channel_tables.specs.Fabric.{Fabric}
 use Rattle.node_numbers.specs.Nodes.{nodes_of, numbers_at, is_same}

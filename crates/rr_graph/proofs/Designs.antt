@@ -13,14 +13,14 @@ use Rattle.std.proofs.lemmas.List.FromFn.{length-range_with_len, get_or-range_wi
 use Rattle.std.proofs.lemmas.List.Kept.{IsStrictlyIncreasing-filter}
 use Rattle.std.proofs.lemmas.List.Sums.{AllPass-from_list_all, length-filter, count_by-le-length}
 use Rattle.std.proofs.lemmas.Option.{slice_get_within}
-use Rattle.net_file.specs.declared.parts.Terminal.{Terminal}
+use Rattle.net_file.specs.declared.terminal.Terminal.{Terminal}
 use Rattle.net_file.specs.Facts.{IsNetlist}
 use Rattle.net_file.specs.Netlist as netlist
 use Rattle.net_file.specs.Routed.{no_net, is_routed_net, is_routed_at, routed_numbers}
 use Rattle.place_file.specs.Placement.{Placement}
-use Rattle.channel_tables.specs.declared.parts.Kind.{Kind}
-use Rattle.channel_tables.specs.declared.parts.Kind.TheVariants.{Source, Sink}
-use Rattle.channel_tables.specs.declared.parts.Node.{Node}
+use Rattle.channel_tables.specs.declared.node.Kind.{Kind}
+use Rattle.channel_tables.specs.declared.node.Kind.TheVariants.{Source, Sink}
+use Rattle.channel_tables.specs.declared.node.Node.{Node}
 use Rattle.channel_tables.specs.Fabric.{Fabric, numbers_below, is_block}
 use Rattle.node_numbers.specs.Nodes.{node_of, nodes_of, node_count_of, node_at, number_of, any_node, is_source_kind, is_sink_kind, is_source, is_sink}
 use Rattle.routing_problem.specs.Problems.{Net, IsNet, IsProblem}

@@ -8,11 +8,11 @@ use Rattle.std.proofs.lemmas.List.Elements.{All-weaker}
 use Rattle.std.proofs.lemmas.List.FromFn.{length-range_with_len, get_or-range_with_len}
 use Rattle.std.proofs.lemmas.List.Sums.{list_all-from_AllPass}
 use Rattle.std.proofs.lemmas.Option.{slice_get-get_or}
-use Rattle.arch_file.specs.declared.parts.Direction.{Direction}
-use Rattle.arch_file.specs.declared.parts.Direction.TheVariants.{Input, Output}
-use Rattle.net_file.specs.declared.parts.BlockKind.{BlockKind}
-use Rattle.net_file.specs.declared.parts.BlockKind.TheVariants.{InputPad, OutputPad, LogicBlock}
-use Rattle.net_file.specs.declared.parts.Terminal.{Terminal}
+use Rattle.arch_file.specs.declared.entries.Direction.{Direction}
+use Rattle.arch_file.specs.declared.entries.Direction.TheVariants.{Input, Output}
+use Rattle.net_file.specs.declared.terminal.BlockKind.{BlockKind}
+use Rattle.net_file.specs.declared.terminal.BlockKind.TheVariants.{InputPad, OutputPad, LogicBlock}
+use Rattle.net_file.specs.declared.terminal.Terminal.{Terminal}
 use Rattle.net_file.specs.Netlist as netlist
 use Rattle.net_file.specs.Netlist.{Block}
 use Rattle.net_file.specs.Reads.{ReadsBytes}
@@ -20,8 +20,8 @@ use Rattle.net_file.specs.Routed.{is_routed_net}
 use Rattle.net_file.proofs.Terminals.{IsPin, IsAtPin, JoinsPins, nets_join_pins}
 use Rattle.place_file.specs.declared.site.Site.{Site}
 use Rattle.place_file.specs.Placement.{Placement, IsPlaced, is_site, is_within, is_on_perimeter, kind_at, array_of}
-use Rattle.channel_tables.specs.declared.parts.Kind.{Kind}
-use Rattle.channel_tables.specs.declared.parts.Kind.TheVariants.{Source, Sink}
+use Rattle.channel_tables.specs.declared.node.Kind.{Kind}
+use Rattle.channel_tables.specs.declared.node.Kind.TheVariants.{Source, Sink}
 use Rattle.rr_graph.specs.Designs.{label_on, terminal_node, has_node, has_nodes, has_size_of, are_on_sites, suits_design}
 use Rattle.channel_tables.specs.Fabric.{Fabric, IsFabric, numbers_below, is_block, is_pad}
 use Rattle.node_numbers.specs.Nodes.{numbers_at, terminals_at}

@@ -4,7 +4,7 @@ use Rattle.arch_file.specs.Architecture.{Architecture}
 use Rattle.net_file.specs.Netlist.{Netlist}
 use Rattle.net_file.specs.Reads.{ReadsBytes}
 use Rattle.place_file.specs.Placement.{Placement, IsPlaced}
-use Rattle.channel_tables.specs.declared.parts.Mode.{Mode}
+use Rattle.channel_tables.specs.declared.node.Mode.{Mode}
 use Rattle.channel_tables.specs.Fabric.{Fabric}
 
 -- what is known of designs that were read holds on the device of their array

@@ -4,14 +4,14 @@ use Rattle.std.specs.Prelude.{ℕ, nat_eq, ◌==◌, Bool, true, false, not, ◌
 use Rattle.std.specs.List.{list_any, list_all}
 use Rattle.std.specs.Option.{option_eq}
 use Rattle.arch_file.specs.Architecture.{Architecture}
-use Rattle.net_file.specs.declared.parts.Terminal.{Terminal}
+use Rattle.net_file.specs.declared.terminal.Terminal.{Terminal}
 use Rattle.net_file.specs.Netlist as netlist
 use Rattle.net_file.specs.Routed.{no_net, is_routed_net, routed_numbers}
 use Rattle.place_file.specs.declared.site.Site.{Site}
 use Rattle.place_file.specs.Placement.{Placement}
-use Rattle.channel_tables.specs.declared.parts.Kind.{Kind}
-use Rattle.channel_tables.specs.declared.parts.Kind.TheVariants.{Source, Sink}
-use Rattle.channel_tables.specs.declared.parts.Mode.{Mode}
+use Rattle.channel_tables.specs.declared.node.Kind.{Kind}
+use Rattle.channel_tables.specs.declared.node.Kind.TheVariants.{Source, Sink}
+use Rattle.channel_tables.specs.declared.node.Mode.{Mode}
 use Rattle.channel_tables.specs.Fabric.{Fabric, fabric_with, numbers_below, is_block}
 use Rattle.node_numbers.specs.Nodes.{node_of, node_count_of, number_of}
 use Rattle.routing_problem.specs.Problems.{Net, RoutingProblem}

@@ -3,9 +3,9 @@
 #![tactic(auto)]
 
 mod design;
-mod making;
+mod design_problem;
 
 pub use channel_tables::{Kind, Label, Mode, Node, NodeRange, Span};
 pub use design::SuitsDesigns;
-pub use making::MadeOfDesigns;
+pub use design_problem::MadeOfDesigns;
 pub use routing_problem::{Device, DeviceFault, EdgeFinder, PartsFault, Problem, Terminals};

@@ -3,7 +3,7 @@ use Rattle.std.proofs.Common.{◌≡◌, ℕ, true, List, Result, Ok, Err, refl,
 use Rattle.arch_file.specs.Architecture.{Architecture}
 use Rattle.net_file.specs.Netlist.{Netlist}
 use Rattle.place_file.specs.Placement.{Placement}
-use Rattle.rr_graph.specs.parts.Mode.{Mode}
+use Rattle.rr_graph.specs.node.Mode.{Mode}
 use Rattle.rr_graph.specs.Designs.{problem_from, problem_with, suits_design}
 use Rattle.rr_graph.specs.Fabric.{fabric_with}
 use Rattle.rr_graph.specs.Problems.{RoutingProblem}

@@ -7,7 +7,7 @@ use Rattle.net_file.specs.Netlist.{Netlist}
 use Rattle.net_file.specs.Reading.{netlist_of}
 use Rattle.place_file.specs.Placement.{Placement}
 use Rattle.place_file.specs.Reading.{placement_of}
-use Rattle.rr_graph.specs.parts.Mode.{Mode}
+use Rattle.rr_graph.specs.node.Mode.{Mode}
 use Rattle.rr_graph.specs.Problems.{RoutingProblem}
 use Rattle.route_tree.specs.Paths.{Pair}
 use Rattle.route_file.specs.Reading.{routing_of}

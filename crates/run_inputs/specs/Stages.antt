@@ -2,7 +2,7 @@
 -- and then what is on a device (ours).
 use Rattle.std.specs.Prelude.{ℕ, List, Result, Ok}
 use Rattle.arch_file.specs.Architecture.{Architecture}
-use Rattle.rr_graph.specs.parts.Mode.{Mode}
+use Rattle.rr_graph.specs.node.Mode.{Mode}
 use Rattle.run_inputs.specs.declared.fault.InputFile.TheVariants as file
 use Rattle.run_inputs.specs.declared.fault.AppFault.{AppFault}
 use Rattle.run_inputs.specs.Runs.{Input, bytes_in}

@@ -1,6 +1,6 @@
 -- A routing of a design that is judged, stage by stage.
 use Rattle.std.proofs.Common.{◌≡◌, ℕ, List, Option, Ok, Err, refl}
-use Rattle.rr_graph.specs.parts.Mode.{Mode}
+use Rattle.rr_graph.specs.node.Mode.{Mode}
 use Rattle.route_tree.specs.Paths.{Pair}
 use Rattle.run_inputs.specs.declared.fault.AppFault.{AppFault}
 use Rattle.run_inputs.specs.Runs.{DesignFiles, Input}

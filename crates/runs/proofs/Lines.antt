@@ -1,22 +1,22 @@
 -- The lines of a listing, one after the other.
-use Rattle.std.proofs.Common.{◌≡◌, ℕ, zero, suc, ◌+◌, ◌-◌, ◌≤◌, true, List, [], ◌++◌, Option, Some, None, refl, sym, ap, subst, ◌∙◌, append_assoc, arith, codes, decimal, add-zero}
+use Rattle.std.proofs.Common.{◌≡◌, ℕ, zero, suc, ◌+◌, ◌-◌, ◌≤◌, true, List, [], ◌++◌, Some, None, refl, sym, ap, subst, ◌∙◌, append_assoc, arith, codes, decimal, add-zero}
 use Rattle.std.specs.Prelude.{Result, Ok, Err, IsOk, OnOk}
 use Rattle.std.specs.List.{flat_map}
 use Rattle.std.specs.Option.{option_map}
-use Rattle.std.proofs.lemmas.List.{append-nil, flat_map_more}
+use Rattle.std.proofs.lemmas.List.{append-nil}
 use Rattle.std.proofs.lemmas.Bool.{false≢true}
 use Rattle.vpr_text.specs.Output.{Stream, Sends}
 use Rattle.vpr_text.proofs.Printing.{breaks_more}
-use Rattle.rr_graph.specs.parts.Node.{Node}
-use Rattle.rr_graph.specs.parts.Label.{Label}
-use Rattle.rr_graph.specs.parts.Span.{Span}
+use Rattle.rr_graph.specs.node.Node.{Node}
+use Rattle.rr_graph.specs.node.Label.{Label}
+use Rattle.rr_graph.specs.node.Span.{Span}
 use Rattle.rr_graph.specs.Fabric.{Fabric, numbers_below}
 use Rattle.rr_graph.specs.Nodes.{node_at, label_of, span_of, capacity_of}
-use Rattle.rr_graph.proofs.Ranges.{below_next}
 use Rattle.run_inputs.proofs.Lines.{lines_more}
 use Rattle.runs.specs.Texts.{node_line}
 use Rattle.text_output.specs.NodeTexts.{node_text}
 use Rattle.runs.specs.Listing.{line_at, line_of}
+use Rattle.route_file.proofs.NodeTexts.{some_is}
 
 -- the lines of the first numbers begin those of all
 lines_rest : (line : ℕ → List ℕ) (i k : ℕ) → (rest : List ℕ) × (flat_map line (numbers_below i) ++ rest ≡ flat_map line (numbers_below (i + k)))
@@ -44,10 +44,6 @@ sends_broken {s} {t} {x} y p broken = record {
 pub sends_broken_lines : {s t : Stream} (line : ℕ → List ℕ) (i n : ℕ) → i ≤ n → Sends s t (flat_map line (numbers_below i)) → t.buffer.broken ≡ true → Sends s t (flat_map line (numbers_below n))
 sends_broken_lines {s} {t} line i n le p broken =
     let rest = lines_begin line i n le in subst (Sends s t) rest.1 (sends_broken rest.0 p broken)
-
-some_is : {A B : Type 0} (g : A → B) (o : Option A) (a : A) (b : B) → Some a ≡ o → Some b ≡ option_map g o → b ≡ g a
-some_is {A} {B} g o a b e f =
-    let h : Some b ≡ option_map g (Some a) = f ∙ ap (option_map g) (sym e) in cc
 
 -- what is printed for a node is its line
 pub line_text : (f : Fabric) (i : ℕ) (n : Node) (s : Span) (l : Label) (c : ℕ)

@@ -1,6 +1,6 @@
 -- What a run of `check` answers and prints (ours).
 use Rattle.std.specs.Prelude.{ℕ, List, Option, Result, Ok}
-use Rattle.rr_graph.specs.parts.Mode.{Mode}
+use Rattle.rr_graph.specs.node.Mode.{Mode}
 use Rattle.route_tree.specs.Paths.{Pair}
 use Rattle.route_check.specs.declared.fault.RouteFault.{RouteFault}
 use Rattle.run_inputs.specs.declared.fault.AppFault.{AppFault}

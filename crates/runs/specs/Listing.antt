@@ -2,7 +2,7 @@
 -- ascending order (ours).
 use Rattle.std.specs.Prelude.{ℕ, List, [], ◌++◌, Option, Some, None}
 use Rattle.std.specs.List.{flat_map}
-use Rattle.rr_graph.specs.parts.Node.{Node}
+use Rattle.rr_graph.specs.node.Node.{Node}
 use Rattle.rr_graph.specs.Fabric.{Fabric, numbers_below}
 use Rattle.rr_graph.specs.Nodes.{node_at, node_count_of}
 use Rattle.rr_graph.specs.Edges.{successors_of, edge_count_of}

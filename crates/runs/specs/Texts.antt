@@ -1,6 +1,6 @@
 -- The lines of a listing (ours).
 use Rattle.std.specs.Prelude.{ℕ, List, ◌++◌, codes, decimal}
-use Rattle.rr_graph.specs.parts.Node.{Node}
+use Rattle.rr_graph.specs.node.Node.{Node}
 use Rattle.rr_graph.specs.Fabric.{Fabric}
 use Rattle.rr_graph.specs.Nodes.{label_of, span_of, capacity_of}
 use Rattle.text_output.specs.NodeTexts.{node_text}

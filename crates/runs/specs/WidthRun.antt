@@ -1,7 +1,7 @@
 -- What a run of `width` answers, writes and prints (ours).
 use Rattle.std.specs.Prelude.{◌≡◌, ℕ, Bool, if◌then◌else◌, List, ◌++◌, codes, decimal, Option, None, Some, Result, Err, MatchBool}
 use Rattle.std.specs.List.{flat_map}
-use Rattle.rr_graph.specs.parts.Mode.{Mode}
+use Rattle.rr_graph.specs.node.Mode.{Mode}
 use Rattle.node_cost.specs.Options.{RouterOptions}
 use Rattle.route_file.specs.Text.{text_of}
 use Rattle.width_search.specs.declared.report.LeastWidth.{LeastWidth}

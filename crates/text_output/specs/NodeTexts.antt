@@ -1,11 +1,11 @@
 -- The texts of nodes (VPR and T-VPack manual 4.30, "Routing File Format").
 use Rattle.std.specs.Prelude.{ℕ, Bool, List, [], ◌++◌, Option, None, Some, ◌==◌, ◌&&◌, if◌then◌else◌, codes, decimal}
-use Rattle.routing_problem.specs.parts.Kind.{Kind}
-use Rattle.routing_problem.specs.parts.Kind.TheVariants.{Source, Sink, Opin, Ipin, Chanx, Chany}
-use Rattle.routing_problem.specs.parts.Label.{Label}
-use Rattle.routing_problem.specs.parts.Label.TheVariants.{Class, Pin, Pad, Track}
-use Rattle.routing_problem.specs.parts.Node.{Node}
-use Rattle.routing_problem.specs.parts.Span.{Span}
+use Rattle.routing_problem.specs.node.Kind.{Kind}
+use Rattle.routing_problem.specs.node.Kind.TheVariants.{Source, Sink, Opin, Ipin, Chanx, Chany}
+use Rattle.routing_problem.specs.node.Label.{Label}
+use Rattle.routing_problem.specs.node.Label.TheVariants.{Class, Pin, Pad, Track}
+use Rattle.routing_problem.specs.node.Node.{Node}
+use Rattle.routing_problem.specs.node.Span.{Span}
 use Rattle.routing_problem.specs.Fabric.{Fabric}
 use Rattle.routing_problem.specs.Nodes.{label_of, span_of}
 

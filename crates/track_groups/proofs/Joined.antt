@@ -7,6 +7,7 @@ use Rattle.std.proofs.lemmas.Bool.Decides.{nat_tests}
 use Rattle.std.proofs.lemmas.List.{length-map, get_or-map, get_or_append_left, get_or_push, get_or_past}
 use Rattle.std.proofs.lemmas.List.Elements.{All-nil}
 use Rattle.std.proofs.lemmas.List.Folds.{list_any_at}
+use Rattle.std.proofs.Math.Bool.{or-false}
 use Rattle.routing_problem.specs.Fabric.{Fabric}
 use Rattle.routing_problem.specs.Nodes.{is_wire_at}
 use Rattle.routing_problem.specs.Edges.{edge_between, successors_of}
@@ -15,7 +16,6 @@ use Rattle.track_groups.specs.Groups.{Grouping, group_at, on_track, IsOn, wire_o
 use Rattle.track_groups.specs.Joints.{wire_beside, tap_on, IsTap, TellsWires, TellsEdges, Tables, IsTabled}
 use Rattle.track_groups.specs.kept.Joining.{Matches, AddTaps, AreJoinedBefore, AreTold}
 use Rattle.track_groups.proofs.OnTracks.{on_within}
-use Rattle.track_groups.proofs.Tests.{or_none}
 use Rattle.track_groups.proofs.MoreDriven.{edge_listed}
 
 -- ---- one track more
@@ -47,7 +47,7 @@ test_here j e =
     let one : (j == j) ≡ true = eq-eqb j j refl in
     let old : nat_lt j j ≡ false = grind (arith, nat_tests) in
     let new : nat_lt j (j + 1) ≡ true = grind (arith, nat_tests) in
-    ap (λ b. (b && e) || (nat_lt j j && e)) one ∙ ap (λ b. e || (b && e)) old ∙ or_none e ∙ sym (ap (λ b. b && e) new)
+    ap (λ b. (b && e) || (nat_lt j j && e)) one ∙ ap (λ b. e || (b && e)) old ∙ or-false e ∙ sym (ap (λ b. b && e) new)
 
 test_next : (j i : ℕ) (edge : ℕ → Bool) → ((j == i && edge j) || (nat_lt i j && edge i)) ≡ (nat_lt i (j + 1) && edge i)
 test_next j i edge = elim (cases_lt i j) [

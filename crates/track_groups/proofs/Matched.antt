@@ -6,10 +6,10 @@ use Rattle.std.proofs.lemmas.Bool.{eqb-true, false_from_ne_true}
 use Rattle.std.proofs.lemmas.List.{take_more}
 use Rattle.std.proofs.lemmas.List.Elements.{All-push, All-nil}
 use Rattle.std.proofs.lemmas.List.Folds.{list_any-append}
+use Rattle.std.proofs.Math.Bool.{or-false}
 use Rattle.track_groups.specs.Groups.{Grouping, on_track, IsOn, wire_on, place_of, HasPlace}
 use Rattle.track_groups.specs.Joints.{wire_beside, IsBeside}
 use Rattle.track_groups.specs.kept.Joining.{is_beside_wire, Matches, AddsNeighbour, StepsTo}
-use Rattle.track_groups.proofs.Tests.{or_none}
 use Rattle.track_groups.proofs.PushedRows.{part-back}
 
 pub matches_none : (t : Grouping) (j : ℕ) → Matches t [] [] j
@@ -30,7 +30,7 @@ module _ (t : Grouping) (ids hs : List ℕ) (j v : ℕ) (before : Matches t ids 
     same = λ w has.
         let P : ℕ → Type 0 = HasPlace t in
         let other : (v == w) ≡ false = false_from_ne_true (v == w) (λ e. none (subst P (sym (eqb-true v w e)) has)) in
-        list_any-append (λ u. u == w) ids (v ∷ []) ∙ ap (λ b. list_any (λ u. u == w) ids || (b || false)) other ∙ or_none (list_any (λ u. u == w) ids) ∙ before.same w has;
+        list_any-append (λ u. u == w) ids (v ∷ []) ∙ ap (λ b. list_any (λ u. u == w) ids || (b || false)) other ∙ or-false (list_any (λ u. u == w) ids) ∙ before.same w has;
   }
 
 pub neighbour_next : (t : Grouping) (ids : List ℕ) (i : ℕ) (hs new : List ℕ) → i < length ids → Matches t (take i ids) hs 0 → AddsNeighbour t (get_or ids i 0) hs new → Matches t (take (i + 1) ids) new 0

@@ -4,10 +4,12 @@ use Rattle.std.specs.Prelude.{◌&&◌, ◌||◌, Contains}
 use Rattle.std.specs.List.{list_any}
 use Rattle.std.specs.Int.{bit_at}
 use Rattle.std.proofs.Math.ListN.{set}
-use Rattle.std.proofs.lemmas.Bool.{false≢true, cases_Bool, eqb-true, eq-eqb, or_cases, false_from_ne_true}
+use Rattle.std.proofs.lemmas.Bool.{false≢true, cases_Bool, eqb-true, eq-eqb, or_cases, false_from_ne_true, and_parts}
 use Rattle.std.proofs.lemmas.List.{take_more}
 use Rattle.std.proofs.lemmas.List.Folds.{list_any-append, list_any_at}
 use Rattle.std.proofs.lemmas.Nat.Bits.{bit_at-zero, bit_at_set_same, bit_at_set_other}
+use Rattle.std.proofs.Math.Bool.{and-false, or-false, and-or_distrib_left}
+use Rattle.std.specs.Cmp.{both_ways}
 use Rattle.routing_problem.specs.Fabric.{Fabric}
 use Rattle.routing_problem.specs.Edges.{edge_between, successors_of}
 use Rattle.routing_problem.proofs.Graph.{successors_contain}
@@ -16,7 +18,7 @@ use Rattle.track_groups.specs.declared.group.GroupTrack.{GroupTrack}
 use Rattle.track_groups.specs.Groups.{Grouping, on_track, IsOn, wire_on, place_of, HasPlace, IsGrouped}
 use Rattle.track_groups.specs.Drives.{drives, drive_track, AreDrivenBy}
 use Rattle.track_groups.specs.kept.Merging.{SetsBit, is_one, DrivesMore, PutsNode, is_wire_of, AreMerged}
-use Rattle.track_groups.proofs.Tests.{and_or, or_last, or_none, and_none, both, one_test, any_set}
+use Rattle.track_groups.proofs.Tests.{or_last, any_set}
 use Rattle.track_groups.proofs.WiresTold.{track_is_wire}
 
 -- ---- bits
@@ -35,7 +37,7 @@ bit_set bits k l = record {
 drive_set : (g bits new : ℕ) (q : GroupTrack) → g ≡ q.group → SetsBit q.track bits new → (p : GroupTrack) → drives p (record { group = g; tracks = new }) ≡ (is_one q p || drives p (record { group = g; tracks = bits }))
 drive_set g bits new q e s p =
     ap (λ b. g == p.group && b) (s.each p.track)
-    ∙ and_or (g == p.group) (q.track == p.track) (bit_at bits p.track == 1)
+    ∙ and-or_distrib_left (g == p.group) (q.track == p.track) (bit_at bits p.track == 1)
     ∙ ap (λ n. (n == p.group && q.track == p.track) || (g == p.group && bit_at bits p.track == 1)) e
 
 pub put_set : (ds : List Drive) (q : GroupTrack) (i : ℕ) (d : Drive) (new : ℕ) → i < length ds → d ≡ get_or ds i d → d.group ≡ q.group → SetsBit q.track d.tracks new
@@ -49,8 +51,8 @@ unfolding drive_track
 put_push ds q new s = record {
   each = λ p.
       let none : drives p (record { group = q.group; tracks = 0 }) ≡ false =
-      ap (λ b. q.group == p.group && (b == 1)) (bit_at-zero p.track) ∙ and_none (q.group == p.group) in
-      let one : drives p (record { group = q.group; tracks = new }) ≡ is_one q p = drive_set q.group 0 new q refl s p ∙ ap (λ b. is_one q p || b) none ∙ or_none (is_one q p) in
+      ap (λ b. q.group == p.group && (b == 1)) (bit_at-zero p.track) ∙ and-false (q.group == p.group) in
+      let one : drives p (record { group = q.group; tracks = new }) ≡ is_one q p = drive_set q.group 0 new q refl s p ∙ ap (λ b. is_one q p || b) none ∙ or-false (is_one q p) in
       list_any-append (drives p) ds (record { group = q.group; tracks = new } ∷ [])
       ∙ ap (λ b. list_any (drives p) ds || (b || false)) one ∙ or_last (list_any (drives p) ds) (is_one q p);
 }
@@ -62,7 +64,7 @@ merged_none t = record { on = λ p h. absurd (false≢true h); told = λ p on. r
 
 one_is : (q p : GroupTrack) → is_one q p ≡ true → q ≡ p
 one_is q p e =
-    let parts = both (q.group == p.group) (q.track == p.track) e in
+    let parts = and_parts (q.group == p.group) (q.track == p.track) e in
     ap (λ g. on_track g q.track) (eqb-true q.group p.group parts.0) ∙ ap (on_track p.group) (eqb-true q.track p.track parts.1)
 
 is_one_of : (q p : GroupTrack) → q ≡ p → is_one q p ≡ true
@@ -76,7 +78,7 @@ module _ (f : Fabric) (t : Grouping) (h : IsGrouped f t) (ids : List ℕ) (v : �
   pub merged_more : (new : List Drive) → HasPlace t v → DrivesMore (place_of t v) ds new → AreMerged t (ids ++ v ∷ []) new
   merged_more new has more =
       let q = place_of t v in
-      let same = λ (p : GroupTrack) (on : IsOn t.groups p). one_test (is_one q p) (is_wire_of t p v)
+      let same = λ (p : GroupTrack) (on : IsOn t.groups p). both_ways (is_one q p) (is_wire_of t p v)
       (λ e. eq-eqb v (wire_on t.groups p) (sym has.is ∙ ap (wire_on t.groups) (one_is q p e)))
       (λ e. is_one_of q p (ap (place_of t) (eqb-true v (wire_on t.groups p) e) ∙ (h.tracks p on).place)) in
       record {
@@ -119,7 +121,7 @@ some_same (x ∷ xs) v e = elim (or_cases (x == v) (list_any (λ u. u == v) xs) 
 pub edge_listed : (f : Fabric) (o v : ℕ) → edge_between f o v ≡ list_any (λ u. u == v) (successors_of f o)
 edge_listed f o v =
     let c = successors_contain f o v in
-    one_test (edge_between f o v) (list_any (λ u. u == v) (successors_of f o))
+    both_ways (edge_between f o v) (list_any (λ u. u == v) (successors_of f o))
     (λ e. let h = c.1 e in list_any_at (λ u. u == v) (successors_of f o) h.0 v h.1 (eq-eqb (get_or (successors_of f o) h.0 v) v h.2))
     (λ e. c.0 (some_same (successors_of f o) v e))
 

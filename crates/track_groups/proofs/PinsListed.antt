@@ -3,8 +3,8 @@ use Rattle.std.proofs.Common.{◌≡◌, ℕ, ◌+◌, ◌≤◌, List, [], ◌�
 use Rattle.std.specs.Prelude.{Contains, get_or}
 use Rattle.std.proofs.lemmas.Bool.{cases_lt}
 use Rattle.std.proofs.lemmas.List.Elements.{Contains-append_left, Contains-push, Contains-push_cases}
-use Rattle.routing_problem.specs.parts.Kind.TheVariants.{Ipin}
-use Rattle.routing_problem.specs.parts.NodeRange.{NodeRange}
+use Rattle.routing_problem.specs.node.Kind.TheVariants.{Ipin}
+use Rattle.routing_problem.specs.node.NodeRange.{NodeRange}
 use Rattle.routing_problem.specs.Fabric.{Fabric}
 use Rattle.routing_problem.specs.Nodes.{kind_of_node}
 use Rattle.routing_problem.specs.Edges.{successors_of}

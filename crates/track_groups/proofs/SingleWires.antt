@@ -4,9 +4,9 @@ use Rattle.std.specs.Prelude.{All, nat_le, is_some, unwrap_or, if◌then◌else�
 use Rattle.std.specs.Option.{option_map, option_map_or}
 use Rattle.std.proofs.lemmas.Bool.{false≢true}
 use Rattle.std.proofs.lemmas.Bool.Decides.{nat_tests}
-use Rattle.routing_problem.specs.parts.Kind.{Kind}
-use Rattle.routing_problem.specs.parts.Node.{Node}
-use Rattle.routing_problem.specs.parts.Span.{Span}
+use Rattle.routing_problem.specs.node.Kind.{Kind}
+use Rattle.routing_problem.specs.node.Node.{Node}
+use Rattle.routing_problem.specs.node.Span.{Span}
 use Rattle.routing_problem.specs.Fabric.{Fabric, numbers_below}
 use Rattle.routing_problem.specs.Wires.{reach_of}
 use Rattle.routing_problem.specs.Nodes.{node_count_of, node_at, is_wire, is_wire_at, span_of, wire_in}

@@ -7,15 +7,15 @@ use Rattle.std.proofs.lemmas.List.Sums.{prefix_len-le-length}
 use Rattle.std.proofs.lemmas.List.FromFn.{length-range_with_len}
 use Rattle.std.proofs.lemmas.Option.{slice_get_within, get_or_from_slice_get}
 use Rattle.arch_file.specs.Architecture.{IsSegmentLength}
-use Rattle.arch_file.specs.declared.parts.Segment.{Segment}
-use Rattle.arch_file.specs.declared.parts.SegmentLength.{SegmentLength}
-use Rattle.arch_file.specs.declared.parts.SegmentLength.TheVariants.{Places, Longline}
-use Rattle.routing_problem.specs.parts.Kind.{Kind}
-use Rattle.routing_problem.specs.parts.Kind.TheVariants.{Source, Sink, Opin, Ipin, Chanx, Chany}
-use Rattle.routing_problem.specs.parts.Mode.{Mode}
-use Rattle.routing_problem.specs.parts.Mode.TheVariants.{Detailed, Global}
-use Rattle.routing_problem.specs.parts.Node.{Node}
-use Rattle.routing_problem.specs.parts.Span.{Span}
+use Rattle.arch_file.specs.declared.entries.Segment.{Segment}
+use Rattle.arch_file.specs.declared.entries.SegmentLength.{SegmentLength}
+use Rattle.arch_file.specs.declared.entries.SegmentLength.TheVariants.{Places, Longline}
+use Rattle.routing_problem.specs.node.Kind.{Kind}
+use Rattle.routing_problem.specs.node.Kind.TheVariants.{Source, Sink, Opin, Ipin, Chanx, Chany}
+use Rattle.routing_problem.specs.node.Mode.{Mode}
+use Rattle.routing_problem.specs.node.Mode.TheVariants.{Detailed, Global}
+use Rattle.routing_problem.specs.node.Node.{Node}
+use Rattle.routing_problem.specs.node.Span.{Span}
 use Rattle.routing_problem.specs.Fabric.{Fabric, IsFabric}
 use Rattle.routing_problem.specs.Nodes.{node_at, is_wire, span_by, span_of, wire_in}
 use Rattle.routing_problem.specs.Wires.{begins, length_by, length_of, places_of_length, places_of_type, reach_of, steps_of, type_of}

@@ -11,14 +11,15 @@ use Rattle.std.proofs.lemmas.Option.{none-some, slice_get_past}
 use Rattle.std.proofs.lemmas.List.{take_more}
 use Rattle.std.proofs.lemmas.List.Folds.{list_any-append}
 use Rattle.std.proofs.lemmas.Nat.Bits.{bit_at-zero}
-use Rattle.routing_problem.specs.parts.Kind.TheVariants.{Ipin}
+use Rattle.std.proofs.Math.Bool.{and-false, or-false, and-or_distrib_left}
+use Rattle.routing_problem.specs.node.Kind.TheVariants.{Ipin}
 use Rattle.routing_problem.specs.Fabric.{Fabric}
 use Rattle.routing_problem.specs.Nodes.{nodes_of, node_count_of, kind_of_node, is_wire_at}
 use Rattle.track_groups.specs.declared.group.Tap.{Tap}
 use Rattle.track_groups.specs.Joints.{taps_track, tap_on}
 use Rattle.track_groups.specs.kept.Merging.{SetsBit}
 use Rattle.track_groups.specs.kept.Joining.{TapsMore, AddsTap, AddTaps}
-use Rattle.track_groups.proofs.Tests.{any_set, and_or, and_none, or_none, or_last}
+use Rattle.track_groups.proofs.Tests.{any_set, or_last}
 use Rattle.track_groups.proofs.WiresTold.{no_pin_and_wire}
 
 -- from the first wire on no input pin stands
@@ -30,7 +31,7 @@ no_pin_from f first id wires from pin = elim (cases_lt id (node_count_of f)) [
 
 -- ---- one pin more
 tap_set : (pin sink bits new track : ℕ) → SetsBit track bits new → (v j : ℕ) → taps_track v j (record { pin = pin; sink = sink; tracks = new }) ≡ ((pin == v && track == j) || taps_track v j (record { pin = pin; sink = sink; tracks = bits }))
-tap_set pin sink bits new track s v j = ap (λ b. pin == v && b) (s.each j) ∙ and_or (pin == v) (track == j) (bit_at bits j == 1)
+tap_set pin sink bits new track s v j = ap (λ b. pin == v && b) (s.each j) ∙ and-or_distrib_left (pin == v) (track == j) (bit_at bits j == 1)
 
 pub put_tap_set : (ts : List Tap) (pin track i : ℕ) (t : Tap) (new : ℕ) → i < length ts → t ≡ get_or ts i t → t.pin ≡ pin → SetsBit track t.tracks new
     → TapsMore pin track ts (set ts i (record { pin = t.pin; sink = t.sink; tracks = new }))
@@ -45,16 +46,16 @@ pub put_tap_push : (ts : List Tap) (pin sink track new : ℕ) → SetsBit track 
 unfolding tap_on
 put_tap_push ts pin sink track new s = record {
   each = λ v j.
-      let none : taps_track v j (record { pin = pin; sink = sink; tracks = 0 }) ≡ false = ap (λ b. pin == v && (b == 1)) (bit_at-zero j) ∙ and_none (pin == v) in
+      let none : taps_track v j (record { pin = pin; sink = sink; tracks = 0 }) ≡ false = ap (λ b. pin == v && (b == 1)) (bit_at-zero j) ∙ and-false (pin == v) in
       let one : taps_track v j (record { pin = pin; sink = sink; tracks = new }) ≡ (pin == v && track == j) =
-      tap_set pin sink 0 new track s v j ∙ ap (λ b. (pin == v && track == j) || b) none ∙ or_none (pin == v && track == j) in
+      tap_set pin sink 0 new track s v j ∙ ap (λ b. (pin == v && track == j) || b) none ∙ or-false (pin == v && track == j) in
       list_any-append (taps_track v j) ts (record { pin = pin; sink = sink; tracks = new } ∷ [])
       ∙ ap (λ b. list_any (taps_track v j) ts || (b || false)) one ∙ or_last (list_any (taps_track v j) ts) (pin == v && track == j);
 }
 
 -- ---- the pins among nodes
 pub taps_none : (f : Fabric) (track : ℕ) (ts : List Tap) → AddTaps f [] track ts ts
-taps_none f track ts = record { each = λ v j pin. sym (ap (λ b. b || tap_on ts v j) (and_none (track == j))) }
+taps_none f track ts = record { each = λ v j pin. sym (ap (λ b. b || tap_on ts v j) (and-false (track == j))) }
 
 join_tests : (a t r o : Bool) → ((a && t) || ((t && r) || o)) ≡ ((t && (r || (a || false))) || o)
 join_tests true true true o = refl
@@ -67,7 +68,7 @@ join_tests false false true o = refl
 join_tests false false false o = refl
 
 skip_tests : (t r o : Bool) → ((t && r) || o) ≡ ((t && (r || (false || false))) || o)
-skip_tests t r o = ap (λ b. (t && b) || o) (sym (or_none r))
+skip_tests t r o = ap (λ b. (t && b) || o) (sym (or-false r))
 
 taps_more : (f : Fabric) (ids : List ℕ) (v track : ℕ) (old mid new : List Tap) → AddTaps f ids track old mid → AddsTap f v track mid new → AddTaps f (ids ++ v ∷ []) track old new
 taps_more f ids v track old mid new before adds = record {

@@ -1,6 +1,6 @@
 -- The input pins of sinks.
 use Rattle.std.specs.Prelude.{◌≡◌, ℕ, List, [], get_or, Some, Contains, ◌↔◌}
-use Rattle.routing_problem.specs.parts.Kind.TheVariants.{Sink}
+use Rattle.routing_problem.specs.node.Kind.TheVariants.{Sink}
 use Rattle.routing_problem.specs.Fabric.{Fabric}
 use Rattle.routing_problem.specs.Nodes.{kind_of_node}
 use Rattle.routing_problem.specs.InputPins.{IsPinOf}

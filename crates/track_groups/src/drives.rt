@@ -47,7 +47,7 @@ impl Scratch {
         match device.kind(id) {
             Some(Kind::Opin) => {
                 device.successors(id, &mut self.found)?;
-                groups.merge(device, self.found.as_slice(), &mut self.listed)?;
+                groups.merge(self.found.as_slice(), &mut self.listed)?;
             }
             _ => self.listed.clear(),
         }

@@ -3,6 +3,7 @@
 #![tactic(auto)]
 
 mod classes;
+mod construction;
 mod drafts;
 mod drives;
 mod group;
@@ -10,7 +11,6 @@ mod groups;
 mod holding;
 mod joining;
 mod lone;
-mod making;
 mod merging;
 mod packed;
 mod rows;

@@ -25,7 +25,6 @@ fn lone_wire(device: &Device, wire: u32) -> PackedGroup
     requires { wire < 2 ^ 23 }
     ensures { result ≡ lone_wire device.now wire }
 {
-    let _limits = device.nx();
     let (kind, span, reach) = match device.wire(wire) {
         None => (Kind::Chanx, NOWHERE, 0),
         Some(told) => told,

@@ -7,7 +7,6 @@ ghost use Rattle.routing_problem.specs.Fabric.{Fabric};
 
 use crate::group::{Drive, GroupTrack};
 use crate::wires::WireGroups;
-use routing_problem::Device;
 use std::alloc::AllocError;
 
 /// The bits with one more of them 1.
@@ -56,13 +55,8 @@ impl WireGroups {
 
     /// Lists the tracks of the wires among these nodes.
     #[tactic(auto, using(crate::proofs::MoreDriven::merged_none))]
-    pub(crate) fn merge(
-        &self,
-        device: &Device,
-        ids: &[u32],
-        drives: &mut Vec<Drive>,
-    ) -> Result<(), AllocError>
-        requires { IsGrouped device.now self.now }
+    pub(crate) fn merge(&self, ids: &[u32], drives: &mut Vec<Drive>) -> Result<(), AllocError>
+        requires { (f : Fabric) × IsGrouped f self.now }
         ensures { OnOk result (AreMerged self.now ids.now drives.new.items) }
     {
         drives.clear();

@@ -7,8 +7,8 @@ use Rattle.std.proofs.lemmas.List.{map-append, take_rest, drop-drop, drop-append
 use Rattle.std.proofs.lemmas.List.Elements.{All-append, All-nil, All-cons, All-weaker}
 use Rattle.std.proofs.lemmas.List.Splits.{slice_split_first, slice_split_none, length-slice_split}
 use Rattle.std.proofs.lemmas.List.Sums.{prefix_len-le-length, fails_before_first, length-filter, count_by-le-length}
-use Rattle.vpr_text.specs.declared.line.Range.{Range}
-use Rattle.vpr_text.specs.declared.line.Entry.{Entry}
+use Rattle.vpr_text.specs.declared.line.ByteRange.{ByteRange}
+use Rattle.vpr_text.specs.declared.line.LineEntry.{LineEntry}
 use Rattle.vpr_text.specs.Words.{Line, is_line_feed, is_separator, is_comment_sign, is_filled, has_words, words_on, goes_on, given_up, continued, lines_from, words_of}
 use Rattle.vpr_text.specs.kept.Split.{word_in, words_in, line_in, lines_in, IsRange, IsEntry, AreEntriesOf, entry_if, AddsLine}
 use Rattle.vpr_text.proofs.Parts.{length-part}
@@ -68,31 +68,31 @@ continued_none n (p ∷ ps) = ap (filter has_words) (continued_none-if n (words_
 
 -- ---- entries
 
-line_in-append : (source : List ℕ) (ranges added : List Range) (first : ℕ) (e : Entry) → IsEntry first e → first ≤ length ranges → line_in source (ranges ++ added) e ≡ line_in source ranges e
+line_in-append : (source : List ℕ) (ranges added : List ByteRange) (first : ℕ) (e : LineEntry) → IsEntry first e → first ≤ length ranges → line_in source (ranges ++ added) e ≡ line_in source ranges e
 line_in-append source ranges added first e fits le =
     let n : e.first ≤ length ranges = omega (arith, fits) in
     let m : e.count ≤ length (drop e.first ranges) = omega (arith, fits, length-drop e.first ranges) in
-    ap (λ (rs : List Range). record { number = e.number; words = words_in source rs })
+    ap (λ (rs : List ByteRange). record { number = e.number; words = words_in source rs })
     (ap (take e.count) (drop-append-le e.first ranges added n) ∙ take-append-le e.count (drop e.first ranges) added m)
 
-lines_in-append : (source : List ℕ) (ranges added : List Range) (first : ℕ) (entries : List Entry) → All (IsEntry first) entries → first ≤ length ranges
+lines_in-append : (source : List ℕ) (ranges added : List ByteRange) (first : ℕ) (entries : List LineEntry) → All (IsEntry first) entries → first ≤ length ranges
     → lines_in source (ranges ++ added) entries ≡ lines_in source ranges entries
 lines_in-append source ranges added first [] fits le = refl
 lines_in-append source ranges added first (e ∷ es) fits le =
     ap (λ (l : Line). l ∷ lines_in source (ranges ++ added) es) (line_in-append source ranges added first e (fits 0 e (omega arith)) le)
     ∙ ap (λ (ls : List Line). line_in source ranges e ∷ ls) (lines_in-append source ranges added first es (λ k d lt. fits (suc k) d (omega arith)) le)
 
-is_filled-words : (source : List ℕ) (rs : List Range) → is_filled (words_in source rs) ≡ ltb 0 (length rs)
+is_filled-words : (source : List ℕ) (rs : List ByteRange) → is_filled (words_in source rs) ≡ ltb 0 (length rs)
 is_filled-words source [] = refl
 is_filled-words source (r ∷ rs) = sym (lt-ltb 0 (length (r ∷ rs)) (omega arith))
 
-closed : (source : List ℕ) (ranges : List Range) (e : Entry) (ws : List (List ℕ)) (b : Bool) → (line_in source ranges e).words ≡ ws
+closed : (source : List ℕ) (ranges : List ByteRange) (e : LineEntry) (ws : List (List ℕ)) (b : Bool) → (line_in source ranges e).words ≡ ws
     → lines_in source ranges (cond b (e ∷ []) []) ≡ cond b (record { number = e.number; words = ws } ∷ []) []
 closed source ranges e ws true eq = ap (λ (us : List (List ℕ)). record { number = e.number; words = us } ∷ []) eq
 closed source ranges e ws false eq = refl
 
 -- the entry of the last ranges is their line, if it has words
-lines_in-entry : (source : List ℕ) (ranges : List Range) (number first : ℕ) → first ≤ length ranges
+lines_in-entry : (source : List ℕ) (ranges : List ByteRange) (number first : ℕ) → first ≤ length ranges
     → lines_in source ranges (entry_if number first (length ranges)) ≡ filter has_words (record { number = number; words = words_in source (drop first ranges) } ∷ [])
 lines_in-entry source ranges number first le =
     let rs = drop first ranges in
@@ -111,7 +111,7 @@ entry_fits-if : (number first end : ℕ) (b : Bool) → first ≤ end → All (I
 entry_fits-if number first end true le = All-cons (IsEntry end) (record { number = number; first = first; count = end - first }) [] (omega arith) (All-nil (IsEntry end))
 entry_fits-if number first end false le = All-nil (IsEntry end)
 
-entries_fit_after : (entries : List Entry) (number first end : ℕ) → first ≤ end → All (IsEntry first) entries → All (IsEntry end) (entries ++ entry_if number first end)
+entries_fit_after : (entries : List LineEntry) (number first end : ℕ) → first ≤ end → All (IsEntry first) entries → All (IsEntry end) (entries ++ entry_if number first end)
 entries_fit_after entries number first end le fits =
     All-append (IsEntry end) entries (entry_if number first end) (All-weaker (IsEntry first) (IsEntry end) (λ e h. omega (arith, h)) entries fits) (entry_fits-if number first end (ltb first end) le)
 
@@ -141,7 +141,7 @@ length-words_on line =
 -- ---- the lines up to a place
 
 -- the entries are the closed lines, and the ranges from `first` on the words of the line that began on line `opened`
-pub record IsJoined (source : List ℕ) (ranges : List Range) (entries : List Entry) (first opened number at : ℕ) : Type 0 where
+pub record IsJoined (source : List ℕ) (ranges : List ByteRange) (entries : List LineEntry) (first opened number at : ℕ) : Type 0 where
   pub ranges_fit : All (IsRange (length source)) ranges
   pub entries_fit : All (IsEntry first) entries
   pub first_in : first ≤ length ranges
@@ -162,7 +162,7 @@ IsJoined-begin source = record {
 }
 
 -- the words of a physical line, after those of the opened line
-pub record IsTaken (source : List ℕ) (old new : List Range) (entries : List Entry) (first opened number at end : ℕ) (more : Bool) : Type 0 where
+pub record IsTaken (source : List ℕ) (old new : List ByteRange) (entries : List LineEntry) (first opened number at end : ℕ) (more : Bool) : Type 0 where
   pub ranges_fit : All (IsRange (length source)) new
   pub first_in : first ≤ length new
   pub few : length new ≤ end + 1
@@ -178,7 +178,7 @@ joined-if : (opened number : ℕ) (ws line : List (List ℕ)) (ls : List Line) (
 joined-if opened number ws line ls true = continued-continued opened number ws (given_up line) ls
 joined-if opened number ws line ls false = refl
 
-pub take_line : (source : List ℕ) (old new : List Range) (entries : List Entry) (first opened number at end : ℕ) (more : Bool) → at ≤ length source
+pub take_line : (source : List ℕ) (old new : List ByteRange) (entries : List LineEntry) (first opened number at end : ℕ) (more : Bool) → at ≤ length source
     → end ≡ at + position_or_len is_line_feed (slice_range source at (length source)) → end ≤ length source
     → IsJoined source old entries first opened number at → AddsLine source old new (slice_range source at end) more → IsTaken source old new entries first opened number at end more
 take_line source old new entries first opened number at end more le e within j a =
@@ -191,7 +191,7 @@ take_line source old new entries first opened number at end more le e within j a
     ap (words_in source) drops ∙ map-append (word_in source) (drop first old) a.left.added
     ∙ ap (λ (ws : List (List ℕ)). open_words ++ ws) (a.left.words ∙ ap (λ (b : Bool). cond b (given_up line) line) (sym a.answer)) in
     let kept : lines_in source new entries ≡ lines_in source old entries =
-    ap (λ (rs : List Range). lines_in source rs entries) a.left.whole ∙ lines_in-append source old a.left.added first entries j.entries_fit j.first_in in
+    ap (λ (rs : List ByteRange). lines_in source rs entries) a.left.whole ∙ lines_in-append source old a.left.added first entries j.entries_fit j.first_in in
     let step : continued opened open_words (lines_from number (lines_left source at))
     ≡ cond more (continued opened (words_in source (drop first new)) ls) (record { number = opened; words = words_in source (drop first new) } ∷ ls) =
     ap (λ (ps : List (List ℕ)). continued opened open_words (lines_from number ps)) (lines_left-at source at end le e)
@@ -213,7 +213,7 @@ take_line source old new entries first opened number at end more le e within j a
     }
 
 -- the line goes on
-pub IsJoined-more : (source : List ℕ) (old new : List Range) (entries : List Entry) (first opened number at end : ℕ) → IsJoined source old entries first opened number at
+pub IsJoined-more : (source : List ℕ) (old new : List ByteRange) (entries : List LineEntry) (first opened number at end : ℕ) → IsJoined source old entries first opened number at
     → IsTaken source old new entries first opened number at end true → IsJoined source new entries first opened (number + 1) (end + 1)
 IsJoined-more source old new entries first opened number at end j t = record {
   ranges_fit = t.ranges_fit;
@@ -226,7 +226,7 @@ IsJoined-more source old new entries first opened number at end j t = record {
 }
 
 -- the line is closed
-pub IsJoined-closed : (source : List ℕ) (old new : List Range) (entries more : List Entry) (first opened number at end : ℕ) → IsJoined source old entries first opened number at
+pub IsJoined-closed : (source : List ℕ) (old new : List ByteRange) (entries more : List LineEntry) (first opened number at end : ℕ) → IsJoined source old entries first opened number at
     → IsTaken source old new entries first opened number at end false → more ≡ entries ++ entry_if opened first (length new) → IsJoined source new more (length new) (number + 1) (number + 1) (end + 1)
 IsJoined-closed source old new entries more first opened number at end j t e =
     let line : Line = record { number = opened; words = words_in source (drop first new) } in
@@ -235,7 +235,7 @@ IsJoined-closed source old new entries more first opened number at end j t e =
     ap (lines_in source new) e ∙ map-append (line_in source new) entries (entry_if opened first (length new))
     ∙ ap (λ (ls : List Line). lines_in source new entries ++ ls) (lines_in-entry source new opened first t.first_in) in
     let rest : filter has_words (continued (number + 1) (words_in source (drop (length new) new)) (lines_from (number + 1) ps)) ≡ filter has_words (lines_from (number + 1) ps) =
-    ap (λ (rs : List Range). filter has_words (continued (number + 1) (words_in source rs) (lines_from (number + 1) ps))) (drop_all (length new) new (omega arith)) ∙ continued_none (number + 1) ps in
+    ap (λ (rs : List ByteRange). filter has_words (continued (number + 1) (words_in source rs) (lines_from (number + 1) ps))) (drop_all (length new) new (omega arith)) ∙ continued_none (number + 1) ps in
     record {
       ranges_fit = t.ranges_fit;
       entries_fit = subst (All (IsEntry (length new))) (sym e) (entries_fit_after entries opened first (length new) t.first_in j.entries_fit);
@@ -251,11 +251,11 @@ IsJoined-closed source old new entries more first opened number at end j t e =
     }
 
 -- the end of the file closes the opened line
-pub record AreAll (source : List ℕ) (ranges : List Range) (entries : List Entry) : Type 0 where
+pub record AreAll (source : List ℕ) (ranges : List ByteRange) (entries : List LineEntry) : Type 0 where
   pub kept : AreEntriesOf source ranges entries
   pub lines : lines_in source ranges entries ≡ words_of source
 
-pub IsJoined-ends : (source : List ℕ) (ranges : List Range) (entries more : List Entry) (first opened number at : ℕ) → length source < at → IsJoined source ranges entries first opened number at
+pub IsJoined-ends : (source : List ℕ) (ranges : List ByteRange) (entries more : List LineEntry) (first opened number at : ℕ) → length source < at → IsJoined source ranges entries first opened number at
     → more ≡ entries ++ entry_if opened first (length ranges) → AreAll source ranges more
 IsJoined-ends source ranges entries more first opened number at past j e =
     let line : Line = record { number = opened; words = words_in source (drop first ranges) } in

@@ -2,10 +2,11 @@
 use Rattle.std.proofs.Common.{◌≡◌, ℕ, zero, suc, ◌+◌, ◌-◌, ◌*◌, ◌^◌, ◌<◌, ◌≤◌, Bool, true, false, cond, eqb, ltb, leb, List, [], ◌∷◌, ◌++◌, length, Some, None, Option, refl, sym, ap, subst, ◌∙◌, arith, inl, inr}
 use Rattle.std.specs.Prelude.{◌&&◌, ◌||◌, not, SomeIff}
 use Rattle.std.specs.List.{list_all, list_any, position, position_or_len, before_first, after_first}
-use Rattle.std.proofs.lemmas.Bool.{cases_lt, cases_Bool, and_cases, lt-ltb, le-ltb, le-leb, ltb-false, eqb-false}
+use Rattle.std.proofs.lemmas.Bool.{cases_lt, cases_Bool, and_cases, lt-ltb, le-ltb, le-leb, ltb-false, eqb-false, and_parts}
 use Rattle.std.proofs.lemmas.Option.{cond_some}
 use Rattle.std.proofs.lemmas.List.Folds.{list_all-append}
 use Rattle.std.proofs.lemmas.List.Sums.{fold-append}
+use Rattle.std.proofs.Math.Bool.{and-false}
 use Rattle.vpr_text.specs.Words.{is_filled}
 use Rattle.vpr_text.specs.Numbers.{is_digit, is_point, fixed_of, value_after, value_of, is_whole, is_exponent_sign, is_exponent, is_pointed, is_unsigned}
 
@@ -19,10 +20,6 @@ none_if b n e = sym (ap (λ (t : Bool). cond t (Some n) None) e)
 pub some_if : (b : Bool) (n : ℕ) → b ≡ true → Some n ≡ cond b (Some n) None
 some_if b n e = sym (ap (λ (t : Bool). cond t (Some n) None) e)
 
-and_false : (b : Bool) → (b && false) ≡ false
-and_false true = refl
-and_false false = refl
-
 -- digits only make a number greater
 pub value_after-ge : (n : ℕ) (digits : List ℕ) → n ≤ value_after n digits
 value_after-ge n [] = omega arith
@@ -30,7 +27,7 @@ value_after-ge n (b ∷ bs) = omega (arith, value_after-ge (n * 10 + (b - 48)) b
 
 pub value_no_fit : (n : ℕ) (digits : List ℕ) (m : ℕ) → m ≤ value_after n digits → None ≡ cond (list_all is_digit digits && ltb (value_after n digits) m) (Some (value_after n digits)) None
 value_no_fit n digits m le =
-    none_if (list_all is_digit digits && ltb (value_after n digits) m) (value_after n digits) (ap (λ (t : Bool). list_all is_digit digits && t) (le-ltb (value_after n digits) m le) ∙ and_false (list_all is_digit digits))
+    none_if (list_all is_digit digits && ltb (value_after n digits) m) (value_after n digits) (ap (λ (t : Bool). list_all is_digit digits && t) (le-ltb (value_after n digits) m le) ∙ and-false (list_all is_digit digits))
 
 -- ---- fixed
 
@@ -41,10 +38,10 @@ abbrev pub fits : List ℕ → List ℕ → Bool
 fits whole decimals = is_whole (whole ++ decimals) && leb (length decimals) 9 && ltb (units whole decimals) (2 ^ 64)
 
 fails_digits : (f l u a : Bool) → a ≡ false → (((f && a) && l) && u) ≡ false
-fails_digits f l u a e = ap (λ (t : Bool). ((f && t) && l) && u) e ∙ ap (λ (t : Bool). (t && l) && u) (and_false f)
+fails_digits f l u a e = ap (λ (t : Bool). ((f && t) && l) && u) e ∙ ap (λ (t : Bool). (t && l) && u) (and-false f)
 
 fails_last : (t u : Bool) → u ≡ false → (t && u) ≡ false
-fails_last t u e = ap (λ (v : Bool). t && v) e ∙ and_false t
+fails_last t u e = ap (λ (v : Bool). t && v) e ∙ and-false t
 
 holds : (f a l u : Bool) → f ≡ true → a ≡ true → l ≡ true → u ≡ true → (((f && a) && l) && u) ≡ true
 holds f a l u p q r s = ap (λ (t : Bool). ((t && a) && l) && u) p ∙ ap (λ (t : Bool). (t && l) && u) q ∙ ap (λ (t : Bool). t && u) r ∙ s
@@ -83,10 +80,6 @@ fixed-no_decimals whole decimals e = none_if (fits whole decimals) (units whole 
   | inr p ↦ value-no whole decimals (ltb-false (value_after (value_of whole) decimals) (2 ^ 64) p)
 ])
 
-and_both : (a b : Bool) → (a && b) ≡ true → (a ≡ true) × (b ≡ true)
-and_both true b e = (refl, e)
-and_both false b e = absurd cc
-
 -- what the product gives where the digits are there
 pub fixed_product : (whole decimals : List ℕ) (v w : ℕ) (r : Option ℕ) → is_filled (whole ++ decimals) ≡ true → length decimals ≤ 9
     → Some v ≡ cond (list_all is_digit whole && ltb (value_of whole) (2 ^ 64)) (Some (value_of whole)) None
@@ -97,8 +90,8 @@ fixed_product whole decimals v w r filled short e d product =
     let p = cond_some (list_all is_digit whole && ltb (value_of whole) (2 ^ 64)) (value_of whole) v (sym e) in
     let q = cond_some (list_all is_digit decimals && ltb (value_after v decimals) (2 ^ 64)) (value_after v decimals) w (sym d) in
     let digits : list_all is_digit (whole ++ decimals) ≡ true =
-    list_all-append is_digit whole decimals ∙ ap (λ (t : Bool). t && list_all is_digit decimals) (and_both (list_all is_digit whole) (ltb (value_of whole) (2 ^ 64)) p.0).0
-    ∙ (and_both (list_all is_digit decimals) (ltb (value_after v decimals) (2 ^ 64)) q.0).0 in
+    list_all-append is_digit whole decimals ∙ ap (λ (t : Bool). t && list_all is_digit decimals) (and_parts (list_all is_digit whole) (ltb (value_of whole) (2 ^ 64)) p.0).0
+    ∙ (and_parts (list_all is_digit decimals) (ltb (value_after v decimals) (2 ^ 64)) q.0).0 in
     let value : w ≡ value_of (whole ++ decimals) = sym q.1 ∙ ap (λ (n : ℕ). value_after n decimals) (sym p.1) ∙ sym (value_of-append whole decimals) in
     let same : w * 10 ^ (9 - length decimals) ≡ units whole decimals = ap (λ (n : ℕ). n * 10 ^ (9 - length decimals)) value in
     made r (subst (λ (n : ℕ). SomeIff r (n < 2 ^ 64) n) same product) digits where

@@ -5,6 +5,7 @@ use Rattle.std.specs.List.{AllByRecursion, slice_split, onto_first, before_first
 use Rattle.std.proofs.lemmas.List.{length-take, get_or-take}
 use Rattle.std.proofs.lemmas.List.Elements.{All-from_recursion, recursion_from_All, All-take}
 use Rattle.std.proofs.lemmas.List.Sums.{fails_before_first}
+use Rattle.std.proofs.lemmas.Bool.{or_parts}
 use Rattle.vpr_text.specs.declared.fault.TextFault.{TextFault}
 use Rattle.vpr_text.specs.Words.{Line, is_line_feed, is_separator, is_comment_sign, is_filled, has_words, words_on, goes_on, shortened, given_up, continued, lines_from, words_of}
 use Rattle.vpr_text.specs.Text.{is_bad, is_word_byte, IsWord, bad_line_from, lines_or_bad, lines_of}
@@ -117,11 +118,7 @@ none_passes test n (p ∷ ps) e = by (test p) refl e (λ rest. none_passes test 
 
 no_bad : (bytes : List ℕ) → list_any is_bad bytes ≡ false → AllByRecursion (λ b. is_bad b ≡ false) bytes
 no_bad [] e = tt
-no_bad (b ∷ bs) e = let each = or_false (is_bad b) (list_any is_bad bs) e in (each.0, no_bad bs each.1)
-  where
-    or_false : (a c : Bool) → (a || c) ≡ false → (a ≡ false) × (c ≡ false)
-    or_false true c h = absurd cc
-    or_false false c h = (refl, h)
+no_bad (b ∷ bs) e = let each = or_parts (is_bad b) (list_any is_bad bs) e in (each.0, no_bad bs each.1)
 
 fine_lines : (bytes : List ℕ) → bad_line_from 1 bytes ≡ None → AllByRecursion (λ p. AllByRecursion IsFine p) (slice_split is_line_feed bytes)
 fine_lines bytes e =

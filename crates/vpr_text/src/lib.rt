@@ -1,7 +1,6 @@
 //! The text of a VPR file: its logical lines and words, its numbers, and the bytes that carry it.
 #![tactic(auto)]
 
-mod adapted;
 mod fault;
 mod line;
 mod numbers;
@@ -10,8 +9,8 @@ mod reading;
 mod sink;
 mod source;
 mod split;
+mod std_streams;
 
-pub use adapted::Adapted;
 pub use fault::TextFault;
 pub use line::Lines;
 pub use numbers::{fixed, is_decimal, number};
@@ -20,3 +19,4 @@ pub use reading::{ReadFault, read_all};
 pub use sink::ByteSink;
 pub use source::{Broken, ByteSource};
 pub use split::lines;
+pub use std_streams::Adapted;

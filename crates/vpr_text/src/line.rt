@@ -8,14 +8,14 @@ use std::marker::Model;
 
 /// Where a word stands in the source.
 #[derive(Clone, Copy, Debug)]
-pub(crate) struct Range {
+pub(crate) struct ByteRange {
     pub(crate) start: u32,
     pub(crate) end: u32,
 }
 
 /// A line: the number of its first physical line, and its words by their place among all words.
 #[derive(Clone, Copy, Debug)]
-pub(crate) struct Entry {
+pub(crate) struct LineEntry {
     pub(crate) number: u32,
     pub(crate) first: u32,
     pub(crate) count: u32,
@@ -25,8 +25,8 @@ pub(crate) struct Entry {
 #[derive(Debug, Drop)]
 pub struct Lines<'a> {
     source: &'a [u8],
-    ranges: Vec<Range>,
-    entries: Vec<Entry>,
+    ranges: Vec<ByteRange>,
+    entries: Vec<LineEntry>,
 }
 
 impl<'a> Model for Lines<'a> {
@@ -44,7 +44,11 @@ impl<'a> Model for Lines<'a> {
 impl<'a> Lines<'a> {
     ghost use Rattle.vpr_text.specs.kept.Split.{lines_in, AreEntriesOf};
 
-    pub(crate) fn from_parts(source: &'a [u8], ranges: Vec<Range>, entries: Vec<Entry>) -> Lines<'a>
+    pub(crate) fn from_parts(
+        source: &'a [u8],
+        ranges: Vec<ByteRange>,
+        entries: Vec<LineEntry>,
+    ) -> Lines<'a>
         requires { AreEntriesOf source.now ranges.items entries.items }
         ensures { result ≡ lines_in source.now ranges.items entries.items }
     {

@@ -9,7 +9,7 @@ ghost use Rattle.vpr_text.specs.declared.fault.TextFault.TheVariants.{Memory};
 ghost use Rattle.vpr_text.specs.kept.Split.{range_if, entry_if, IsRange, Adds, AddsLine, GivesUp};
 
 use crate::fault::TextFault;
-use crate::line::{Entry, Lines, Range};
+use crate::line::{ByteRange, LineEntry, Lines};
 use std::alloc::{AllocError, Global};
 
 const LINE_FEED: u8 = b'\n';
@@ -67,12 +67,12 @@ fn find(source: &[u8], byte: u8, from: usize, to: usize) -> usize
 }
 
 /// Notes the range, if it isn't empty.
-fn push_range(ranges: &mut Vec<Range>, start: usize, end: usize) -> Result<(), AllocError>
+fn push_range(ranges: &mut Vec<ByteRange>, start: usize, end: usize) -> Result<(), AllocError>
     requires { end < 2 ^ 32 }
     ensures { OnOk result (ranges.new.items ≡ ranges.old.items ++ range_if start end) }
 {
     if start < end {
-        ranges.push(Range {
+        ranges.push(ByteRange {
             start: start as u32,
             end: end as u32,
         })?;
@@ -82,7 +82,7 @@ fn push_range(ranges: &mut Vec<Range>, start: usize, end: usize) -> Result<(), A
 
 /// Notes the words of a part of the source.
 fn push_words(
-    ranges: &mut Vec<Range>,
+    ranges: &mut Vec<ByteRange>,
     source: &[u8],
     from: usize,
     to: usize,
@@ -104,7 +104,7 @@ fn push_words(
 }
 
 /// Takes the backslash off the last of the words from `first` on, if it ends in one, and says so.
-fn give_up(ranges: &mut Vec<Range>, source: &[u8], first: usize) -> bool
+fn give_up(ranges: &mut Vec<ByteRange>, source: &[u8], first: usize) -> bool
     requires within { first ≤ vec_len ranges.old }
     requires fits { All (IsRange (length source.now)) (drop first ranges.old.items) }
     ensures { GivesUp source.now first ranges.old.items ranges.new.items result }
@@ -121,7 +121,7 @@ fn give_up(ranges: &mut Vec<Range>, source: &[u8], first: usize) -> bool
     if range.start == end {
         ranges.truncate(last);
     } else {
-        ranges[last] = Range {
+        ranges[last] = ByteRange {
             start: range.start,
             end,
         };
@@ -131,7 +131,7 @@ fn give_up(ranges: &mut Vec<Range>, source: &[u8], first: usize) -> bool
 
 /// Notes the words of a physical line, and says whether it goes on.
 fn push_line(
-    ranges: &mut Vec<Range>,
+    ranges: &mut Vec<ByteRange>,
     source: &[u8],
     from: usize,
     to: usize,
@@ -150,7 +150,7 @@ fn push_line(
 
 /// Notes a line of the ranges from `first` to `end`, if there are any.
 fn push_entry(
-    entries: &mut Vec<Entry>,
+    entries: &mut Vec<LineEntry>,
     number: u32,
     first: usize,
     end: usize,
@@ -159,7 +159,7 @@ fn push_entry(
     ensures { OnOk result (entries.new.items ≡ entries.old.items ++ entry_if number first end) }
 {
     if first < end {
-        entries.push(Entry {
+        entries.push(LineEntry {
             number,
             first: first as u32,
             count: (end - first) as u32,

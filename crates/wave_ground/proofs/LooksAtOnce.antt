@@ -3,7 +3,7 @@ use Rattle.std.proofs.Common.{◌≡◌, ◌∙◌, ℕ, ◌+◌, ◌-◌, ◌*�
 use Rattle.std.proofs.lemmas.Bool.{cases_lt}
 use Rattle.std.proofs.lemmas.Nat.{mul-le}
 use Rattle.std.proofs.Math.Nat.{le-div_iff_mul-le, div-mul-le_self, mul-le-mul_left, mul-le-mul_right}
-use Rattle.routing_problem.specs.parts.Kind.TheVariants.{Chanx, Chany}
+use Rattle.routing_problem.specs.node.Kind.TheVariants.{Chanx, Chany}
 use Rattle.wavefront.specs.Boxes.{BoundingBox}
 use Rattle.wavefront.specs.kept.Bounds.{Wire, gap, wires_for, wires_over, wires_to}
 use Rattle.wavefront.proofs.WiresOver.{for_more}

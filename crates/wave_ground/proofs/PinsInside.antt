@@ -4,9 +4,9 @@ use Rattle.std.specs.Option.{option_map}
 use Rattle.std.proofs.lemmas.Bool.{false≢true}
 use Rattle.std.proofs.lemmas.Option.{same_Some}
 use Rattle.routing_problem.specs.InputPins.{IsPinOf}
-use Rattle.routing_problem.specs.parts.Kind.{Kind}
-use Rattle.routing_problem.specs.parts.Kind.TheVariants.{Sink, Ipin}
-use Rattle.routing_problem.specs.parts.Node.{Node}
+use Rattle.routing_problem.specs.node.Kind.{Kind}
+use Rattle.routing_problem.specs.node.Kind.TheVariants.{Sink, Ipin}
+use Rattle.routing_problem.specs.node.Node.{Node}
 use Rattle.routing_problem.specs.Fabric.{Fabric}
 use Rattle.routing_problem.specs.Nodes.{span_of}
 use Rattle.routing_problem.specs.Problems.{is_sink_kind}

@@ -1,7 +1,7 @@
 //! What the search of one net goes over.
 
 ghost use Rattle.std.specs.Prelude.{◌≡◌, ◌<◌, ◌≤◌, ◌+◌, ◌*◌, ◌^◌, ◌↔◌, ℕ, Contains, IfSome, OnOk, IsTrue, length, get_or, slice_index, true, [], Some};
-ghost use Rattle.routing_problem.specs.parts.Kind.TheVariants.{Ipin};
+ghost use Rattle.routing_problem.specs.node.Kind.TheVariants.{Ipin};
 ghost use Rattle.routing_problem.specs.Problems.{is_sink};
 ghost use Rattle.std.specs.List.Sorted.{IsStrictlyIncreasing};
 ghost use Rattle.std.specs.Option.{option_map_or};
@@ -117,7 +117,6 @@ impl<'a> Ground<'a> {
         ensures facts { IsGround result }
     {
         let _nodes = problem.device().node_count();
-        let _limits = problem.device().nx();
         let _nets = problem.nets();
         let _bounds = view.len();
         Ground {
@@ -216,7 +215,6 @@ impl<'a> Ground<'a> {
         ensures { result ≡ entry_cost self.now.space node }
     {
         let device = self.problem.device();
-        let _limits = device.nx();
         let base = base_cost(device.kind(node));
         let capacity = device.capacity(node).unwrap_or(0);
         self.cost_by(base, capacity, node)

@@ -6,7 +6,7 @@ use Rattle.std.proofs.lemmas.Bool.{cases_eq, cases_lt}
 use Rattle.std.proofs.lemmas.List.{get_or-set_same, get_or-set_other}
 use Rattle.std.proofs.lemmas.List.Elements.{All-nil, All-head, All-map, All-pop, All-push, All-weaker}
 use Rattle.std.proofs.lemmas.List.Sorted.{length_permutation, IsPermutation-map, IsPermutation-sym}
-use Rattle.wave_queue.specs.declared.queue.Entry.{Entry}
+use Rattle.wave_queue.specs.declared.queue.QueueEntry.{QueueEntry}
 use Rattle.wave_queue.specs.kept.Buckets.{bucket_of}
 use Rattle.wave_queue.specs.kept.Queues.{Waiting, entry_of, all_of, entries_of, IsPlaced, ArePlaced, IsBucketed, IsLowest, IsPast}
 use Rattle.wave_queue.proofs.KeysInOrder.{key_below}
@@ -14,14 +14,14 @@ use Rattle.wave_queue.proofs.Rows.{AreEmpty, all_more, each_of, none_in, row_wit
 
 module _ {K : Type 0} (value : K → ℕ) where
   -- the bound may lie farther down
-  wider : (low low' i : ℕ) (e : Entry K) → low' ≤ low → IsPlaced value low i e → IsPlaced value low' i e
+  wider : (low low' i : ℕ) (e : QueueEntry K) → low' ≤ low → IsPlaced value low i e → IsPlaced value low' i e
   wider low low' i e down h = record {
     here = h.here;
     from = omega (arith, h.from, down);
   }
 
   -- ---- an entry more
-  placed_more : (rows : List (List (Entry K))) (low low' at : ℕ) (x : Entry K) → at < length rows → bucket_of (value x.key) ≡ at → low' ≤ low → low' ≤ at
+  placed_more : (rows : List (List (QueueEntry K))) (low low' at : ℕ) (x : QueueEntry K) → at < length rows → bucket_of (value x.key) ≡ at → low' ≤ low → low' ≤ at
       → ArePlaced value low rows → ArePlaced value low' (set rows at (get_or rows at [] ++ x ∷ []))
   placed_more rows low low' at x within is down from placed i =
       let before : All (IsPlaced value low' i) (get_or rows i []) = All-weaker (IsPlaced value low i) (IsPlaced value low' i) (λ e h. wider low low' i e down h) (get_or rows i []) (placed i) in
@@ -32,40 +32,40 @@ module _ {K : Type 0} (value : K → ℕ) where
             ap (λ n. get_or (set rows at (get_or rows at [] ++ x ∷ [])) n []) same
             ∙ get_or-set_same rows at (get_or rows at [] ++ x ∷ []) [] within
             ∙ ap (λ n. get_or rows n [] ++ x ∷ []) (sym same) in
-            subst (λ (es : List (Entry K)). All (IsPlaced value low' i) es) (sym row) (All-push (IsPlaced value low' i) (get_or rows i []) x before last)
-        | inr other ↦ subst (λ (es : List (Entry K)). All (IsPlaced value low' i) es) (sym (get_or-set_other rows at i (get_or rows at [] ++ x ∷ []) [] other)) before
+            subst (λ (es : List (QueueEntry K)). All (IsPlaced value low' i) es) (sym row) (All-push (IsPlaced value low' i) (get_or rows i []) x before last)
+        | inr other ↦ subst (λ (es : List (QueueEntry K)). All (IsPlaced value low' i) es) (sym (get_or-set_other rows at i (get_or rows at [] ++ x ∷ []) [] other)) before
       ]
 
-  pub bucketed_more : (rows now : List (List (Entry K))) (low low' count at : ℕ) (x : Entry K) → now ≡ set rows at (get_or rows at [] ++ x ∷ []) → bucket_of (value x.key) ≡ at → at < length rows
+  pub bucketed_more : (rows now : List (List (QueueEntry K))) (low low' count at : ℕ) (x : QueueEntry K) → now ≡ set rows at (get_or rows at [] ++ x ∷ []) → bucket_of (value x.key) ≡ at → at < length rows
       → low' ≡ min low at → IsBucketed value rows low count → IsBucketed value now low' (count + 1)
   bucketed_more rows now low low' count at x is here within down h =
       let placed = placed_more rows low low' at x within here (omega (arith, down)) (omega (arith, down)) h.placed in
       let one : length (all_of (set rows at (get_or rows at [] ++ x ∷ []))) ≡ length (x ∷ all_of rows) = length_permutation _ _ (all_more rows at x within) in
-      subst (λ (rs : List (List (Entry K))). IsBucketed value rs low' (count + 1)) (sym is) (record {
+      subst (λ (rs : List (List (QueueEntry K))). IsBucketed value rs low' (count + 1)) (sym is) (record {
         placed = placed;
         counted = omega (arith, one, h.counted);
       })
 
   -- ---- rows more without any
-  pub bucketed_same : (rows now : List (List (Entry K))) (low count : ℕ) → ((i : ℕ) → get_or now i [] ≡ get_or rows i []) → IsBucketed value rows low count → IsBucketed value now low count
+  pub bucketed_same : (rows now : List (List (QueueEntry K))) (low count : ℕ) → ((i : ℕ) → get_or now i [] ≡ get_or rows i []) → IsBucketed value rows low count → IsBucketed value now low count
   bucketed_same rows now low count same h = record {
-    placed = λ i. subst (λ (es : List (Entry K)). All (IsPlaced value low i) es) (sym (same i)) (h.placed i);
+    placed = λ i. subst (λ (es : List (QueueEntry K)). All (IsPlaced value low i) es) (sym (same i)) (h.placed i);
     counted = ap length (same_in rows now same) ∙ h.counted;
   }
 
-  pub entries_same : (rows now : List (List (Entry K))) (es : List Waiting) → ((i : ℕ) → get_or now i [] ≡ get_or rows i []) → entries_of value rows ≡ es → entries_of value now ≡ es
+  pub entries_same : (rows now : List (List (QueueEntry K))) (es : List Waiting) → ((i : ℕ) → get_or now i [] ≡ get_or rows i []) → entries_of value rows ≡ es → entries_of value now ≡ es
   entries_same rows now es same view = ap (map (entry_of value)) (same_in rows now same) ∙ view
 
-  pub entries_more : (rows now : List (List (Entry K))) (at : ℕ) (x : Entry K) (es : List Waiting) → now ≡ set rows at (get_or rows at [] ++ x ∷ []) → at < length rows → entries_of value rows ≡ es
+  pub entries_more : (rows now : List (List (QueueEntry K))) (at : ℕ) (x : QueueEntry K) (es : List Waiting) → now ≡ set rows at (get_or rows at [] ++ x ∷ []) → at < length rows → entries_of value rows ≡ es
       → IsPermutation (entry_of value x ∷ es) (entries_of value now)
   entries_more rows now at x es is within view =
       let moved : IsPermutation (x ∷ all_of rows) (all_of now) = rw is (all_more rows at x within) in
       subst (λ (ws : List Waiting). IsPermutation (entry_of value x ∷ ws) (entries_of value now)) view (IsPermutation-map (entry_of value) (x ∷ all_of rows) (all_of now) moved)
 
   -- ---- an entry less
-  placed_less : (rows now : List (List (Entry K))) (low at : ℕ) (x : Entry K) → rows ≡ set now at (get_or now at [] ++ x ∷ []) → at < length now → ArePlaced value low rows → ArePlaced value low now
+  placed_less : (rows now : List (List (QueueEntry K))) (low at : ℕ) (x : QueueEntry K) → rows ≡ set now at (get_or now at [] ++ x ∷ []) → at < length now → ArePlaced value low rows → ArePlaced value low now
   placed_less rows now low at x is within placed i =
-      let same_rows : get_or rows i [] ≡ get_or (set now at (get_or now at [] ++ x ∷ [])) i [] = ap (λ (rs : List (List (Entry K))). get_or rs i []) is in
+      let same_rows : get_or rows i [] ≡ get_or (set now at (get_or now at [] ++ x ∷ [])) i [] = ap (λ (rs : List (List (QueueEntry K))). get_or rs i []) is in
       elim (cases_eq i at) [
         | inl same ↦
             let row : get_or rows i [] ≡ get_or now i [] ++ x ∷ [] =
@@ -74,13 +74,13 @@ module _ {K : Type 0} (value : K → ℕ) where
             ∙ get_or-set_same now at (get_or now at [] ++ x ∷ []) [] within
             ∙ ap (λ n. get_or now n [] ++ x ∷ []) (sym same) in
             (All-pop (IsPlaced value low i) (get_or rows i []) (get_or now i []) (Some x) row (placed i)).0
-        | inr other ↦ subst (λ (es : List (Entry K)). All (IsPlaced value low i) es) (same_rows ∙ get_or-set_other now at i (get_or now at [] ++ x ∷ []) [] other) (placed i)
+        | inr other ↦ subst (λ (es : List (QueueEntry K)). All (IsPlaced value low i) es) (same_rows ∙ get_or-set_other now at i (get_or now at [] ++ x ∷ []) [] other) (placed i)
       ]
 
-  less_moved : (rows now : List (List (Entry K))) (at : ℕ) (x : Entry K) → rows ≡ set now at (get_or now at [] ++ x ∷ []) → at < length now → IsPermutation (all_of rows) (x ∷ all_of now)
+  less_moved : (rows now : List (List (QueueEntry K))) (at : ℕ) (x : QueueEntry K) → rows ≡ set now at (get_or now at [] ++ x ∷ []) → at < length now → IsPermutation (all_of rows) (x ∷ all_of now)
   less_moved rows now at x is within = rw is (IsPermutation-sym _ _ (all_more now at x within))
 
-  pub bucketed_less : (rows now : List (List (Entry K))) (low count at : ℕ) (x : Entry K) → rows ≡ set now at (get_or now at [] ++ x ∷ []) → at < length rows → length now ≡ length rows
+  pub bucketed_less : (rows now : List (List (QueueEntry K))) (low count at : ℕ) (x : QueueEntry K) → rows ≡ set now at (get_or now at [] ++ x ∷ []) → at < length rows → length now ≡ length rows
       → IsBucketed value rows low count → (1 ≤ count) × IsBucketed value now low (count - 1)
   bucketed_less rows now low count at x is within long h =
       let in_now : at < length now = omega (arith, within, long) in
@@ -92,14 +92,14 @@ module _ {K : Type 0} (value : K → ℕ) where
         },
       )
 
-  pub entries_less : (rows now : List (List (Entry K))) (at : ℕ) (x : Entry K) (es : List Waiting) → rows ≡ set now at (get_or now at [] ++ x ∷ []) → at < length rows → length now ≡ length rows → entries_of value rows ≡ es
+  pub entries_less : (rows now : List (List (QueueEntry K))) (at : ℕ) (x : QueueEntry K) (es : List Waiting) → rows ≡ set now at (get_or now at [] ++ x ∷ []) → at < length rows → length now ≡ length rows → entries_of value rows ≡ es
       → IsPermutation es (entry_of value x ∷ entries_of value now)
   entries_less rows now at x es is within long view =
       let moved = less_moved rows now at x is (omega (arith, within, long)) in
       subst (λ (ws : List Waiting). IsPermutation ws (entry_of value x ∷ entries_of value now)) view (IsPermutation-map (entry_of value) (all_of rows) (x ∷ all_of now) moved)
 
   -- ---- the first row that may have some
-  pub bucketed_from : (rows : List (List (Entry K))) (low low' count : ℕ) → AreEmpty rows low low' → IsBucketed value rows low count → IsBucketed value rows low' count
+  pub bucketed_from : (rows : List (List (QueueEntry K))) (low low' count : ℕ) → AreEmpty rows low low' → IsBucketed value rows low count → IsBucketed value rows low' count
   bucketed_from rows low low' count empty h = record {
     placed = λ i k d within.
         let one : IsPlaced value low i (get_or (get_or rows i []) k d) = h.placed i k d within in
@@ -114,11 +114,11 @@ module _ {K : Type 0} (value : K → ℕ) where
   }
 
   -- where none stands in the bucket of a bound or before, all keys are above the bound
-  pub all_past : (rows : List (List (Entry K))) (low stop count : ℕ) (bound : K) (es : List Waiting) → stop ≡ min (length rows) (bucket_of (value bound) + 1) → stop ≤ low
+  pub all_past : (rows : List (List (QueueEntry K))) (low stop count : ℕ) (bound : K) (es : List Waiting) → stop ≡ min (length rows) (bucket_of (value bound) + 1) → stop ≤ low
       → IsBucketed value rows low count → entries_of value rows ≡ es → IsPast es (entries_of value rows) (value bound)
   all_past rows low stop count bound es is past h view =
-      let each : All (λ (e : Entry K). value bound < value e.key) (all_of rows) =
-      each_of (λ (e : Entry K). value bound < value e.key) rows (λ i k d within.
+      let each : All (λ (e : QueueEntry K). value bound < value e.key) (all_of rows) =
+      each_of (λ (e : QueueEntry K). value bound < value e.key) rows (λ i k d within.
       let one : IsPlaced value low i (get_or (get_or rows i []) k d) = h.placed i k d within in
       key_below (value bound) _ (let there = row_within rows i k within in omega (arith, one.here, one.from, there, is, past))) in
       record {
@@ -127,15 +127,15 @@ module _ {K : Type 0} (value : K → ℕ) where
       }
 
   -- what stands at the end of the first row that has some
-  pub is_lowest : (rows now : List (List (Entry K))) (low stop count : ℕ) (bound : K) (x : Entry K) (es : List Waiting) → stop ≡ min (length rows) (bucket_of (value bound) + 1) → low < stop
+  pub is_lowest : (rows now : List (List (QueueEntry K))) (low stop count : ℕ) (bound : K) (x : QueueEntry K) (es : List Waiting) → stop ≡ min (length rows) (bucket_of (value bound) + 1) → low < stop
       → rows ≡ set now low (get_or now low [] ++ x ∷ []) → length now ≡ length rows → IsBucketed value rows low count → entries_of value rows ≡ es
       → IsLowest es (value x.key) (value bound)
   is_lowest rows now low stop count bound x es stops below is long h view =
       let row : get_or rows low [] ≡ get_or now low [] ++ x ∷ [] =
-      ap (λ (rs : List (List (Entry K))). get_or rs low []) is ∙ get_or-set_same now low (get_or now low [] ++ x ∷ []) [] (omega (arith, below, stops, long)) in
+      ap (λ (rs : List (List (QueueEntry K))). get_or rs low []) is ∙ get_or-set_same now low (get_or now low [] ++ x ∷ []) [] (omega (arith, below, stops, long)) in
       let one : IsPlaced value low low x = (All-pop (IsPlaced value low low) (get_or rows low []) (get_or now low []) (Some x) row (h.placed low)).1 in
-      let each : All (λ (e : Entry K). bucket_of (value x.key) ≤ bucket_of (value e.key)) (all_of rows) =
-      each_of (λ (e : Entry K). bucket_of (value x.key) ≤ bucket_of (value e.key)) rows (λ i. All-weaker (IsPlaced value low i) (λ (e : Entry K). bucket_of (value x.key) ≤ bucket_of (value e.key))
+      let each : All (λ (e : QueueEntry K). bucket_of (value x.key) ≤ bucket_of (value e.key)) (all_of rows) =
+      each_of (λ (e : QueueEntry K). bucket_of (value x.key) ≤ bucket_of (value e.key)) rows (λ i. All-weaker (IsPlaced value low i) (λ (e : QueueEntry K). bucket_of (value x.key) ≤ bucket_of (value e.key))
       (λ e other. omega (arith, one.here, other.here, other.from)) (get_or rows i []) (h.placed i)) in
       record {
         near = omega (arith, one.here, below, stops);
@@ -143,22 +143,22 @@ module _ {K : Type 0} (value : K → ℕ) where
       }
 
   -- ---- none
-  pub bucketed_none : (rows : List (List (Entry K))) (low : ℕ) → ((i : ℕ) → get_or rows i [] ≡ []) → IsBucketed value rows low 0
+  pub bucketed_none : (rows : List (List (QueueEntry K))) (low : ℕ) → ((i : ℕ) → get_or rows i [] ≡ []) → IsBucketed value rows low 0
   bucketed_none rows low none = record {
-    placed = λ i. subst (λ (es : List (Entry K)). All (IsPlaced value low i) es) (sym (none i)) (All-nil (IsPlaced value low i));
+    placed = λ i. subst (λ (es : List (QueueEntry K)). All (IsPlaced value low i) es) (sym (none i)) (All-nil (IsPlaced value low i));
     counted = ap length (none_in rows none);
   }
 
-  pub entries_none : (rows : List (List (Entry K))) → ((i : ℕ) → get_or rows i [] ≡ []) → entries_of value rows ≡ []
+  pub entries_none : (rows : List (List (QueueEntry K))) → ((i : ℕ) → get_or rows i [] ≡ []) → entries_of value rows ≡ []
   entries_none rows none = ap (map (entry_of value)) (none_in rows none)
 
   -- before the bound no row has any
-  empty_before : (low i : ℕ) (row : List (Entry K)) → All (IsPlaced value low i) row → i < low → row ≡ []
+  empty_before : (low i : ℕ) (row : List (QueueEntry K)) → All (IsPlaced value low i) row → i < low → row ≡ []
   empty_before low i [] h before = refl
   empty_before low i (x ∷ row) h before = absurd (let one = All-head (IsPlaced value low i) x row h in omega (arith, one.from, before))
 
   -- where those from the bound on are made empty, all are
-  pub all_emptied : (rows now : List (List (Entry K))) (low : ℕ) → ArePlaced value low rows → ((i : ℕ) → low ≤ i → get_or now i [] ≡ []) → ((i : ℕ) → get_or rows i [] ≡ [] → get_or now i [] ≡ []) → (i : ℕ) → get_or now i [] ≡ []
+  pub all_emptied : (rows now : List (List (QueueEntry K))) (low : ℕ) → ArePlaced value low rows → ((i : ℕ) → low ≤ i → get_or now i [] ≡ []) → ((i : ℕ) → get_or rows i [] ≡ [] → get_or now i [] ≡ []) → (i : ℕ) → get_or now i [] ≡ []
   all_emptied rows now low placed empty kept i = elim (cases_lt i low) [
     | inl before ↦ kept i (empty_before low i (get_or rows i []) (placed i) before)
     | inr from ↦ empty i from

@@ -5,21 +5,21 @@ ghost use Rattle.wave_queue.specs.kept.Buckets.{most_buckets};
 
 use crate::keys::BUCKETS;
 use crate::marks::{first_marked, mark, unmark};
-use crate::queue::Entry;
+use crate::queue::QueueEntry;
 use std::alloc::{AllocError, Global};
 use std::marker::Model;
 
 /// The entries of one bucket. Contracts see a list of them.
 #[derive(Drop)]
 struct Bucket<K> {
-    entries: Vec<Entry<K>>,
+    entries: Vec<QueueEntry<K>>,
 }
 
 impl<K> Model for Bucket<K> {
     ghost use Rattle.std.specs.Prelude.{List};
-    ghost use Rattle.wave_queue.specs.declared.queue.Entry.{Entry};
+    ghost use Rattle.wave_queue.specs.declared.queue.QueueEntry.{QueueEntry};
 
-    ghost Value = { List (Entry K) };
+    ghost Value = { List (QueueEntry K) };
 
     ghost view = { λ b. b.entries.items };
 }
@@ -36,7 +36,7 @@ impl<K: Copy + Drop> Bucket<K> {
 
     /// Puts an entry behind the others. An `Err` changes nothing.
     #[inline(always)]
-    fn push(&mut self, entry: Entry<K>) -> Result<(), AllocError>
+    fn push(&mut self, entry: QueueEntry<K>) -> Result<(), AllocError>
         ensures ok { OnOk result (self.new ≡ self.old ++ entry ∷ []) }
         ensures err { OnErr result (self.new ≡ self.old) }
     {
@@ -45,7 +45,7 @@ impl<K: Copy + Drop> Bucket<K> {
     }
 
     /// Takes the last entry out.
-    fn take_last(&mut self) -> Entry<K>
+    fn take_last(&mut self) -> QueueEntry<K>
         requires { 0 < length self.old }
         ensures { self.old ≡ self.new ++ result ∷ [] }
     {
@@ -90,7 +90,7 @@ fn add_buckets<K: Copy + Drop>(
 fn put<K: Copy + Drop>(
     buckets: &mut Vec<Bucket<K>>,
     at: usize,
-    entry: Entry<K>,
+    entry: QueueEntry<K>,
 ) -> Result<(), AllocError>
     requires { at < vec_len buckets.old }
     ensures ok { OnOk result (buckets.new.items ≡ slice_set buckets.old.items at
@@ -102,7 +102,7 @@ fn put<K: Copy + Drop>(
 }
 
 /// Takes the last entry out of a bucket.
-fn take_from<K: Copy + Drop>(buckets: &mut Vec<Bucket<K>>, at: usize) -> Entry<K>
+fn take_from<K: Copy + Drop>(buckets: &mut Vec<Bucket<K>>, at: usize) -> QueueEntry<K>
     requires within { at < vec_len buckets.old }
     requires used { 0 < length (slice_index_or buckets.old.items at []) }
     ensures count { length buckets.new.items ≡ length buckets.old.items }
@@ -123,10 +123,10 @@ pub(crate) struct Buckets<K> {
 
 impl<K> Model for Buckets<K> {
     ghost use Rattle.std.specs.Prelude.{List};
-    ghost use Rattle.wave_queue.specs.declared.queue.Entry.{Entry};
+    ghost use Rattle.wave_queue.specs.declared.queue.QueueEntry.{QueueEntry};
     ghost use Rattle.wave_queue.specs.kept.Marks.{AreUsed};
 
-    ghost Value = { List (List (Entry K)) };
+    ghost Value = { List (List (QueueEntry K)) };
 
     ghost view = { λ b. b.rows.items };
 
@@ -202,7 +202,7 @@ impl<K: Copy + Drop> Buckets<K> {
 
     /// Puts an entry into a bucket. An `Err` changes nothing.
     #[inline(always)]
-    pub(crate) fn put(&mut self, at: usize, entry: Entry<K>) -> Result<(), AllocError>
+    pub(crate) fn put(&mut self, at: usize, entry: QueueEntry<K>) -> Result<(), AllocError>
         requires { at < length self.old }
         ensures ok { OnOk result (self.new ≡ slice_set self.old at
             (slice_index_or self.old at [] ++ entry ∷ [])) }
@@ -214,7 +214,7 @@ impl<K: Copy + Drop> Buckets<K> {
     }
 
     /// Takes the last entry out of a bucket.
-    pub(crate) fn take_from(&mut self, at: usize) -> Entry<K>
+    pub(crate) fn take_from(&mut self, at: usize) -> QueueEntry<K>
         requires within { at < length self.old }
         requires used { 0 < length (slice_index_or self.old at []) }
         ensures count { length self.new ≡ length self.old }

@@ -9,4 +9,4 @@ mod queue;
 
 pub use bits::{lowest_bit, only_bit, take_bit, with_bit};
 pub use keys::Key;
-pub use queue::{Entry, Queue};
+pub use queue::{Queue, QueueEntry};

@@ -11,7 +11,7 @@ use std::marker::Model;
 
 /// Wires of one group that have one label and wait: bit j of `tracks` for track j.
 #[derive(Clone, Copy, Drop)]
-pub struct Entry<K> {
+pub struct QueueEntry<K> {
     pub key: K,
     pub label: K,
     pub group: u32,
@@ -89,7 +89,7 @@ impl<K: Key> Queue<K> {
     /// Where memory runs out, or there are as many as can be counted. Those that wait stay as they
     /// are then.
     #[inline(always)]
-    pub fn push(&mut self, entry: Entry<K>) -> Result<(), AllocError>
+    pub fn push(&mut self, entry: QueueEntry<K>) -> Result<(), AllocError>
         ensures ok { OnOk result
             (IsPermutation (entry_of K.value entry ∷ self.old) self.new) }
         ensures err { OnErr result (self.new ≡ self.old) }
@@ -106,7 +106,7 @@ impl<K: Key> Queue<K> {
     }
 
     /// Takes an entry of the lowest bucket out, unless that is above the bucket of a bound.
-    pub fn pop_to(&mut self, bound: K) -> Option<Entry<K>>
+    pub fn pop_to(&mut self, bound: K) -> Option<QueueEntry<K>>
         ensures some { IfSome result
             (λ e. IsPermutation self.old (entry_of K.value e ∷ self.new)) }
         ensures lowest { IfSome result

@@ -1,31 +1,26 @@
 -- Where a wire stands from which an input pin is entered.
-use Rattle.std.proofs.Common.{◌≡◌, ℕ, ◌+◌, ◌-◌, ◌≤◌, Bool, true, false, ◌&&◌, ◌||◌, ◌==◌, not, nat_le, ◌⊎◌, inl, inr, List, ◌++◌, Option, Some, None, refl, arith}
+use Rattle.std.proofs.Common.{◌≡◌, ℕ, ◌+◌, ◌-◌, ◌≤◌, Bool, true, false, ◌&&◌, ◌==◌, not, nat_le, ◌⊎◌, inl, inr, List, ◌++◌, Option, Some, None, arith}
 use Rattle.std.specs.Prelude.{slice_get}
 use Rattle.std.specs.List.{list_any}
-use Rattle.std.proofs.lemmas.Bool.{cases_Bool, eqb-true, leb-true, false≢true}
-use Rattle.arch_file.specs.declared.parts.Pin.{Pin}
-use Rattle.routing_problem.specs.parts.Kind.{Kind}
-use Rattle.routing_problem.specs.parts.Kind.TheVariants.{Chanx, Chany}
-use Rattle.routing_problem.specs.parts.Node.{Node}
+use Rattle.std.proofs.lemmas.Bool.{cases_Bool, eqb-true, leb-true, false≢true, and_parts, or_cases}
+use Rattle.arch_file.specs.declared.entries.Pin.{Pin}
+use Rattle.routing_problem.specs.node.Kind.{Kind}
+use Rattle.routing_problem.specs.node.Kind.TheVariants.{Chanx, Chany}
+use Rattle.routing_problem.specs.node.Node.{Node}
 use Rattle.routing_problem.specs.Fabric.{Fabric, is_block, is_pad}
 use Rattle.routing_problem.specs.Nodes.{span_by, span_of}
 use Rattle.routing_problem.specs.Wires.{Place, last_of, runs_by, runs_through}
 use Rattle.routing_problem.specs.Pins.{belongs, channel_of_pad, channels_beside, channels_of_pin, is_global_pin, taps, when}
 use Rattle.wavefront.specs.Boxes.{BoundingBox}
 use Rattle.wavefront.specs.kept.Bounds.{gap, wires_by_kind}
-use Rattle.wavefront.proofs.WireSteps.{both}
 use Rattle.wavefront.proofs.WiresOver.{none_left}
 
-either : (a b : Bool) → (a || b) ≡ true → (a ≡ true) ⊎ (b ≡ true)
-either true b e = inl refl
-either false b e = inr e
-
 any_when : {X : Type 0} (test : X → Bool) (b : Bool) (x : X) (xs : List X) → list_any test (when b x ++ xs) ≡ true → (test x ≡ true) ⊎ (list_any test xs ≡ true)
-any_when test true x xs e = either (test x) (list_any test xs) e
+any_when test true x xs e = or_cases (test x) (list_any test xs) e
 any_when test false x xs e = inr e
 
 any_last : {X : Type 0} (test : X → Bool) (b : Bool) (x : X) → list_any test (when b x) ≡ true → test x ≡ true
-any_last test true x e = elim (either (test x) false e) [ inl h ↦ h | inr h ↦ absurd (false≢true h) ]
+any_last test true x e = elim (or_cases (test x) false e) [ inl h ↦ h | inr h ↦ absurd (false≢true h) ]
 any_last test false x e = absurd (false≢true e)
 
 -- how far a channel's place lies off those beside the box's blocks
@@ -37,14 +32,14 @@ off _ box x y = 0
 module _ (f : Fabric) (steps : ℕ) where
   at_row : (n : Node) (x y : ℕ) → (n.y == y && (nat_le n.x x && nat_le x (last_of f f.nx n.number n.x))) ≡ true → (n.x ≤ x) × (x ≤ last_of f f.nx n.number n.x) × (n.y ≡ y)
   at_row n x y e =
-      let a = both (n.y == y) _ e in
-      let b = both (nat_le n.x x) _ a.1 in
+      let a = and_parts (n.y == y) _ e in
+      let b = and_parts (nat_le n.x x) _ a.1 in
       (leb-true _ _ b.0, leb-true _ _ b.1, eqb-true n.y y a.0)
 
   at_column : (n : Node) (x y : ℕ) → (n.x == x && (nat_le n.y y && nat_le y (last_of f f.ny n.number n.y))) ≡ true → (n.y ≤ y) × (y ≤ last_of f f.ny n.number n.y) × (n.x ≡ x)
   at_column n x y e =
-      let a = both (n.x == x) _ e in
-      let b = both (nat_le n.y y) _ a.1 in
+      let a = and_parts (n.x == x) _ e in
+      let b = and_parts (nat_le n.y y) _ a.1 in
       (leb-true _ _ b.0, leb-true _ _ b.1, eqb-true n.x x a.0)
 
   -- a wire that runs through a channel's place beside the box stands beside it
@@ -87,24 +82,24 @@ module _ (f : Fabric) (steps : ℕ) where
       ]
         where
           upper : is_pad f x y ≡ true → (x == 0) ≡ false → (x == f.nx + 1) ≡ false → (y == 0) ≡ false → y ≡ f.ny + 1
-          upper pad inner middle above = eqb-true y (f.ny + 1) (both _ _ (rw (inner, middle, above) at pad)).0
+          upper pad inner middle above = eqb-true y (f.ny + 1) (and_parts _ _ (rw (inner, middle, above) at pad)).0
 
       -- an input pin that taps the wire stands beside it
       pub pin_step : (pin : Node) → pin.x ≡ x → pin.y ≡ y → (is_block f x y ≡ false → is_pad f x y ≡ true) → taps f pin wire ≡ true → wires_by_kind steps wire.kind box (span_of f wire) ≡ 0
       unfolding taps channels_beside
       pin_step pin ex ey around e =
-          let a = both (not (is_global_pin f pin)) _ e in
-          let b = both (list_any (runs_through f wire) (channels_beside f pin)) _ a.1 in
+          let a = and_parts (not (is_global_pin f pin)) _ e in
+          let b = and_parts (list_any (runs_through f wire) (channels_beside f pin)) _ a.1 in
           let places = rw (ex, ey) at b.0 in
           elim (cases_Bool (is_block f x y)) [
             | inl block ↦ beside_block (slice_get f.architecture.pins pin.number) (rw block at places)
-            | inr pad ↦ beside_pad (around pad) (elim (either (runs_through f wire (channel_of_pad f x y)) false (rw pad at places)) [ inl h ↦ h | inr h ↦ absurd (false≢true h) ])
+            | inr pad ↦ beside_pad (around pad) (elim (or_cases (runs_through f wire (channel_of_pad f x y)) false (rw pad at places)) [ inl h ↦ h | inr h ↦ absurd (false≢true h) ])
           ]
 
 -- the sink of an input pin stands where the pin does
 pub sink_step : (f : Fabric) (pin sink : Node) → belongs f pin sink ≡ true → (pin.x ≡ sink.x) × (pin.y ≡ sink.y)
 unfolding belongs
 sink_step f pin sink e =
-    let a = both (pin.x == sink.x && pin.y == sink.y) _ e in
-    let b = both (pin.x == sink.x) _ a.0 in
+    let a = and_parts (pin.x == sink.x && pin.y == sink.y) _ e in
+    let b = and_parts (pin.x == sink.x) _ a.0 in
     (eqb-true pin.x sink.x b.0, eqb-true pin.y sink.y b.1)

@@ -5,9 +5,9 @@ use Rattle.std.proofs.lemmas.Bool.{false≢true, cases_lt}
 use Rattle.std.proofs.Math.Nat.{mul-le-mul}
 use Rattle.std.proofs.lemmas.List.Elements.{All-contains}
 use Rattle.std.proofs.lemmas.Option.{slice_get-get_or, slice_get_past, none-some}
-use Rattle.routing_problem.specs.parts.Kind.{Kind}
-use Rattle.routing_problem.specs.parts.Kind.TheVariants.{Source, Sink, Opin, Ipin, Chanx, Chany}
-use Rattle.routing_problem.specs.parts.Node.{Node}
+use Rattle.routing_problem.specs.node.Kind.{Kind}
+use Rattle.routing_problem.specs.node.Kind.TheVariants.{Source, Sink, Opin, Ipin, Chanx, Chany}
+use Rattle.routing_problem.specs.node.Node.{Node}
 use Rattle.routing_problem.specs.Fabric.{Fabric, IsFabric}
 use Rattle.routing_problem.specs.Nodes.{nodes_of, node_at, node_count_of, kind_of_node, capacity_of}
 use Rattle.routing_problem.specs.Edges.{edge_between_nodes, edge_between, successors_of}
@@ -71,7 +71,7 @@ small_base_in : (o : Option Kind) → option_map_or base_cost o 0 ≤ 20
 small_base_in None = omega arith
 small_base_in (Some k) = small_base k
 
-product_positive : (a b : ℕ) → 1 ≤ a → 1 ≤ b → 0 < a * b
+pub product_positive : (a b : ℕ) → 1 ≤ a → 1 ≤ b → 0 < a * b
 product_positive a b h g = let p : 1 * 1 ≤ a * b = mul-le-mul h g in omega (arith, p)
 
 dear_kind : (k : Kind) → is_sink_kind k ≡ false → 1 ≤ base_cost k

@@ -4,9 +4,9 @@ use Rattle.std.specs.Option.{option_map, option_map_or}
 use Rattle.std.proofs.Math.Nat.{mul-le-mul}
 use Rattle.std.proofs.lemmas.Bool.{false≢true}
 use Rattle.std.proofs.lemmas.Option.{same_Some}
-use Rattle.routing_problem.specs.parts.Kind.{Kind}
-use Rattle.routing_problem.specs.parts.Kind.TheVariants.{Source, Sink, Opin, Ipin, Chanx, Chany}
-use Rattle.routing_problem.specs.parts.Node.{Node}
+use Rattle.routing_problem.specs.node.Kind.{Kind}
+use Rattle.routing_problem.specs.node.Kind.TheVariants.{Source, Sink, Opin, Ipin, Chanx, Chany}
+use Rattle.routing_problem.specs.node.Node.{Node}
 use Rattle.routing_problem.specs.Fabric.{Fabric}
 use Rattle.routing_problem.specs.Nodes.{node_at, is_wire, is_wire_at, kind_of_node, span_of}
 use Rattle.routing_problem.specs.Numbering.{is_terminal}
@@ -61,7 +61,7 @@ wire_costs Sink e = absurd (false≢true e)
 wire_costs Opin e = absurd (false≢true e)
 wire_costs Ipin e = absurd (false≢true e)
 
-wire_no_sink : (k : Kind) → is_wire k ≡ true → is_sink_kind k ≡ true → ⊥
+pub wire_no_sink : (k : Kind) → is_wire k ≡ true → is_sink_kind k ≡ true → ⊥
 wire_no_sink Chanx e h = false≢true h
 wire_no_sink Chany e h = false≢true h
 wire_no_sink Source e h = false≢true e

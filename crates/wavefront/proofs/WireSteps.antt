@@ -1,8 +1,8 @@
 -- What each edge brings of the way to a sink.
-use Rattle.std.proofs.Common.{◌≡◌, ℕ, ◌+◌, ◌≤◌, Bool, true, false, ◌&&◌, ◌==◌, not, nat_le, refl, sym, ◌∙◌, arith}
-use Rattle.std.proofs.lemmas.Bool.{eqb-true, leb-true, false≢true}
-use Rattle.routing_problem.specs.parts.Kind.{Kind}
-use Rattle.routing_problem.specs.parts.Kind.TheVariants.{Chanx, Chany}
+use Rattle.std.proofs.Common.{◌≡◌, ℕ, ◌+◌, ◌≤◌, true, ◌&&◌, ◌==◌, not, nat_le, sym, ◌∙◌, arith}
+use Rattle.std.proofs.lemmas.Bool.{eqb-true, leb-true, false≢true, and_parts}
+use Rattle.routing_problem.specs.node.Kind.{Kind}
+use Rattle.routing_problem.specs.node.Kind.TheVariants.{Chanx, Chany}
 use Rattle.routing_problem.specs.Fabric.{Fabric, IsFabric}
 use Rattle.routing_problem.specs.Wires.{last_of}
 use Rattle.routing_problem.specs.Nodes.{node_of, is_wire, span_of}
@@ -13,11 +13,6 @@ use Rattle.wavefront.specs.Boxes.{BoundingBox}
 use Rattle.wavefront.specs.kept.Bounds.{steps_within, wires_by_kind}
 use Rattle.wavefront.proofs.WiresOver.{next_across, next_along}
 
-pub both : (a b : Bool) → (a && b) ≡ true → (a ≡ true) × (b ≡ true)
-both true true e = (refl, refl)
-both true false e = absurd (false≢true e)
-both false b e = absurd (false≢true e)
-
 module _ (f : Fabric) (ok : IsFabric f) (box : BoundingBox) where
   -- how many wires lead on from one
   abbrev from : Kind → (x y track : ℕ) → ℕ
@@ -26,10 +21,10 @@ module _ (f : Fabric) (ok : IsFabric f) (box : BoundingBox) where
   rows : (x y t p r s : ℕ) → is_edge f (node_of Chanx x y t) (node_of Chanx p r s) ≡ true → from Chanx x y t ≤ from Chanx p r s + 1
   unfolding is_edge
   rows x y t p r s e =
-      let a = both (s == t) _ (sym (chanx_joins_chanx f x y t p r s) ∙ e) in
-      let b = both (r == y) _ a.1 in
-      let c = both (not (p == x)) _ b.1 in
-      let d = both (nat_le p (last_of f f.nx t x + 1)) _ c.1 in
+      let a = and_parts (s == t) _ (sym (chanx_joins_chanx f x y t p r s) ∙ e) in
+      let b = and_parts (r == y) _ a.1 in
+      let c = and_parts (not (p == x)) _ b.1 in
+      let d = and_parts (nat_le p (last_of f f.nx t x + 1)) _ c.1 in
       let track = eqb-true s t a.0 in
       let row = eqb-true r y b.0 in
       let there = row_within f ok t p in
@@ -40,10 +35,10 @@ module _ (f : Fabric) (ok : IsFabric f) (box : BoundingBox) where
   row_column : (x y t p r s : ℕ) → is_edge f (node_of Chanx x y t) (node_of Chany p r s) ≡ true → from Chanx x y t ≤ from Chany p r s + 1
   unfolding is_edge
   row_column x y t p r s e =
-      let a = both (s == t) _ (sym (chanx_joins_chany f x y t p r s) ∙ e) in
-      let b = both (nat_le x (p + 1) && nat_le p (last_of f f.nx t x)) _ a.1 in
-      let c = both (nat_le x (p + 1)) _ b.0 in
-      let d = both (nat_le r (y + 1)) _ b.1 in
+      let a = and_parts (s == t) _ (sym (chanx_joins_chany f x y t p r s) ∙ e) in
+      let b = and_parts (nat_le x (p + 1) && nat_le p (last_of f f.nx t x)) _ a.1 in
+      let c = and_parts (nat_le x (p + 1)) _ b.0 in
+      let d = and_parts (nat_le r (y + 1)) _ b.1 in
       let track = eqb-true s t a.0 in
       let there = column_within f ok t r in
       let last = leb-true _ _ d.1 in
@@ -52,10 +47,10 @@ module _ (f : Fabric) (ok : IsFabric f) (box : BoundingBox) where
   column_row : (x y t p r s : ℕ) → is_edge f (node_of Chany x y t) (node_of Chanx p r s) ≡ true → from Chany x y t ≤ from Chanx p r s + 1
   unfolding is_edge
   column_row x y t p r s e =
-      let a = both (s == t) _ (sym (chany_joins_chanx f x y t p r s) ∙ e) in
-      let b = both (nat_le y (r + 1) && nat_le r (last_of f f.ny t y)) _ a.1 in
-      let c = both (nat_le y (r + 1)) _ b.0 in
-      let d = both (nat_le p (x + 1)) _ b.1 in
+      let a = and_parts (s == t) _ (sym (chany_joins_chanx f x y t p r s) ∙ e) in
+      let b = and_parts (nat_le y (r + 1) && nat_le r (last_of f f.ny t y)) _ a.1 in
+      let c = and_parts (nat_le y (r + 1)) _ b.0 in
+      let d = and_parts (nat_le p (x + 1)) _ b.1 in
       let track = eqb-true s t a.0 in
       let there = row_within f ok t p in
       let last = leb-true _ _ d.1 in
@@ -64,10 +59,10 @@ module _ (f : Fabric) (ok : IsFabric f) (box : BoundingBox) where
   columns : (x y t p r s : ℕ) → is_edge f (node_of Chany x y t) (node_of Chany p r s) ≡ true → from Chany x y t ≤ from Chany p r s + 1
   unfolding is_edge
   columns x y t p r s e =
-      let a = both (s == t) _ (sym (chany_joins_chany f x y t p r s) ∙ e) in
-      let b = both (p == x) _ a.1 in
-      let c = both (not (r == y)) _ b.1 in
-      let d = both (nat_le r (last_of f f.ny t y + 1)) _ c.1 in
+      let a = and_parts (s == t) _ (sym (chany_joins_chany f x y t p r s) ∙ e) in
+      let b = and_parts (p == x) _ a.1 in
+      let c = and_parts (not (r == y)) _ b.1 in
+      let d = and_parts (nat_le r (last_of f f.ny t y + 1)) _ c.1 in
       let track = eqb-true s t a.0 in
       let column = eqb-true p x b.0 in
       let there = column_within f ok t r in

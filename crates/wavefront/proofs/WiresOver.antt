@@ -3,7 +3,7 @@ use Rattle.std.proofs.Common.{◌≡◌, ℕ, ◌+◌, ◌-◌, ◌*◌, ◌/◌
 use Rattle.std.proofs.Math.Nat.{add-div_left, div-eq_of_lt, div-lt_iff_lt-mul, div-mul-le_self, le-div_iff_mul-le}
 use Rattle.wavefront.specs.kept.Bounds.{wires_for, wires_over}
 
-divided : (k a b : ℕ) → a ≤ b → a / (k + 1) ≤ b / (k + 1)
+pub divided : (k a b : ℕ) → a ≤ b → a / (k + 1) ≤ b / (k + 1)
 divided k a b up = (le-div_iff_mul-le (omega arith)).1 (let low = div-mul-le_self a (k + 1) in omega (arith, low, up))
 
 pub over_more : (steps a b : ℕ) → a ≤ b → wires_over steps a ≤ wires_over steps b

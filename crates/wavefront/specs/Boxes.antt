@@ -1,7 +1,7 @@
 -- The box of a net: the bounding box of its terminals, widened (VPR and T-VPack manual 4.30, "bb_factor").
 use Rattle.std.specs.Prelude.{ℕ, ◌+◌, Bool, false, ◌&&◌, nat_le, min, max, List, [], ◌∷◌}
 use Rattle.std.specs.Option.{option_map, option_map_or}
-use Rattle.routing_problem.specs.parts.Span.{Span}
+use Rattle.routing_problem.specs.node.Span.{Span}
 use Rattle.routing_problem.specs.Fabric.{Fabric}
 use Rattle.routing_problem.specs.Nodes.{node_at, span_of}
 use Rattle.routing_problem.specs.Problems.{Net}

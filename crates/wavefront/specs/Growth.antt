@@ -8,8 +8,8 @@ use Rattle.route_tree.specs.Paths.{Pair, ends_of}
 use Rattle.route_tree.specs.Legality.{is_among, IsLegal, IsListed}
 use Rattle.route_tree.specs.Faults.{IsRoute}
 use Rattle.route_tree.specs.Rows.{node_in, pairs_of, pairs_along}
-use Rattle.wavefront.specs.declared.found.Found.{Found}
-use Rattle.wavefront.specs.declared.found.Found.TheVariants.{Tree, NoPath}
+use Rattle.wavefront.specs.declared.search_outcome.Found.{Found}
+use Rattle.wavefront.specs.declared.search_outcome.Found.TheVariants.{Tree, NoPath}
 use Rattle.wavefront.specs.Space.{Space, IsInside, IsWanted}
 use Rattle.wavefront.specs.Ways.{AreDistinct, IsWay, way_cost}
 

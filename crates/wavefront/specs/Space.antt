@@ -1,8 +1,8 @@
 -- What a search of one net may enter, and at what cost (McMurchie and Ebeling 1995).
 use Rattle.std.specs.Prelude.{◌≡◌, ℕ, true, Contains}
 use Rattle.std.specs.Option.{option_map_or}
-use Rattle.routing_problem.specs.parts.Kind.{Kind}
-use Rattle.routing_problem.specs.parts.Kind.TheVariants.{Source, Sink, Opin, Ipin, Chanx, Chany}
+use Rattle.routing_problem.specs.node.Kind.{Kind}
+use Rattle.routing_problem.specs.node.Kind.TheVariants.{Source, Sink, Opin, Ipin, Chanx, Chany}
 use Rattle.routing_problem.specs.Fabric.{Fabric}
 use Rattle.routing_problem.specs.Nodes.{node_at, kind_of_node}
 use Rattle.routing_problem.specs.Edges.{edge_between}

@@ -2,6 +2,6 @@
 //! (McMurchie and Ebeling 1995; Dijkstra 1959).
 #![tactic(auto)]
 
-mod found;
+mod search_outcome;
 
-pub use found::{Found, SearchFault};
+pub use search_outcome::{Found, SearchFault};

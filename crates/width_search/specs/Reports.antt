@@ -4,7 +4,7 @@ use Rattle.std.specs.List.{All}
 use Rattle.arch_file.specs.Architecture.{Architecture}
 use Rattle.net_file.specs.Netlist.{Netlist}
 use Rattle.place_file.specs.Placement.{Placement}
-use Rattle.rr_graph.specs.parts.Mode.{Mode}
+use Rattle.rr_graph.specs.node.Mode.{Mode}
 use Rattle.rr_graph.specs.Designs.{problem_with}
 use Rattle.rr_graph.specs.Problems.{RoutingProblem}
 use Rattle.node_cost.specs.Options.{RouterOptions}

@@ -24,17 +24,19 @@ wires_at f n place = map (wire_at f n place) (numbers_below (tracks_in f.mode f.
 abbrev pub AreReaches : Fabric → List ℕ → Type 0
 AreReaches f reaches = reaches ≡ map (reach_of f) (numbers_below (tracks_in f.mode f.width))
 
--- the tables of a channel of n places
-pub record IsChannel (f : Fabric) (n : ℕ) (c : Channel) : Type 0 where
-  pub before : c.before.items ≡ map (wires_before f n) (numbers_below (n + 2))
-  pub beginnings : c.beginnings.items ≡ beginnings_of f n
-  pub wires : c.wires.items ≡ flat_map (λ m. wires_at f n (m + 1)) (numbers_below n)
-  pub order : c.order.items ≡ flat_map (tracks_through f n) (numbers_below (n + 1))
+-- the tables of a channel of so many places
+pub record IsChannel (f : Fabric) (c : Channel) : Type 0 where
+  pub before : c.before.items ≡ map (wires_before f c.places) (numbers_below (c.places + 2))
+  pub beginnings : c.beginnings.items ≡ beginnings_of f c.places
+  pub wires : c.wires.items ≡ flat_map (λ m. wires_at f c.places (m + 1)) (numbers_below c.places)
+  pub order : c.order.items ≡ flat_map (tracks_through f c.places) (numbers_below (c.places + 1))
 
 -- the tables of a device's channels and pins
 pub record IsTabled (f : Fabric) (r c : Channel) (p : BlockSides) (t : TapCounts) (l : List ℕ) : Type 0 where
-  pub rows : IsChannel f f.nx r
-  pub columns : IsChannel f f.ny c
+  pub rows : IsChannel f r
+  pub width : r.places ≡ f.nx
+  pub columns : IsChannel f c
+  pub height : c.places ≡ f.ny
   pub sides : IsSides f p
   pub counts : IsTapCounts f t
   pub reaches : AreReaches f l

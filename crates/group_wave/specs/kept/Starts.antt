@@ -2,7 +2,7 @@
 use Rattle.std.specs.Prelude.{◌≡◌, ℕ, ◌<◌, ◌≤◌, ◌⊎◌, [], ◌∷◌, Contains, List, length, replicate, slice_index, slice_set, Some, None, true}
 use Rattle.std.specs.Int.{bit_at}
 use Rattle.std.specs.List.Sorted.{IsPermutation}
-use Rattle.routing_problem.specs.parts.Kind.TheVariants.{Opin}
+use Rattle.routing_problem.specs.node.Kind.TheVariants.{Opin}
 use Rattle.routing_problem.specs.Nodes.{is_wire_at, kind_of_node}
 use Rattle.track_groups.specs.declared.group.Drive.{Drive}
 use Rattle.track_groups.specs.Groups.{on_track, wire_on}

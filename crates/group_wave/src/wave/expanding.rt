@@ -9,7 +9,7 @@ use super::{WIRE, Wave, bound_over};
 use std::alloc::AllocError;
 use track_groups::Group;
 use wave_ground::Ground;
-use wave_queue::{Entry, Key, only_bit, take_bit, with_bit};
+use wave_queue::{Key, QueueEntry, only_bit, take_bit, with_bit};
 
 /// Whether costs are equal.
 #[inline(always)]
@@ -52,7 +52,12 @@ impl<K: Key> Wave<K> {
     /// Those tracks of an entry that still have its label: others have another entry too, or went
     /// on.
     #[inline(always)]
-    pub(super) fn tracks_left(&self, entry: Entry<K>, group: &Group, ground: &Ground<'_>) -> u64
+    pub(super) fn tracks_left(
+        &self,
+        entry: QueueEntry<K>,
+        group: &Group,
+        ground: &Ground<'_>,
+    ) -> u64
         requires ground { IsGround ground.now }
         requires wave { IsWave ground.now self.now }
         requires group { group.now ≡ group_at (groups_of ground.now) entry.group }
@@ -77,7 +82,7 @@ impl<K: Key> Wave<K> {
     fn relax_beside(
         &mut self,
         ground: &Ground<'_>,
-        entry: Entry<K>,
+        entry: QueueEntry<K>,
         group: &Group,
         neighbour: u32,
     ) -> Result<(), AllocError>
@@ -103,7 +108,7 @@ impl<K: Key> Wave<K> {
     fn relax_nearer(
         &mut self,
         ground: &Ground<'_>,
-        entry: Entry<K>,
+        entry: QueueEntry<K>,
         group: &Group,
         wires: u32,
         neighbour: u32,
@@ -124,7 +129,7 @@ impl<K: Key> Wave<K> {
     fn relax_all(
         &mut self,
         ground: &Ground<'_>,
-        entry: Entry<K>,
+        entry: QueueEntry<K>,
         group: &Group,
     ) -> Result<(), AllocError>
         requires out { IsOut ground.now self.old (entry_of K.value entry) K.greatest group.now }
@@ -144,7 +149,13 @@ impl<K: Key> Wave<K> {
     /// entry may lower. All are looked at with no branch between, so that their rows are fetched
     /// side by side.
     #[inline(always)]
-    fn unsettled(&self, ground: &Ground<'_>, entry: Entry<K>, track: u32, neighbours: &[u32]) -> u64
+    fn unsettled(
+        &self,
+        ground: &Ground<'_>,
+        entry: QueueEntry<K>,
+        track: u32,
+        neighbours: &[u32],
+    ) -> u64
         requires ground { IsGround ground.now }
         requires wave { IsWave ground.now self.now }
         requires entry { IsLive ground.now self.now (entry_of K.value entry) }
@@ -169,7 +180,7 @@ impl<K: Key> Wave<K> {
     fn relax_unsettled(
         &mut self,
         ground: &Ground<'_>,
-        entry: Entry<K>,
+        entry: QueueEntry<K>,
         group: &Group,
         track: u32,
         neighbours: &[u32],
@@ -196,7 +207,7 @@ impl<K: Key> Wave<K> {
     fn relax_many(
         &mut self,
         ground: &Ground<'_>,
-        entry: Entry<K>,
+        entry: QueueEntry<K>,
         group: &Group,
         track: u32,
         neighbours: &[u32],
@@ -218,7 +229,7 @@ impl<K: Key> Wave<K> {
     fn relax_all_alone(
         &mut self,
         ground: &Ground<'_>,
-        entry: Entry<K>,
+        entry: QueueEntry<K>,
         group: &Group,
         track: u32,
     ) -> Result<(), AllocError>
@@ -241,7 +252,7 @@ impl<K: Key> Wave<K> {
     fn relax_each(
         &mut self,
         ground: &Ground<'_>,
-        entry: Entry<K>,
+        entry: QueueEntry<K>,
         group: &Group,
     ) -> Result<(), AllocError>
         requires out { IsOut ground.now self.old (entry_of K.value entry) K.greatest group.now }
@@ -260,7 +271,7 @@ impl<K: Key> Wave<K> {
     fn relax_all_nearer(
         &mut self,
         ground: &Ground<'_>,
-        entry: Entry<K>,
+        entry: QueueEntry<K>,
         group: &Group,
         wires: u32,
     ) -> Result<(), AllocError>
@@ -282,7 +293,7 @@ impl<K: Key> Wave<K> {
     fn reach_if_beside(
         &mut self,
         ground: &Ground<'_>,
-        entry: Entry<K>,
+        entry: QueueEntry<K>,
         wires: u32,
     ) -> Result<(), AllocError>
         requires ground { IsGround ground.now }
@@ -304,7 +315,7 @@ impl<K: Key> Wave<K> {
     pub(super) fn begin_at(
         &mut self,
         ground: &Ground<'_>,
-        entry: Entry<K>,
+        entry: QueueEntry<K>,
         group: &Group,
         wires: u32,
     ) -> Result<(), AllocError>
@@ -317,7 +328,7 @@ impl<K: Key> Wave<K> {
     {
         self.reach_if_beside(ground, entry, wires)?;
         self.relax_all_nearer(ground, entry, group, wires)?;
-        self.wait(Entry {
+        self.wait(QueueEntry {
             key: entry.label.plus(bound_over(wires)).plus(K::cut(WIRE)),
             label: entry.label,
             group: entry.group,
@@ -330,7 +341,7 @@ impl<K: Key> Wave<K> {
     pub(super) fn finish(
         &mut self,
         ground: &Ground<'_>,
-        entry: Entry<K>,
+        entry: QueueEntry<K>,
         group: &Group,
         wires: u32,
     ) -> Result<(), AllocError>

@@ -8,7 +8,7 @@ use super::Wave;
 use std::alloc::AllocError;
 use track_groups::{Group, Tap};
 use wave_ground::Ground;
-use wave_queue::{Entry, Key, lowest_bit};
+use wave_queue::{Key, QueueEntry, lowest_bit};
 
 /// The node of a track of a group.
 #[inline(always)]
@@ -161,7 +161,7 @@ impl<K: Key> Wave<K> {
     fn reach(
         &mut self,
         ground: &Ground<'_>,
-        entry: Entry<K>,
+        entry: QueueEntry<K>,
         group: &Group,
         tap: Tap,
     ) -> Result<(), AllocError>
@@ -184,7 +184,7 @@ impl<K: Key> Wave<K> {
     pub(super) fn reach_all(
         &mut self,
         ground: &Ground<'_>,
-        entry: Entry<K>,
+        entry: QueueEntry<K>,
     ) -> Result<(), AllocError>
         requires ground { IsGround ground.now }
         requires wave { IsWave ground.now self.old }

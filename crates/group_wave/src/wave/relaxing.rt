@@ -8,11 +8,11 @@ ghost use Rattle.wavefront.specs.kept.Bounds.{least_wire_cost};
 ghost use Rattle.wavefront.specs.kept.Spaces.{node_count};
 
 use super::{WIRE, Wave, bound_over};
-use crate::labels::Row;
+use crate::labels::LabelRow;
 use std::alloc::AllocError;
 use track_groups::Group;
 use wave_ground::Ground;
-use wave_queue::{Entry, Key, take_bit, with_bit};
+use wave_queue::{Key, QueueEntry, take_bit, with_bit};
 
 /// Nodes of one label from which a way is offered: for track j the node `first + j * step`.
 #[derive(Clone, Copy, Drop)]
@@ -73,7 +73,7 @@ impl<K: Key> Wave<K> {
         ground: &Ground<'_>,
         step: Relaxing<K>,
         to: Target,
-        row: Row<K>,
+        row: LabelRow<K>,
         cost: K,
         bound: K,
     ) -> Result<(), AllocError>
@@ -92,7 +92,7 @@ impl<K: Key> Wave<K> {
             (K.value step.label) (K.value step.least) to.wire false) }
     {
         self.set(to.wire, cost, to.parent)?;
-        self.wait(Entry {
+        self.wait(QueueEntry {
             key: cost.plus(bound),
             label: cost,
             group: step.group,
@@ -108,7 +108,7 @@ impl<K: Key> Wave<K> {
         ground: &Ground<'_>,
         step: Relaxing<K>,
         to: Target,
-        row: Row<K>,
+        row: LabelRow<K>,
         cost: K,
     ) -> Result<(), AllocError>
         requires ground { IsGround ground.now }
@@ -136,7 +136,7 @@ impl<K: Key> Wave<K> {
         ground: &Ground<'_>,
         step: Relaxing<K>,
         to: Target,
-        row: Row<K>,
+        row: LabelRow<K>,
         cost: K,
     ) -> Result<bool, AllocError>
         requires ground { IsGround ground.now }
@@ -283,7 +283,7 @@ impl<K: Key> Wave<K> {
             return Ok(());
         }
         let wires = self.wires_left(ground, step.group);
-        self.wait(Entry {
+        self.wait(QueueEntry {
             key: step.least.plus(bound_over(wires)),
             label: step.least,
             group: step.group,
@@ -300,7 +300,7 @@ impl<K: Key> Wave<K> {
         ground: &Ground<'_>,
         step: Relaxing<K>,
         to: Target,
-        row: Row<K>,
+        row: LabelRow<K>,
     ) -> Result<(), AllocError>
         requires ground { IsGround ground.now }
         requires wave { IsWave ground.now self.old }
@@ -328,7 +328,7 @@ impl<K: Key> Wave<K> {
     pub(super) fn is_settled(
         &self,
         ground: &Ground<'_>,
-        entry: Entry<K>,
+        entry: QueueEntry<K>,
         track: u32,
         neighbour: u32,
     ) -> bool
@@ -352,7 +352,7 @@ impl<K: Key> Wave<K> {
     pub(super) fn relax_one(
         &mut self,
         ground: &Ground<'_>,
-        entry: Entry<K>,
+        entry: QueueEntry<K>,
         group: &Group,
         track: u32,
         neighbour: u32,

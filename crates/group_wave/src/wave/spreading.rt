@@ -6,7 +6,7 @@ use super::{WIRE, Wave, bound_over};
 use std::alloc::AllocError;
 use track_groups::Group;
 use wave_ground::Ground;
-use wave_queue::{Entry, Key, only_bit};
+use wave_queue::{Key, QueueEntry, only_bit};
 
 impl<K: Key> Wave<K> {
     ghost use Rattle.std.specs.Prelude.{OnOk, IfOk, IfSome, IfNone, IsTrue, IsFalse, None, ◌↔◌};
@@ -20,7 +20,7 @@ impl<K: Key> Wave<K> {
     ghost use Rattle.group_wave.specs.kept.Steps.{GoesOn, IsAbove, IsLeastKey, IsLive, IsPopped, IsPushed, IsTaken, SameOrigins, Settles, WaitsAgain, IsNearest, IsOut};
 
     /// Takes an entry out that a way to the nearest sink may cost as much as.
-    fn pop(&mut self) -> Option<Entry<K>>
+    fn pop(&mut self) -> Option<QueueEntry<K>>
         ensures some { IfSome result (λ e. IsPopped self.old self.new (entry_of K.value e)) }
         ensures fits { IfSome result (λ e. K.value e.label < K.greatest) }
         ensures none { IfNone result (self.new ≡ self.old) }
@@ -31,7 +31,7 @@ impl<K: Key> Wave<K> {
 
     /// Lets an entry wait again whose key is lower than it has to be, now that sinks were taken,
     /// and that is not needed yet.
-    fn wait_again(&mut self, entry: Entry<K>, wires: u32) -> Result<bool, AllocError>
+    fn wait_again(&mut self, entry: QueueEntry<K>, wires: u32) -> Result<bool, AllocError>
         requires fits { K.value entry.label < K.greatest }
         ensures waits { IfOk result (λ waits. IsTrue waits →
             WaitsAgain self.old self.new (entry_of K.value entry) wires) }
@@ -46,7 +46,7 @@ impl<K: Key> Wave<K> {
         if !entry.key.is_below(least) || !self.best.is_below(key) {
             return Ok(false);
         }
-        self.wait(Entry {
+        self.wait(QueueEntry {
             key,
             label: entry.label,
             group: entry.group,
@@ -59,7 +59,7 @@ impl<K: Key> Wave<K> {
     /// Looks at an entry again, of so many that are still to be looked at: whether it waits again.
     fn look_again(
         &mut self,
-        entry: Entry<K>,
+        entry: QueueEntry<K>,
         wires: u32,
         waited: &mut usize,
     ) -> Result<bool, AllocError>
@@ -82,7 +82,7 @@ impl<K: Key> Wave<K> {
     fn expand(
         &mut self,
         ground: &Ground<'_>,
-        entry: Entry<K>,
+        entry: QueueEntry<K>,
         group: &Group,
         wires: u32,
     ) -> Result<(), AllocError>
@@ -104,7 +104,7 @@ impl<K: Key> Wave<K> {
     fn go_on_from(
         &mut self,
         ground: &Ground<'_>,
-        entry: Entry<K>,
+        entry: QueueEntry<K>,
         group: &Group,
         waited: &mut usize,
     ) -> Result<(), AllocError>
@@ -125,7 +125,7 @@ impl<K: Key> Wave<K> {
     fn go_on(
         &mut self,
         ground: &Ground<'_>,
-        entry: Entry<K>,
+        entry: QueueEntry<K>,
         waited: &mut usize,
     ) -> Result<(), AllocError>
         requires ground { IsGround ground.now }
@@ -145,7 +145,7 @@ impl<K: Key> Wave<K> {
         if tracks == 0 {
             return Ok(());
         }
-        let left = Entry {
+        let left = QueueEntry {
             key: entry.key,
             label: entry.label,
             group: entry.group,

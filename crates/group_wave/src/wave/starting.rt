@@ -1,7 +1,7 @@
 //! How a wave begins, and starts at the nodes of a tree.
 
 ghost use Rattle.std.specs.Prelude.{◌≡◌, ◌+◌, ◌*◌, ◌<◌, ◌≤◌, ◌↔◌, ℕ, [], get_or, slice_index, IsTrue, Some};
-ghost use Rattle.routing_problem.specs.parts.Kind.TheVariants.{Opin};
+ghost use Rattle.routing_problem.specs.node.Kind.TheVariants.{Opin};
 
 use super::relaxing::Offer;
 use super::{Wave, bound_over};
@@ -10,7 +10,7 @@ use routing_problem::Kind;
 use smallvec::SmallVec;
 use std::alloc::{AllocError, Global};
 use wave_ground::{BoundingBox, Ground, Nearest, SinkBox};
-use wave_queue::{Entry, Key, Queue, with_bit};
+use wave_queue::{Key, Queue, QueueEntry, with_bit};
 
 /// How many boxes there are at most.
 const MOST_BOXES: usize = 32;
@@ -410,7 +410,7 @@ impl<K: Key> Wave<K> {
         let wires = self.wires_left(ground, place.group);
         let label = K::zero();
         self.set(wire, label, wire)?;
-        self.wait(Entry {
+        self.wait(QueueEntry {
             key: label.plus(bound_over(wires)),
             label,
             group: place.group,

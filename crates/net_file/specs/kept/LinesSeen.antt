@@ -2,7 +2,7 @@
 use Rattle.std.specs.Prelude.{◌≡◌, ℕ, if◌then◌else◌, List, Option, None}
 use Rattle.vpr_text.specs.Words.{Line}
 use Rattle.net_file.specs.declared.fault.LineFault.{LineFault}
-use Rattle.net_file.specs.declared.parts.BlockKind.{BlockKind}
+use Rattle.net_file.specs.declared.terminal.BlockKind.{BlockKind}
 use Rattle.net_file.specs.declared.seen.Seen.{Seen}
 use Rattle.net_file.specs.Judge.{first_fault, is_bad_line, is_bad_count, is_double, are_too_many}
 use Rattle.net_file.specs.Lines.{kind_at, is_element, block_name_on, net_names_on, global_names_on, block_names, net_names, global_names}

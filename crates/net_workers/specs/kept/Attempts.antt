@@ -7,7 +7,7 @@ use Rattle.route_tree.specs.Rows.{pairs_of}
 use Rattle.node_cost.specs.Views.{NetView}
 use Rattle.wavefront.specs.Growth.{space_of}
 use Rattle.congestion_book.specs.Contents.{Content}
-use Rattle.net_workers.specs.declared.report.Entry.{Entry}
+use Rattle.net_workers.specs.declared.report.ReportEntry.{ReportEntry}
 use Rattle.net_workers.specs.Parts.{Part, one_more}
 use Rattle.net_workers.specs.Searches.{IsSeenIn, IsFoundIn}
 
@@ -19,7 +19,7 @@ most_looks k = if k == 1 then 0 else 4
 abbrev pub Found : Type 0
 Found = Option (List Row) × Option (List Row)
 
-abbrev pub entry_with : (net : ℕ) → Option (List Row) → Entry
+abbrev pub entry_with : (net : ℕ) → Option (List Row) → ReportEntry
 entry_with net tree = record { net = net; tree = tree }
 
 -- the tree, if there is one, routes the net

@@ -1,9 +1,9 @@
 -- What the counts and lists of a device's nodes hold.
 use Rattle.std.specs.Prelude.{◌≡◌}
-use Rattle.node_numbers.specs.declared.block.Block.{Block}
+use Rattle.node_numbers.specs.declared.block.BlockNumbers.{BlockNumbers}
 use Rattle.node_numbers.specs.declared.starts.Starts.{Starts}
 use Rattle.node_numbers.specs.declared.strides.Strides.{Strides}
-use Rattle.channel_tables.specs.declared.parts.Kind.TheVariants.{Source, Sink, Opin, Ipin, Chanx, Chany}
+use Rattle.channel_tables.specs.declared.node.Kind.TheVariants.{Source, Sink, Opin, Ipin, Chanx, Chany}
 use Rattle.channel_tables.specs.Fabric.{Fabric}
 use Rattle.node_numbers.specs.Nodes.{node_count_of}
 use Rattle.node_numbers.specs.Starts.{kind_start}
@@ -11,7 +11,7 @@ use Rattle.node_numbers.specs.Numbering.{block_numbers}
 use Rattle.node_numbers.specs.kept.Strides.{AreStrides}
 
 -- the numbers of a block's nodes
-pub record IsBlock (f : Fabric) (b : Block) : Type 0 where
+pub record IsBlock (f : Fabric) (b : BlockNumbers) : Type 0 where
   pub sources : b.sources.items ≡ block_numbers f Source
   pub sinks : b.sinks.items ≡ block_numbers f Sink
   pub opins : b.opins.items ≡ block_numbers f Opin
@@ -27,7 +27,7 @@ pub record IsStarts (f : Fabric) (s : Starts) : Type 0 where
   pub end : s.end ≡ node_count_of f
 
 -- the tables of a device's numbers
-pub record IsTabled (f : Fabric) (b : Block) (s : Starts) (d : Strides) : Type 0 where
+pub record IsTabled (f : Fabric) (b : BlockNumbers) (s : Starts) (d : Strides) : Type 0 where
   pub block : IsBlock f b
   pub starts : IsStarts f s
   pub strides : AreStrides f d

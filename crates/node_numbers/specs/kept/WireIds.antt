@@ -1,8 +1,8 @@
 -- The numbers of wires.
 use Rattle.std.specs.Prelude.{ℕ, ◌+◌, length}
 use Rattle.std.specs.List.{filter}
-use Rattle.channel_tables.specs.declared.parts.Kind.{Kind}
-use Rattle.channel_tables.specs.declared.parts.Kind.TheVariants.{Chanx, Chany}
+use Rattle.channel_tables.specs.declared.node.Kind.{Kind}
+use Rattle.channel_tables.specs.declared.node.Kind.TheVariants.{Chanx, Chany}
 use Rattle.channel_tables.specs.Fabric.{Fabric, numbers_below}
 use Rattle.channel_tables.specs.Wires.{begins}
 use Rattle.node_numbers.specs.Starts.{place_start}

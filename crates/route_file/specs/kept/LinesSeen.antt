@@ -10,8 +10,8 @@ use Rattle.rr_graph.specs.Nodes.{node_count_of}
 use Rattle.rr_graph.specs.Problems.{is_sink}
 use Rattle.route_tree.specs.Legality.{is_among}
 use Rattle.route_tree.specs.Paths.{Pair}
-use Rattle.route_file.specs.declared.entry.Entry.{Entry}
-use Rattle.route_file.specs.declared.entry.Entry.TheVariants.{NetLine, BlockLine, NodeLine}
+use Rattle.route_file.specs.declared.entry.FileEntry.{FileEntry}
+use Rattle.route_file.specs.declared.entry.FileEntry.TheVariants.{NetLine, BlockLine, NodeLine}
 use Rattle.route_file.specs.declared.fault.RouteFileFault.{RouteFileFault}
 use Rattle.route_file.specs.declared.seen.Seen.{Seen}
 use Rattle.route_file.specs.Judge.{net_entry, section_entry}
@@ -56,7 +56,7 @@ abbrev pub is_off : Fabric → Seen → (n a : ℕ) → Bool
 is_off f seen n a = option_map_or (is_sink f) seen.last false && not (slice_index_or seen.owners.items a no_owner == n)
 
 -- a line with this number and these words
-unfoldable pub entry_after : Netlist → Fabric → Seen → ℕ → List (List ℕ) → Result Entry RouteFileFault
+unfoldable pub entry_after : Netlist → Fabric → Seen → ℕ → List (List ℕ) → Result FileEntry RouteFileFault
 entry_after netlist f seen line words =
     if is_net_words words then net_entry netlist (had_net seen) line words
     else section_entry netlist f (is_off f seen) line words seen.net
@@ -87,7 +87,7 @@ pub record NotesNode (f : Fabric) (old new : Seen) (a : ℕ) : Type 0 where
   pub lists : (n : ℕ) → old.net ≡ Some n → new.lists.items ≡ slice_set old.lists.items n (list_more (slice_index_or old.lists.items n None) (pair_after f old.last a))
 
 -- a line without a fault was added
-abbrev pub Notes : Fabric → Seen → Seen → Entry → Type 0
+abbrev pub Notes : Fabric → Seen → Seen → FileEntry → Type 0
 Notes f old new (NetLine n) = NotesNet old new n
 Notes f old new BlockLine = new ≡ old
 Notes f old new (NodeLine a) = NotesNode f old new a

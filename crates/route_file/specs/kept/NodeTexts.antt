@@ -1,7 +1,7 @@
 -- How the words of a node's line are cut, how the node that a line tells is found, and what is kept of the lines so far.
 use Rattle.std.specs.Prelude.{◌≡◌, ℕ, ◌<◌, min, Bool, true, false, ◌&&◌, List, [], ◌∷◌, ◌++◌, length, Option, Some, None}
 use Rattle.std.specs.Option.{option_map_or}
-use Rattle.rr_graph.specs.parts.Node.{Node}
+use Rattle.rr_graph.specs.node.Node.{Node}
 use Rattle.rr_graph.specs.Fabric.{Fabric}
 use Rattle.rr_graph.specs.Nodes.{node_at, label_of, span_of}
 use Rattle.route_file.specs.declared.node_line.NodeText.{NodeText}

@@ -1,9 +1,9 @@
 -- Where wires lie along channels, and how full the channels are by the first nodes.
 use Rattle.std.specs.Prelude.{◌≡◌, ℕ, ◌+◌, ◌<◌, ◌≤◌, ◌^◌, ◌==◌, Bool, ◌&&◌, nat_le, if◌then◌else◌, List, [], length, map, get_or, Option, Some, None}
 use Rattle.std.specs.List.{sum_by}
-use Rattle.routing_problem.specs.parts.Kind.{Kind}
-use Rattle.routing_problem.specs.parts.Kind.TheVariants.{Chanx, Chany}
-use Rattle.routing_problem.specs.parts.Span.{Span}
+use Rattle.routing_problem.specs.node.Kind.{Kind}
+use Rattle.routing_problem.specs.node.Kind.TheVariants.{Chanx, Chany}
+use Rattle.routing_problem.specs.node.Span.{Span}
 use Rattle.routing_problem.specs.Fabric.{Fabric, numbers_below}
 use Rattle.route_report.specs.declared.occupancy.Stretch.{Stretch}
 use Rattle.route_report.specs.declared.channels.ChannelUse.TheInside as channel

@@ -3,12 +3,13 @@ use Rattle.std.specs.Prelude.{ℕ, ◌+◌, ◌-◌, ◌*◌, ◌<◌, ◌≤◌
 use Rattle.std.specs.List.{range_with_len, flat_map}
 use Rattle.arch_file.specs.Architecture.{most_pins, longest_side}
 use Rattle.rr_edges.specs.declared.fanout.Pair.{Pair}
-use Rattle.rr_edges.specs.declared.fanout.Run.{Run}
+use Rattle.rr_edges.specs.declared.fanout.NumberRun.{NumberRun}
 use Rattle.rr_edges.specs.declared.fanout.Meeting.{Meeting}
 use Rattle.rr_edges.specs.declared.fanout.Taps.{Taps}
-use Rattle.rr_edges.specs.declared.fanout.RowFanout.{RowFanout}
-use Rattle.rr_edges.specs.declared.fanout.ColumnFanout.{ColumnFanout}
-use Rattle.channel_tables.specs.declared.parts.Kind.TheVariants.{Chanx, Chany, Ipin}
+use Rattle.rr_edges.specs.declared.fanout.Axis.{Axis}
+use Rattle.rr_edges.specs.declared.fanout.Axis.TheVariants.{Row, Column}
+use Rattle.rr_edges.specs.declared.fanout.Fanout.{Fanout}
+use Rattle.channel_tables.specs.declared.node.Kind.TheVariants.{Chanx, Chany, Ipin}
 use Rattle.channel_tables.specs.Fabric.{Fabric, numbers_below, is_between}
 use Rattle.channel_tables.specs.Wires.{steps_of, last_of, places_of}
 use Rattle.rr_edges.specs.kept.Channels.{meeting_of, beside_of}
@@ -24,15 +25,15 @@ of_option None = []
 abbrev pub numbers_of : Pair → List ℕ
 numbers_of p = of_option p.one ++ of_option p.two
 
-abbrev pub runs_of : Meeting → List Run
+abbrev pub runs_of : Meeting → List NumberRun
 runs_of m = m.one ∷ of_option m.two
 
 -- the k-th number of a run
-abbrev pub number_in : (k : ℕ) → Run → ℕ
+abbrev pub number_in : (k : ℕ) → NumberRun → ℕ
 number_in k r = r.first + k * r.step
 
 -- the first numbers of a run
-abbrev pub run_list : (count : ℕ) → Run → List ℕ
+abbrev pub run_list : (count : ℕ) → NumberRun → List ℕ
 run_list count r = map (λ k. number_in k r) (numbers_below count)
 
 -- one run after the other
@@ -48,23 +49,31 @@ abbrev pub pins_at : Taps → (k : ℕ) → List ℕ
 pins_at t k = map (λ j. t.start + k * t.step + j) t.places.now
 
 -- what a wire above a row leads to
-unfoldable pub row_list : RowFanout → List ℕ
+unfoldable pub row_list : Fanout → List ℕ
 row_list r =
-    flat_map (λ k. pins_at r.under k ++ pins_at r.over k) (numbers_below r.places) ++ (numbers_of r.beside ++ by_place r.crossing (r.places + 1))
+    flat_map (λ k. pins_at r.low k ++ pins_at r.high k) (numbers_below r.places) ++ (numbers_of r.beside ++ by_place r.crossing (r.places + 1))
 
 -- what a wire right of a column leads to
-unfoldable pub column_list : ColumnFanout → List ℕ
+unfoldable pub column_list : Fanout → List ℕ
 column_list c =
-    (flat_map (pins_at c.before) (numbers_below c.places) ++ flat_map (pins_at c.behind) (numbers_below c.places))
+    (flat_map (pins_at c.low) (numbers_below c.places) ++ flat_map (pins_at c.high) (numbers_below c.places))
     ++ (by_run c.crossing (c.places + 1) ++ numbers_of c.beside)
+
+abbrev pub list_along : Axis → Fanout → List ℕ
+list_along Row x = row_list x
+list_along Column x = column_list x
+
+-- what a wire leads to
+abbrev pub fanout_list : Fanout → List ℕ
+fanout_list x = list_along x.axis x
 
 -- ---- wires and pins of a device as numbers at even distances
 -- the wires that begin at place q above row y and the rows over it, in a track
-abbrev pub run_above : Fabric → (track y q : ℕ) → Run
+abbrev pub run_above : Fabric → (track y q : ℕ) → NumberRun
 run_above f track y q = record { first = wire_id f Chanx q y track; step = length (starting_at f f.nx q) }
 
 -- the wires that begin at place q right of column x and the columns behind it
-abbrev pub run_right : Fabric → (track x q : ℕ) → Run
+abbrev pub run_right : Fabric → (track x q : ℕ) → NumberRun
 run_right f track x q = record { first = wire_id f Chany x q track; step = wires_before f f.ny (f.ny + 1) }
 
 -- how many input pins stand at a place of a column, and in a column of blocks
@@ -88,7 +97,7 @@ column_wire_list f x y t =
     ++ map (λ q. wire_id f Chany x q t) (beside_of f f.ny t y (last_of f f.ny t y)))
 
 -- ---- limits that keep the arithmetic small
-pub record IsSmallRun (r : Run) : Type 0 where
+pub record IsSmallRun (r : NumberRun) : Type 0 where
   pub first : r.first < 33554432
   pub step : r.step ≤ 32768
 
@@ -101,14 +110,8 @@ pub record IsSmallTaps (t : Taps) : Type 0 where
   pub step : t.step ≤ 32768
   pub few : length t.places.now ≤ most_pins
 
-pub record IsSmallRow (r : RowFanout) : Type 0 where
-  pub under : IsSmallTaps r.under
-  pub over : IsSmallTaps r.over
-  pub places : r.places ≤ longest_side
-  pub crossing : IsSmallMeeting r.crossing
-
-pub record IsSmallColumn (c : ColumnFanout) : Type 0 where
-  pub before : IsSmallTaps c.before
-  pub behind : IsSmallTaps c.behind
-  pub places : c.places ≤ longest_side
-  pub crossing : IsSmallMeeting c.crossing
+pub record IsSmallFanout (x : Fanout) : Type 0 where
+  pub low : IsSmallTaps x.low
+  pub high : IsSmallTaps x.high
+  pub places : x.places ≤ longest_side
+  pub crossing : IsSmallMeeting x.crossing

@@ -1,6 +1,6 @@
 -- The node of a number, or none.
 use Rattle.std.specs.Prelude.{◌≡◌, ℕ, Option, Some, None}
-use Rattle.rr_edges.specs.declared.found.FoundNode.{FoundNode}
+use Rattle.rr_edges.specs.declared.found_node.FoundNode.{FoundNode}
 use Rattle.channel_tables.specs.Fabric.{Fabric}
 use Rattle.node_numbers.specs.Nodes.{node_at}
 use Rattle.rr_edges.specs.Found.{IsFound}

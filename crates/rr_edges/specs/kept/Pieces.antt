@@ -1,8 +1,8 @@
 -- The successors of a node, by kind and by place.
 use Rattle.std.specs.Prelude.{ℕ, ◌+◌, List}
 use Rattle.std.specs.List.{flat_map}
-use Rattle.channel_tables.specs.declared.parts.Kind.{Kind}
-use Rattle.channel_tables.specs.declared.parts.Node.{Node}
+use Rattle.channel_tables.specs.declared.node.Kind.{Kind}
+use Rattle.channel_tables.specs.declared.node.Node.{Node}
 use Rattle.channel_tables.specs.Fabric.{Fabric, numbers_below}
 use Rattle.node_numbers.specs.Nodes.{numbers_at, node_of}
 use Rattle.rr_edges.specs.Edges.{is_edge}

@@ -1,6 +1,6 @@
 -- How many input pins there are at a place.
 use Rattle.std.specs.Prelude.{ℕ, if◌then◌else◌, length}
-use Rattle.channel_tables.specs.declared.parts.Kind.TheVariants.{Ipin}
+use Rattle.channel_tables.specs.declared.node.Kind.TheVariants.{Ipin}
 use Rattle.channel_tables.specs.Fabric.{Fabric, is_block}
 use Rattle.node_numbers.specs.Numbering.{block_numbers}
 

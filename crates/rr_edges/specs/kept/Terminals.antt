@@ -1,11 +1,11 @@
 -- The places of sources, sinks and pins, and how an output pin reaches wires.
 use Rattle.std.specs.Prelude.{◌≡◌, ℕ, ◌+◌, ◌-◌, ◌≤◌, ◌<◌, ◌==◌, false, true, if◌then◌else◌, List, [], ◌++◌, slice_get, option_and_then, Option, Some, None}
 use Rattle.std.specs.Option.{option_map}
-use Rattle.arch_file.specs.declared.parts.Sides.{Sides}
-use Rattle.arch_file.specs.declared.parts.Pin.{Pin}
-use Rattle.channel_tables.specs.declared.parts.Node.{Node}
+use Rattle.arch_file.specs.declared.entries.Sides.{Sides}
+use Rattle.arch_file.specs.declared.entries.Pin.{Pin}
+use Rattle.channel_tables.specs.declared.node.Node.{Node}
 use Rattle.rr_edges.specs.declared.opins.Tapper.{Tapper}
-use Rattle.channel_tables.specs.declared.parts.Kind.TheVariants.{Sink, Chanx, Chany}
+use Rattle.channel_tables.specs.declared.node.Kind.TheVariants.{Sink, Chanx, Chany}
 use Rattle.channel_tables.specs.Fabric.{Fabric, numbers_below, is_block, is_pad, most_tracks}
 use Rattle.channel_tables.specs.Wires.{tracks_in}
 use Rattle.channel_tables.specs.Pins.{tap_count, when}

@@ -1,7 +1,7 @@
 -- The numbers of the nodes to which a wire leads: other wires of its track, and the pins and pads that tap it.
 use Rattle.std.specs.Prelude.{ℕ, ◌+◌, Bool, if◌then◌else◌, List, map}
-use Rattle.arch_file.specs.declared.parts.Sides.{Sides}
-use Rattle.channel_tables.specs.declared.parts.Kind.TheVariants.{Ipin}
+use Rattle.arch_file.specs.declared.entries.Sides.{Sides}
+use Rattle.channel_tables.specs.declared.node.Kind.TheVariants.{Ipin}
 use Rattle.channel_tables.specs.Fabric.{Fabric, is_block}
 use Rattle.node_numbers.specs.Starts.{place_start}
 use Rattle.channel_tables.specs.Sides.{tapping_pins, tapping_pads}

@@ -1,7 +1,7 @@
 -- The text of a log (ours): lines with `#` tell of the run, and behind titles a line tells of each iteration.
 use Rattle.std.specs.Prelude.{ℕ, ◌-◌, ◌*◌, ◌/◌, ◌%◌, List, [], ◌++◌, codes, decimal, length, take}
-use Rattle.rr_graph.specs.parts.Mode.{Mode}
-use Rattle.rr_graph.specs.parts.Mode.TheVariants.{Detailed, Global}
+use Rattle.rr_graph.specs.node.Mode.{Mode}
+use Rattle.rr_graph.specs.node.Mode.TheVariants.{Detailed, Global}
 use Rattle.rr_graph.specs.Problems.{RoutingProblem}
 use Rattle.node_cost.specs.Options.{RouterOptions, present_of}
 use Rattle.congestion_book.specs.Contents.{Content}

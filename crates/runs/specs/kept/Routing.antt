@@ -5,7 +5,7 @@ use Rattle.route_check.specs.Routed.{IsRouted}
 use Rattle.iteration.specs.declared.outcome.Outcome.{Outcome}
 use Rattle.iteration.specs.declared.outcome.Outcome.TheVariants.{Success, NotRouted}
 use Rattle.runs.specs.RouteRun.{routed_text, left_text}
-use Rattle.rr_graph.specs.parts.Mode.{Mode}
+use Rattle.rr_graph.specs.node.Mode.{Mode}
 use Rattle.width_search.specs.declared.report.LeastWidth.{LeastWidth}
 use Rattle.run_inputs.specs.Inputs.{PlacedNetlist, placed_problem}
 

@@ -1,7 +1,7 @@
 -- Neighbours and pins of a group, found by the edges from its wires.
 use Rattle.std.specs.Prelude.{◌≡◌, ℕ, ◌+◌, ◌<◌, ◌==◌, ◌&&◌, ◌||◌, ◌⊎◌, Bool, nat_lt, List, [], ◌∷◌, ◌++◌, length, get_or, Some, All}
 use Rattle.std.specs.List.{list_any}
-use Rattle.routing_problem.specs.parts.Kind.TheVariants.{Ipin}
+use Rattle.routing_problem.specs.node.Kind.TheVariants.{Ipin}
 use Rattle.routing_problem.specs.Fabric.{Fabric}
 use Rattle.routing_problem.specs.Nodes.{kind_of_node}
 use Rattle.routing_problem.specs.Edges.{edge_between, successors_of}

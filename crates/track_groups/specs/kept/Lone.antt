@@ -1,7 +1,7 @@
 -- Groups of one wire each.
 use Rattle.std.specs.Prelude.{◌≡◌, ℕ, ◌+◌, map, unwrap_or}
-use Rattle.routing_problem.specs.parts.Kind.{Kind}
-use Rattle.routing_problem.specs.parts.Span.{Span}
+use Rattle.routing_problem.specs.node.Kind.{Kind}
+use Rattle.routing_problem.specs.node.Span.{Span}
 use Rattle.routing_problem.specs.Fabric.{Fabric, numbers_below}
 use Rattle.routing_problem.specs.Nodes.{node_at, wire_in}
 use Rattle.track_groups.specs.declared.group.Group.{Group}

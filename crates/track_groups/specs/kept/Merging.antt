@@ -2,7 +2,7 @@
 use Rattle.std.specs.Prelude.{◌≡◌, ℕ, ◌<◌, ◌==◌, ◌&&◌, ◌||◌, ◌⊎◌, Bool, true, List, [], get_or, Some}
 use Rattle.std.specs.List.{list_any}
 use Rattle.std.specs.Int.{bit_at}
-use Rattle.routing_problem.specs.parts.Kind.TheVariants.{Opin}
+use Rattle.routing_problem.specs.node.Kind.TheVariants.{Opin}
 use Rattle.routing_problem.specs.Fabric.{Fabric}
 use Rattle.routing_problem.specs.Nodes.{kind_of_node}
 use Rattle.track_groups.specs.declared.group.Drive.{Drive}

@@ -1,7 +1,7 @@
 -- Wires that wait, in the buckets of their keys.
 use Rattle.std.specs.Prelude.{ℕ, ◌≡◌, ◌≤◌, ◌<◌, Bool, List, [], length, map, get_or, All}
 use Rattle.std.specs.List.{flat_map}
-use Rattle.wave_queue.specs.declared.queue.Entry.{Entry}
+use Rattle.wave_queue.specs.declared.queue.QueueEntry.{QueueEntry}
 use Rattle.wave_queue.specs.kept.Buckets.{bucket_of}
 
 -- wires of one group that wait
@@ -12,26 +12,26 @@ pub record Waiting : Type 0 where
   pub tracks : ℕ
   pub begun : Bool
 
-abbrev pub entry_of : {K : Type 0} → (value : K → ℕ) → Entry K → Waiting
+abbrev pub entry_of : {K : Type 0} → (value : K → ℕ) → QueueEntry K → Waiting
 entry_of value e = record { key = value e.key; label = value e.label; group = e.group; tracks = e.tracks; begun = e.is_begun }
 
 -- all that stand in the rows
 abbrev pub all_of : {X : Type 0} → List (List X) → List X
 all_of rows = flat_map (λ row. row) rows
 
-abbrev pub entries_of : {K : Type 0} → (value : K → ℕ) → List (List (Entry K)) → List Waiting
+abbrev pub entries_of : {K : Type 0} → (value : K → ℕ) → List (List (QueueEntry K)) → List Waiting
 entries_of value rows = map (entry_of value) (all_of rows)
 
 -- an entry may stand in row i: that is the bucket of its key, and one from low on
-pub record IsPlaced {K : Type 0} (value : K → ℕ) (low i : ℕ) (e : Entry K) : Type 0 where
+pub record IsPlaced {K : Type 0} (value : K → ℕ) (low i : ℕ) (e : QueueEntry K) : Type 0 where
   pub here : bucket_of (value e.key) ≡ i
   pub from : low ≤ i
 
 -- all entries stand in the buckets of their keys, and none stands before low
-abbrev pub ArePlaced : {K : Type 0} → (value : K → ℕ) → (low : ℕ) → List (List (Entry K)) → Type 0
+abbrev pub ArePlaced : {K : Type 0} → (value : K → ℕ) → (low : ℕ) → List (List (QueueEntry K)) → Type 0
 ArePlaced value low rows = (i : ℕ) → All (IsPlaced value low i) (get_or rows i [])
 
-pub record IsBucketed {K : Type 0} (value : K → ℕ) (rows : List (List (Entry K))) (low count : ℕ) : Type 0 where
+pub record IsBucketed {K : Type 0} (value : K → ℕ) (rows : List (List (QueueEntry K))) (low count : ℕ) : Type 0 where
   pub placed : ArePlaced value low rows
   pub counted : length (all_of rows) ≡ count
 

@@ -4,4 +4,4 @@ use Rattle.congestion_book.proofs.Covering.{use_covers}
 use Rattle.congestion_book.proofs.filling.uses_in.Goals as goal
 
 pub returns : goal.returns
-returns c = λ stands. sym (use_covers c.args.problem.now c.args.net c.args.tree.now c.as_slice-tree.ensures.tree c.requires c.args.id) ∙ ap one_if (c.stands_in.ensures stands)
+returns c = λ stands p net route. sym (use_covers p net c.args.tree.now c.as_slice-tree.ensures.tree route c.args.id) ∙ ap one_if (c.stands_in.ensures stands)

@@ -10,4 +10,4 @@ passed f count at ny pads e h l = let m : f.ny * f.architecture.io_rat ≤ at = 
 
 pub returns-then-passed-nx-clause-before : goal.returns-then-passed-nx-clause-before
 returns-then-passed-nx-clause-before c =
-    passed c.args.layout.now c.args.count c.args.at c.ny-ny.result c.io_rat-pads.result c.ny-ny.ensures.entry (c.io_rat-pads.ensures.entry ∙ ap (λ a. a.io_rat) c.architecture.ensures) (omega arith)
+    passed c.args.layout.now c.args.count c.args.at c.ny-ny.result c.io_rat-pads.result c.ny-ny.ensures.entry (c.io_rat-pads.ensures.entry ∙ ap (λ a. a.io_rat) c.architecture.ensures.architecture) (omega arith)

@@ -7,5 +7,5 @@ returns c =
     IfOk-weaker c.list_fault.result _ _
     (judged c.args.problem.now c.args.net c.requires c.args.pairs.now c.nets-limits.ensures.limits c.device.result.now c.source.result
     c.sinks.result.now
-    c.device.ensures c.source.ensures c.sinks.ensures)
+    c.device.ensures.device c.source.ensures c.sinks.ensures)
     c.list_fault.ensures

@@ -1,4 +1,4 @@
-use Rattle.route_check.specs.kept.Counted.{Counts}
+use Rattle.route_tree.specs.kept.Counting.{Counts}
 use Rattle.route_check.proofs.Counting.{nodes_to}
 use Rattle.route_check.proofs.usage.count_list.Given as goal
 

@@ -1,6 +1,7 @@
 use Rattle.std.proofs.Common.{◌∷◌, sym, ap₂, subst, ◌∙◌, arith}
 use Rattle.route_tree.specs.Paths.{ends_of}
-use Rattle.route_check.specs.kept.Counted.{Counts, HasRoom}
+use Rattle.route_tree.specs.kept.Counting.{Counts}
+use Rattle.route_check.specs.kept.Counted.{HasRoom}
 use Rattle.route_check.proofs.Counting.{list_read, routed_by, room_for, uses_more}
 use Rattle.route_check.proofs.usage.count_net.Goals as goal
 

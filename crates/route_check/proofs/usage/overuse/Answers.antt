@@ -8,5 +8,5 @@ returns c =
     let p = c.args.problem.now in
     let answer = c.least_overused.result in
     judged_by_use p c.args.lists.now c.requires.one_each c.requires.routed c.in_ok-counts.counts.items c.in_ok-counts.ensures answer
-    (subst (λ f. TellsExcess f c.in_ok-counts.counts.items answer) c.device.ensures
+    (subst (λ f. TellsExcess f c.in_ok-counts.counts.items answer) c.device.ensures.device
     (subst (λ counts. TellsExcess c.device.result.now counts answer) c.deref.ensures.value c.least_overused.ensures))

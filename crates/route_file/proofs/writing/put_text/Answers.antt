@@ -9,8 +9,8 @@ pub returns : goal.returns
 unfolding text_of text_lines bytes_on
 returns g c =
     let lists : c.deref.result.now ≡ c.args.routing.now = cc in
-    let nx : c.nx.result ≡ c.args.problem.now.device.nx = c.nx.ensures.entry ∙ ap (λ (f : Fabric). f.nx) c.device-device.ensures in
-    let ny : c.ny.result ≡ c.args.problem.now.device.ny = c.ny.ensures.entry ∙ ap (λ (f : Fabric). f.ny) c.device-device.ensures in
+    let nx : c.nx.result ≡ c.args.problem.now.device.nx = c.nx.ensures.entry ∙ ap (λ (f : Fabric). f.nx) c.device-device.ensures.device in
+    let ny : c.ny.result ≡ c.args.problem.now.device.ny = c.ny.ensures.entry ∙ ap (λ (f : Fabric). f.ny) c.device-device.ensures.device in
     let size = rw (nx, ny) at c.put_size.ensures in
-    let nets = rw (lists, c.device-device.ensures) at c.put_nets.ensures in
+    let nets = rw (lists, c.device-device.ensures.device) at c.put_nets.ensures in
     sends_then size (sends_then c.put_blank.ensures (sends_then (sends_then c.push.ensures c.push-2.ensures) nets))

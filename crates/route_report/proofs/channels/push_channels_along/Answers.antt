@@ -12,7 +12,7 @@ push_channels-requires-clause-count c =
 pub push_channels-requires-clause-small : goal.push_channels-requires-clause-small
 push_channels-requires-clause-small c =
     subst AreSmall (sym (c.deref.ensures.value ∙ c.in_ok-channels.ensures))
-    (are_small c.args.device.now c.args.uses.now (λ a. omega (arith, c.type_inv.uses a)) c.nx-limits.ensures.limits c.args.kind c.args.places c.args.count c.requires.few)
+    (are_small c.args.device.now c.args.uses.now (λ a. omega (arith, c.type_inv.uses a)) c.requires.limits c.args.kind c.args.places c.args.count c.requires.few)
 
 pub returns : goal.returns
 returns c =

@@ -1,20 +1,32 @@
-use Rattle.std.proofs.Common.{◌≡◌, length, replicate, sym, ap, subst, ◌∙◌, arith}
-use Rattle.std.proofs.lemmas.List.{length-replicate}
+use Rattle.std.proofs.Common.{◌≡◌, ◌+◌, ◌<◌, ◌^◌, length, sym, subst, arith}
 use Rattle.routing_problem.specs.Nodes.{node_count_of}
 use Rattle.route_report.specs.kept.Channels.{IsOccupied}
 use Rattle.route_report.proofs.Counting.{written_back}
-use Rattle.route_report.proofs.Occupying.{all_occupied}
+use Rattle.route_report.proofs.Occupying.{occupied_small, node_occupied, all_occupied}
 use Rattle.route_report.proofs.occupancy.occupancies.Goals as goal
+
+pub occupy_node-requires-clause-room : goal.occupy_node-requires-clause-room
+occupy_node-requires-clause-room c =
+    let f = c.args.device.now in
+    let low : c.loop-node.node < 2 ^ 23 = omega (arith, c.loop-node-test.true, c.node_count-node-end.ensures.few) in
+    occupied_small f c.args.uses.now c.args.kind c.args.places _ (λ a. omega (arith, c.type_inv.uses a)) c.loop-node.node low c.deref_mut.result.now
+    (subst (IsOccupied f c.args.uses.now c.args.kind c.args.places c.args.count c.loop-node.node) (sym c.deref_mut.ensures.value) c.loop-node.invariant)
+
+pub loop-node-preserved : goal.loop-node-preserved
+loop-node-preserved c =
+    let f = c.args.device.now in
+    let uses = c.args.uses.now in
+    let new = c.occupy_node.new.channels in
+    let before = subst (IsOccupied f uses c.args.kind c.args.places c.args.count c.loop-node.node) (sym c.deref_mut.ensures.value) c.loop-node.invariant in
+    let after = node_occupied f uses c.args.kind c.args.places _ c.loop-node.node c.deref_mut.result.now new before c.occupy_node.ensures in
+    let made : c.loop-node.channels.len ≡ length new = omega (arith, after.size, c.loop-node.invariant.size, c.loop-node.channels.ok.0) in
+    subst (IsOccupied f uses c.args.kind c.args.places c.args.count (c.loop-node.node + 1)) (sym (written_back new _ c.loop-node.channels.len made)) after
 
 pub returns : goal.returns
 returns c =
     let f = c.args.device.now in
     let uses = c.args.uses.now in
-    let count : length c.deref_mut.result.now ≡ c.args.count =
-    ap length (c.deref_mut.ensures.value ∙ c.in_ok-channels.ensures) ∙ length-replicate c.args.count (replicate c.args.places 0) in
-    let done = subst (λ n. IsOccupied f uses c.args.kind c.args.places n (node_count_of f) c.occupy_all.new.channels) count c.occupy_all.ensures in
-    let size = c.occupy_all.ensures.size in
-    let same : length c.in_ok-channels.channels.items ≡ length c.deref_mut.result.now = sym (ap length c.deref_mut.ensures.value) in
-    let made : c.in_ok-channels.channels.len ≡ length c.occupy_all.new.channels = omega (arith, size, same, c.in_ok-channels.channels.ok.0) in
-    written_back c.occupy_all.new.channels _ c.in_ok-channels.channels.len made
-    ∙ all_occupied f uses c.args.kind c.args.places c.args.count c.occupy_all.new.channels done
+    let items = c.loop-node.channels.items in
+    let all : c.loop-node.node ≡ node_count_of f = omega (arith, c.loop-node-test.false, c.loop-node.auto.node-end, c.node_count-node-end.ensures.count) in
+    all_occupied f uses c.args.kind c.args.places c.args.count items
+    (subst (λ n. IsOccupied f uses c.args.kind c.args.places c.args.count n items) all c.loop-node.invariant)

@@ -1,5 +1,5 @@
 use Rattle.std.proofs.Common.{take}
-use Rattle.route_report.specs.kept.Counting.{Counts}
+use Rattle.route_tree.specs.kept.Counting.{Counts}
 use Rattle.route_report.proofs.uses.count_each.Given as goal
 
 abbrev pub invariant-loop-node : goal.invariant-loop-node

@@ -1,5 +1,5 @@
 use Rattle.std.proofs.Common.{subst, ◌∙◌}
-use Rattle.route_report.specs.kept.Counting.{Counts}
+use Rattle.route_tree.specs.kept.Counting.{Counts}
 use Rattle.route_report.proofs.Counting.{uses_more}
 use Rattle.route_report.proofs.uses.count_net.Goals as goal
 

@@ -11,10 +11,10 @@ within : (f : Fabric) (n i : ℕ) (bs : List Beginning) → bs ≡ beginnings_of
 within f n i bs e l = omega (arith, ap length e, beginnings_length f n, l)
 
 pub bounds-beginnings-index : goal.bounds-beginnings-index
-bounds-beginnings-index c = within c.args.self.now c.args.places c.args.index c.deref-beginnings.result.now (c.deref-beginnings.ensures.value ∙ c.requires.tables.beginnings) c.requires.within
+bounds-beginnings-index c = within c.args.self.now c.args.channel.now.places c.args.index c.deref-beginnings.result.now (c.deref-beginnings.ensures.value ∙ c.requires.tables.beginnings) c.requires.within
 
 pub returns : goal.returns
 returns c =
     let all = c.deref-beginnings.ensures.value ∙ c.requires.tables.beginnings in
     ap (λ bs. slice_get bs c.args.index) (sym all)
-    ∙ slice_get-get_or c.deref-beginnings.result.now c.args.index _ (within c.args.self.now c.args.places c.args.index c.deref-beginnings.result.now all c.requires.within)
+    ∙ slice_get-get_or c.deref-beginnings.result.now c.args.index _ (within c.args.self.now c.args.channel.now.places c.args.index c.deref-beginnings.result.now all c.requires.within)

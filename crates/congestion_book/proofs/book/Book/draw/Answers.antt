@@ -13,5 +13,5 @@ returns c =
     let Sees = λ (hs : List ℕ). SeesOthers b.problem c.in-Some.net (list_in (lists_of_trees b.routes.trees.items) c.in-Some.net) b.routes.usage.counts hs c.show.new.view in
     subst (λ old. Draws old c.args.view.now c.args.worker (Ok (Some c.in-Some.net)) (with_turns b c.draw.new.self) c.show.new.view) c.self.view_is
     (draws_net b c.self.invariant c.args.view.now c.show.new.view c.args.worker c.in-Some.net c.draw.new.self
-    (omega (arith, c.len.ensures, c.if-len-node_count.false, c.node_count.ensures.count, ap node_count_of c.device.ensures)) c.in-Some.ensures
+    (omega (arith, c.len.ensures, c.if-len-node_count.false, c.node_count.ensures.count, ap node_count_of c.device.ensures.device)) c.in-Some.ensures
     (subst Sees c.histories.ensures.exact c.show.ensures))

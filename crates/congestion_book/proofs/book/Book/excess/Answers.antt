@@ -10,5 +10,5 @@ returns c =
     let b = c.self.inside in
     let k = content_of b in
     subst (λ k. c.total_excess.result ≡ excess_in k.problem k.lists) c.self.view_is
-    (c.total_excess.ensures ∙ ap (λ f. excess_by f b.routes.usage.counts) c.device-device.ensures
+    (c.total_excess.ensures ∙ ap (λ f. excess_by f b.routes.usage.counts) c.device.ensures.device
     ∙ excess_is k.problem k.lists b.routes.usage.counts c.self.invariant.sound.occupied c.self.invariant.sound.uses)

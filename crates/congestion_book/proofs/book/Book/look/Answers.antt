@@ -15,5 +15,5 @@ returns c =
     let low : c.args.net < length b.problem.nets = subst (λ (k : Content). c.args.net < length k.problem.nets) (sym c.self.view_is) c.requires in
     subst (λ now. Looks now c.args.view.now c.args.net (Ok _) c.show.new.view) c.self.view_is
     (looks_net b c.self.invariant c.args.view.now c.show.new.view c.args.net _
-    (omega (arith, c.len.ensures, c.if-len-node_count.false, c.node_count.ensures.count, ap node_count_of c.device.ensures)) low
+    (omega (arith, c.len.ensures, c.if-len-node_count.false, c.node_count.ensures.count, ap node_count_of c.device.ensures.device)) low
     (subst Sees c.histories-histories.ensures.exact c.show.ensures))

@@ -11,9 +11,9 @@ pub returns-clause-lists : goal.returns-clause-lists
 returns-clause-lists c = no_lists_yet c.in_ok-trees.trees.items (length c.args.problem.now.nets) (none_yet c)
 
 pub returns-clause-counts : goal.returns-clause-counts
-returns-clause-counts c = c.in_ok-usage.ensures.counts ∙ ap (λ f. replicate (node_count_of f) 0) c.device.ensures
+returns-clause-counts c = c.in_ok-usage.ensures.counts ∙ ap (λ f. replicate (node_count_of f) 0) c.device.ensures.device
 
 pub returns-clause-recorded : goal.returns-clause-recorded
 returns-clause-recorded c =
     none_recorded c.args.problem.now c.in_ok-trees.trees.items c.in_ok-usage.usage.counts c.in_ok-usage.usage.overused c.nets-2.result
-    (none_yet c) (c.in_ok-usage.ensures.counts ∙ ap (λ f. replicate (node_count_of f) 0) c.device.ensures) c.in_ok-usage.ensures.overused c.nets-2.ensures.count
+    (none_yet c) (c.in_ok-usage.ensures.counts ∙ ap (λ f. replicate (node_count_of f) 0) c.device.ensures.device) c.in_ok-usage.ensures.overused c.nets-2.ensures.count

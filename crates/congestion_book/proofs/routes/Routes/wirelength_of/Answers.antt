@@ -9,7 +9,7 @@ pub length_of-requires : goal.length_of-requires
 length_of-requires c = record {
   routes =
       old_routes c.args.problem.now c.args.self.now.trees.items c.args.self.now.usage.counts c.args.self.now.usage.overused c.args.self.now.unrouted
-      c.args.net c.index-tree.result.now c.index-tree.result.now c.nets.ensures.limits c.requires.there c.requires.recorded c.index-tree.ensures;
+      c.args.net c.index-tree.result.now c.index-tree.result.now c.nets-limits.ensures.limits c.requires.there c.requires.recorded c.index-tree.ensures;
 }
 
 pub returns-clause-exact : goal.returns-clause-exact
@@ -17,5 +17,5 @@ returns-clause-exact c =
     let p = c.args.problem.now in
     let lists = lists_of_trees c.args.self.now.trees.items in
     let is = listed p c.args.self.now.trees.items c.args.self.now.usage.counts c.args.self.now.usage.overused c.args.self.now.unrouted
-    c.args.net c.index-tree.result.now c.index-tree.result.now c.nets.ensures.limits c.requires.there c.requires.recorded c.index-tree.ensures in
-    c.length_of.ensures ∙ ap (length_by p c.args.net) (sym is) ∙ sym (length_is p lists c.args.net)
+    c.args.net c.index-tree.result.now c.index-tree.result.now c.nets-limits.ensures.limits c.requires.there c.requires.recorded c.index-tree.ensures in
+    c.length_of.ensures.exact ∙ ap (length_by p c.args.net) (sym is) ∙ sym (length_is p lists c.args.net)

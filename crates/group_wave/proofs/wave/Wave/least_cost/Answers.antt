@@ -1,12 +1,12 @@
 use Rattle.std.proofs.Common.{ap, arith, slice_index, length}
 use Rattle.wavefront.proofs.Wanted.{is_sink_at}
 use Rattle.group_wave.proofs.Aimed.{least_all, least_first, least_more}
-use Rattle.group_wave.proofs.Starts.{widened_most}
 use Rattle.group_wave.proofs.wave.Wave.least_cost.Goals as goal
+use Rattle.group_wave.proofs.Kept.{far}
 
 pub loop-sink-init : goal.loop-sink-init
 loop-sink-init g c = record {
-  least = least_first c.args.ground.now c.args.self.now _ (widened_most g.K.Key.greatest _ (omega (arith, c.greatest-least.ensures)));
+  least = least_first c.args.ground.now c.args.self.now _ (far g.K.Key.greatest _ (omega (arith, c.greatest-least.ensures)));
   fits = omega (arith, c.greatest-least.ensures);
 }
 

@@ -1,14 +1,14 @@
 use Rattle.std.proofs.Common.{ap, arith}
 use Rattle.std.proofs.lemmas.Result.{on_ok_weaker}
-use Rattle.group_wave.proofs.Outputs.{on_there}
 use Rattle.group_wave.proofs.Starting.{place_in, wire_starts}
 use Rattle.group_wave.proofs.wave.Wave.start_wire.Goals as goal
+use Rattle.track_groups.proofs.OnTracks.{on_within}
 
 pub group-few-requires : goal.group-few-requires
-group-few-requires g c = rw c.place-place.ensures (on_there _ _ c.requires.place.on)
+group-few-requires g c = rw c.place-place.ensures (on_within _ _ c.requires.place.on)
 
 pub wires_left-wires-requires-clause-group : goal.wires_left-wires-requires-clause-group
-wires_left-wires-requires-clause-group g c = rw c.place-place.ensures (on_there _ _ c.requires.place.on)
+wires_left-wires-requires-clause-group g c = rw c.place-place.ensures (on_within _ _ c.requires.place.on)
 
 pub set-requires-clause-there : goal.set-requires-clause-there
 set-requires-clause-there g c = omega (arith, c.wires_left-wires.ensures.wave.rows, place_in c.args.ground.now c.requires.ground c.args.wire c.requires.place)

@@ -12,7 +12,7 @@ beginning_above-requires c =
 pub above_before-before-requires : goal.above_before-before-requires
 above_before-before-requires c =
     let f = c.args.self.now in
-    let rows = c.ny-rows.ensures.entry ∙ ap (λ (t : Fabric). t.ny) c.layout.ensures in
+    let rows = c.ny-rows.ensures.entry ∙ ap (λ (t : Fabric). t.ny) c.layout.ensures.layout in
     let begins = subst (λ (t : Fabric). slice_get (beginnings_of t t.nx) c.by_rows.result ≡ Some c.beginning_above.result) c.self.view_is c.beginning_above.ensures in
     let first = ap (slice_get (beginnings_of f f.nx)) (sym c.by_rows.ensures) ∙ begins in
     let row = row_of_number f c.args.at c.ny-rows.result c.from-x.result _ c.beginning_above.result rows first c.from-x.ensures refl in
@@ -22,7 +22,7 @@ above_before-before-requires c =
 pub by_place-y-requires : goal.by_place-y-requires
 by_place-y-requires c =
     let f = c.args.self.now in
-    let rows = c.ny-rows.ensures.entry ∙ ap (λ (t : Fabric). t.ny) c.layout.ensures in
+    let rows = c.ny-rows.ensures.entry ∙ ap (λ (t : Fabric). t.ny) c.layout.ensures.layout in
     let begins = subst (λ (t : Fabric). slice_get (beginnings_of t t.nx) c.by_rows.result ≡ Some c.beginning_above.result) c.self.view_is c.beginning_above.ensures in
     let first = ap (slice_get (beginnings_of f f.nx)) (sym c.by_rows.ensures) ∙ begins in
     (row_of_number f c.args.at c.ny-rows.result c.from-x.result _ c.beginning_above.result rows first c.from-x.ensures refl).upto
@@ -30,7 +30,7 @@ by_place-y-requires c =
 pub overflow_sub-at : goal.overflow_sub-at
 overflow_sub-at c =
     let f = c.args.self.now in
-    let rows = c.ny-rows.ensures.entry ∙ ap (λ (t : Fabric). t.ny) c.layout.ensures in
+    let rows = c.ny-rows.ensures.entry ∙ ap (λ (t : Fabric). t.ny) c.layout.ensures.layout in
     let begins = subst (λ (t : Fabric). slice_get (beginnings_of t t.nx) c.by_rows.result ≡ Some c.beginning_above.result) c.self.view_is c.beginning_above.ensures in
     let first = ap (slice_get (beginnings_of f f.nx)) (sym c.by_rows.ensures) ∙ begins in
     let before = subst (λ (t : Fabric). c.above_before-before.result ≡ wires_before t t.nx c.from-x.result) c.self.view_is c.above_before-before.ensures.before in
@@ -40,7 +40,7 @@ overflow_sub-at c =
 pub beginning_above-track-requires : goal.beginning_above-track-requires
 beginning_above-track-requires c =
     let f = c.args.self.now in
-    let rows = c.ny-rows.ensures.entry ∙ ap (λ (t : Fabric). t.ny) c.layout.ensures in
+    let rows = c.ny-rows.ensures.entry ∙ ap (λ (t : Fabric). t.ny) c.layout.ensures.layout in
     let begins = subst (λ (t : Fabric). slice_get (beginnings_of t t.nx) c.by_rows.result ≡ Some c.beginning_above.result) c.self.view_is c.beginning_above.ensures in
     let first = ap (slice_get (beginnings_of f f.nx)) (sym c.by_rows.ensures) ∙ begins in
     let before = subst (λ (t : Fabric). c.above_before-before.result ≡ wires_before t t.nx c.from-x.result) c.self.view_is c.above_before-before.ensures.before in
@@ -50,7 +50,7 @@ beginning_above-track-requires c =
 pub returns : goal.returns
 returns c =
     let f = c.args.self.now in
-    let rows = c.ny-rows.ensures.entry ∙ ap (λ (t : Fabric). t.ny) c.layout.ensures in
+    let rows = c.ny-rows.ensures.entry ∙ ap (λ (t : Fabric). t.ny) c.layout.ensures.layout in
     let begins = subst (λ (t : Fabric). slice_get (beginnings_of t t.nx) c.by_rows.result ≡ Some c.beginning_above.result) c.self.view_is c.beginning_above.ensures in
     let first = ap (slice_get (beginnings_of f f.nx)) (sym c.by_rows.ensures) ∙ begins in
     let before = subst (λ (t : Fabric). c.above_before-before.result ≡ wires_before t t.nx c.from-x.result) c.self.view_is c.above_before-before.ensures.before in

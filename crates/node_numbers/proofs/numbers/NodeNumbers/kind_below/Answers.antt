@@ -1,5 +1,5 @@
 use Rattle.std.proofs.Common.{arith}
-use Rattle.channel_tables.specs.declared.parts.Kind.TheVariants.{Source, Sink, Opin, Ipin, Chanx, Chany}
+use Rattle.channel_tables.specs.declared.node.Kind.TheVariants.{Source, Sink, Opin, Ipin, Chanx, Chany}
 use Rattle.node_numbers.specs.Starts.{kind_start}
 use Rattle.node_numbers.proofs.NodesByPlace.{kind_within, node_count_by_kinds}
 use Rattle.node_numbers.proofs.numbers.NodeNumbers.kind_below.Goals as goal

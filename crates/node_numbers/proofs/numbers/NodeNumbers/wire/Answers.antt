@@ -18,5 +18,5 @@ returns-in-Some c =
     let here = sym c.node_of.ensures ∙ c.in-Some.is in
     wire_reported c.args.self.now c.args.id c.in-Some.node c.span_of-span.result c.reach_of.result here
     (wire_from c.args.self.now c.first_wire.result c.args.id c.in-Some.node c.first_wire.ensures.wires (omega (arith, c.if-id-first_wire.false)) here)
-    (subst (λ (f : Fabric). c.span_of-span.result ≡ span_of f c.in-Some.node) c.layout.ensures c.span_of-span.ensures)
+    (c.span_of-span.ensures c.args.self.now c.last_of.ensures)
     (subst (λ (f : Fabric). c.reach_of.result ≡ reach_of f c.in-Some.node.number) c.self.view_is c.reach_of.ensures)

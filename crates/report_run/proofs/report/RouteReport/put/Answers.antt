@@ -7,6 +7,6 @@ pub returns : goal.returns
 unfolding route_report_text
 returns g c =
     let uses : c.deref.result.now ≡ c.args.self.now.uses = c.deref.ensures.value ∙ ap (λ (r : RouteReport). r.uses) c.self.view_is in
-    let named = rw (c.device.ensures, uses) at c.put_naming_lines.ensures in
-    let map = rw c.device-2.ensures at c.put_map_if.ensures in
+    let named = rw (c.device.ensures.device, uses) at c.put_naming_lines.ensures in
+    let map = rw c.device-2.ensures.device at c.put_map_if.ensures in
     sends_then c.put_lines.ensures (sends_then named map)

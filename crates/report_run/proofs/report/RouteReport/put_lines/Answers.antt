@@ -12,7 +12,7 @@ returns g c =
     let s = stream (sink.taken c.args.sink.now) (sink.failed c.args.sink.now) c.args.out.now in
     let t = stream (sink.taken c.put_overused.new.sink) (sink.failed c.put_overused.new.sink) c.put_overused.new.out in
     let types = rw c.deref.ensures.value at c.put_types.ensures in
-    let channels = rw (c.device.ensures, c.deref-2.ensures.value) at c.put_channels.ensures in
+    let channels = rw (c.device.ensures.device, c.deref-2.ensures.value) at c.put_channels.ensures in
     let overused = rw c.deref-3.ensures.value at c.put_overused.ensures in
     let sent : Sends s t (counted_lines c.args.netlist.now c.args.problem.now (report_inside c.self.inside)) =
     sends_then c.put_figures.ensures (sends_then types (sends_then channels overused)) in

@@ -1,5 +1,5 @@
 use Rattle.std.proofs.Common.{◌*◌, length, ap, ◌∙◌, sym, subst}
-use Rattle.arch_file.specs.declared.parts.Sides.{Sides}
+use Rattle.arch_file.specs.declared.entries.Sides.{Sides}
 use Rattle.rr_edges.specs.kept.Terminals.{wires_on, AreSides, opin_sides}
 use Rattle.rr_edges.proofs.OpinDegrees.{tapped, wires_on-length, opin_wires, opin_sides_are}
 use Rattle.rr_edges.proofs.device_graph.DeviceGraph.count_wires_of_opin.Goals as goal

@@ -11,8 +11,8 @@ pins_at-requires-clause-row c = omega (arith, (place_of_node c.args.self.now c.a
 
 pub returns-in-Some : goal.returns-in-Some
 returns-in-Some c = λ pin of.
-    let stands = stands_beside c.args.self.now c.nx-limits.ensures.limits c.args.sink pin of c.in-Some.node (sym c.in-Some.ensures.node) in
+    let stands = stands_beside c.args.self.now c.in-Some.ensures.limits c.args.sink pin of c.in-Some.node (sym c.in-Some.ensures.node) in
     record { from = omega (arith, stands.0, c.pins_at.ensures.first); below = omega (arith, stands.1, c.pins_at.ensures.end) }
 
 pub returns-in-None : goal.returns-in-None
-returns-in-None c = λ pin of. absurd (sink_stands c.args.self.now c.nx-limits.ensures.limits c.args.sink pin of (sym c.in-None.ensures.node))
+returns-in-None c = λ pin of. absurd (sink_stands c.args.self.now c.in-None.ensures.limits c.args.sink pin of (sym c.in-None.ensures.node))

@@ -18,7 +18,7 @@ by_tracks f fc pin column row ts l e = column_by_track f fc pin column row l ∙
 pub push_track_right-requires-clause-room : goal.push_track_right-requires-clause-room
 push_track_right-requires-clause-room c =
     let f = c.args.self.now in
-    let are = c.tracks_right-tracks.ensures ∙ ap (λ (g : Fabric). tracks_through g g.ny c.args.row) c.tables.ensures in
+    let are = c.tracks_right-tracks.ensures ∙ ap (λ (g : Fabric). tracks_through g g.ny c.args.row) c.tables.ensures.tables in
     let pin = c.args.tapper in
     let same = by_tracks f pin.fc pin.number c.args.column c.args.row c.tracks_right-tracks.result.now c.requires.place.1 are in
     let room = subst (λ (ns : List ℕ). HasRoomFor c.args.list.now (length ns)) same c.requires.room in
@@ -26,13 +26,13 @@ push_track_right-requires-clause-room c =
 
 pub push_track_right-requires-clause-row : goal.push_track_right-requires-clause-row
 push_track_right-requires-clause-row c =
-    let are = c.tracks_right-tracks.ensures ∙ ap (λ (g : Fabric). tracks_through g g.ny c.args.row) c.tables.ensures in
+    let are = c.tracks_right-tracks.ensures ∙ ap (λ (g : Fabric). tracks_through g g.ny c.args.row) c.tables.ensures.tables in
     (through_some c.args.self.now c.args.self.now.ny c.args.row c.loop-track.track-index (omega (arith, c.loop-track-test.true, ap length are)), c.requires.place.1)
 
 pub returns : goal.returns
 returns c =
     let f = c.args.self.now in
-    let are = c.tracks_right-tracks.ensures ∙ ap (λ (g : Fabric). tracks_through g g.ny c.args.row) c.tables.ensures in
+    let are = c.tracks_right-tracks.ensures ∙ ap (λ (g : Fabric). tracks_through g g.ny c.args.row) c.tables.ensures.tables in
     let pin = c.args.tapper in
     let tracks = c.tracks_right-tracks.result.now in
     let same = by_tracks f pin.fc pin.number c.args.column c.args.row tracks c.requires.place.1 are in

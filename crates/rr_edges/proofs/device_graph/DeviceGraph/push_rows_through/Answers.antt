@@ -14,7 +14,7 @@ push_first_above-requires-clause-room c =
 
 pub loop-before-preserved : goal.loop-before-preserved
 loop-before-preserved c =
-    let same = ap (λ (g : Fabric). tracks_since g g.nx c.args.column (1 + c.loop-before.before + 1)) c.tables-in-loop-before.ensures in
+    let same = ap (λ (g : Fabric). tracks_since g g.nx c.args.column (1 + c.loop-before.before + 1)) c.tables-in-loop-before.ensures.tables in
     let next : 1 + c.loop-before.before + 1 ≡ 1 + (c.loop-before.before + 1) = omega arith in
     record {
       pushed = pushed_further (rows_piece c.args.self.now c.args.tapper.fc c.args.tapper.number c.args.column c.args.row c.args.sides) 1 c.loop-before.before

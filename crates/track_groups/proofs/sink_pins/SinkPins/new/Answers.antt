@@ -1,6 +1,6 @@
 use Rattle.std.proofs.Common.{◌≡◌, ℕ, ◌+◌, List, length, Some, sym, ap, subst, arith}
 use Rattle.std.proofs.lemmas.List.{length_push}
-use Rattle.routing_problem.specs.parts.Kind.TheVariants.{Sink}
+use Rattle.routing_problem.specs.node.Kind.TheVariants.{Sink}
 use Rattle.routing_problem.specs.Nodes.{kind_of_node}
 use Rattle.track_groups.specs.SinkPins.{ArePinsOf}
 use Rattle.track_groups.specs.kept.Listing.{AreSinkPinsBefore}

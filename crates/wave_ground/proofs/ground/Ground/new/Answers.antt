@@ -11,10 +11,10 @@ pub returns-clause-facts : goal.returns-clause-facts
 returns-clause-facts c =
     let p = c.args.problem.now in
     let net = All-contains (IsNet p.device) p.nets _ c.nets-nets.ensures.limits.nets (Contains-get_or p.nets c.args.net no_net c.requires.net) in
-    let nodes = ap node_count_of c.device.ensures in
+    let nodes = ap node_count_of c.device.ensures.device in
     record {
       space = rw c.borrowed.ensures (is_space (space_of p c.args.net c.args.view.now c.args.present c.args.bb)
-          (rw c.device-2.ensures at c.nx-limits.ensures.limits)
+          c.device.ensures.limits
           net
           (omega (arith, nodes, c.node_count-nodes.ensures.count, c.node_count-nodes.ensures.few))
           c.requires.present c.len-bounds.ensures.others c.len-bounds.ensures.histories);

@@ -1,8 +1,0 @@
-use Rattle.std.proofs.Common.{◌≡◌, map}
-use Rattle.std.specs.List.{flat_map}
-use Rattle.channel_tables.specs.Fabric.{numbers_below}
-use Rattle.channel_tables.specs.Channels.{starting_at, beginning_of}
-use Rattle.channel_tables.proofs.layout.Layout.beginnings.Given as goal
-
-abbrev pub invariant-loop-place : goal.invariant-loop-place
-invariant-loop-place l = l.beginnings.items ≡ flat_map (λ p. map (beginning_of p) (starting_at l.self l.places p)) (numbers_below l.place)

@@ -1,8 +1,0 @@
-use Rattle.std.proofs.Common.{◌≡◌, ◌++◌, map}
-use Rattle.channel_tables.specs.Fabric.{numbers_below}
-use Rattle.channel_tables.specs.Channels.{wire_number, wire_at}
-use Rattle.channel_tables.proofs.layout.Layout.push_place.Given as goal
-
-abbrev pub invariant-loop-track : goal.invariant-loop-track
-invariant-loop-track l =
-    (l.wires.items ≡ l.initial.wires.items ++ map (wire_at l.self l.places l.place) (numbers_below l.track)) × (l.number ≡ wire_number l.self l.places l.place l.track)

@@ -1,8 +1,0 @@
-use Rattle.std.proofs.Common.{◌≡◌, ◌≤◌, length}
-use Rattle.std.specs.List.{filter}
-use Rattle.channel_tables.specs.Fabric.{numbers_below}
-use Rattle.channel_tables.specs.Wires.{begins}
-use Rattle.channel_tables.proofs.layout.Layout.starting_count.Given as goal
-
-abbrev pub invariant-loop-track : goal.invariant-loop-track
-invariant-loop-track l = (l.count ≡ length (filter (λ t. begins l.self l.places t l.place) (numbers_below l.track))) × (l.count ≤ l.track)

@@ -1,6 +1,0 @@
-use Rattle.std.proofs.Common.{◌≡◌, ℕ, ◌+◌, ◌<◌, false}
-use Rattle.channel_tables.specs.Wires.{begins}
-use Rattle.channel_tables.proofs.layout.Layout.steps_from.Given as goal
-
-abbrev pub invariant-loop-steps : goal.invariant-loop-steps
-invariant-loop-steps l = (k : ℕ) → k < l.steps → begins l.self l.places l.track (l.place + 1 + k) ≡ false

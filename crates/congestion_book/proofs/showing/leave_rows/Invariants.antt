@@ -1,7 +1,0 @@
-use Rattle.std.specs.Prelude.{take}
-use Rattle.route_tree.specs.kept.Marked.{nodes_of}
-use Rattle.congestion_book.specs.kept.Views.{LeavesOut}
-use Rattle.congestion_book.proofs.showing.leave_rows.Given as goal
-
-abbrev pub invariant-loop-row : goal.invariant-loop-row
-invariant-loop-row l = LeavesOut (nodes_of (take l.row-index l.rows)) l.initial.view l.view
