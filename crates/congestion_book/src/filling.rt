@@ -57,7 +57,8 @@ fn own_use(tree: &Option<Tree>, row: usize, id: u32) -> u32
 
 /// Whether a node stands in this row of a tree: a net that the tree routes uses it then.
 fn uses_in(tree: &Tree, row: usize, id: u32) -> bool
-    ensures { result ≡ true → (p : RoutingProblem) (net : ℕ) → IsRoute p net (pairs_of tree.now)
+    ensures { result ≡ true → (p : RoutingProblem) (net : ℕ)
+        → IsRoute p net (pairs_of tree.now)
         → use_by (net_in p.nets net) (Some (pairs_of tree.now)) id ≡ 1 }
 {
     let _tree = tree.as_slice();
