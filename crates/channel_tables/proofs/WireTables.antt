@@ -2,7 +2,7 @@
 use Rattle.std.proofs.Common.{◌≡◌, ℕ, ◌+◌, ◌-◌, ◌*◌, ◌<◌, ◌≤◌, Bool, true, false, inl, inr, List, [], ◌++◌, length, get_or, refl, sym, ap, ◌∙◌, subst, arith, All, map, Some, None}
 use Rattle.std.specs.Prelude.{if◌then◌else◌, ◌==◌, slice_get, Option}
 use Rattle.std.specs.List.{filter, flat_map}
-use Rattle.std.proofs.lemmas.List.Elements.{All-get_or}
+use Rattle.std.proofs.lemmas.List.Elements.{All-get_or, All-map}
 use Rattle.std.proofs.lemmas.Bool.{cases_lt, cases_Bool, eq-eqb, eqb-true, false≢true, false_from_ne_true}
 use Rattle.std.proofs.lemmas.Option.{slice_get_within, get_or_from_slice_get, slice_get-get_or}
 use Rattle.channel_tables.proofs.TrackWires.{first_only, first_of-is, first_of_itself, first_begins}
@@ -17,10 +17,11 @@ use Rattle.arch_file.specs.declared.entries.SegmentLength.TheVariants.{Places, L
 use Rattle.channel_tables.specs.declared.node.Mode.{Mode}
 use Rattle.channel_tables.specs.declared.node.Mode.TheVariants.{Detailed, Global}
 use Rattle.channel_tables.specs.Fabric.{Fabric, IsFabric, numbers_below, is_between}
-use Rattle.channel_tables.specs.Wires.{tracks_in, places_of_length, places_of_type, length_by, length_of, type_of, rank_of, begins, last_of, beginnings_at}
+use Rattle.channel_tables.specs.Wires.{tracks_in, places_of_length, places_of_type, length_by, length_of, type_of, begins, last_of, beginnings_at}
 use Rattle.channel_tables.specs.Channels.{first_of, starting_at, wires_before, wire_number, wire_at, beginning_of, beginnings_of}
+use Rattle.channel_tables.specs.declared.channel.Stagger.{Stagger}
 use Rattle.channel_tables.specs.declared.channel.Wire.{Wire}
-use Rattle.channel_tables.specs.kept.Tables.{wires_at}
+use Rattle.channel_tables.specs.kept.Tables.{wires_at, stagger_of}
 use Rattle.std.proofs.lemmas.List.{length-map}
 
 -- ---- wires have some length
@@ -43,6 +44,9 @@ pub some_length : (f : Fabric) (n t : ℕ) → IsFabric f → 1 ≤ n → 1 ≤ 
 unfolding length_of
 some_length f n t l m = some_by f.mode f.architecture.segments f.width n t l.limits.segment_lengths m
 
+pub staggers_long : (f : Fabric) (n : ℕ) → IsFabric f → 1 ≤ n → All (λ (s : Stagger). 1 ≤ s.length) (map (stagger_of f n) (numbers_below (tracks_in f.mode f.width)))
+staggers_long f n l m = All-map (λ (s : Stagger). 1 ≤ s.length) (stagger_of f n) (numbers_below (tracks_in f.mode f.width)) (λ k d o. some_length f n _ l m)
+
 -- ---- which wire runs through a place
 -- the next place of the same wire
 first_before : (f : Fabric) (n t p : ℕ) → 1 ≤ p → begins f n t (p + 1) ≡ false → first_of f n t (p + 1) ≡ first_of f n t p
@@ -52,10 +56,6 @@ first_before f n t p l e =
       | inl past ↦ let same : k ≡ p + 1 = omega arith in ap (begins f n t) same ∙ e
       | inr upto ↦ here.none k m upto
     ]))
-
-pub small_rank : (segments : List Segment) (width t : ℕ) → rank_of segments width t ≤ t
-unfolding rank_of
-small_rank segments width t = omega arith
 
 -- the wire through the next place is a new one, or the same
 pub wire_here : (f : Fabric) (n p t : ℕ) → 1 ≤ p → p ≤ n → begins f n t p ≡ true → wire_at f n p t ≡ record { first = p; last = last_of f n t p; number = wire_number f n p t }

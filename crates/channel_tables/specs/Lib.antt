@@ -1,4 +1,5 @@
 pub mod Fabric
+pub mod Axes
 pub mod Wires
 pub mod Pins
 pub mod Channels

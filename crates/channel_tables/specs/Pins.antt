@@ -16,7 +16,7 @@ use Rattle.channel_tables.specs.declared.node.Kind.TheVariants.{Opin, Chanx, Cha
 use Rattle.channel_tables.specs.declared.node.Node.{Node}
 use Rattle.channel_tables.specs.Fabric.{Fabric, numbers_below, is_block}
 use Rattle.channel_tables.specs.Wires.{Place, runs_through}
-use Rattle.channel_tables.specs.declared.pins.TapCounts.{TapCounts}
+use Rattle.channel_tables.specs.declared.tap_counts.TapCounts.{TapCounts}
 
 -- the direction found is the one wanted
 abbrev pub has_direction : Direction → Option Direction → Bool

@@ -1,7 +1,7 @@
 //! The wires of a channel, in tables that are made once: how many begin before a place, where each begins, and which
 //! wire of a track runs through a place.
 
-ghost use Rattle.std.specs.Prelude.{◌≡◌, ◌+◌, ◌-◌, ◌*◌, ◌<◌, ◌≤◌, ◌++◌, length, map, slice_get, Some, true, IfOk, OnOk};
+ghost use Rattle.std.specs.Prelude.{◌≡◌, ℕ, All, ◌+◌, ◌-◌, ◌*◌, ◌<◌, ◌≤◌, ◌++◌, length, map, slice_get, Some, true, IfOk, OnOk};
 ghost use Rattle.std.specs.List.{flat_map};
 ghost use Rattle.arch_file.specs.Architecture.{longest_side};
 ghost use Rattle.channel_tables.specs.Fabric.{IsFabric, numbers_below, most_tracks};
@@ -10,6 +10,7 @@ ghost use Rattle.channel_tables.specs.kept.Tables.{stagger_of, wires_at, IsChann
 ghost use Rattle.channel_tables.specs.Channels.{starting_at, wires_before, wire_number, wire_at, beginning_of, beginnings_of};
 
 use crate::layout::Layout;
+use crate::tracks::ChannelWires;
 use std::alloc::{AllocError, Global};
 
 /// How the wires of a track are shifted.
@@ -31,6 +32,7 @@ pub(crate) struct Staggers<'a> {
     ghost few: { places ≤ longest_side },
     ghost staggers: { list.items ≡ map (stagger_of layout.now places)
         (numbers_below (tracks_in layout.now.mode layout.now.width)) },
+    ghost long: { All (λ s. 1 ≤ s.length) list.items },
 }
 
 /// Where a wire begins.
@@ -112,7 +114,7 @@ impl Layout {
     }
 
     /// How the wires of each track are shifted, in a channel of `places` places.
-    #[tactic(auto, using(crate::proofs::Ranges::mapped_next))]
+    #[tactic(auto, using(crate::proofs::Ranges::mapped_next, crate::proofs::WireTables::staggers_long))]
     fn staggers(&self, alloc: Global, places: u32) -> Result<Staggers<'_>, AllocError>
         requires { (1 ≤ places) × (places ≤ longest_side) }
         ensures layout { IfOk result (λ s. s.layout.now ≡ self.now) }
@@ -136,19 +138,19 @@ impl Staggers<'_> {
     #[tactic(auto, using(crate::proofs::Ranges::length_below, crate::proofs::Ranges::get_below))]
     fn of_track(&self, track: u32) -> Stagger
         requires { track < tracks_in self.now.layout.now.mode self.now.layout.now.width }
-        ensures { result ≡ stagger_of self.now.layout.now self.now.places track }
+        ensures stagger { result ≡ stagger_of self.now.layout.now self.now.places track }
+        ensures long { 1 ≤ result.length }
     {
         self.list[track as usize]
     }
 
     /// Whether a wire of the track begins at a place.
-    #[tactic(auto, using(crate::proofs::WireTables::small_rank, crate::proofs::WireTables::some_length), unfolding(crate::specs::Wires::begins))]
+    #[tactic(auto, unfolding(crate::specs::Wires::begins))]
     fn begins_at(&self, track: u32, place: u32) -> bool
         requires within { track < tracks_in self.now.layout.now.mode self.now.layout.now.width }
         ensures begins { result ≡ begins self.now.layout.now self.now.places track place }
         ensures first { place ≡ 1 → result ≡ true }
     {
-        let _limits = self.layout.tracks();
         let stagger = self.of_track(track);
         let shifted = u64::from(place.saturating_sub(1)) + u64::from(stagger.rank);
         place == 1 || shifted % u64::from(stagger.length) == 0
@@ -309,7 +311,12 @@ impl Layout {
         let count = before.last().copied().unwrap_or(0);
         let beginnings = staggers.beginnings(alloc, count as usize)?;
         let wires = staggers.wires(alloc, &before)?;
-        let order = self.order(alloc, &wires, places)?;
+        let through = ChannelWires {
+            layout: self,
+            places,
+            list: &wires,
+        };
+        let order = through.order(alloc)?;
         Ok(Channel {
             places,
             before,
@@ -332,19 +339,8 @@ impl Layout {
         channel.before[place as usize]
     }
 
-    /// The wire of a track through a place, where those through each place of a channel of `places` places are given.
-    pub(crate) fn wire_among(&self, wires: &[Wire], places: u32, place: u32, track: u32) -> Wire
-        requires few { places ≤ longest_side }
-        requires within { (1 ≤ place) × (place ≤ places) }
-        requires track { track < tracks_in self.now.mode self.now.width }
-        requires wires { wires.now ≡ flat_map (λ m. wires_at self.now places (m + 1))
-            (numbers_below places) }
-        ensures { result ≡ wire_at self.now places place track }
-    {
-        wires[((place - 1) * self.tracks() + track) as usize]
-    }
-
     /// The wire of a track through a place of a channel.
+    #[inline(always)]
     pub(crate) fn wire_at(&self, channel: &Channel, place: u32, track: u32) -> Wire
         requires few { channel.now.places ≤ longest_side }
         requires within { (1 ≤ place) × (place ≤ channel.now.places) }
@@ -352,7 +348,12 @@ impl Layout {
         requires tables { IsChannel self.now channel.now }
         ensures { result ≡ wire_at self.now channel.now.places place track }
     {
-        self.wire_among(&channel.wires, channel.places, place, track)
+        let wires = ChannelWires {
+            layout: self,
+            places: channel.places,
+            list: &channel.wires,
+        };
+        wires.at(place, track)
     }
 
     /// The wire of an index among the wires of a channel.

@@ -2,9 +2,11 @@
 
 ghost use Rattle.std.specs.Prelude.{◌≡◌, ℕ, ◌+◌, ◌≤◌, ◌<◌, IfOk};
 ghost use Rattle.arch_file.specs.Architecture.{longest_side};
+ghost use Rattle.channel_tables.specs.Axes.{places_along};
 ghost use Rattle.channel_tables.specs.Fabric.{IsFabric, is_block, is_pad, most_tracks};
 ghost use Rattle.channel_tables.specs.Wires.{tracks_in};
 
+use crate::axis::Axis;
 use crate::node::Mode;
 use arch_file::{Arch, Segment};
 use std::alloc::{AllocError, Global};
@@ -110,6 +112,19 @@ impl Layout {
         ensures limits { IsFabric self.now }
     {
         self.ny
+    }
+
+    /// How many places a channel has that runs along an axis.
+    #[inline(always)]
+    pub fn places(&self, axis: Axis) -> u32
+        ensures entry { result ≡ places_along axis self.now }
+        ensures some { 1 ≤ result }
+        ensures few { result ≤ longest_side }
+    {
+        match axis {
+            Axis::Row => self.nx,
+            Axis::Column => self.ny,
+        }
     }
 
     /// Tracks in each channel.

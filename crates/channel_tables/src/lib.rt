@@ -2,6 +2,7 @@
 //! (Betz, Rose and Marquardt 1999; VPR and T-VPack manual 4.30).
 #![tactic(auto)]
 
+mod axis;
 mod channel;
 mod layout;
 mod node;
@@ -9,12 +10,15 @@ mod pins;
 mod reaches;
 mod sides;
 mod tables;
+mod tap_counts;
 mod tracks;
 mod wires;
 
+pub use axis::Axis;
 pub use channel::{Beginning, Wire};
 pub use layout::Layout;
 pub use node::{Kind, Label, Mode, Node, NodeRange, Span};
-pub use pins::{TapCounts, has_class};
+pub use pins::has_class;
 pub use sides::Side;
 pub use tables::ChannelTables;
+pub use tap_counts::TapCounts;

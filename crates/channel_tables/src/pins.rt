@@ -10,19 +10,9 @@ ghost use Rattle.channel_tables.specs.Fabric.{most_tracks};
 
 use crate::layout::Layout;
 use crate::node::{Kind, Mode, Node};
+use crate::tap_counts::TapCounts;
 use arch_file::{Direction, FcType, Pin};
 use std::alloc::{AllocError, Global};
-
-/// How many tracks of each channel a pin taps that has no dedicated network.
-#[derive(Clone, Copy, Debug)]
-pub struct TapCounts {
-    /// An output pin of a block.
-    pub output: u32,
-    /// An input pin of a block.
-    pub input: u32,
-    /// A pin of a pad.
-    pub pad: u32,
-}
 
 /// Whether the pin has a dedicated network.
 pub(crate) fn is_marked_global(pin: Option<Pin>) -> bool
@@ -152,7 +142,6 @@ impl Layout {
         ensures some { 1 ≤ result }
         ensures few { result ≤ most_tracks }
     {
-        let _limits = self.width();
         if self.is_block(pin.x, pin.y) {
             match pin.kind {
                 Kind::Opin => counts.output,

@@ -3,16 +3,19 @@
 ghost use Rattle.std.specs.Prelude.{◌≡◌, ◌+◌, ◌≤◌, ◌<◌, length, slice_get, Some, IfOk};
 ghost use Rattle.arch_file.specs.Architecture.{most_pins, longest_side};
 ghost use Rattle.channel_tables.specs.Fabric.{IsFabric, fabric_with, most_tracks};
+ghost use Rattle.channel_tables.specs.Axes.{places_along};
+ghost use Rattle.channel_tables.specs.kept.Tables.{IsChannel};
 ghost use Rattle.channel_tables.specs.Wires.{tracks_in};
 ghost use Rattle.channel_tables.specs.Channels.{starting_at, wires_before, beginnings_of, wire_at};
 ghost use Rattle.channel_tables.specs.Pins.{IsTapCounts};
 ghost use Rattle.channel_tables.specs.Sides.{tapping_on};
 
+use crate::axis::Axis;
 use crate::channel::{Beginning, Channel, Wire};
 use crate::layout::Layout;
 use crate::node::Mode;
-use crate::pins::TapCounts;
 use crate::sides::{BlockSides, Side};
+use crate::tap_counts::TapCounts;
 use arch_file::Arch;
 use std::alloc::{AllocError, Global};
 use std::marker::Model;
@@ -68,8 +71,8 @@ impl ChannelTables {
     fn of_layout(alloc: Global, layout: Layout) -> Result<ChannelTables, AllocError>
         ensures { IfOk result (λ t. t ≡ layout) }
     {
-        let rows = layout.channel(alloc, layout.nx())?;
-        let columns = layout.channel(alloc, layout.ny())?;
+        let rows = layout.channel(alloc, layout.places(Axis::Row))?;
+        let columns = layout.channel(alloc, layout.places(Axis::Column))?;
         let sides = layout.sides(alloc)?;
         let counts = layout.tap_counts();
         let reaches = layout.reaches(alloc)?;
@@ -105,31 +108,39 @@ impl ChannelTables {
         self.counts
     }
 
-    /// The wire of a track through place `x` of the channels above rows.
-    pub fn wire_above(&self, track: u32, x: u32) -> Wire
-        requires place { (1 ≤ x) × (x ≤ self.now.nx) }
-        requires track { track < tracks_in self.now.mode self.now.width }
-        ensures { result ≡ wire_at self.now self.now.nx x track }
+    /// The tables of the channels along an axis.
+    #[inline(always)]
+    pub(crate) fn channel(&self, axis: Axis) -> &Channel
+        ensures tables { IsChannel self.now result.now }
+        ensures places { result.now.places ≡ places_along axis self.now }
+        ensures few { result.now.places ≤ longest_side }
+        ensures limits { IsFabric self.now }
     {
-        self.layout.wire_at(&self.rows, x, track)
+        match axis {
+            Axis::Row => &self.rows,
+            Axis::Column => &self.columns,
+        }
     }
 
-    /// The wire of a track through place `y` of the channels right of columns.
-    pub fn wire_right(&self, track: u32, y: u32) -> Wire
-        requires place { (1 ≤ y) × (y ≤ self.now.ny) }
+    /// The wire of a track through a place of the channels along an axis.
+    #[inline(always)]
+    pub fn wire_at(&self, axis: Axis, track: u32, place: u32) -> Wire
+        requires place { (1 ≤ place) × (place ≤ places_along axis self.now) }
         requires track { track < tracks_in self.now.mode self.now.width }
-        ensures { result ≡ wire_at self.now self.now.ny y track }
+        ensures { result ≡ wire_at self.now (places_along axis self.now) place track }
     {
-        self.layout.wire_at(&self.columns, y, track)
+        self.layout.wire_at(self.channel(axis), place, track)
     }
 
-    /// How many wires of a channel above a row begin before place `x`.
-    pub fn above_before(&self, x: u32) -> u32
-        requires { x ≤ self.now.nx + 1 }
-        ensures before { result ≡ wires_before self.now self.now.nx x }
+    /// How many wires of a channel along an axis begin before a place.
+    #[inline(always)]
+    pub fn wires_before(&self, axis: Axis, place: u32) -> u32
+        requires { place ≤ places_along axis self.now + 1 }
+        ensures before { result ≡ wires_before self.now (places_along axis self.now) place }
         ensures few { result ≤ 25856 }
+        ensures limits { IsFabric self.now }
     {
-        self.layout.wires_before(&self.rows, x)
+        self.layout.wires_before(self.channel(axis), place)
     }
 
     /// How many wires of a channel above a row begin at place `x`: so much greater is the number of a wire one row up.
@@ -139,7 +150,8 @@ impl ChannelTables {
         ensures step { result ≡ length (starting_at self.now self.now.nx x) }
         ensures few { result ≤ 25856 }
     {
-        self.layout.wires_before(&self.rows, x + 1) - self.layout.wires_before(&self.rows, x)
+        let before = self.wires_before(Axis::Row, x);
+        self.wires_before(Axis::Row, x + 1) - before
     }
 
     /// How many wires a channel right of a column has: so much greater is the number of a wire one column on.
@@ -147,24 +159,17 @@ impl ChannelTables {
         ensures step { result ≡ wires_before self.now self.now.ny (self.now.ny + 1) }
         ensures few { result ≤ 25856 }
     {
-        self.layout
-            .wires_before(&self.columns, self.columns.places + 1)
+        self.wires_before(Axis::Column, self.layout.ny() + 1)
     }
 
-    /// The wire of an index among those of a channel above a row.
-    pub fn beginning_above(&self, index: u32) -> Beginning
-        requires { index < wires_before self.now self.now.nx (self.now.nx + 1) }
-        ensures { slice_get (beginnings_of self.now self.now.nx) index ≡ Some result }
+    /// The wire of an index among those of a channel along an axis.
+    pub fn beginning_at(&self, axis: Axis, index: u32) -> Beginning
+        requires { index < wires_before self.now (places_along axis self.now)
+            (places_along axis self.now + 1) }
+        ensures { slice_get (beginnings_of self.now (places_along axis self.now)) index
+            ≡ Some result }
     {
-        self.layout.beginning_at(&self.rows, index)
-    }
-
-    /// The wire of an index among those of a channel right of a column.
-    pub fn beginning_right(&self, index: u32) -> Beginning
-        requires { index < wires_before self.now self.now.ny (self.now.ny + 1) }
-        ensures { slice_get (beginnings_of self.now self.now.ny) index ≡ Some result }
-    {
-        self.layout.beginning_at(&self.columns, index)
+        self.layout.beginning_at(self.channel(axis), index)
     }
 
     /// The places, among a block's input pins or the pads of a place, of those that tap a track on a side.

@@ -7,7 +7,7 @@ ghost use Rattle.node_numbers.specs.Numbering.{block_numbers};
 ghost use Rattle.node_numbers.specs.kept.Numbers.{IsBlock};
 
 use arch_file::Direction;
-use channel_tables::{Kind, Layout};
+use channel_tables::{ChannelTables, Kind};
 use std::alloc::{AllocError, Global};
 
 /// The numbers of a block's nodes, by kind, ascending.
@@ -21,9 +21,10 @@ pub(crate) struct BlockNumbers {
 
 /// What stands at a block.
 #[tactic(auto, unfolding(crate::specs::Numbering::block_numbers))]
-pub(crate) fn block_of(alloc: Global, layout: &Layout) -> Result<BlockNumbers, AllocError>
-    ensures { IfOk result (IsBlock layout.now) }
+pub(crate) fn block_of(alloc: Global, tables: &ChannelTables) -> Result<BlockNumbers, AllocError>
+    ensures { IfOk result (IsBlock tables.now) }
 {
+    let layout = tables.layout();
     Ok(BlockNumbers {
         sources: layout.classes_by(alloc, Direction::Output)?,
         sinks: layout.classes_by(alloc, Direction::Input)?,
@@ -48,11 +49,10 @@ pub(crate) fn numbers(block: &BlockNumbers, kind: Kind) -> &[u32]
 
 /// How many nodes of a kind stand at a block.
 #[tactic(auto, using(crate::proofs::PlaceStarts::few_numbers))]
-pub(crate) fn count_at_block(layout: &Layout, block: &BlockNumbers, kind: Kind) -> u32
-    requires { IsBlock layout.now block.now }
-    ensures count { result ≡ length (block_numbers layout.now kind) }
+pub(crate) fn count_at_block(block: &BlockNumbers, kind: Kind) -> u32
+    requires { (f : Fabric) × IsBlock f block.now }
+    ensures count { (f : Fabric) → IsBlock f block.now → result ≡ length (block_numbers f kind) }
     ensures few { result ≤ most_pins }
 {
-    let _limits = layout.nx();
     numbers(block, kind).len() as u32
 }

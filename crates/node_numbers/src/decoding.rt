@@ -5,7 +5,7 @@ ghost use Rattle.std.specs.Option.{option_map};
 ghost use Rattle.arch_file.specs.Architecture.{most_pins};
 ghost use Rattle.node_numbers.specs.Numbering.{is_terminal, block_numbers};
 ghost use Rattle.node_numbers.specs.kept.Columns.{column_length, columns_length, inner_rows_length, inner_place_length, terminals_length};
-ghost use Rattle.channel_tables.specs.Fabric.{is_between};
+ghost use Rattle.channel_tables.specs.Fabric.{IsFabric, is_between};
 ghost use Rattle.node_numbers.specs.Nodes.{node_at, node_count_of};
 ghost use Rattle.node_numbers.specs.Starts.{kind_length, kind_start, column_start};
 ghost use Rattle.node_numbers.specs.kept.Numbers.{IsBlock};
@@ -14,7 +14,7 @@ ghost use Rattle.node_numbers.specs.kept.Strides.{stride_at, column_stride};
 use crate::block::{BlockNumbers, count_at_block, numbers};
 use crate::divisor::Divisor;
 use crate::numbers::NodeNumbers;
-use channel_tables::{Kind, Layout, Node};
+use channel_tables::{Axis, Kind, Layout, Node};
 
 /// A place in a column or a row: the line, and how many nodes stand before it there.
 #[derive(Clone, Copy, Debug)]
@@ -137,7 +137,7 @@ fn in_block_column(layout: &Layout, block: &BlockNumbers, kind: Kind, x: u32, re
         + layout.now.ny * length (block_numbers layout.now kind) }
     ensures { node_at layout.now (column_start layout.now kind x + rest) ≡ Some result }
 {
-    let row = inner_row_found(layout, count_at_block(layout, block, kind), rest);
+    let row = inner_row_found(layout, count_at_block(block, kind), rest);
     let number = inner_number(layout, block, kind, row.line, row.rest);
     Node {
         kind,
@@ -177,7 +177,7 @@ fn column_of(layout: &Layout, block: &BlockNumbers, kind: Kind, at: u32) -> Line
     ensures rest { result.rest < column_length layout.now
         (length (block_numbers layout.now kind)) result.line }
 {
-    column_found(layout, count_at_block(layout, block, kind), at)
+    column_found(layout, count_at_block(block, kind), at)
 }
 
 /// The terminal or pin of a kind before which `at` of the kind stand.
@@ -231,10 +231,10 @@ impl NodeNumbers {
         ensures { node_at self.now (kind_start self.now Kind.Chanx + at) ≡ Some result }
     {
         let rows = self.layout().ny() + 1;
-        let x = u32::from(self.tables.beginning_above(self.by_rows(at)).place);
-        let before = self.tables.above_before(x);
+        let x = u32::from(self.tables.beginning_at(Axis::Row, self.by_rows(at)).place);
+        let before = self.tables.wires_before(Axis::Row, x);
         let (y, index) = self.by_place(x, at - rows * before);
-        let track = self.tables.beginning_above(before + index).track;
+        let track = self.tables.beginning_at(Axis::Row, before + index).track;
         Node {
             kind: Kind::Chanx,
             x,
@@ -250,7 +250,7 @@ impl NodeNumbers {
         ensures { node_at self.now (kind_start self.now Kind.Chany + at) ≡ Some result }
     {
         let (x, index) = self.by_column(at);
-        let wire = self.tables.beginning_right(index);
+        let wire = self.tables.beginning_at(Axis::Column, index);
         Node {
             kind: Kind::Chany,
             x,
@@ -273,7 +273,8 @@ impl NodeNumbers {
     #[inline(always)]
     #[tactic(auto, using(crate::proofs::NodesByPlace::node_count_by_kinds, crate::proofs::NodesFound::none_past), unfolding(crate::specs::Starts::kind_start))]
     pub(crate) fn node_of(&self, id: u32) -> Option<Node>
-        ensures { result ≡ node_at self.now id }
+        ensures node { result ≡ node_at self.now id }
+        ensures limits { IsFabric self.now }
     {
         if id >= self.node_count() {
             return None;

@@ -3,13 +3,14 @@
 ghost use Rattle.std.specs.Prelude.{◌≡◌, ◌≤◌, ◌<◌, ◌==◌, ◌&&◌, nat_le, nat_lt, true, false};
 ghost use Rattle.std.specs.List.{position};
 ghost use Rattle.channel_tables.specs.Fabric.{IsFabric, is_between, is_block, is_pad};
+ghost use Rattle.channel_tables.specs.Axes.{places_along, across};
 ghost use Rattle.channel_tables.specs.Wires.{tracks_in, begins};
 ghost use Rattle.node_numbers.specs.Nodes.{number_of, node_of};
 ghost use Rattle.node_numbers.specs.Numbering.{is_terminal};
 ghost use Rattle.node_numbers.specs.kept.WireIds.{wire_id};
 
 use crate::numbers::NodeNumbers;
-use channel_tables::{Kind, Node};
+use channel_tables::{Axis, Kind, Node};
 
 /// The place of a number in a list.
 fn position_of(numbers: &[u32], number: u32) -> Option<usize>
@@ -19,48 +20,27 @@ fn position_of(numbers: &[u32], number: u32) -> Option<usize>
 }
 
 impl NodeNumbers {
-    /// Whether a wire of the track begins at place `x` above a row.
+    /// Whether a wire of the track begins at a place of the channels along an axis.
     #[tactic(auto, using(channel_tables::proofs::WireTables::begins_by_first))]
-    pub(crate) fn begins_above(&self, track: u32, x: u32) -> bool
-        requires place { (1 ≤ x) × (x ≤ self.now.nx) }
+    pub(crate) fn begins(&self, axis: Axis, track: u32, place: u32) -> bool
+        requires place { (1 ≤ place) × (place ≤ places_along axis self.now) }
         requires track { track < tracks_in self.now.mode self.now.width }
-        ensures { result ≡ begins self.now self.now.nx track x }
+        ensures { result ≡ begins self.now (places_along axis self.now) track place }
     {
-        u32::from(self.tables.wire_above(track, x).first) == x
+        u32::from(self.tables.wire_at(axis, track, place).first) == place
     }
 
-    /// Whether a wire of the track begins at place `y` right of a column.
-    #[tactic(auto, using(channel_tables::proofs::WireTables::begins_by_first))]
-    pub(crate) fn begins_right(&self, track: u32, y: u32) -> bool
-        requires place { (1 ≤ y) × (y ≤ self.now.ny) }
-        requires track { track < tracks_in self.now.mode self.now.width }
-        ensures { result ≡ begins self.now self.now.ny track y }
+    /// Whether a wire begins at a place of a channel along an axis, in a track.
+    fn is_wire(&self, axis: Axis, track: u32, place: u32, channel: u32) -> bool
+        ensures { result ≡ ((is_between 1 (places_along axis self.now) place
+            && (nat_le channel (places_along (across axis) self.now)
+            && nat_lt track (tracks_in self.now.mode self.now.width)))
+            && begins self.now (places_along axis self.now) track place) }
     {
-        u32::from(self.tables.wire_right(track, y).first) == y
-    }
-
-    /// Whether (x, y, track) is a wire above a row, at its first place.
-    fn is_above(&self, x: u32, y: u32, track: u32) -> bool
-        ensures { result
-            ≡ ((is_between 1 self.now.nx x &&
-            (nat_le y self.now.ny && nat_lt track (tracks_in self.now.mode self.now.width))) &&
-            begins self.now self.now.nx track x) }
-    {
-        let is_inside = (1 <= x && x <= self.layout().nx())
-            && (y <= self.layout().ny() && track < self.layout().tracks());
-        is_inside && self.begins_above(track, x)
-    }
-
-    /// Whether (x, y, track) is a wire right of a column, at its first place.
-    fn is_right(&self, x: u32, y: u32, track: u32) -> bool
-        ensures { result
-            ≡ ((is_between 1 self.now.ny y &&
-            (nat_le x self.now.nx && nat_lt track (tracks_in self.now.mode self.now.width))) &&
-            begins self.now self.now.ny track y) }
-    {
-        let is_inside = (1 <= y && y <= self.layout().ny())
-            && (x <= self.layout().nx() && track < self.layout().tracks());
-        is_inside && self.begins_right(track, y)
+        let layout = self.layout();
+        let is_inside = (1 <= place && place <= layout.places(axis))
+            && (channel <= layout.places(axis.across()) && track < layout.tracks());
+        is_inside && self.begins(axis, track, place)
     }
 
     /// The number of a wire above row `y` that begins at `x`.
@@ -95,7 +75,7 @@ impl NodeNumbers {
     fn id_above(&self, x: u32, y: u32, track: u32) -> Option<u32>
         ensures { result ≡ number_of self.now (node_of Kind.Chanx x y track) }
     {
-        if self.is_above(x, y, track) {
+        if self.is_wire(Axis::Row, track, x, y) {
             Some(self.number_above(x, y, track))
         } else {
             None
@@ -106,7 +86,7 @@ impl NodeNumbers {
     fn id_right(&self, x: u32, y: u32, track: u32) -> Option<u32>
         ensures { result ≡ number_of self.now (node_of Kind.Chany x y track) }
     {
-        if self.is_right(x, y, track) {
+        if self.is_wire(Axis::Column, track, y, x) {
             Some(self.number_right(x, y, track))
         } else {
             None

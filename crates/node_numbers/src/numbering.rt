@@ -14,7 +14,7 @@ ghost use Rattle.node_numbers.specs.kept.WireIds.{wire_id};
 use crate::block::numbers;
 use crate::numbers::NodeNumbers;
 use crate::starts::kind_start;
-use channel_tables::{Kind, Layout, Node};
+use channel_tables::{Axis, Kind, Layout, Node};
 
 /// How many nodes of a kind of terminals or pins, of which a block has `count`, stand in the columns before `x`.
 #[tactic(auto, unfolding(crate::specs::kept::Columns::columns_length))]
@@ -103,8 +103,9 @@ impl NodeNumbers {
         ensures first { result ≡ wire_id self.now Kind.Chanx x 0 track }
         ensures few { result < 16777216 }
     {
-        let number = u32::from(self.tables.wire_above(track, x).number);
-        self.kind_start(Kind::Chanx) + (self.layout().ny() * self.tables.above_before(x) + number)
+        let number = u32::from(self.tables.wire_at(Axis::Row, track, x).number);
+        let before = self.tables.wires_before(Axis::Row, x);
+        self.kind_start(Kind::Chanx) + (self.layout().ny() * before + number)
     }
 
     /// The number of the wire of a track that begins at place `y` right of column 0.
@@ -116,7 +117,8 @@ impl NodeNumbers {
         ensures first { result ≡ wire_id self.now Kind.Chany 0 y track }
         ensures few { result < 16777216 }
     {
-        self.kind_start(Kind::Chany) + u32::from(self.tables.wire_right(track, y).number)
+        let wire = self.tables.wire_at(Axis::Column, track, y);
+        self.kind_start(Kind::Chany) + u32::from(wire.number)
     }
 
     /// The last place along its channel of the node of a number; of no wire its x.
@@ -127,8 +129,8 @@ impl NodeNumbers {
     {
         match node.kind {
             Kind::Source | Kind::Sink | Kind::Opin | Kind::Ipin => node.x,
-            Kind::Chanx => u32::from(self.tables.wire_above(node.number, node.x).last),
-            Kind::Chany => u32::from(self.tables.wire_right(node.number, node.y).last),
+            Kind::Chanx => u32::from(self.tables.wire_at(Axis::Row, node.number, node.x).last),
+            Kind::Chany => u32::from(self.tables.wire_at(Axis::Column, node.number, node.y).last),
         }
     }
 }

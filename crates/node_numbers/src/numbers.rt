@@ -42,7 +42,7 @@ impl NodeNumbers {
         ensures made { IfOk result (λ n. n ≡ tables) }
         ensures limits { IfOk result IsFabric }
     {
-        let block = block_of(alloc, tables.layout())?;
+        let block = block_of(alloc, &tables)?;
         let starts = starts_of(&tables, &block);
         let strides = strides_of(alloc, &tables)?;
         Ok(NodeNumbers {
@@ -83,6 +83,7 @@ impl NodeNumbers {
     pub fn node_count(&self) -> u32
         ensures count { result ≡ node_count_of self.now }
         ensures few { result < 2 ^ 23 }
+        ensures limits { IsFabric self.now }
     {
         self.starts.end
     }
@@ -103,7 +104,6 @@ impl NodeNumbers {
         ensures node { result ≡ node_at self.now id }
         ensures inverse { IfSome result (λ n. number_of self.now n ≡ Some id) }
     {
-        let _ = &self.tables;
         self.node_of(id)
     }
 

@@ -9,7 +9,7 @@ ghost use Rattle.node_numbers.specs.kept.Columns.{terminals_length};
 ghost use Rattle.node_numbers.specs.kept.Numbers.{IsBlock, IsStarts};
 
 use crate::block::{BlockNumbers, numbers};
-use channel_tables::{ChannelTables, Kind, Layout};
+use channel_tables::{Axis, ChannelTables, Kind, Layout};
 
 /// How many nodes stand before those of each kind, and how many there are.
 #[derive(Clone, Copy, Debug)]
@@ -53,7 +53,7 @@ fn wires_above(tables: &ChannelTables) -> u32
     ensures few { result ≤ 2611456 }
 {
     let layout = tables.layout();
-    (layout.ny() + 1) * tables.above_before(layout.nx() + 1)
+    (layout.ny() + 1) * tables.wires_before(Axis::Row, layout.nx() + 1)
 }
 
 /// How many wires lie right of columns.

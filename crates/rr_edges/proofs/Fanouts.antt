@@ -7,8 +7,8 @@ use Rattle.smallvec.specs.SmallVec.{SmallVec, HasRoomFor}
 use Rattle.rr_edges.specs.declared.fanout.NumberRun.{NumberRun}
 use Rattle.rr_edges.specs.declared.fanout.Meeting.{Meeting}
 use Rattle.rr_edges.specs.declared.fanout.Taps.{Taps}
-use Rattle.rr_edges.specs.declared.fanout.Axis.{Axis}
-use Rattle.rr_edges.specs.declared.fanout.Axis.TheVariants.{Row, Column}
+use Rattle.channel_tables.specs.declared.axis.Axis.{Axis}
+use Rattle.channel_tables.specs.declared.axis.Axis.TheVariants.{Row, Column}
 use Rattle.rr_edges.specs.declared.fanout.Fanout.{Fanout}
 use Rattle.channel_tables.specs.Fabric.{numbers_below}
 use Rattle.rr_edges.specs.kept.Fanouts.{of_option, numbers_of, runs_of, number_in, run_list, by_run, by_place, pins_at, row_list, column_list, list_along, fanout_list}

@@ -7,6 +7,7 @@ use Rattle.std.proofs.lemmas.Bool.Decides.{nat_tests}
 use Rattle.std.proofs.lemmas.List.{append-nil}
 use Rattle.arch_file.specs.declared.entries.Pin.{Pin}
 use Rattle.arch_file.specs.declared.entries.Sides.{Sides}
+use Rattle.channel_tables.specs.declared.axis.Axis.TheVariants.{Row, Column}
 use Rattle.channel_tables.specs.declared.node.Kind.TheVariants.{Chanx, Chany}
 use Rattle.channel_tables.specs.declared.node.Node.{Node}
 use Rattle.channel_tables.specs.Fabric.{Fabric, is_block, is_pad}
@@ -15,7 +16,7 @@ use Rattle.channel_tables.specs.Pins.{when}
 use Rattle.channel_tables.specs.Channels.{first_of, tracks_from}
 use Rattle.node_numbers.specs.kept.WireIds.{wire_id}
 use Rattle.rr_edges.specs.kept.PinSuccessors.{taps_track, tapped_chanx, tapped_row, tapped_rows, tapped_column, wires_of_pin, wires_of_pad, opin_successors}
-use Rattle.rr_edges.specs.kept.Terminals.{IsTerminal, above_wire, right_wire, all_tracks, wires_on, AreSides, no_sides, sides_of_pin, sides_of_pad, opin_sides, opin_fc}
+use Rattle.rr_edges.specs.kept.Terminals.{IsTerminal, tapped_wire, all_tracks, wires_on, AreSides, no_sides, sides_of_pin, sides_of_pad, opin_sides, opin_fc}
 use Rattle.channel_tables.proofs.Lengths.{length_both}
 use Rattle.channel_tables.proofs.Windows.{flat_map_agree, flat_map_empty}
 use Rattle.rr_edges.proofs.OpinSuccessors.{tapped_rows_top, tapped_rows_bottom}
@@ -38,17 +39,17 @@ module _ (f : Fabric) (fc pin : ℕ) where
 
   row_length : (column row : ℕ) → 1 ≤ column → column ≤ f.nx → length (flat_map (tapped_chanx f fc pin column row) (range_with_len 1 column)) ≡ tapped
   row_length column row l m =
-      ap length (flat_map_agree _ (λ first. flat_map (above_wire f fc pin column row) (tracks_from f f.nx column first)) 1 column (λ first a b.
+      ap length (flat_map_agree _ (λ first. flat_map (tapped_wire Row f fc pin column row) (tracks_from f f.nx column first)) 1 column (λ first a b.
       above_by_track f fc pin column row first a (omega arith) m))
-      ∙ each_once f f.nx column (above_wire f fc pin column row) l (tracks_in f.mode f.width)
+      ∙ each_once f f.nx column (tapped_wire Row f fc pin column row) l (tracks_in f.mode f.width)
       ∙ when-joined (taps_track f fc pin) (λ t. wire_id f Chanx (first_of f f.nx t column) row t) (all_tracks f)
 
   column_length : (column row : ℕ) → 1 ≤ row → row ≤ f.ny → length (tapped_column f fc pin column row) ≡ tapped
   unfolding tapped_column
   column_length column row l m =
-      ap length (flat_map_agree _ (λ first. flat_map (right_wire f fc pin column row) (tracks_from f f.ny row first)) 1 row (λ first a b.
+      ap length (flat_map_agree _ (λ first. flat_map (tapped_wire Column f fc pin row column) (tracks_from f f.ny row first)) 1 row (λ first a b.
       right_by_track f fc pin column row first a (omega arith) m))
-      ∙ each_once f f.ny row (right_wire f fc pin column row) l (tracks_in f.mode f.width)
+      ∙ each_once f f.ny row (tapped_wire Column f fc pin row column) l (tracks_in f.mode f.width)
       ∙ when-joined (taps_track f fc pin) (λ t. wire_id f Chany column (first_of f f.ny t row) t) (all_tracks f)
 
   side_length : (b : Bool) (xs : ℕ → List ℕ) (n : ℕ) → (b ≡ true → length (flat_map xs (range_with_len 1 n)) ≡ tapped)

@@ -8,6 +8,7 @@ ghost use Rattle.channel_tables.specs.Pins.{when};
 ghost use Rattle.rr_edges.specs.kept.Pushes.{Pushes};
 ghost use Rattle.rr_edges.specs.kept.Fanouts.{numbers_of, runs_of, number_in, run_list, by_run, by_place, pins_at, row_list, column_list, fanout_list, IsSmallRun, IsSmallMeeting, IsSmallTaps, IsSmallFanout};
 
+use channel_tables::Axis;
 use smallvec::SmallVec;
 use std::alloc::AllocError;
 
@@ -42,17 +43,10 @@ pub(crate) struct Taps<'a> {
     pub(crate) step: u32,
 }
 
-/// Whether a wire runs above a row or right of a column.
-#[derive(Clone, Copy, Debug)]
-pub(crate) enum Axis {
-    Row,
-    Column,
-}
-
 /// What a wire leads to.
 #[derive(Clone, Copy)]
 pub(crate) struct Fanout<'a> {
-    /// It decides in which order the nodes stand.
+    /// Along what the wire runs: it decides in which order the nodes stand.
     pub(crate) axis: Axis,
     /// The pins under it or left of it, and those over it or right of it.
     pub(crate) low: Taps<'a>,

@@ -4,15 +4,15 @@ ghost use Rattle.std.specs.Prelude.{◌≡◌, ◌+◌, ◌<◌, ◌≤◌, if�
 ghost use Rattle.std.specs.List.{filter, flat_map};
 ghost use Rattle.smallvec.specs.SmallVec.{HasRoomFor};
 ghost use Rattle.channel_tables.specs.Wires.{tracks_in};
-ghost use Rattle.rr_edges.specs.kept.PinSuccessors.{taps_track, tapped_chanx, tapped_rows, tapped_column, opin_successors};
+ghost use Rattle.rr_edges.specs.kept.PinSuccessors.{taps_track, tapped_rows, tapped_column, opin_successors};
 ghost use Rattle.rr_edges.specs.kept.Pushes.{Pushes};
-ghost use Rattle.channel_tables.specs.Channels.{tracks_from};
-ghost use Rattle.rr_edges.specs.kept.Terminals.{IsTapper, above_wire, right_wire, all_tracks, rows_piece, wires_on, AreSides, IsTerminal, sides_of_pin, sides_of_pad, opin_sides, opin_fc};
+ghost use Rattle.channel_tables.specs.Axes.{places_along, across};
+ghost use Rattle.rr_edges.specs.kept.Terminals.{IsTapper, tapped_wire, all_tracks, rows_of_tracks, wires_on, AreSides, IsTerminal, sides_of_pin, sides_of_pad, opin_sides, opin_fc};
 ghost use Rattle.channel_tables.specs.Fabric.{most_tracks};
 
 use crate::device_graph::DeviceGraph;
 use arch_file::{Pin, Sides};
-use channel_tables::{Layout, Mode, Node};
+use channel_tables::{Axis, Layout, Mode, Node};
 use smallvec::SmallVec;
 
 /// How a pin taps tracks: by Fc, so many of them.
@@ -73,127 +73,104 @@ fn taps_as(layout: &Layout, tapper: Tapper, track: u32) -> bool
 }
 
 impl DeviceGraph {
-    /// The track's wire through a column, above a row, if the pin taps it.
-    fn push_track_above(
+    /// The track's wire through a place of a channel along an axis, if the pin taps it.
+    fn push_track(
         &self,
         list: &mut SmallVec<u32, 8>,
         tapper: Tapper,
-        column: u32,
-        row: u32,
+        axis: Axis,
+        place: u32,
+        channel: u32,
         track: u32,
     )
         requires room { HasRoomFor list.old (length
-            (above_wire self.now tapper.fc tapper.number column row track)) }
+            (tapped_wire axis self.now tapper.fc tapper.number place channel track)) }
         requires tapper { IsTapper self.now tapper }
-        requires column { (1 ≤ column) × (column ≤ self.now.nx) }
-        requires row { row ≤ self.now.ny }
+        requires place { (1 ≤ place) × (place ≤ places_along axis self.now) }
+        requires channel { channel ≤ places_along (across axis) self.now }
         requires track { track < tracks_in self.now.mode self.now.width }
-        ensures { Pushes list.old (above_wire self.now tapper.fc tapper.number column row track)
-            list.new }
+        ensures { Pushes list.old (tapped_wire axis self.now tapper.fc tapper.number place channel
+            track) list.new }
     {
         if taps_as(self.layout(), tapper, track) {
-            list.push_reserved(self.run_above(track, column, row).first);
+            list.push_reserved(self.run(axis, track, place, channel).first);
         }
     }
 
-    /// The track's wire through a row, right of a column, if the pin taps it.
-    fn push_track_right(
-        &self,
-        list: &mut SmallVec<u32, 8>,
-        tapper: Tapper,
-        column: u32,
-        row: u32,
-        track: u32,
-    )
-        requires room { HasRoomFor list.old (length
-            (right_wire self.now tapper.fc tapper.number column row track)) }
-        requires tapper { IsTapper self.now tapper }
-        requires row { (1 ≤ row) × (row ≤ self.now.ny) }
-        requires column { column ≤ self.now.nx }
-        requires track { track < tracks_in self.now.mode self.now.width }
-        ensures { Pushes list.old (right_wire self.now tapper.fc tapper.number column row track)
-            list.new }
-    {
-        if taps_as(self.layout(), tapper, track) {
-            list.push_reserved(self.run_right(track, column, row).first);
-        }
-    }
-
-    /// The wires of the tracks through a column, above a row, that the pin taps.
+    /// The wires of the tracks through a place of a channel along an axis that the pin taps.
     #[tactic(auto, using(crate::proofs::Pushes::pushed_each, crate::proofs::Pushes::room_each))]
-    fn push_above(
+    fn push_tracks(
         &self,
         list: &mut SmallVec<u32, 8>,
         tapper: Tapper,
-        column: u32,
-        row: u32,
+        axis: Axis,
+        place: u32,
+        channel: u32,
         tracks: &[u8],
     )
-        requires room { HasRoomFor list.old (length
-            (flat_map (above_wire self.now tapper.fc tapper.number column row) tracks.now)) }
+        requires room { HasRoomFor list.old (length (flat_map
+            (tapped_wire axis self.now tapper.fc tapper.number place channel) tracks.now)) }
         requires tapper { IsTapper self.now tapper }
-        requires column { (1 ≤ column) × (column ≤ self.now.nx) }
-        requires row { row ≤ self.now.ny }
+        requires place { (1 ≤ place) × (place ≤ places_along axis self.now) }
+        requires channel { channel ≤ places_along (across axis) self.now }
         requires tracks { All (λ t. t < tracks_in self.now.mode self.now.width) tracks.now }
-        ensures { Pushes list.old (flat_map (above_wire self.now tapper.fc tapper.number column row)
-            tracks.now) list.new }
+        ensures { Pushes list.old (flat_map
+            (tapped_wire axis self.now tapper.fc tapper.number place channel) tracks.now) list.new }
     {
         for track in tracks {
-            self.push_track_above(list, tapper, column, row, u32::from(*track));
+            self.push_track(list, tapper, axis, place, channel, u32::from(*track));
         }
     }
 
-    /// Those above a row, of tracks whose wires begin at place `first`, if that row is asked for.
-    #[tactic(auto, using(crate::proofs::OpinWires::above_by_track, channel_tables::proofs::TrackOrder::from_small, crate::proofs::Pushes::pushed_none))]
+    /// Those through a column, above a row, if that row is asked for.
+    #[tactic(auto, using(crate::proofs::Pushes::pushed_none))]
     fn push_above_if(
         &self,
         list: &mut SmallVec<u32, 8>,
         tapper: Tapper,
         column: u32,
         row: u32,
-        first: u32,
         tracks: &[u8],
         wanted: bool,
     )
-        requires room { HasRoomFor list.old (length
-            (if wanted then tapped_chanx self.now tapper.fc tapper.number column row first
+        requires room { HasRoomFor list.old (length (if wanted then flat_map
+            (tapped_wire Axis.Row self.now tapper.fc tapper.number column row) tracks.now
             else [])) }
         requires tapper { IsTapper self.now tapper }
-        requires places { (1 ≤ first) × (first ≤ column) }
-        requires row { wanted ≡ true → (column ≤ self.now.nx) × (row ≤ self.now.ny) }
-        requires tracks { tracks.now ≡ tracks_from self.now self.now.nx column first }
-        ensures { Pushes list.old (if wanted then tapped_chanx self.now tapper.fc tapper.number
-            column row first else []) list.new }
+        requires place { wanted ≡ true
+            → (1 ≤ column) × (column ≤ self.now.nx) × (row ≤ self.now.ny) }
+        requires tracks { All (λ t. t < tracks_in self.now.mode self.now.width) tracks.now }
+        ensures { Pushes list.old (if wanted then flat_map
+            (tapped_wire Axis.Row self.now tapper.fc tapper.number column row) tracks.now
+            else []) list.new }
     {
         if wanted {
-            self.push_above(list, tapper, column, row, tracks);
+            self.push_tracks(list, tapper, Axis::Row, column, row, tracks);
         }
     }
 
     /// Those above the row before and above the row.
     #[tactic(auto, using(crate::proofs::Pushes::pushed_then, crate::proofs::Pushes::room_first, crate::proofs::Pushes::room_then))]
-    fn push_first_above(
+    fn push_tracks_above(
         &self,
         list: &mut SmallVec<u32, 8>,
         tapper: Tapper,
         column: u32,
         row: u32,
-        first: u32,
         tracks: &[u8],
         sides: Sides,
     )
         requires room { HasRoomFor list.old (length
-            (rows_piece self.now tapper.fc tapper.number column row sides first)) }
+            (rows_of_tracks self.now tapper.fc tapper.number column row sides tracks.now)) }
         requires tapper { IsTapper self.now tapper }
-        requires places { (1 ≤ first) × (first ≤ column) }
         requires sides { AreSides self.now column row sides }
-        requires tracks { tracks.now ≡ tracks_from self.now self.now.nx column first }
-        ensures { Pushes list.old (rows_piece self.now tapper.fc tapper.number column row sides
-            first) list.new }
+        requires tracks { All (λ t. t < tracks_in self.now.mode self.now.width) tracks.now }
+        ensures { Pushes list.old (rows_of_tracks self.now tapper.fc tapper.number column row sides
+            tracks.now) list.new }
     {
         let below = row.saturating_sub(1);
-        self.push_above_if(list, tapper, column, below, first, tracks, sides.bottom);
-        self.push_above_if(list, tapper, column, row, first, tracks, sides.top);
+        self.push_above_if(list, tapper, column, below, tracks, sides.bottom);
+        self.push_above_if(list, tapper, column, row, tracks, sides.top);
     }
 
     /// All those above the two rows, where there are wires through the column.
@@ -214,11 +191,10 @@ impl DeviceGraph {
         ensures { Pushes list.old (tapped_rows self.now tapper.fc tapper.number column row
             sides.bottom sides.top) list.new }
     {
-        let mut tracks = self.tables().tracks_above(column);
+        let mut tracks = self.tables().tracks_through(Axis::Row, column);
         for before in 0..column {
-            let first = 1 + before;
-            let (begun, rest) = self.tables().split_tracks(tracks, column, first);
-            self.push_first_above(list, tapper, column, row, first, begun, sides);
+            let (begun, rest) = self.tables().split_tracks(tracks, column, 1 + before);
+            self.push_tracks_above(list, tapper, column, row, begun, sides);
             tracks = rest;
         }
     }
@@ -246,19 +222,17 @@ impl DeviceGraph {
     }
 
     /// All those right of a column.
-    #[tactic(auto, using(crate::proofs::Pushes::pushed_each, crate::proofs::Pushes::room_each, crate::proofs::OpinWires::column_by_track, channel_tables::proofs::TrackOrder::through_some, channel_tables::proofs::TrackOrder::since_small))]
+    #[tactic(auto, using(crate::proofs::OpinWires::column_by_track, channel_tables::proofs::TrackOrder::since_small))]
     fn push_column(&self, list: &mut SmallVec<u32, 8>, tapper: Tapper, column: u32, row: u32)
         requires room { HasRoomFor list.old (length
             (tapped_column self.now tapper.fc tapper.number column row)) }
         requires tapper { IsTapper self.now tapper }
-        requires place { (column ≤ self.now.nx) × (row ≤ self.now.ny) }
+        requires place { (column ≤ self.now.nx) × (1 ≤ row) × (row ≤ self.now.ny) }
         ensures { Pushes list.old (tapped_column self.now tapper.fc tapper.number column row)
             list.new }
     {
-        let tracks = self.tables().tracks_right(row);
-        for track in tracks {
-            self.push_track_right(list, tapper, column, row, u32::from(*track));
-        }
+        let tracks = self.tables().tracks_through(Axis::Column, row);
+        self.push_tracks(list, tapper, Axis::Column, row, column, tracks);
     }
 
     /// Those right of a column, if that column is asked for.
@@ -274,7 +248,8 @@ impl DeviceGraph {
         requires room { HasRoomFor list.old (length
             (if wanted then tapped_column self.now tapper.fc tapper.number column row else [])) }
         requires tapper { IsTapper self.now tapper }
-        requires place { wanted ≡ true → (column ≤ self.now.nx) × (row ≤ self.now.ny) }
+        requires place { wanted ≡ true
+            → (column ≤ self.now.nx) × (1 ≤ row) × (row ≤ self.now.ny) }
         ensures { Pushes list.old (if wanted then tapped_column self.now tapper.fc tapper.number
             column row else []) list.new }
     {

@@ -3,21 +3,21 @@
 ghost use Rattle.std.specs.Prelude.{◌≡◌, OnOk, OnErr, IsOk, ℕ, ◌+◌, ◌<◌, ◌≤◌, ◌++◌, true, length, map};
 ghost use Rattle.arch_file.specs.Architecture.{most_pins};
 ghost use Rattle.smallvec.specs.SmallVec.{HasRoomFor};
+ghost use Rattle.channel_tables.specs.Axes.{places_along, across};
 ghost use Rattle.channel_tables.specs.Fabric.{IsFabric};
 ghost use Rattle.rr_edges.specs.kept.Pushes.{Pushes};
 ghost use Rattle.rr_edges.specs.kept.NodeSuccessors.{node_successors, IsAtPlace};
 ghost use Rattle.channel_tables.specs.Wires.{tracks_in, begins, last_of};
 ghost use Rattle.channel_tables.specs.Channels.{first_of};
-ghost use Rattle.rr_edges.specs.kept.Channels.{meeting_of, beside_of};
+ghost use Rattle.rr_edges.specs.kept.Channels.{wire_along, meeting_of, beside_of};
 ghost use Rattle.node_numbers.specs.Numbering.{block_numbers};
 ghost use Rattle.node_numbers.specs.Starts.{place_start};
-ghost use Rattle.node_numbers.specs.kept.WireIds.{wire_id};
 ghost use Rattle.rr_edges.specs.kept.WireSuccessors.{pins_beside};
-ghost use Rattle.rr_edges.specs.kept.Fanouts.{numbers_of, runs_of, run_above, run_right, pins_of_column, pins_at, fanout_list, row_wire_list, column_wire_list, IsSmallRun, IsSmallMeeting, IsSmallTaps, IsSmallFanout};
+ghost use Rattle.rr_edges.specs.kept.Fanouts.{numbers_of, runs_of, run_along, pins_of_column, pins_at, fanout_list, row_wire_list, column_wire_list, IsSmallRun, IsSmallMeeting, IsSmallTaps, IsSmallFanout};
 
 use crate::device_graph::DeviceGraph;
-use crate::fanout::{Axis, Fanout, Meeting, NumberRun, Pair, Taps};
-use channel_tables::{Kind, Node, Side};
+use crate::fanout::{Fanout, Meeting, NumberRun, Pair, Taps};
+use channel_tables::{Axis, Kind, Node, Side};
 use smallvec::SmallVec;
 use std::alloc::AllocError;
 
@@ -25,17 +25,17 @@ impl DeviceGraph {
     /// The wires of a track through place `x` above row `y` and the rows over it.
     #[inline(always)]
     #[tactic(auto, using(crate::proofs::WireFanouts::above_number, crate::proofs::WireFanouts::first_upto))]
-    pub(crate) fn run_above(&self, track: u32, x: u32, y: u32) -> NumberRun
+    fn run_above(&self, track: u32, x: u32, y: u32) -> NumberRun
         requires place { (1 ≤ x) × (x ≤ self.now.nx) }
         requires row { y ≤ self.now.ny }
         requires track { track < tracks_in self.now.mode self.now.width }
-        ensures run { result ≡ run_above self.now track y (first_of self.now self.now.nx track x) }
+        ensures run { result ≡ run_along Axis.Row self.now track y (first_of self.now self.now.nx track x) }
         ensures small { IsSmallRun result }
     {
-        let wire = self.tables().wire_above(track, x);
+        let wire = self.tables().wire_at(Axis::Row, track, x);
         let place = u32::from(wire.first);
         let step = self.tables().above_step(place);
-        let row = self.ny() * self.tables().above_before(place) + u32::from(wire.number);
+        let row = self.ny() * self.tables().wires_before(Axis::Row, place) + u32::from(wire.number);
         NumberRun {
             first: self.nodes.kind_start(Kind::Chanx) + row + y * step,
             step,
@@ -45,139 +45,108 @@ impl DeviceGraph {
     /// The wires of a track through place `y` right of column `x` and the columns behind it.
     #[inline(always)]
     #[tactic(auto, using(crate::proofs::WireFanouts::right_number))]
-    pub(crate) fn run_right(&self, track: u32, x: u32, y: u32) -> NumberRun
+    fn run_right(&self, track: u32, x: u32, y: u32) -> NumberRun
         requires place { (1 ≤ y) × (y ≤ self.now.ny) }
         requires column { x ≤ self.now.nx }
         requires track { track < tracks_in self.now.mode self.now.width }
-        ensures run { result ≡ run_right self.now track x (first_of self.now self.now.ny track y) }
+        ensures run { result ≡ run_along Axis.Column self.now track x (first_of self.now self.now.ny track y) }
         ensures small { IsSmallRun result }
     {
         let step = self.tables().right_step();
-        let number = u32::from(self.tables().wire_right(track, y).number);
+        let number = u32::from(self.tables().wire_at(Axis::Column, track, y).number);
         NumberRun {
             first: self.nodes.kind_start(Kind::Chany) + number + x * step,
             step,
         }
     }
 
-    /// The wires above row `y` and the rows over it that touch the corners right of column `x`.
+    /// The wires of a track through a place of a channel along an axis and of those behind it.
+    #[inline(always)]
+    pub(crate) fn run(&self, axis: Axis, track: u32, place: u32, channel: u32) -> NumberRun
+        requires place { (1 ≤ place) × (place ≤ places_along axis self.now) }
+        requires channel { channel ≤ places_along (across axis) self.now }
+        requires track { track < tracks_in self.now.mode self.now.width }
+        ensures run { result ≡ run_along axis self.now track channel
+            (first_of self.now (places_along axis self.now) track place) }
+        ensures small { IsSmallRun result }
+    {
+        match axis {
+            Axis::Row => self.run_above(track, place, channel),
+            Axis::Column => self.run_right(track, channel, place),
+        }
+    }
+
+    /// Those that touch a corner, where a channel across lies: one before the first place, and one behind each.
     #[inline(always)]
     #[tactic(auto, unfolding(crate::specs::kept::Channels::meeting_of))]
-    fn meeting_above(&self, track: u32, x: u32, y: u32) -> Meeting
-        requires column { x ≤ self.now.nx }
-        requires row { y ≤ self.now.ny }
+    fn meeting(&self, axis: Axis, track: u32, corner: u32, channel: u32) -> Meeting
+        requires corner { corner ≤ places_along axis self.now }
+        requires channel { channel ≤ places_along (across axis) self.now }
         requires track { track < tracks_in self.now.mode self.now.width }
-        ensures meeting { runs_of result ≡ map (run_above self.now track y)
-            (meeting_of self.now self.now.nx track x) }
+        ensures meeting { runs_of result ≡ map (run_along axis self.now track channel)
+            (meeting_of self.now (places_along axis self.now) track corner) }
         ensures small { IsSmallMeeting result }
     {
-        let nx = self.nx();
-        if x == 0 {
+        let places = self.layout().places(axis);
+        if corner == 0 {
             return Meeting {
-                one: self.run_above(track, 1, y),
+                one: self.run(axis, track, 1, channel),
                 two: None,
             };
         }
-        let one = self.run_above(track, x, y);
-        if x >= nx
-            || self.tables().wire_above(track, x).first
-                == self.tables().wire_above(track, x + 1).first
+        let one = self.run(axis, track, corner, channel);
+        if corner >= places
+            || self.tables().wire_at(axis, track, corner).first
+                == self.tables().wire_at(axis, track, corner + 1).first
         {
             return Meeting { one, two: None };
         }
-        let two = self.run_above(track, x + 1, y);
+        let two = self.run(axis, track, corner + 1, channel);
         Meeting {
             one,
             two: Some(two),
         }
     }
 
-    /// The wires right of column `x` and the columns behind it that touch the corners above row `y`.
-    #[inline(always)]
-    #[tactic(auto, unfolding(crate::specs::kept::Channels::meeting_of))]
-    fn meeting_right(&self, track: u32, x: u32, y: u32) -> Meeting
-        requires column { x ≤ self.now.nx }
-        requires row { y ≤ self.now.ny }
-        requires track { track < tracks_in self.now.mode self.now.width }
-        ensures meeting { runs_of result ≡ map (run_right self.now track x)
-            (meeting_of self.now self.now.ny track y) }
-        ensures small { IsSmallMeeting result }
-    {
-        let ny = self.ny();
-        if y == 0 {
-            return Meeting {
-                one: self.run_right(track, x, 1),
-                two: None,
-            };
-        }
-        let one = self.run_right(track, x, y);
-        if y >= ny
-            || self.tables().wire_right(track, y).first
-                == self.tables().wire_right(track, y + 1).first
-        {
-            return Meeting { one, two: None };
-        }
-        let two = self.run_right(track, x, y + 1);
-        Meeting {
-            one,
-            two: Some(two),
-        }
-    }
-
-    /// The wire that ends just before the wire of a track that passes the places from `x` to `last` above row `y`, and the
-    /// one that begins just behind.
+    /// The wire that ends just before the wire of a track that passes the places from `first` to `last`, and the one that
+    /// begins just behind.
     #[inline(always)]
     #[tactic(auto, using(crate::proofs::WireFanouts::behind_first), unfolding(crate::specs::kept::Channels::beside_of))]
-    fn beside_above(&self, track: u32, x: u32, last: u32, y: u32) -> Pair
-        requires place { (1 ≤ x) × (x ≤ self.now.nx) }
-        requires row { y ≤ self.now.ny }
+    fn beside(&self, axis: Axis, track: u32, first: u32, last: u32, channel: u32) -> Pair
+        requires place { (1 ≤ first) × (first ≤ places_along axis self.now) }
+        requires channel { channel ≤ places_along (across axis) self.now }
         requires track { track < tracks_in self.now.mode self.now.width }
-        requires begins { begins self.now self.now.nx track x ≡ true }
-        requires last { last ≡ last_of self.now self.now.nx track x }
-        ensures { numbers_of result ≡ map (λ q. wire_id self.now Kind.Chanx q y track)
-            (beside_of self.now self.now.nx track x last) }
+        requires begins { begins self.now (places_along axis self.now) track first ≡ true }
+        requires last { last ≡ last_of self.now (places_along axis self.now) track first }
+        ensures { numbers_of result ≡ map (wire_along axis self.now track channel)
+            (beside_of self.now (places_along axis self.now) track first last) }
     {
-        let nx = self.nx();
         Pair {
-            one: if x > 1 {
-                Some(self.run_above(track, x - 1, y).first)
+            one: if first > 1 {
+                Some(self.run(axis, track, first - 1, channel).first)
             } else {
                 None
             },
-            two: if last < nx {
-                Some(self.run_above(track, last + 1, y).first)
+            two: if last < self.layout().places(axis) {
+                Some(self.run(axis, track, last + 1, channel).first)
             } else {
                 None
             },
         }
     }
 
-    /// The wire that ends just before the wire of a track that passes the places from `y` to `last` right of column `x`, and
-    /// the one that begins just behind.
+    /// Where the wire of a track ends that begins at a place of the channels along an axis.
     #[inline(always)]
-    #[tactic(auto, using(crate::proofs::WireFanouts::behind_first), unfolding(crate::specs::kept::Channels::beside_of))]
-    fn beside_right(&self, track: u32, x: u32, y: u32, last: u32) -> Pair
-        requires place { (1 ≤ y) × (y ≤ self.now.ny) }
-        requires column { x ≤ self.now.nx }
+    #[tactic(auto, using(crate::proofs::WireFanouts::wire_end, crate::proofs::WireFanouts::end_within))]
+    fn end(&self, axis: Axis, track: u32, place: u32) -> u32
+        requires place { (1 ≤ place) × (place ≤ places_along axis self.now) }
+        requires begins { begins self.now (places_along axis self.now) track place ≡ true }
         requires track { track < tracks_in self.now.mode self.now.width }
-        requires begins { begins self.now self.now.ny track y ≡ true }
-        requires last { last ≡ last_of self.now self.now.ny track y }
-        ensures { numbers_of result ≡ map (λ q. wire_id self.now Kind.Chany x q track)
-            (beside_of self.now self.now.ny track y last) }
+        ensures end { result ≡ last_of self.now (places_along axis self.now) track place }
+        ensures within { (place ≤ result) × (result ≤ places_along axis self.now) }
+        ensures limits { IsFabric self.now }
     {
-        let ny = self.ny();
-        Pair {
-            one: if y > 1 {
-                Some(self.run_right(track, x, y - 1).first)
-            } else {
-                None
-            },
-            two: if last < ny {
-                Some(self.run_right(track, x, last + 1).first)
-            } else {
-                None
-            },
-        }
+        u32::from(self.tables().wire_at(axis, track, place).last)
     }
 
     /// How many input pins stand in a column of blocks.
@@ -356,32 +325,6 @@ impl DeviceGraph {
         self.taps_in_column(self.tables().tapping(Side::Left, track), start)
     }
 
-    /// Where the wire of a track that begins at place `x` above a row ends.
-    #[inline(always)]
-    #[tactic(auto, using(crate::proofs::WireFanouts::wire_end, crate::proofs::WireFanouts::end_within))]
-    fn end_above(&self, track: u32, x: u32) -> u32
-        requires wire { (1 ≤ x) × (x ≤ self.now.nx) × (begins self.now self.now.nx track x ≡ true) }
-        requires track { track < tracks_in self.now.mode self.now.width }
-        ensures end { result ≡ last_of self.now self.now.nx track x }
-        ensures within { (x ≤ result) × (result ≤ self.now.nx) }
-        ensures limits { IsFabric self.now }
-    {
-        u32::from(self.tables().wire_above(track, x).last)
-    }
-
-    /// Where the wire of a track that begins at place `y` right of a column ends.
-    #[inline(always)]
-    #[tactic(auto, using(crate::proofs::WireFanouts::wire_end, crate::proofs::WireFanouts::end_within))]
-    fn end_right(&self, track: u32, y: u32) -> u32
-        requires wire { (1 ≤ y) × (y ≤ self.now.ny) × (begins self.now self.now.ny track y ≡ true) }
-        requires track { track < tracks_in self.now.mode self.now.width }
-        ensures end { result ≡ last_of self.now self.now.ny track y }
-        ensures within { (y ≤ result) × (result ≤ self.now.ny) }
-        ensures limits { IsFabric self.now }
-    {
-        u32::from(self.tables().wire_right(track, y).last)
-    }
-
     /// What the wire of a track leads to that begins at place `x` above row `y`.
     #[inline(always)]
     pub(crate) fn row_fanout(&self, track: u32, x: u32, y: u32) -> Fanout<'_>
@@ -391,14 +334,14 @@ impl DeviceGraph {
         ensures list { fanout_list result ≡ row_wire_list self.now x y track }
         ensures small { IsSmallFanout result }
     {
-        let last = self.end_above(track, x);
+        let last = self.end(Axis::Row, track, x);
         Fanout {
             axis: Axis::Row,
             low: self.taps_under(track, x, y),
             high: self.taps_over(track, x, y),
             places: last - x + 1,
-            beside: self.beside_above(track, x, last, y),
-            crossing: self.meeting_right(track, x - 1, y),
+            beside: self.beside(Axis::Row, track, x, last, y),
+            crossing: self.meeting(Axis::Column, track, y, x - 1),
         }
     }
 
@@ -411,14 +354,14 @@ impl DeviceGraph {
         ensures list { fanout_list result ≡ column_wire_list self.now x y track }
         ensures small { IsSmallFanout result }
     {
-        let last = self.end_right(track, y);
+        let last = self.end(Axis::Column, track, y);
         Fanout {
             axis: Axis::Column,
             low: self.taps_before(track, x, y),
             high: self.taps_behind(track, x, y),
             places: last - y + 1,
-            beside: self.beside_right(track, x, y, last),
-            crossing: self.meeting_above(track, x, y - 1),
+            beside: self.beside(Axis::Column, track, y, last, x),
+            crossing: self.meeting(Axis::Row, track, x, y - 1),
         }
     }
 
@@ -455,54 +398,6 @@ impl DeviceGraph {
         }
     }
 
-    /// Pushes what the wire of a track leads to that begins at place `x` above row `y`, if memory is found for all of it.
-    #[inline(always)]
-    #[tactic(auto)]
-    fn fill_from_row(
-        &self,
-        list: &mut SmallVec<u32, 8>,
-        track: u32,
-        x: u32,
-        y: u32,
-    ) -> Result<(), AllocError>
-        requires wire { (1 ≤ x) × (x ≤ self.now.nx) × (begins self.now self.now.nx track x ≡ true) }
-        requires row { y ≤ self.now.ny }
-        requires track { track < tracks_in self.now.mode self.now.width }
-        ensures filled { OnOk result (list.new.items
-            ≡ list.old.items ++ row_wire_list self.now x y track) }
-        ensures refused { OnErr result (list.new ≡ list.old) }
-        ensures room { HasRoomFor list.old (length (row_wire_list self.now x y track))
-            → IsOk result }
-        ensures kept { list.old.capacity ≤ list.new.capacity }
-    {
-        self.row_fanout(track, x, y).fill(list)?;
-        Ok(())
-    }
-
-    /// Pushes what the wire of a track leads to that begins at place `y` right of column `x`, if memory is found for all of it.
-    #[inline(always)]
-    #[tactic(auto)]
-    fn fill_from_column(
-        &self,
-        list: &mut SmallVec<u32, 8>,
-        track: u32,
-        x: u32,
-        y: u32,
-    ) -> Result<(), AllocError>
-        requires wire { (1 ≤ y) × (y ≤ self.now.ny) × (begins self.now self.now.ny track y ≡ true) }
-        requires column { x ≤ self.now.nx }
-        requires track { track < tracks_in self.now.mode self.now.width }
-        ensures filled { OnOk result (list.new.items
-            ≡ list.old.items ++ column_wire_list self.now x y track) }
-        ensures refused { OnErr result (list.new ≡ list.old) }
-        ensures room { HasRoomFor list.old (length (column_wire_list self.now x y track))
-            → IsOk result }
-        ensures kept { list.old.capacity ≤ list.new.capacity }
-    {
-        self.column_fanout(track, x, y).fill(list)?;
-        Ok(())
-    }
-
     /// Pushes the successors of a node, if memory is found for all of them.
     #[inline(always)]
     #[tactic(auto)]
@@ -515,8 +410,8 @@ impl DeviceGraph {
         ensures kept { list.old.capacity ≤ list.new.capacity }
     {
         match node.kind {
-            Kind::Chanx => self.fill_from_row(list, node.number, node.x, node.y)?,
-            Kind::Chany => self.fill_from_column(list, node.number, node.x, node.y)?,
+            Kind::Chanx => self.row_fanout(node.number, node.x, node.y).fill(list)?,
+            Kind::Chany => self.column_fanout(node.number, node.x, node.y).fill(list)?,
             _ => {
                 list.reserve(self.degree_of(node) as usize)?;
                 self.push_successors(list, node);

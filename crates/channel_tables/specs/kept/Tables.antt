@@ -6,7 +6,7 @@ use Rattle.channel_tables.specs.declared.channel.Wire.{Wire}
 use Rattle.channel_tables.specs.declared.channel.Channel.{Channel}
 use Rattle.channel_tables.specs.Fabric.{Fabric, numbers_below}
 use Rattle.channel_tables.specs.Wires.{tracks_in, length_of, reach_of, rank_of}
-use Rattle.channel_tables.specs.declared.pins.TapCounts.{TapCounts}
+use Rattle.channel_tables.specs.declared.tap_counts.TapCounts.{TapCounts}
 use Rattle.channel_tables.specs.declared.sides.BlockSides.{BlockSides}
 use Rattle.channel_tables.specs.kept.TappingTables.{IsSides}
 use Rattle.channel_tables.specs.Pins.{IsTapCounts}

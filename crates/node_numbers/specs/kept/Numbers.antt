@@ -4,14 +4,15 @@ use Rattle.node_numbers.specs.declared.block.BlockNumbers.{BlockNumbers}
 use Rattle.node_numbers.specs.declared.starts.Starts.{Starts}
 use Rattle.node_numbers.specs.declared.strides.Strides.{Strides}
 use Rattle.channel_tables.specs.declared.node.Kind.TheVariants.{Source, Sink, Opin, Ipin, Chanx, Chany}
-use Rattle.channel_tables.specs.Fabric.{Fabric}
+use Rattle.channel_tables.specs.Fabric.{Fabric, IsFabric}
 use Rattle.node_numbers.specs.Nodes.{node_count_of}
 use Rattle.node_numbers.specs.Starts.{kind_start}
 use Rattle.node_numbers.specs.Numbering.{block_numbers}
 use Rattle.node_numbers.specs.kept.Strides.{AreStrides}
 
--- the numbers of a block's nodes
+-- the numbers of a block's nodes, on a device that has limits to keep
 pub record IsBlock (f : Fabric) (b : BlockNumbers) : Type 0 where
+  pub limits : IsFabric f
   pub sources : b.sources.items ≡ block_numbers f Source
   pub sinks : b.sinks.items ≡ block_numbers f Sink
   pub opins : b.opins.items ≡ block_numbers f Opin

@@ -1,8 +1,17 @@
 -- Where the wires of a track begin that meet at a corner of their channel, or that are next to a wire: at most two each.
 -- The places of a channel are counted from 1 to n; corner c lies between the places c and c + 1, so 0 and n are the ends.
 use Rattle.std.specs.Prelude.{ℕ, ◌+◌, ◌-◌, ◌==◌, Bool, ◌&&◌, not, nat_le, nat_lt, if◌then◌else◌, List, [], ◌∷◌, ◌++◌}
+use Rattle.channel_tables.specs.declared.axis.Axis.{Axis}
+use Rattle.channel_tables.specs.declared.axis.Axis.TheVariants.{Row, Column}
+use Rattle.channel_tables.specs.declared.node.Kind.TheVariants.{Chanx, Chany}
 use Rattle.channel_tables.specs.Fabric.{Fabric}
 use Rattle.channel_tables.specs.Channels.{first_of}
+use Rattle.node_numbers.specs.kept.WireIds.{wire_id}
+
+-- the number of the wire of a track that begins at a place of a channel along an axis; channels are counted from 0
+abbrev pub wire_along : Axis → Fabric → (track channel place : ℕ) → ℕ
+wire_along Row f track channel place = wire_id f Chanx place channel track
+wire_along Column f track channel place = wire_id f Chany channel place track
 
 -- the places where the wires begin that touch corner c, ascending
 unfoldable pub meeting_of : Fabric → (n track corner : ℕ) → List ℕ

@@ -6,13 +6,13 @@ use Rattle.rr_edges.specs.declared.fanout.Pair.{Pair}
 use Rattle.rr_edges.specs.declared.fanout.NumberRun.{NumberRun}
 use Rattle.rr_edges.specs.declared.fanout.Meeting.{Meeting}
 use Rattle.rr_edges.specs.declared.fanout.Taps.{Taps}
-use Rattle.rr_edges.specs.declared.fanout.Axis.{Axis}
-use Rattle.rr_edges.specs.declared.fanout.Axis.TheVariants.{Row, Column}
+use Rattle.channel_tables.specs.declared.axis.Axis.{Axis}
+use Rattle.channel_tables.specs.declared.axis.Axis.TheVariants.{Row, Column}
 use Rattle.rr_edges.specs.declared.fanout.Fanout.{Fanout}
 use Rattle.channel_tables.specs.declared.node.Kind.TheVariants.{Chanx, Chany, Ipin}
 use Rattle.channel_tables.specs.Fabric.{Fabric, numbers_below, is_between}
 use Rattle.channel_tables.specs.Wires.{steps_of, last_of, places_of}
-use Rattle.rr_edges.specs.kept.Channels.{meeting_of, beside_of}
+use Rattle.rr_edges.specs.kept.Channels.{wire_along, meeting_of, beside_of}
 use Rattle.node_numbers.specs.Numbering.{block_numbers}
 use Rattle.channel_tables.specs.Channels.{starting_at, wires_before}
 use Rattle.node_numbers.specs.kept.WireIds.{wire_id}
@@ -68,13 +68,14 @@ abbrev pub fanout_list : Fanout → List ℕ
 fanout_list x = list_along x.axis x
 
 -- ---- wires and pins of a device as numbers at even distances
--- the wires that begin at place q above row y and the rows over it, in a track
-abbrev pub run_above : Fabric → (track y q : ℕ) → NumberRun
-run_above f track y q = record { first = wire_id f Chanx q y track; step = length (starting_at f f.nx q) }
+-- by how much the number of a wire that begins at a place grows from one channel along an axis to the next
+abbrev pub step_along : Axis → Fabric → (place : ℕ) → ℕ
+step_along Row f place = length (starting_at f f.nx place)
+step_along Column f place = wires_before f f.ny (f.ny + 1)
 
--- the wires that begin at place q right of column x and the columns behind it
-abbrev pub run_right : Fabric → (track x q : ℕ) → NumberRun
-run_right f track x q = record { first = wire_id f Chany x q track; step = wires_before f f.ny (f.ny + 1) }
+-- the wires of a track that begin at a place of a channel along an axis and of those behind it
+abbrev pub run_along : Axis → Fabric → (track channel place : ℕ) → NumberRun
+run_along axis f track channel place = record { first = wire_along axis f track channel place; step = step_along axis f place }
 
 -- how many input pins stand at a place of a column, and in a column of blocks
 abbrev pub pins_of_row : Fabric → (x : ℕ) → ℕ

@@ -1,17 +1,21 @@
 -- The places of sources, sinks and pins, and how an output pin reaches wires.
 use Rattle.std.specs.Prelude.{◌≡◌, ℕ, ◌+◌, ◌-◌, ◌≤◌, ◌<◌, ◌==◌, false, true, if◌then◌else◌, List, [], ◌++◌, slice_get, option_and_then, Option, Some, None}
+use Rattle.std.specs.List.{flat_map}
 use Rattle.std.specs.Option.{option_map}
 use Rattle.arch_file.specs.declared.entries.Sides.{Sides}
 use Rattle.arch_file.specs.declared.entries.Pin.{Pin}
 use Rattle.channel_tables.specs.declared.node.Node.{Node}
 use Rattle.rr_edges.specs.declared.opins.Tapper.{Tapper}
-use Rattle.channel_tables.specs.declared.node.Kind.TheVariants.{Sink, Chanx, Chany}
+use Rattle.channel_tables.specs.declared.node.Kind.TheVariants.{Sink}
+use Rattle.channel_tables.specs.declared.axis.Axis.{Axis}
+use Rattle.channel_tables.specs.declared.axis.Axis.TheVariants.{Row}
+use Rattle.channel_tables.specs.Axes.{places_along}
 use Rattle.channel_tables.specs.Fabric.{Fabric, numbers_below, is_block, is_pad, most_tracks}
 use Rattle.channel_tables.specs.Wires.{tracks_in}
 use Rattle.channel_tables.specs.Pins.{tap_count, when}
 use Rattle.node_numbers.specs.Nodes.{node_of, number_of}
 use Rattle.channel_tables.specs.Channels.{first_of}
-use Rattle.node_numbers.specs.kept.WireIds.{wire_id}
+use Rattle.rr_edges.specs.kept.Channels.{wire_along}
 use Rattle.rr_edges.specs.kept.PinSuccessors.{taps_track, tapped_chanx, tapped_rows, tapped_column}
 
 -- a node that is no wire may stand at (x, y) with this number
@@ -35,13 +39,10 @@ pub record IsTapper (f : Fabric) (t : Tapper) : Type 0 where
   pub some : 1 ≤ t.count
   pub few : t.count ≤ most_tracks
 
--- a track's wire through a column, above a row, if the pin taps the track
-abbrev pub above_wire : Fabric → (fc pin column row track : ℕ) → List ℕ
-above_wire f fc pin column row track = when (taps_track f fc pin track) (wire_id f Chanx (first_of f f.nx track column) row track)
-
--- a track's wire through a row, right of a column, if the pin taps the track
-abbrev pub right_wire : Fabric → (fc pin column row track : ℕ) → List ℕ
-right_wire f fc pin column row track = when (taps_track f fc pin track) (wire_id f Chany column (first_of f f.ny track row) track)
+-- a track's wire through a place of a channel along an axis, if the pin taps the track
+abbrev pub tapped_wire : Axis → Fabric → (fc pin place channel track : ℕ) → List ℕ
+tapped_wire axis f fc pin place channel track =
+    when (taps_track f fc pin track) (wire_along axis f track channel (first_of f (places_along axis f) track place))
 
 abbrev pub all_tracks : Fabric → List ℕ
 all_tracks f = numbers_below (tracks_in f.mode f.width)
@@ -50,6 +51,12 @@ all_tracks f = numbers_below (tracks_in f.mode f.width)
 abbrev pub rows_piece : Fabric → (fc pin column row : ℕ) → Sides → (first : ℕ) → List ℕ
 rows_piece f fc pin column row s first =
     (if s.bottom then tapped_chanx f fc pin column (row - 1) first else []) ++ (if s.top then tapped_chanx f fc pin column row first else [])
+
+-- those of the tracks through a column, above the row before and above the row
+abbrev pub rows_of_tracks : Fabric → (fc pin column row : ℕ) → Sides → (tracks : List ℕ) → List ℕ
+rows_of_tracks f fc pin column row s tracks =
+    (if s.bottom then flat_map (tapped_wire Row f fc pin column (row - 1)) tracks else [])
+    ++ (if s.top then flat_map (tapped_wire Row f fc pin column row) tracks else [])
 
 -- the wires that an output pin taps that is reached on these sides of (x, y)
 abbrev pub wires_on : Fabric → (fc pin x y : ℕ) → Sides → List ℕ

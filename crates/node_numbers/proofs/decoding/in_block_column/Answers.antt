@@ -18,7 +18,7 @@ returns c =
     let y = c.inner_row_found-row.result.line in
     let j = c.inner_row_found-row.result.rest in
     let column = between 1 f.nx c.args.x c.requires.inside in
-    let before : inner_rows_length f (length (block_numbers f k)) y + j ≡ c.args.rest = ap (λ n. inner_rows_length f n y + j) (sym c.count_at_block.ensures.count) ∙ c.inner_row_found-row.ensures.before in
+    let before : inner_rows_length f (length (block_numbers f k)) y + j ≡ c.args.rest = ap (λ n. inner_rows_length f n y + j) (sym (c.count_at_block.ensures.count c.args.layout.now c.requires.block)) ∙ c.inner_row_found-row.ensures.before in
     elim (cases_Bool (is_between 1 f.ny y)) [
       | inl inside ↦
           let row = between 1 f.ny y inside in

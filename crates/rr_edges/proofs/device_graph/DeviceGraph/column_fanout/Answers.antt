@@ -4,5 +4,5 @@ use Rattle.rr_edges.proofs.device_graph.DeviceGraph.column_fanout.Goals as goal
 
 pub returns-clause-list : goal.returns-clause-list
 returns-clause-list c =
-    let end = c.end_right-last.ensures in
-    column_list-is c.args.self.now c.args.x c.args.y c.args.track _ c.requires.wire.0 (omega (arith, end.end, end.within.1)) c.taps_before.ensures.pins c.taps_behind.ensures.pins (omega (arith, end.end)) c.meeting_above.ensures.meeting (rw end.end at c.beside_right.ensures)
+    let end = c.end-last.ensures in
+    column_list-is c.args.self.now c.args.x c.args.y c.args.track _ c.requires.wire.0 (omega (arith, end.end, end.within.1)) c.taps_before.ensures.pins c.taps_behind.ensures.pins (omega (arith, end.end)) c.meeting.ensures.meeting (rw end.end at c.beside.ensures)

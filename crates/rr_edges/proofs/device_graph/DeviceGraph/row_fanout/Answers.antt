@@ -4,5 +4,5 @@ use Rattle.rr_edges.proofs.device_graph.DeviceGraph.row_fanout.Goals as goal
 
 pub returns-clause-list : goal.returns-clause-list
 returns-clause-list c =
-    let end = c.end_above-last.ensures in
-    row_list-is c.args.self.now c.args.x c.args.y c.args.track _ c.requires.wire.0 (omega (arith, end.end, end.within.1)) c.taps_under.ensures.pins c.taps_over.ensures.pins (omega (arith, end.end)) (rw end.end at c.beside_above.ensures) c.meeting_right.ensures.meeting
+    let end = c.end-last.ensures in
+    row_list-is c.args.self.now c.args.x c.args.y c.args.track _ c.requires.wire.0 (omega (arith, end.end, end.within.1)) c.taps_under.ensures.pins c.taps_over.ensures.pins (omega (arith, end.end)) (rw end.end at c.beside.ensures) c.meeting.ensures.meeting

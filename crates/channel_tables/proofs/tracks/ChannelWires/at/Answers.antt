@@ -8,19 +8,19 @@ use Rattle.channel_tables.specs.Channels.{wire_at}
 use Rattle.channel_tables.specs.kept.Tables.{wires_at}
 use Rattle.channel_tables.specs.declared.channel.Wire.{Wire}
 use Rattle.channel_tables.proofs.WireTables.{wire_stands}
-use Rattle.channel_tables.proofs.layout.Layout.wire_among.Goals as goal
+use Rattle.channel_tables.proofs.tracks.ChannelWires.at.Goals as goal
 
 stands : (f : Fabric) (n p w t : ℕ) (ws : List Wire) → 1 ≤ p → p ≤ n → t < tracks_in f.mode f.width → w ≡ tracks_in f.mode f.width → ws ≡ flat_map (λ m. wires_at f n (m + 1)) (numbers_below n)
     → slice_get ws ((p - 1) * w + t) ≡ Some (wire_at f n p t)
 stands f n p w t ws l m o e h =
     ap (λ v. slice_get ws ((p - 1) * v + t)) e ∙ ap (λ vs. slice_get vs ((p - 1) * tracks_in f.mode f.width + t)) h ∙ wire_stands f n p t l m o
 
-pub bounds-wires-place : goal.bounds-wires-place
-bounds-wires-place c =
-    slice_get_within c.args.wires.now _ _
-    (stands c.args.self.now c.args.places c.args.place c.tracks.result c.args.track c.args.wires.now c.requires.within.0 c.requires.within.1 c.requires.track c.tracks.ensures.tracks c.requires.wires)
+pub bounds-self-place : goal.bounds-self-place
+bounds-self-place c =
+    slice_get_within c.args.self.now.list.now _ _
+    (stands c.args.self.now.layout.now c.args.self.now.places c.args.place c.tracks.result c.args.track c.args.self.now.list.now c.requires.place.0 c.requires.place.1 c.requires.track c.tracks.ensures.tracks c.args.self.now.all)
 
 pub returns : goal.returns
 returns c =
-    get_or_from_slice_get c.args.wires.now _ _ _
-    (stands c.args.self.now c.args.places c.args.place c.tracks.result c.args.track c.args.wires.now c.requires.within.0 c.requires.within.1 c.requires.track c.tracks.ensures.tracks c.requires.wires)
+    get_or_from_slice_get c.args.self.now.list.now _ _ _
+    (stands c.args.self.now.layout.now c.args.self.now.places c.args.place c.tracks.result c.args.track c.args.self.now.list.now c.requires.place.0 c.requires.place.1 c.requires.track c.tracks.ensures.tracks c.args.self.now.all)
