@@ -1,17 +1,15 @@
 -- How long the nets of recorded trees are.
-use Rattle.std.proofs.Common.{◌≡◌, ℕ, ◌+◌, ◌*◌, ◌^◌, ◌<◌, ◌≤◌, ◌==◌, inl, inr, zero, suc, true, false, if◌then◌else◌, List, [], ◌∷◌, length, drop, drop-cons, get_or, All, Option, Some, None, refl, sym, ap, ap₂, subst, ◌∙◌, arith, add-one}
+use Rattle.std.proofs.Common.{◌≡◌, ℕ, ◌+◌, ◌*◌, ◌^◌, ◌<◌, ◌≤◌, ◌==◌, inl, inr, zero, suc, true, false, if◌then◌else◌, List, [], ◌∷◌, length, drop, drop-cons, get_or, All, refl, sym, ap, ap₂, subst, ◌∙◌, arith, add-one}
 use Rattle.std.specs.List.{sum_by}
 use Rattle.std.proofs.lemmas.Bool.{cases_eq, eq-eqb, ne_eqb}
 use Rattle.std.proofs.lemmas.List.Elements.{All-head, All-tail, All-nil, All-cons}
 use Rattle.std.proofs.lemmas.List.Sums.{sum_by-cons}
 use native.Mathlib.Nat.{zero-mul, one-mul, add-mul}
-use Rattle.routing_problem.specs.Fabric.{IsFabric, numbers_below}
+use Rattle.routing_problem.specs.Fabric.{Fabric, IsFabric, numbers_below}
 use Rattle.routing_problem.specs.Nodes.{node_count_of}
 use Rattle.routing_problem.specs.Problems.{RoutingProblem, net_in}
 use Rattle.route_tree.specs.declared.tree.Row.{Row}
-use Rattle.route_tree.specs.Paths.{Pair}
-use Rattle.route_tree.specs.Rows.{pairs_of, no_row, IsTree}
-use Rattle.route_tree.specs.Faults.{IsRoute}
+use Rattle.route_tree.specs.Rows.{no_row}
 use Rattle.route_tree.specs.kept.Marked.{nodes_of}
 use Rattle.route_tree.specs.Usage.{use_by, Lists, list_in}
 use Rattle.route_report.specs.Wirelength.{places_at, wirelength_of, wirelengths_of}
@@ -21,8 +19,6 @@ use Rattle.route_report.proofs.ChannelTotals.{sums_zero, one_picked}
 use Rattle.congestion_book.specs.Turns.{one_if}
 use Rattle.congestion_book.specs.Recorded.{wirelength_in}
 use Rattle.congestion_book.specs.kept.Usage.{times_in}
-use Rattle.congestion_book.specs.kept.Lengths.{length_by}
-use Rattle.congestion_book.proofs.Covering.{use_is, rows_there}
 
 -- ---- row by row
 pub places_next : (g : Row → ℕ) (rows : List Row) (k : ℕ) → k < length rows → sum_by g (drop k rows) ≡ g (get_or rows k no_row) + sum_by g (drop (k + 1) rows)
@@ -72,43 +68,24 @@ nodes_there n (r ∷ rs) there =
     All-cons (λ a. a < n) r.node (nodes_of rs) (All-head (λ (r : Row). r.node < n) r rs there)
     (nodes_there n rs (All-tail (λ (r : Row). r.node < n) r rs there))
 
--- ---- a net with its list, or none
--- the list stands at the net's place
-lists_with : ℕ → Option (List Pair) → Lists
-lists_with zero l = l ∷ []
-lists_with (suc i) l = None ∷ lists_with i l
+-- ---- the places of the rows that a net uses are its wirelength
+module _ (p : RoutingProblem) (lists : Lists) (i : ℕ) (rows : List Row)
+    (uses : (a : ℕ) → use_by (net_in p.nets i) (list_in lists i) a ≡ times_in (nodes_of rows) a) (there : All (λ r. r.node < node_count_of p.device) rows) where
+  long : sum_by (λ r. places_at p.device r.node) rows ≡ wirelength_of p lists i
+  long =
+      let g = places_at p.device in
+      let nodes = node_count_of p.device in
+      sym (net_is p lists i
+      ∙ sums_alike (λ a. use_by (net_in p.nets i) (list_in lists i) a * g a) (λ a. times_in (nodes_of rows) a * g a) nodes
+      (λ a low. ap (λ k. k * g a) (uses a))
+      ∙ by_times g nodes (nodes_of rows) (nodes_there nodes rows there)
+      ∙ by_nodes g rows)
 
-listed_with : (i : ℕ) (l : Option (List Pair)) → list_in (lists_with i l) i ≡ l
-unfolding lists_with
-listed_with zero l = refl
-listed_with (suc i) l = listed_with i l
+  pub rows_long : (f : Fabric) → f ≡ p.device → sum_by (λ r. places_at f r.node) rows ≡ wirelength_of p lists i
+  rows_long f is = ap (λ f. sum_by (λ (r : Row). places_at f r.node) rows) is ∙ long
 
-pub length_is : (p : RoutingProblem) (lists : Lists) (i : ℕ) → wirelength_of p lists i ≡ length_by p i (list_in lists i)
-unfolding length_by
-length_is p lists i = net_is p lists i
-
-pub length_few : (p : RoutingProblem) (i : ℕ) (l : Option (List Pair)) → IsFabric p.device → length_by p i l ≤ 2 ^ 40
-length_few p i l within =
-    subst (λ k. k ≤ 2 ^ 40) (length_is p (lists_with i l) i ∙ ap (length_by p i) (listed_with i l)) (length_short p (lists_with i l) i within)
-
--- the places of a recorded tree's rows are the wirelength of its net
-pub rows_long : (p : RoutingProblem) (i : ℕ) (rows : List Row) → IsTree rows → IsRoute p i (pairs_of rows) →
-    sum_by (λ r. places_at p.device r.node) rows ≡ length_by p i (Some (pairs_of rows))
-unfolding length_by
-rows_long p i rows tree route =
-    let g = places_at p.device in
-    let nodes = node_count_of p.device in
-    sym (sums_alike (λ a. use_by (net_in p.nets i) (Some (pairs_of rows)) a * g a) (λ a. times_in (nodes_of rows) a * g a) nodes
-    (λ a low. ap (λ k. k * g a) (use_is p i rows tree route a))
-    ∙ by_times g nodes (nodes_of rows) (nodes_there nodes rows (rows_there p i rows tree route))
-    ∙ by_nodes g rows)
-
--- a net without a list has none
-pub none_long : (p : RoutingProblem) (i : ℕ) → length_by p i None ≡ 0
-unfolding length_by
-none_long p i =
-    sums_alike (λ a. use_by (net_in p.nets i) None a * places_at p.device a) (λ a. 0) (node_count_of p.device) (λ a low. zero-mul (places_at p.device a))
-    ∙ sums_zero (node_count_of p.device)
+  pub rows_short : (f : Fabric) → f ≡ p.device → IsFabric p.device → sum_by (λ r. places_at f r.node) rows ≤ 2 ^ 40
+  rows_short f is within = subst (λ k. k ≤ 2 ^ 40) (sym (rows_long f is)) (length_short p lists i within)
 
 -- ---- all nets
 pub lengths_all : (p : RoutingProblem) (lists : Lists) → sum_by (wirelength_of p lists) (numbers_below (length p.nets)) ≡ wirelength_in p lists

@@ -1,5 +1,5 @@
 -- What a net sees of the others.
-use Rattle.std.proofs.Common.{◌≡◌, inl, inr, ℕ, ◌+◌, ◌-◌, ◌<◌, ◌≤◌, ◌==◌, List, [], ◌∷◌, length, get_or, set, Option, Some, refl, sym, ap, ◌∙◌, arith, length-set, get_or-set_other}
+use Rattle.std.proofs.Common.{◌≡◌, inl, inr, ℕ, ◌+◌, ◌-◌, ◌<◌, ◌≤◌, ◌==◌, List, [], ◌∷◌, length, get_or, set, Option, refl, sym, ap, ◌∙◌, arith, length-set, get_or-set_other}
 use Rattle.std.specs.Prelude.{take, map}
 use Rattle.std.proofs.lemmas.Bool.{cases_eq, eq-eqb, ne_eqb}
 use Rattle.std.proofs.lemmas.Grind.{get_or-set_at}
@@ -7,20 +7,18 @@ use Rattle.std.proofs.lemmas.List.Sums.{sum_by-cons}
 use Rattle.node_cost.specs.Views.{NodeView, others_in, history_in, NetView}
 use Rattle.node_cost.proofs.Views.{length_seen, others_at, history_at}
 use Rattle.std.specs.List.{zip}
-use Rattle.routing_problem.specs.Problems.{RoutingProblem}
+use Rattle.routing_problem.specs.Problems.{RoutingProblem, net_in}
 use Rattle.route_tree.specs.Paths.{Pair}
-use Rattle.route_tree.specs.Faults.{IsRoute}
-use Rattle.route_tree.specs.Rows.{pairs_of, IsTree, no_row}
+use Rattle.route_tree.specs.Rows.{no_row}
 use Rattle.route_tree.specs.declared.tree.Row.{Row}
 use Rattle.route_tree.specs.kept.Marked.{nodes_of}
 use Rattle.congestion_book.specs.Turns.{one_if}
 use Rattle.congestion_book.specs.kept.Usage.{times_in}
-use Rattle.congestion_book.specs.kept.Views.{LeavesOut, LeavesNet, SeesOthers}
-use Rattle.congestion_book.proofs.Covering.{use_is}
+use Rattle.congestion_book.specs.kept.Views.{LeavesOut, SeesOthers}
 use Rattle.std.proofs.lemmas.List.{same_lists, get_or_default}
 use Rattle.routing_problem.specs.Fabric.{numbers_below}
 use Rattle.routing_problem.proofs.Ranges.{length_below, get_below}
-use Rattle.route_tree.specs.Usage.{use_by_others, list_in}
+use Rattle.route_tree.specs.Usage.{use_by, use_by_others, list_in}
 use Rattle.route_tree.proofs.Uses.{others_and_own}
 use Rattle.congestion_book.specs.Histories.{history_of}
 use Rattle.congestion_book.specs.Contents.{Content, IsSound, net_count, node_total, view_of}
@@ -60,21 +58,14 @@ used_next old now rows k low so_far used =
     let here : one_if (a == a) ≡ 1 = ap one_if (eq-eqb a a refl) in
     omega (arith, here, so_far.others a, used a, times_next rows k low a, times_within (k + 1) rows a)
 
-pub leaves_net : (p : RoutingProblem) (i : ℕ) (rows : List Row) (tree : IsTree rows) (route : IsRoute p i (pairs_of rows)) (old new : NetView) →
-    LeavesOut (nodes_of rows) old new → LeavesNet p i (Some (pairs_of rows)) old new
-leaves_net p i rows tree route old new leaves = record {
-  size = leaves.size;
-  others = λ a. ap (λ k. others_in new a + k) (use_is p i rows tree route a) ∙ leaves.others a;
-  histories = leaves.histories;
-}
-
--- what a view shows of counts and histories, when the net is left out
-pub sees_others : (p : RoutingProblem) (i : ℕ) (list : Option (List Pair)) (counts histories : List ℕ) (shown view : NetView) →
-    length histories ≡ length counts → shown ≡ zip counts histories → LeavesNet p i list shown view → SeesOthers p i list counts histories view
-sees_others p i list counts histories shown view same is leaves = record {
-  size = leaves.size ∙ (ap length is ∙ length_seen counts histories same);
-  others = λ a. leaves.others a ∙ (ap (λ v. others_in v a) is ∙ others_at counts histories a same);
-  remembered = λ a. leaves.histories a ∙ (ap (λ v. history_in v a) is ∙ history_at counts histories a same);
+-- what a view shows of counts and histories, when a net is left out
+pub sees_others : {p : RoutingProblem} {i : ℕ} {list : Option (List Pair)} {counts histories nodes : List ℕ} {view : NetView} →
+    ((a : ℕ) → use_by (net_in p.nets i) list a ≡ times_in nodes a) → length histories ≡ length counts →
+    LeavesOut nodes (zip counts histories) view → SeesOthers p i list counts histories view
+sees_others {counts = counts} {histories = histories} {view = view} uses same leaves = record {
+  size = leaves.size ∙ length_seen counts histories same;
+  others = λ a. ap (λ k. others_in view a + k) (uses a) ∙ leaves.others a ∙ others_at counts histories a same;
+  remembered = λ a. leaves.histories a ∙ history_at counts histories a same;
 }
 
 -- ---- the view of a sound book

@@ -73,6 +73,7 @@ fresh_turns c sound none = no_turn c.turns (λ i. undrawn (table_in c) i sound.o
 pub recorded : (b : Inside) → IsBookInside b →
     AreRecorded b.problem (lists_of_trees b.routes.trees.items) b.routes.usage.counts b.routes.usage.overused b.routes.unrouted
 recorded b kept = record {
+  problem = kept.problem;
   one_each = kept.sound.one_each;
   routes = kept.sound.routes;
   size = kept.sound.occupied;
@@ -87,6 +88,7 @@ pub kept_by : (b : Inside) → AreRecorded b.problem (lists_of_trees b.routes.tr
     length b.turns.holders ≡ length b.problem.nets → AreInOrder b.turns → length b.history.rows ≡ length b.turns.earlier → length b.history.rows ≤ 500 →
     All (IsRow (node_count_of b.problem.device) (length b.problem.nets)) b.history.rows → b.marks ≡ node_count_of b.problem.device → IsBookInside b
 kept_by b rec size exact held order rows few formed marks = record {
+  problem = rec.problem;
   sound = record {
     one_each = rec.one_each;
     routes = rec.routes;

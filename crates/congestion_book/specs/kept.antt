@@ -1,7 +1,6 @@
 pub mod Closing
 pub mod Fields
 pub mod Usage
-pub mod Lengths
 pub mod Views
 pub mod HistoryTables
 pub mod Counts

@@ -7,7 +7,7 @@ ghost use Rattle.route_tree.specs.TreeLists.{list_of_tree};
 ghost use Rattle.node_cost.specs.Options.{most_iterations};
 ghost use Rattle.congestion_book.specs.Turns.{holder_in, IsFirstWaiting};
 ghost use Rattle.congestion_book.specs.kept.Counts.{RoutesOrNone};
-ghost use Rattle.congestion_book.specs.Contents.{opening, net_count};
+ghost use Rattle.congestion_book.specs.Contents.{IsSound, opening, net_count};
 ghost use Rattle.congestion_book.specs.Steps.{Draws, MayCommit, Commits, Passes, Closes, fault_alone, after_turn, after_close};
 ghost use Rattle.congestion_book.specs.kept.Closing.{TellsClosing, IsNext};
 
@@ -76,7 +76,8 @@ impl Book {
     /// Gives the worker the least net that was not drawn in the open iteration, with its view. None where all were drawn. The worker holds
     /// the net until it commits or passes it. A view of another size is refused; it stays as it was where no net is given.
     pub fn draw(&mut self, worker: u32, view: &mut View) -> Result<Option<u32>, DrawFault>
-        ensures { Draws self.old view.old worker result self.new view.new }
+        ensures step { Draws self.old view.old worker result self.new view.new }
+        ensures sound { IsSound self.new }
     {
         if view.len() != self.problem.device().node_count() as usize {
             return Err(DrawFault::ViewSize);
@@ -84,8 +85,7 @@ impl Book {
         let Some(net) = self.turns.draw(worker) else {
             return Ok(None);
         };
-        self.routes
-            .show(view, &self.problem, net, self.history.histories());
+        self.routes.show(view, net, self.history.histories());
         Ok(Some(net))
     }
 
@@ -95,6 +95,7 @@ impl Book {
         ensures exactly { IsOk result ↔ MayCommit self.old worker net (pairs_of tree) }
         ensures step { Commits self.old worker net (pairs_of tree) (fault_alone result) self.new }
         ensures back { IfErr result (λ e. e.1 ≡ tree) }
+        ensures sound { IsSound self.new }
     {
         if !self.turns.holds(worker, net) {
             return Err((CommitFault::NotHeld, tree));
@@ -117,6 +118,7 @@ impl Book {
         ensures exactly { IsOk result ↔ MayCommit self.old worker net (pairs_of tree) }
         ensures step { Commits self.old worker net (pairs_of tree) (fault_alone result) self.new }
         ensures back { IfErr result (λ e. e.1 ≡ tree) }
+        ensures sound { IsSound self.new }
     {
         if !self.turns.holds(worker, net) {
             return Err((CommitFault::NotHeld, tree));
@@ -127,7 +129,8 @@ impl Book {
 
     /// Ends the turn at a net that the worker holds; the net has no tree afterwards. Another worker than the net's holder is refused.
     pub fn pass(&mut self, worker: u32, net: u32) -> Result<(), PassFault>
-        ensures { Passes self.old worker net result self.new }
+        ensures step { Passes self.old worker net result self.new }
+        ensures sound { IsSound self.new }
     {
         if !self.turns.holds(worker, net) {
             return Err(PassFault::NotHeld);
@@ -140,7 +143,8 @@ impl Book {
     fn end_turn(&mut self, worker: u32, net: u32, tree: Option<Tree>)
         requires held { holder_in self.old.holders net ≡ Some worker }
         requires routes { RoutesOrNone self.old.problem net (list_of_tree tree) }
-        ensures { self.new ≡ after_turn self.old worker net (list_of_tree tree) }
+        ensures ended { self.new ≡ after_turn self.old worker net (list_of_tree tree) }
+        ensures sound { IsSound self.new }
     {
         let passed = tree.is_none();
         self.routes.replace(&self.problem, net, tree);
@@ -150,7 +154,8 @@ impl Book {
     /// Closes the open iteration, in which each net had its turn: its row is appended, the histories grow, and the next iteration opens
     /// with nothing drawn. Everything that the next iteration needs is made first, and where memory is refused nothing changes.
     pub fn close(&mut self, alloc: Global) -> Result<(), CloseFault>
-        ensures { Closes self.old result self.new }
+        ensures step { Closes self.old result self.new }
+        ensures sound { IsSound self.new }
     {
         if let Some(fault) = self.closing_fault() {
             return Err(fault);
@@ -166,7 +171,8 @@ impl Book {
 
     /// Why the open iteration can't be closed yet, or any more.
     fn closing_fault(&self) -> Option<CloseFault>
-        ensures { TellsClosing self.now result }
+        ensures told { TellsClosing self.now result }
+        ensures sound { IsSound self.now }
     {
         match self.turns.first_waiting() {
             Some(net) => Some(CloseFault::Unfinished(net)),
@@ -206,7 +212,8 @@ impl Book {
         requires done { IsFirstWaiting self.old.turns (net_count self.old) None }
         requires few { length self.old.rows < most_iterations }
         requires next { IsNext self.old next }
-        ensures { self.new ≡ after_close self.old }
+        ensures closed { self.new ≡ after_close self.old }
+        ensures sound { IsSound self.new }
     {
         self.history.append(next.row, next.histories);
         self.turns.open_next(next.made);

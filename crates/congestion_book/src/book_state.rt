@@ -63,6 +63,7 @@ impl Book {
     pub fn rows(&self) -> &[OveruseRow]
         ensures exact { result.now ≡ self.now.rows }
         ensures few { length self.now.rows ≤ most_iterations }
+        ensures sound { IsSound self.now }
     {
         self.history.rows()
     }
@@ -120,7 +121,7 @@ impl Book {
             return Err(DrawFault::ViewSize);
         }
         let histories = self.history.histories();
-        self.routes.show(view, &self.problem, net, histories);
+        self.routes.show(view, net, histories);
         Ok(())
     }
 

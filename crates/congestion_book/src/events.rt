@@ -1,7 +1,8 @@
 //! Lists of events on a congestion book.
 
-ghost use Rattle.std.specs.Prelude.{◌≡◌, ◌<◌, OnErr, IfOk, IfErr};
+ghost use Rattle.std.specs.Prelude.{◌≡◌, ◌<◌, OnOk, OnErr, IfOk, IfErr};
 ghost use Rattle.route_tree.specs.Rows.{pairs_of};
+ghost use Rattle.congestion_book.specs.Contents.{IsSound};
 ghost use Rattle.congestion_book.specs.Steps.{Commits};
 ghost use Rattle.congestion_book.specs.Runs.{Steps, Runs, TakesMemory, StopsAfter};
 
@@ -62,10 +63,7 @@ impl Book {
         };
         for (index, event) in events.iter().enumerate() {
             match self.step(alloc, event, view) {
-                Ok(reply) => {
-                    let _sound = self.problem();
-                    replies.push_reserved(reply);
-                }
+                Ok(reply) => replies.push_reserved(reply),
                 Err(_) => return Err(RunFault::Memory(index)),
             }
         }
@@ -76,6 +74,7 @@ impl Book {
     fn step(&mut self, alloc: Global, event: &Event, view: &mut View) -> Result<Reply, AllocError>
         ensures step { IfOk result
             (λ reply. Steps self.old view.old event.now reply self.new view.new) }
+        ensures sound { OnOk result (IsSound self.new) }
         ensures refused { OnErr result (self.new ≡ self.old) }
         ensures unseen { OnErr result (view.new ≡ view.old) }
         ensures wants { OnErr result (TakesMemory self.old event.now) }
@@ -100,7 +99,8 @@ impl Book {
 
     /// Commits a tree, which is let go where it is refused.
     fn commit_alone(&mut self, worker: u32, net: u32, tree: Tree) -> Result<(), CommitFault>
-        ensures { Commits self.old worker net (pairs_of tree) result self.new }
+        ensures step { Commits self.old worker net (pairs_of tree) result self.new }
+        ensures sound { IsSound self.new }
     {
         match self.commit(worker, net, tree) {
             Ok(()) => Ok(()),

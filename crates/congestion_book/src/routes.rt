@@ -1,22 +1,19 @@
 //! The recorded trees, and what is counted of them.
 
-ghost use Rattle.std.specs.Prelude.{◌≡◌, ◌<◌, ◌≤◌, ◌+◌, ℕ, All, length, get_or, set, replicate, Some, None, is_none, IfOk};
+ghost use Rattle.std.specs.Prelude.{◌≡◌, ◌<◌, ◌≤◌, ◌+◌, ℕ, All, length, set, replicate, Some, None, is_none, IfOk};
 ghost use Rattle.std.specs.Arc.{arc_value};
 ghost use Rattle.congestion_book.specs.Histories.{amount_in, row_of};
 ghost use Rattle.congestion_book.specs.kept.Views.{SeesOthers};
 ghost use Rattle.congestion_book.specs.Looks.{has_filled};
 ghost use Rattle.std.specs.List.{list_any};
 ghost use Rattle.routing_problem.specs.Nodes.{node_count_of};
-ghost use Rattle.routing_problem.specs.Problems.{net_in};
-ghost use Rattle.route_tree.specs.Faults.{IsRoute};
-ghost use Rattle.route_tree.specs.Rows.{pairs_of, IsTree};
-ghost use Rattle.route_tree.specs.Usage.{use_by, list_in};
+ghost use Rattle.routing_problem.specs.Problems.{RoutingProblem};
+ghost use Rattle.route_tree.specs.Usage.{list_in};
 ghost use Rattle.route_tree.specs.TreeLists.{list_of_tree};
-ghost use Rattle.congestion_book.specs.kept.Fields.{AreExact, lists_kept};
+ghost use Rattle.congestion_book.specs.kept.Fields.{AreExact, HasNet, lists_kept};
 ghost use Rattle.congestion_book.specs.Turns.{one_if};
-ghost use Rattle.congestion_book.specs.kept.Usage.{overused_by};
 ghost use Rattle.congestion_book.specs.Recorded.{occupancies_of};
-ghost use Rattle.congestion_book.specs.kept.Counts.{RoutesOrNone, HasRoom, HasRoomInPlace, IsCounted, GainsNet, LosesNet, ChangesNet};
+ghost use Rattle.congestion_book.specs.kept.Counts.{RoutesOrNone, IsTreeOrNone, rows_of};
 
 use crate::filling::any_filled;
 use crate::history::OveruseRow;
@@ -36,89 +33,15 @@ pub(crate) struct Routes {
     pub(crate) usage: Usage,
 }
 
-/// A net with the tree of these rows is one that uses its nodes more.
-#[tactic(auto, using(crate::proofs::Covering::rows_there, crate::proofs::Covering::gains, crate::proofs::Covering::use_is))]
-fn gain_rows(usage: &mut Usage, problem: &Problem, net: u32, rows: &[Row])
-    requires tree { IsTree rows.now }
-    requires route { IsRoute problem.now net (pairs_of rows.now) }
-    requires each { length usage.old.counts ≡ node_count_of problem.now.device }
-    requires room { HasRoom problem.now net (Some (pairs_of rows.now)) usage.old.counts }
-    requires counted { usage.old.overused ≡ overused_by problem.now.device usage.old.counts }
-    ensures counts { GainsNet problem.now net (Some (pairs_of rows.now))
-        usage.old.counts usage.new.counts }
-    ensures counted { usage.new.overused ≡ overused_by problem.now.device usage.new.counts }
-{
-    usage.add_each(problem.device(), rows);
-}
-
-/// A net with this tree, or none, is one that uses its nodes more.
-fn gain_net(usage: &mut Usage, problem: &Problem, net: u32, tree: &Option<Tree>)
-    requires routes { RoutesOrNone problem.now net (list_of_tree tree.now) }
-    requires each { length usage.old.counts ≡ node_count_of problem.now.device }
-    requires room { HasRoom problem.now net (list_of_tree tree.now) usage.old.counts }
-    requires counted { usage.old.overused ≡ overused_by problem.now.device usage.old.counts }
-    ensures counts { GainsNet problem.now net (list_of_tree tree.now)
-        usage.old.counts usage.new.counts }
-    ensures counted { usage.new.overused ≡ overused_by problem.now.device usage.new.counts }
+/// The rows of a tree; none where there is no tree.
+pub(crate) fn rows_of(tree: &Option<Tree>) -> &[Row]
+    ensures rows { result.now ≡ rows_of tree.now }
+    ensures tree { IsTreeOrNone tree.now }
 {
     match tree {
-        None => (),
-        Some(tree) => gain_rows(usage, problem, net, tree.as_slice()),
+        None => &[],
+        Some(tree) => tree.as_slice(),
     }
-}
-
-/// A net with the tree of these rows is one that uses its nodes no more.
-#[tactic(auto, using(crate::proofs::Covering::rows_there, crate::proofs::Covering::loses, crate::proofs::Covering::use_is))]
-fn lose_rows(usage: &mut Usage, problem: &Problem, net: u32, rows: &[Row])
-    requires tree { IsTree rows.now }
-    requires route { IsRoute problem.now net (pairs_of rows.now) }
-    requires each { length usage.old.counts ≡ node_count_of problem.now.device }
-    requires used { IsCounted problem.now net (Some (pairs_of rows.now)) usage.old.counts }
-    requires counted { usage.old.overused ≡ overused_by problem.now.device usage.old.counts }
-    ensures counts { LosesNet problem.now net (Some (pairs_of rows.now))
-        usage.old.counts usage.new.counts }
-    ensures counted { usage.new.overused ≡ overused_by problem.now.device usage.new.counts }
-{
-    usage.take_each(problem.device(), rows);
-}
-
-/// A net with this tree, or none, is one that uses its nodes no more.
-fn lose_net(usage: &mut Usage, problem: &Problem, net: u32, tree: &Option<Tree>)
-    requires routes { RoutesOrNone problem.now net (list_of_tree tree.now) }
-    requires each { length usage.old.counts ≡ node_count_of problem.now.device }
-    requires used { IsCounted problem.now net (list_of_tree tree.now) usage.old.counts }
-    requires counted { usage.old.overused ≡ overused_by problem.now.device usage.old.counts }
-    ensures counts { LosesNet problem.now net (list_of_tree tree.now)
-        usage.old.counts usage.new.counts }
-    ensures counted { usage.new.overused ≡ overused_by problem.now.device usage.new.counts }
-{
-    match tree {
-        None => (),
-        Some(tree) => lose_rows(usage, problem, net, tree.as_slice()),
-    }
-}
-
-/// A net with the tree before is one with the tree after.
-fn change_net(
-    usage: &mut Usage,
-    problem: &Problem,
-    net: u32,
-    before: &Option<Tree>,
-    after: &Option<Tree>,
-)
-    requires before { RoutesOrNone problem.now net (list_of_tree before.now) }
-    requires after { RoutesOrNone problem.now net (list_of_tree after.now) }
-    requires each { length usage.old.counts ≡ node_count_of problem.now.device }
-    requires used { IsCounted problem.now net (list_of_tree before.now) usage.old.counts }
-    requires room { HasRoomInPlace problem.now net (list_of_tree before.now)
-        (list_of_tree after.now) usage.old.counts }
-    requires counted { usage.old.overused ≡ overused_by problem.now.device usage.old.counts }
-    ensures counts { ChangesNet problem.now net (list_of_tree before.now) (list_of_tree after.now)
-        usage.old.counts usage.new.counts }
-    ensures counted { usage.new.overused ≡ overused_by problem.now.device usage.new.counts }
-{
-    lose_net(usage, problem, net, before);
-    gain_net(usage, problem, net, after);
 }
 
 /// 1 where there is no tree, else 0.
@@ -131,7 +54,8 @@ fn count_none(tree: &Option<Tree>) -> u32
 impl Routes {
     /// No net has a tree.
     pub(crate) fn new(alloc: Global, problem: &Problem) -> Result<Routes, AllocError>
-        ensures lists { IfOk result (λ r. lists_kept r ≡ replicate (length problem.now.nets) None) }
+        ensures lists { IfOk result
+            (λ r. lists_kept r ≡ replicate (length problem.now.nets) None) }
         ensures counts { IfOk result
             (λ r. r.usage.counts ≡ replicate (node_count_of problem.now.device) 0) }
         ensures recorded { IfOk result (λ r. AreExact problem.now r) }
@@ -155,9 +79,11 @@ impl Routes {
             occupancies_of problem.now (set (lists_kept self.old) net (list_of_tree tree)) }
         ensures recorded { AreExact problem.now self.new }
     {
-        let _limits = problem.nets();
+        let device = problem.device();
         let before = &self.trees[net as usize];
-        change_net(&mut self.usage, problem, net, before, &tree);
+        let old_rows = rows_of(before);
+        let new_rows = rows_of(&tree);
+        self.usage.replace_each(device, old_rows, new_rows);
         self.unrouted -= count_none(before);
         self.unrouted += count_none(&tree);
         self.trees[net as usize] = tree;
@@ -166,23 +92,16 @@ impl Routes {
 
 impl Routes {
     /// The view becomes that of a net by what is counted and by these histories.
-    pub(crate) fn show(
-        &self,
-        view: &mut View,
-        problem: &Problem,
-        net: u32,
-        histories: &Arc<Histories, Global>,
-    )
-        requires there { net < length problem.now.nets }
-        requires recorded { AreExact problem.now self.now }
-        requires size { length view.old ≡ node_count_of problem.now.device }
-        requires histories { length (arc_value histories.now) ≡ node_count_of problem.now.device }
-        ensures { SeesOthers problem.now net (list_in (lists_kept self.now) net)
+    pub(crate) fn show(&self, view: &mut View, net: u32, histories: &Arc<Histories, Global>)
+        requires recorded { (p : RoutingProblem) × HasNet p self.now net }
+        requires size { length view.old ≡ length self.now.usage.counts }
+        requires histories { length (arc_value histories.now) ≡ length self.now.usage.counts }
+        ensures { (p : RoutingProblem) → HasNet p self.now net
+            → SeesOthers p net (list_in (lists_kept self.now) net)
             self.now.usage.counts (arc_value histories.now) view.new }
     {
-        let _limits = problem.nets();
         let tree = &self.trees[net as usize];
-        show(view, problem, net, tree, &self.usage.counts, histories);
+        show(view, rows_of(tree), &self.usage.counts, histories);
     }
 }
 
@@ -195,9 +114,9 @@ impl Routes {
         ensures { result ≡ list_any
             (λ r. has_filled problem.now (lists_kept self.now) net view.now r.node) rows.now }
     {
-        let _limits = problem.nets();
         let tree = &self.trees[net as usize];
-        any_filled(view, problem, net, tree, &self.usage.counts, rows)
+        let counts = &self.usage.counts;
+        any_filled(view, problem.device(), rows_of(tree), counts, rows)
     }
 }
 
@@ -210,7 +129,6 @@ impl Routes {
         ensures there { IfOk result (λ r. All (λ e. e.0 < node_count_of problem.now.device) r) }
         ensures bounded { IfOk result (λ r. (a : ℕ) → amount_in r a ≤ 65535) }
     {
-        let _limits = problem.nets();
         let amounts = self.usage.row(alloc, problem.device())?;
         Ok(OveruseRow { amounts })
     }

@@ -6,7 +6,7 @@ ghost use Rattle.routing_problem.specs.Nodes.{node_at, node_count_of};
 ghost use Rattle.route_tree.specs.kept.Marked.{nodes_of};
 ghost use Rattle.route_tree.specs.Usage.{room_of};
 ghost use Rattle.congestion_book.specs.Turns.{one_if};
-ghost use Rattle.congestion_book.specs.kept.Usage.{overused_by, excess_of, row_by, entry_of, excess_by, times_in, AddsEach, TakesEach};
+ghost use Rattle.congestion_book.specs.kept.Usage.{overused_by, excess_of, row_by, entry_of, excess_by, times_in, AddsEach, TakesEach, ReplacesEach, HasRoomInPlace};
 
 use node_cost::Counts;
 use route_tree::Row;
@@ -111,7 +111,8 @@ impl Usage {
         requires limits { IsFabric device.now }
         requires each { length self.old.counts ≡ node_count_of device.now }
         requires there { All (λ r. r.node < node_count_of device.now) rows.now }
-        requires used { (a : ℕ) → times_in (nodes_of rows.now) a ≤ get_or self.old.counts a 0 }
+        requires used { (a : ℕ) →
+            times_in (nodes_of rows.now) a ≤ get_or self.old.counts a 0 }
         requires counted { self.old.overused ≡ overused_by device.now self.old.counts }
         ensures counts { TakesEach self.old.counts (nodes_of rows.now) self.new.counts }
         ensures counted { self.new.overused ≡ overused_by device.now self.new.counts }
@@ -119,6 +120,24 @@ impl Usage {
         for row in rows {
             self.take_node(device, row.node);
         }
+    }
+
+    /// One net uses the nodes of a tree in place of those of the tree before.
+    pub(crate) fn replace_each(&mut self, device: &Device, before: &[Row], after: &[Row])
+        requires limits { IsFabric device.now }
+        requires each { length self.old.counts ≡ node_count_of device.now }
+        requires before { All (λ r. r.node < node_count_of device.now) before.now }
+        requires after { All (λ r. r.node < node_count_of device.now) after.now }
+        requires used { (a : ℕ) →
+            times_in (nodes_of before.now) a ≤ get_or self.old.counts a 0 }
+        requires room { HasRoomInPlace self.old.counts (nodes_of before.now) (nodes_of after.now) }
+        requires counted { self.old.overused ≡ overused_by device.now self.old.counts }
+        ensures counts { ReplacesEach self.old.counts
+            (nodes_of before.now) (nodes_of after.now) self.new.counts }
+        ensures counted { self.new.overused ≡ overused_by device.now self.new.counts }
+    {
+        self.take_each(device, before);
+        self.add_each(device, after);
     }
 
     /// By how many nets more than it has room for a node is used: a node has room for one at least.

@@ -47,7 +47,6 @@ impl<L: Round> Model for Desk<L> {
 pub(crate) fn open_turns(book: &Book) -> &[Turn]
     ensures { result.now ≡ book.now.turns }
 {
-    let _sound = book.problem();
     book.turns(book.rows().len() + 1)
 }
 

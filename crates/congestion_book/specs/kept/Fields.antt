@@ -1,12 +1,12 @@
 -- What the fields of a book and of its parts stand for, and what is true of them.
-use Rattle.std.specs.Prelude.{◌≡◌, ℕ, ◌+◌, ◌≤◌, length, vec_capacity, is_some, count_by, All}
+use Rattle.std.specs.Prelude.{◌≡◌, ℕ, ◌+◌, ◌<◌, ◌≤◌, length, vec_capacity, is_some, count_by, All}
 use Rattle.std.specs.Arc.{arc_value}
 use Rattle.congestion_book.specs.Turns.{TurnTable, AreInOrder}
 use Rattle.congestion_book.specs.Histories.{amount_in}
 use Rattle.congestion_book.specs.kept.HistoryTables.{HistoryTable, AreHistories}
 use Rattle.congestion_book.specs.declared.history.History.TheInside as history
 use Rattle.routing_problem.specs.Nodes.{node_count_of}
-use Rattle.routing_problem.specs.Problems.{RoutingProblem}
+use Rattle.routing_problem.specs.Problems.{RoutingProblem, IsProblem}
 use Rattle.route_tree.specs.TreeLists.{lists_of_trees}
 use Rattle.node_cost.specs.Options.{most_iterations}
 use Rattle.congestion_book.specs.kept.Usage.{overused_by}
@@ -37,6 +37,10 @@ lists_kept r = lists_of_trees r.trees.items
 abbrev pub AreExact : RoutingProblem → Routes → Type 0
 AreExact p r = AreRecorded p (lists_kept r) r.usage.counts r.usage.overused r.unrouted
 
+-- what is counted of the recorded trees is exact, and the problem has this net
+abbrev pub HasNet : RoutingProblem → Routes → (net : ℕ) → Type 0
+HasNet p r i = (i < length p.nets) × AreExact p r
+
 abbrev pub table_of : turns.Inside → TurnTable
 table_of t = record { drawn = t.drawn; holders = t.holders.items; turns = t.made.items; earlier = t.earlier.items }
 
@@ -64,8 +68,9 @@ content_of b =
       earlier = b.turns.earlier;
     }
 
--- The book is sound, its counters are exact, and its marks fit.
+-- The problem is one, the book is sound, its counters are exact, and its marks fit.
 pub record IsBookInside (b : book.Inside) : Type 0 where
+  pub problem : IsProblem b.problem
   pub sound : IsSound (content_of b)
   pub over : b.routes.usage.overused ≡ overused_by b.problem.device b.routes.usage.counts
   pub without : b.routes.unrouted ≡ unrouted_in (lists_kept b.routes)

@@ -1,5 +1,5 @@
 -- How many nets use each node by what is counted, and how many nodes are overused.
-use Rattle.std.specs.Prelude.{◌≡◌, ℕ, ◌+◌, ◌-◌, ◌==◌, Bool, cond, nat_lt, List, [], ◌∷◌, length, map, get_or, count_by}
+use Rattle.std.specs.Prelude.{◌≡◌, ℕ, ◌+◌, ◌-◌, ◌≤◌, ◌==◌, Bool, cond, nat_lt, List, [], ◌∷◌, length, map, get_or, count_by}
 use Rattle.std.specs.List.{filter, sum_by}
 use Rattle.routing_problem.specs.Fabric.{Fabric, numbers_below}
 use Rattle.routing_problem.specs.Nodes.{node_at}
@@ -42,3 +42,12 @@ pub record AddsEach (old nodes new : List ℕ) : Type 0 where
 pub record TakesEach (old nodes new : List ℕ) : Type 0 where
   pub size : length new ≡ length old
   pub each : (a : ℕ) → get_or new a 0 + times_in nodes a ≡ get_or old a 0
+
+-- one net uses the nodes after in place of those before
+pub record ReplacesEach (old before after new : List ℕ) : Type 0 where
+  pub size : length new ≡ length old
+  pub each : (a : ℕ) → get_or new a 0 + times_in before a ≡ get_or old a 0 + times_in after a
+
+-- one net can use the nodes after in place of those before: a count is 65,535 at most
+abbrev pub HasRoomInPlace : (counts before after : List ℕ) → Type 0
+HasRoomInPlace counts before after = (a : ℕ) → get_or counts a 0 + times_in after a ≤ 65535 + times_in before a

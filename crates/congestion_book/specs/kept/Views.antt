@@ -1,41 +1,40 @@
 -- A view from which nets are left out.
-use Rattle.std.specs.Prelude.{◌≡◌, ℕ, ◌+◌, ◌-◌, ◌≤◌, Bool, ◌&&◌, not, List, length, get_or, Option, Some}
-use Rattle.std.specs.Option.{option_map}
+use Rattle.std.specs.Prelude.{◌≡◌, ℕ, ◌+◌, ◌-◌, ◌==◌, Bool, nat_le, ◌&&◌, not, List, length, get_or, Option}
+use Rattle.std.specs.List.{list_any}
 use Rattle.routing_problem.specs.Fabric.{Fabric}
-use Rattle.routing_problem.specs.Nodes.{node_at, capacity_of}
-use Rattle.node_cost.specs.Views.{others_in, history_in}
+use Rattle.routing_problem.specs.Nodes.{node_at}
+use Rattle.node_cost.specs.Views.{NetView, others_in, history_in}
 use Rattle.routing_problem.specs.Problems.{RoutingProblem, net_in}
+use Rattle.route_tree.specs.declared.tree.Row.{Row}
 use Rattle.route_tree.specs.Paths.{Pair}
-use Rattle.route_tree.specs.Usage.{use_by}
+use Rattle.route_tree.specs.Usage.{use_by, room_of}
+use Rattle.congestion_book.specs.Turns.{one_if}
 use Rattle.congestion_book.specs.kept.Usage.{times_in}
-use Rattle.congestion_book.specs.Looks.{fills}
-
--- net i, with this list, is one of the others that the view shows at its nodes
-abbrev pub IsShown : RoutingProblem → (net : ℕ) → Option (List Pair) → (view : List (ℕ × ℕ)) → Type 0
-IsShown p i list view = (a : ℕ) → use_by (net_in p.nets i) list a ≤ others_in view a
 
 -- one net less uses each of these nodes, and all histories stay
-pub record LeavesOut (nodes : List ℕ) (old new : List (ℕ × ℕ)) : Type 0 where
+pub record LeavesOut (nodes : List ℕ) (old new : NetView) : Type 0 where
   pub size : length new ≡ length old
   pub others : (a : ℕ) → others_in new a + times_in nodes a ≡ others_in old a
   pub histories : (a : ℕ) → history_in new a ≡ history_in old a
 
--- net i, with this list, is left out, and all histories stay
-pub record LeavesNet (p : RoutingProblem) (i : ℕ) (list : Option (List Pair)) (old new : List (ℕ × ℕ)) : Type 0 where
-  pub size : length new ≡ length old
-  pub others : (a : ℕ) → others_in new a + use_by (net_in p.nets i) list a ≡ others_in old a
-  pub histories : (a : ℕ) → history_in new a ≡ history_in old a
-
 -- of each node all uses but those of net i, with this list; and its history
-pub record SeesOthers (p : RoutingProblem) (i : ℕ) (list : Option (List Pair)) (counts histories : List ℕ) (view : List (ℕ × ℕ)) : Type 0 where
+pub record SeesOthers (p : RoutingProblem) (i : ℕ) (list : Option (List Pair)) (counts histories : List ℕ) (view : NetView) : Type 0 where
   pub size : length view ≡ length counts
   pub others : (a : ℕ) → others_in view a + use_by (net_in p.nets i) list a ≡ get_or counts a 0
   pub remembered : (a : ℕ) → history_in view a ≡ get_or histories a 0
 
--- the node of this number has room for so many nets
-abbrev pub HasCapacity : Fabric → (id room : ℕ) → Type 0
-HasCapacity f id room = Some room ≡ option_map (capacity_of f) (node_at f id)
+-- the node stands in one of these rows
+abbrev pub stands_in : List Row → ℕ → Bool
+stands_in rows a = list_any (λ r. r.node == a) rows
 
--- by these counts, without those of net i with this list, the node is full, and it was not by the view
-unfoldable pub filled_by : RoutingProblem → (net : ℕ) → Option (List Pair) → (counts : List ℕ) → (view : List (ℕ × ℕ)) → ℕ → Bool
-filled_by p i list counts view a = fills p a (get_or counts a 0 - use_by (net_in p.nets i) list a) && not (fills p a (others_in view a))
+-- how many nets use the node by these counts but the one whose tree has these rows
+abbrev pub others_by : (own : List Row) → (counts : List ℕ) → ℕ → ℕ
+others_by own counts a = get_or counts a 0 - one_if (stands_in own a)
+
+-- so many others are as many as there is room for, or more, and so many before were fewer
+abbrev pub is_newly_full : (room others before : ℕ) → Bool
+is_newly_full room others before = nat_le room others && not (nat_le room before)
+
+-- by these counts, without the net whose tree has these rows, the node is full, and it was not by the view
+unfoldable pub filled_by : Fabric → (own : List Row) → (counts : List ℕ) → NetView → ℕ → Bool
+filled_by f own counts view a = is_newly_full (room_of f (node_at f a)) (others_by own counts a) (others_in view a)

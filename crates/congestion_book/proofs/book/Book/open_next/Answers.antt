@@ -23,10 +23,13 @@ invariant_of-self c =
     closed_kept b c.args.next c.append.new.self c.open_next.new.self c.self.invariant (subst (λ k. IsNext k c.args.next) is c.requires.next)
     (done_there b c.self.invariant (subst Done is c.requires.done)) (subst HasRoom is c.requires.few) c.append.ensures c.open_next.ensures
 
-pub returns : goal.returns
-returns c =
+pub returns-clause-closed : goal.returns-clause-closed
+returns-clause-closed c =
     let b = c.self.inside in
     let new = content_of (record { problem = b.problem; routes = b.routes; history = c.append.new.self; turns = c.open_next.new.self; marks = b.marks }) in
     subst (λ old. new ≡ after_close old) c.self.view_is
     (closed_is b c.args.next c.append.new.self c.open_next.new.self c.self.invariant (subst (λ k. IsNext k c.args.next) (sym c.self.view_is) c.requires.next)
     c.append.ensures c.open_next.ensures)
+
+pub returns-clause-sound : goal.returns-clause-sound
+returns-clause-sound c = (invariant_of-self c).sound

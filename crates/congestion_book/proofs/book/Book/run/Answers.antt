@@ -13,7 +13,7 @@ loop-index-preserved c =
     let i = c.loop-index.index in
     let event = c.index-events-index.result in
     let all = runs_more (take i es) c.loop-index.replies.items c.args.self.now c.loop-index.self c.step.new.self
-    c.args.view.now c.loop-index.view c.step.new.view event c.in-Ok-step.reply kept.so_far c.in-Ok-step.ensures.step c.problem-sound.ensures.sound in
+    c.args.view.now c.loop-index.view c.step.new.view event c.in-Ok-step.reply kept.so_far c.in-Ok-step.ensures.step c.in-Ok-step.ensures.sound in
     let front : take (i + 1) es ≡ take i es ++ event ∷ [] =
     take_more es i event c.loop-index-test.true ∙ ap (λ e. take i es ++ e ∷ []) (sym c.index-events-index.is) in
     let replies = c.push_reserved.ensures.items in

@@ -15,5 +15,5 @@ returns-clause-counts c = c.in_ok-usage.ensures.counts ∙ ap (λ f. replicate (
 
 pub returns-clause-recorded : goal.returns-clause-recorded
 returns-clause-recorded c =
-    none_recorded c.args.problem.now c.in_ok-trees.trees.items c.in_ok-usage.usage.counts c.in_ok-usage.usage.overused c.nets-2.result
+    none_recorded c.args.problem.now c.in_ok-trees.trees.items c.in_ok-usage.usage.counts c.in_ok-usage.usage.overused c.nets-2.result c.nets.ensures.limits
     (none_yet c) (c.in_ok-usage.ensures.counts ∙ ap (λ f. replicate (node_count_of f) 0) c.device.ensures.device) c.in_ok-usage.ensures.overused c.nets-2.ensures.count

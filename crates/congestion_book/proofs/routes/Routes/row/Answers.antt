@@ -9,4 +9,4 @@ pub returns-clause-bounded : goal.returns-clause-bounded
 returns-clause-bounded c =
     let counts = c.args.self.now.usage.counts in
     subst (λ row. (a : ℕ) → amount_in row a ≤ 65535) (sym (c.in_ok-amounts.ensures ∙ ap (λ f. row_by f counts) c.device.ensures.device))
-    (row_bounded c.args.problem.now (lists_of_trees c.args.self.now.trees.items) counts c.nets-limits.ensures.limits c.requires.recorded.uses)
+    (row_bounded c.args.problem.now (lists_of_trees c.args.self.now.trees.items) counts c.requires.recorded.problem c.requires.recorded.uses)

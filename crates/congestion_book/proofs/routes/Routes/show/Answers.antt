@@ -1,21 +1,20 @@
-use Rattle.std.proofs.Common.{sym, subst}
-use Rattle.std.specs.Arc.{arc_value}
-use Rattle.congestion_book.specs.kept.Views.{SeesOthers}
-use Rattle.congestion_book.proofs.Recording.{old_routes, used, listed}
+use Rattle.std.proofs.Common.{◌<◌, All, sym, subst}
+use Rattle.congestion_book.proofs.Recording.{own_there, own_used, own_uses}
+use Rattle.congestion_book.proofs.Seeing.{sees_others}
 use Rattle.congestion_book.proofs.routes.Routes.show.Goals as goal
 
-pub show-requires-clause-routes : goal.show-requires-clause-routes
-show-requires-clause-routes c =
-    old_routes c.args.problem.now c.args.self.now.trees.items c.args.self.now.usage.counts c.args.self.now.usage.overused c.args.self.now.unrouted
-    c.args.net c.index-tree.result.now c.index-tree.result.now c.nets-limits.ensures.limits c.requires.there c.requires.recorded c.index-tree.ensures
+pub show-requires-clause-there : goal.show-requires-clause-there
+show-requires-clause-there c =
+    let has = c.requires.recorded.1 in
+    subst (λ n. All (λ r. r.node < n) c.rows_of.result.now) (sym has.1.size)
+    (own_there c.args.self.now.trees.items has.0 has.1 c.index-tree.ensures c.rows_of.ensures.rows c.rows_of.ensures.tree)
 
 pub show-requires-clause-used : goal.show-requires-clause-used
 show-requires-clause-used c =
-    used c.args.problem.now c.args.self.now.trees.items c.args.self.now.usage.counts c.args.self.now.usage.overused c.args.self.now.unrouted
-    c.args.net c.index-tree.result.now c.index-tree.result.now c.nets-limits.ensures.limits c.requires.there c.requires.recorded c.index-tree.ensures
+    let has = c.requires.recorded.1 in
+    own_used c.args.self.now.trees.items has.0 has.1 c.index-tree.ensures c.rows_of.ensures.rows c.rows_of.ensures.tree
 
 pub returns : goal.returns
-returns c =
-    let is = listed c.args.problem.now c.args.self.now.trees.items c.args.self.now.usage.counts c.args.self.now.usage.overused c.args.self.now.unrouted
-    c.args.net c.index-tree.result.now c.index-tree.result.now c.nets-limits.ensures.limits c.requires.there c.requires.recorded c.index-tree.ensures in
-    subst (λ l. SeesOthers c.args.problem.now c.args.net l c.args.self.now.usage.counts (arc_value c.args.histories.now) c.show.new.view) (sym is) c.show.ensures
+returns c p has =
+    sees_others (own_uses c.args.self.now.trees.items has.0 has.1 c.index-tree.ensures c.rows_of.ensures.rows c.rows_of.ensures.tree)
+    c.requires.histories c.show.ensures
