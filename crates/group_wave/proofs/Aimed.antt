@@ -312,19 +312,19 @@ module _ (g : Ground) where
   pub least_first : (w : Wave) (least : ℕ) → least ≡ FAR → IsLeastBefore w 0 least
   least_first w least far = record { low = λ k lt. absurd (omega (arith, lt)); met = inl far }
 
-  pub least_more : (w : Wave) (i old new : ℕ) → IsLeastBefore w i old → IsNearerOf g w (slice_index g.space.net.sinks i) old new → IsLeastBefore w (i + 1) new
-  least_more w i old new before near = record {
+  pub least_more : (w : Wave) (i old new : ℕ) → IsWanted g.space (slice_index g.space.net.sinks i) → IsLeastBefore w i old → IsNearerOf w (slice_index g.space.net.sinks i) old new → IsLeastBefore w (i + 1) new
+  least_more w i old new wanted before near = record {
     low = λ k lt target. elim (cases_lt k i) [
       | inl less ↦ let l = before.low k less target in let d = near.down in omega (arith, l, d)
       | inr ge ↦
           let e : k ≡ i = omega (arith, lt, ge) in
           let same = ap (λ j. cost_at w (slice_index g.space.net.sinks j)) e in
-          let l = near.low (subst (λ j. IsOpen g w (slice_index g.space.net.sinks j)) e target) in
+          let l = near.low (subst (λ j. IsOpen g w (slice_index g.space.net.sinks j)) e target).1 in
           omega (arith, l, same)
     ];
     met = elim near.met [
       | inl e ↦ elim before.met [ inl far ↦ inl (e ∙ far) | inr m ↦ inr (m.0, m.1, m.2 ∙ sym e) ]
-      | inr n ↦ inr (slice_index g.space.net.sinks i, n.0, n.1)
+      | inr n ↦ inr (slice_index g.space.net.sinks i, (wanted, n.0), n.1)
     ];
   }
 

@@ -20,17 +20,6 @@ module _ {K : Type 0} (value : K → ℕ) (greatest : ℕ) (row : LabelRow K) (l
   pub cost_below : value row.cost < greatest → label.cost ≡ value row.cost
   cost_below below = sym (ap (λ l. l.cost) is) ∙ ap (λ l. l.cost) (reached_is value greatest row below)
 
-  -- and none has a greater one
-  pub cost_within : value row.cost ≤ greatest → greatest ≤ FAR → value row.cost ≤ label.cost
-  cost_within fits narrow = elim (cases_lt (value row.cost) greatest) [
-    | inl below ↦ let same = cost_below below in omega (arith, same)
-    | inr most ↦
-        let all : nat_le greatest (value row.cost) ≡ true = grind (arith, nat_tests) in
-        let far : (label_of value greatest row).cost ≡ FAR = rw all refl in
-        let same = ap (λ l. l.cost) is in
-        omega (arith, same, far, fits, narrow)
-  ]
-
   -- so it has a cost below the greatest where the label has
   pub cost_same : (cost : ℕ) → cost < greatest → greatest ≤ FAR → (value row.cost ≡ cost) ↔ (label.cost ≡ cost)
   cost_same cost fits narrow = elim (cases_lt (value row.cost) greatest) [

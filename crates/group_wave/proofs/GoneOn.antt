@@ -39,7 +39,7 @@ none_owed g w e none but = record {
 }
 
 -- is owed to those that still have its label
-pub left_owed : (g : Ground) (w : Wave) (e f : Waiting) (tracks : ℕ) → AreTracksLeft g w e tracks → f.label ≡ e.label → f.group ≡ e.group → f.tracks ≡ tracks → IsCompleteBut g w (IsOf g w e) → IsCompleteBut g w (IsOf g w f)
+pub left_owed : (g : Ground) (w : Wave) (e f : Waiting) (tracks : ℕ) → AreTracksLeft w (group_at (groups_of g) e.group) e tracks → f.label ≡ e.label → f.group ≡ e.group → f.tracks ≡ tracks → IsCompleteBut g w (IsOf g w e) → IsCompleteBut g w (IsOf g w f)
 left_owed g w e f tracks left label group same but = record {
   each = λ v reached b edge inside. elim (but.each v reached b edge inside) [
     | inl went ↦ inl went
@@ -57,7 +57,7 @@ left_owed g w e f tracks left label group same but = record {
   ];
 }
 
-pub left_live : (g : Ground) (w : Wave) (e f : Waiting) (tracks : ℕ) → AreTracksLeft g w e tracks → AreTracks g e → f.label ≡ e.label → f.group ≡ e.group → f.tracks ≡ tracks → (j : ℕ) → bit_at tracks j ≡ 1 → IsLive g w f
+pub left_live : (g : Ground) (w : Wave) (e f : Waiting) (tracks : ℕ) → AreTracksLeft w (group_at (groups_of g) e.group) e tracks → AreTracks g e → f.label ≡ e.label → f.group ≡ e.group → f.tracks ≡ tracks → (j : ℕ) → bit_at tracks j ≡ 1 → IsLive g w f
 left_live g w e f tracks left on label group same j one = record {
   tracks = λ k bit. rw group (on k (left.of k (rw same at bit)));
   labels = λ k bit. rw (group, label) (let l = left.labels k (rw same at bit) in omega (arith, l));

@@ -2,9 +2,9 @@
 use Rattle.std.proofs.Common.{◌≡◌, ℕ, inl, inr, sym, ap, ◌∙◌, subst, arith}
 use Rattle.std.specs.Int.{bit_at}
 use Rattle.std.proofs.lemmas.Bool.{cases_eq}
-use Rattle.track_groups.specs.Groups.{on_track, wire_on}
+use Rattle.track_groups.specs.declared.group.Group.{Group}
+use Rattle.track_groups.specs.Groups.{node_on}
 use Rattle.wave_queue.specs.kept.Bits.{PutsBit, TakesBit}
-use Rattle.wave_ground.specs.kept.Grounds.{Ground, groups_of}
 use Rattle.wave_queue.specs.kept.Queues.{Waiting}
 use Rattle.group_wave.specs.kept.WaveState.{Wave}
 use Rattle.group_wave.specs.kept.Wave.{cost_at}
@@ -12,14 +12,14 @@ use Rattle.group_wave.specs.kept.Steps.{AreTracksLeft}
 use Rattle.group_wave.proofs.RelaxedTracks.{no_bit}
 
 -- of the tracks that aren't in the rest, those that have its label
-pub record AreLeft (g : Ground) (w : Wave) (e : Waiting) (rest tracks : ℕ) : Type 0 where
+pub record AreLeft (w : Wave) (is : Group) (e : Waiting) (rest tracks : ℕ) : Type 0 where
   pub of : (j : ℕ) → bit_at tracks j ≡ 1 → bit_at e.tracks j ≡ 1
-  pub labels : (j : ℕ) → bit_at tracks j ≡ 1 → cost_at w (wire_on (groups_of g) (on_track e.group j)) ≡ e.label
-  pub all : (j : ℕ) → bit_at e.tracks j ≡ 1 → (bit_at rest j ≡ 1 → ⊥) → cost_at w (wire_on (groups_of g) (on_track e.group j)) ≡ e.label → bit_at tracks j ≡ 1
+  pub labels : (j : ℕ) → bit_at tracks j ≡ 1 → cost_at w (node_on is j) ≡ e.label
+  pub all : (j : ℕ) → bit_at e.tracks j ≡ 1 → (bit_at rest j ≡ 1 → ⊥) → cost_at w (node_on is j) ≡ e.label → bit_at tracks j ≡ 1
   pub rest_of : (j : ℕ) → bit_at rest j ≡ 1 → bit_at e.tracks j ≡ 1
 
-module _ (g : Ground) (w : Wave) (e : Waiting) where
-  pub left_first : AreLeft g w e e.tracks 0
+module _ (w : Wave) (is : Group) (e : Waiting) where
+  pub left_first : AreLeft w is e e.tracks 0
   left_first = record {
     of = λ j one. absurd (no_bit j one);
     labels = λ j one. absurd (no_bit j one);
@@ -27,10 +27,10 @@ module _ (g : Ground) (w : Wave) (e : Waiting) where
     rest_of = λ j one. one;
   }
 
-  pub left_all : (tracks : ℕ) → AreLeft g w e 0 tracks → AreTracksLeft g w e tracks
+  pub left_all : (tracks : ℕ) → AreLeft w is e 0 tracks → AreTracksLeft w is e tracks
   left_all tracks left = record { of = left.of; labels = left.labels; all = λ j one same. left.all j one (no_bit j) same }
 
-  module _ (rest next tracks track : ℕ) (taken : TakesBit rest next track) (left : AreLeft g w e rest tracks) where
+  module _ (rest next tracks track : ℕ) (taken : TakesBit rest next track) (left : AreLeft w is e rest tracks) where
     still_rest : (j : ℕ) → bit_at next j ≡ 1 → bit_at rest j ≡ 1
     still_rest j one = elim (cases_eq j track) [
       | inl same ↦ absurd (let gone = taken.gone in let at = ap (bit_at next) same in omega (arith, gone, one, at))
@@ -38,19 +38,19 @@ module _ (g : Ground) (w : Wave) (e : Waiting) where
     ]
 
     -- a track that has another label
-    pub left_less : (cost_at w (wire_on (groups_of g) (on_track e.group track)) ≡ e.label → ⊥) → AreLeft g w e next tracks
+    pub left_less : (cost_at w (node_on is track) ≡ e.label → ⊥) → AreLeft w is e next tracks
     left_less lower = record {
       of = left.of;
       labels = left.labels;
       all = λ j one gone same. elim (cases_eq j track) [
-        | inl here ↦ absurd (lower (subst (λ x. cost_at w (wire_on (groups_of g) (on_track e.group x)) ≡ e.label) here same))
+        | inl here ↦ absurd (lower (subst (λ x. cost_at w (node_on is x) ≡ e.label) here same))
         | inr other ↦ left.all j one (λ h. gone (taken.others j other ∙ h)) same
       ];
       rest_of = λ j one. left.rest_of j (still_rest j one);
     }
 
     -- a track that has it
-    pub left_more : (more : ℕ) → PutsBit tracks more track → cost_at w (wire_on (groups_of g) (on_track e.group track)) ≡ e.label → AreLeft g w e next more
+    pub left_more : (more : ℕ) → PutsBit tracks more track → cost_at w (node_on is track) ≡ e.label → AreLeft w is e next more
     left_more more put has = record {
       of = λ j one. elim (cases_eq j track) [
         | inl here ↦ rw here (left.rest_of track taken.was)

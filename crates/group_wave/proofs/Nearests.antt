@@ -6,7 +6,7 @@ use Rattle.std.proofs.lemmas.List.{get_or_default}
 use Rattle.wavefront.specs.Space.{IsWanted}
 use Rattle.wave_ground.specs.kept.Grounds.{Ground}
 use Rattle.group_wave.specs.kept.WaveState.{FAR, Wave}
-use Rattle.group_wave.specs.kept.Wave.{IsBest}
+use Rattle.group_wave.specs.kept.Wave.{IsBest, IsOrigin, cost_at}
 use Rattle.group_wave.specs.kept.Steps.{IsNearest}
 
 -- of the first i none is so
@@ -40,3 +40,12 @@ some_nearest g w best near none = elim best.met [
 pub one_found : (g : Ground) (w : Wave) (o : Option ℕ) → IsBest g w → w.best < FAR → IfNone o ((x : ℕ) → Contains g.space.net.sinks x → IsNearest g w x → ⊥) → IfNone o (w.best ≡ FAR)
 one_found g w (Some x) best near none = tt
 one_found g w None best near none = absurd (some_nearest g w best near none)
+
+-- a sink that the wave has yet to take is nearest where it costs no more than the best
+pub no_dearer : (g : Ground) (w : Wave) (sink : ℕ) → IsBest g w → IsWanted g.space sink → (IsOrigin w sink → ⊥) → cost_at w sink ≤ w.best → IsNearest g w sink
+no_dearer g w sink best wanted apart up = record { «open» = (wanted, apart); at = let low = best.low sink (wanted, apart) in omega (arith, low, up) }
+
+-- what holds anyway
+pub still_none : (o : Option ℕ) (P : Type 0) → P → IfNone o P
+still_none (Some x) P p = tt
+still_none None P p = p

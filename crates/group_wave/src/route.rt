@@ -235,7 +235,7 @@ fn attach_first<K: Key>(
     requires tree { IsAlone ground.now tree.old }
     ensures { OnOk result (IsGrowth ground.now tree.new scratch.new.wave) }
 {
-    let start = scratch.wave.trace(ground, sink, &mut scratch.way)?;
+    let start = scratch.wave.trace(sink, &mut scratch.way)?;
     scratch.wave.start_way(ground, &scratch.way)?;
     scratch.way.insert(0, start)?;
     tree.attach(0, &scratch.way)?;
@@ -276,7 +276,7 @@ fn add_way<K: Key>(
     let Some(sink) = scratch.wave.take_sink(ground)? else {
         return Ok(false);
     };
-    let start = scratch.wave.trace(ground, sink, &mut scratch.way)?;
+    let start = scratch.wave.trace(sink, &mut scratch.way)?;
     leave_source(ground, &mut scratch.wave, tree)?;
     tree.attach(row_of(tree.as_slice(), start), &scratch.way)?;
     scratch.wave.start_way(ground, &scratch.way)?;

@@ -12,7 +12,7 @@ use Rattle.wavefront.specs.kept.Bounds.{IsInsideBox}
 use Rattle.wave_ground.specs.kept.Boxes.{SinkBox}
 use Rattle.wave_ground.specs.kept.Grounds.{Ground, groups_of}
 use Rattle.group_wave.specs.kept.WaveState.{FAR, Wave}
-use Rattle.group_wave.specs.kept.Wave.{IsComplete, IsDead, IsOpen, IsServed, IsWave, Serves, WentOn, cost_at, unreached}
+use Rattle.group_wave.specs.kept.Wave.{IsComplete, IsDead, IsOpen, IsOrigin, IsServed, IsWave, Serves, WentOn, cost_at, unreached}
 use Rattle.group_wave.specs.kept.Steps.{MoreOrigins}
 
 -- no boxes are left, and nothing is known that was found in them
@@ -104,11 +104,11 @@ pub record IsLeastCost (g : Ground) (w : Wave) (least : ℕ) : Type 0 where
   pub low : (b : ℕ) → IsOpen g w b → least ≤ cost_at w b
   pub met : (least ≡ FAR) ⊎ ((b : ℕ) × IsOpen g w b × (cost_at w b ≡ least))
 
--- the lower of a cost and an open sink's
-pub record IsNearerOf (g : Ground) (w : Wave) (sink old new : ℕ) : Type 0 where
+-- the lower of a cost and a node's, unless the wave starts there
+pub record IsNearerOf (w : Wave) (node old new : ℕ) : Type 0 where
   pub down : new ≤ old
-  pub low : IsOpen g w sink → new ≤ cost_at w sink
-  pub met : (new ≡ old) ⊎ (IsOpen g w sink × (cost_at w sink ≡ new))
+  pub low : (IsOrigin w node → ⊥) → new ≤ cost_at w node
+  pub met : (new ≡ old) ⊎ ((IsOrigin w node → ⊥) × (cost_at w node ≡ new))
 
 -- the tracks that are driven were offered the way
 abbrev pub TookDrive : Ground → Wave → (label : ℕ) → Drive → Type 0

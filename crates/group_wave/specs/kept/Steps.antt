@@ -6,7 +6,7 @@ use Rattle.routing_problem.specs.InputPins.{IsPinOf}
 use Rattle.routing_problem.specs.Nodes.{is_wire_at}
 use Rattle.track_groups.specs.declared.group.Group.{Group}
 use Rattle.track_groups.specs.declared.group.Tap.{Tap}
-use Rattle.track_groups.specs.Groups.{IsOn, group_at, on_track, wire_on}
+use Rattle.track_groups.specs.Groups.{IsOn, group_at, node_on, on_track, wire_on}
 use Rattle.track_groups.specs.Joints.{taps_of, wire_beside}
 use Rattle.group_wave.specs.kept.WaveState.{FAR, Label, Wave}
 use Rattle.wavefront.specs.Space.{HasEdge, IsInside, IsWanted, entry_cost}
@@ -179,6 +179,13 @@ pub record IsTaken (g : Ground) (w : Wave) (sink : ℕ) : Type 0 where
   pub reached : cost_at w sink < FAR
   pub least : IsLeastKey g w (cost_at w sink)
 
+-- the wave came to a sink that it has yet to take
+pub record HasReached (g : Ground) (w : Wave) (sink : ℕ) : Type 0 where
+  pub ground : IsGround g
+  pub wave : IsWave g w
+  pub «open» : IsOpen g w sink
+  pub reached : cost_at w sink < FAR
+
 -- the way by which the wave came to a sink
 pub record IsTraced (g : Ground) (w : Wave) (a : ℕ) (way : List ℕ) (sink : ℕ) : Type 0 where
   pub start : IsOrigin w a
@@ -186,6 +193,10 @@ pub record IsTraced (g : Ground) (w : Wave) (a : ℕ) (way : List ℕ) (sink : �
   pub apart : (v : ℕ) → Contains way v → IsOrigin w v → ⊥
   pub distinct : AreDistinct way
   pub paid : way_cost g.space way ≤ cost_at w sink
+
+-- it is such a way on any ground where the wave came to the sink
+pub record IsWayBack (w : Wave) (a : ℕ) (way : List ℕ) (sink : ℕ) : Type 0 where
+  pub on : (g : Ground) → HasReached g w sink → IsTraced g w a way sink
 
 -- t is w with a sink's label set, and its cost the best if none is less
 pub record LowersSink (w t : Wave) (sink : ℕ) (label : Label) : Type 0 where
@@ -247,11 +258,11 @@ pub record IsOut (g : Ground) (w : Wave) (e : Waiting) (greatest : ℕ) (is : Gr
   pub live : IsLive g w e
   pub fits : e.label < greatest
 
--- those tracks of an entry that still have its label
-pub record AreTracksLeft (g : Ground) (w : Wave) (e : Waiting) (tracks : ℕ) : Type 0 where
+-- those tracks of an entry of this group that still have its label
+pub record AreTracksLeft (w : Wave) (is : Group) (e : Waiting) (tracks : ℕ) : Type 0 where
   pub of : (j : ℕ) → bit_at tracks j ≡ 1 → bit_at e.tracks j ≡ 1
-  pub labels : (j : ℕ) → bit_at tracks j ≡ 1 → cost_at w (wire_on (groups_of g) (on_track e.group j)) ≡ e.label
-  pub all : (j : ℕ) → bit_at e.tracks j ≡ 1 → cost_at w (wire_on (groups_of g) (on_track e.group j)) ≡ e.label → bit_at tracks j ≡ 1
+  pub labels : (j : ℕ) → bit_at tracks j ≡ 1 → cost_at w (node_on is j) ≡ e.label
+  pub all : (j : ℕ) → bit_at e.tracks j ≡ 1 → cost_at w (node_on is j) ≡ e.label → bit_at tracks j ≡ 1
 
 -- each input pin that taps tracks of an entry was offered the way from them, but the last ones
 abbrev pub TookTaps : Ground → Wave → Waiting → List Tap → ℕ → Type 0

@@ -1,7 +1,8 @@
 //! How a wave goes on from tracks of a group: first to those neighbours from which fewer wires lead
 //! on, later to all.
 
-ghost use Rattle.std.specs.Prelude.{◌≡◌, ◌+◌, ◌*◌, ◌^◌, ◌<◌, ◌≤◌, ◌↔◌, IsTrue, true, false};
+ghost use Rattle.std.specs.Prelude.{◌≡◌, ◌+◌, ◌*◌, ◌^◌, ◌<◌, ◌≤◌, ◌↔◌, ℕ, IsTrue, true, false};
+ghost use Rattle.std.specs.Int.{bit_at};
 ghost use Rattle.wave_queue.specs.kept.Bits.{IsOnlyBit, PutsBit};
 
 use super::relaxing::Offer;
@@ -31,12 +32,12 @@ fn with_bit_if(bits: u64, bit: u32, has: bool) -> u64
 
 impl<K: Key> Wave<K> {
     ghost use Rattle.std.specs.Prelude.{length, Contains, OnOk};
-    ghost use Rattle.track_groups.specs.Groups.{group_at};
+    ghost use Rattle.track_groups.specs.Groups.{node_on};
     ghost use Rattle.track_groups.specs.Joints.{neighbours_of};
     ghost use Rattle.wave_ground.specs.kept.Boxes.{IsLow, wire_of};
-    ghost use Rattle.wave_ground.specs.kept.Grounds.{IsGround, groups_of};
+    ghost use Rattle.wave_ground.specs.kept.Grounds.{IsGround};
     ghost use Rattle.wave_queue.specs.kept.Queues.{entry_of};
-    ghost use Rattle.group_wave.specs.kept.Wave.{AreTracks, IsWave, cost_at, IsCompleteButFor};
+    ghost use Rattle.group_wave.specs.kept.Wave.{IsWave, cost_at, IsCompleteButFor};
     ghost use Rattle.group_wave.specs.kept.Steps.{GoesOn, AreTracksLeft, IsLive, Spreads, TookBefore, TookBut, TookNearer, TookNearerBefore, TookPins, TookWires, IsOut};
 
     /// Whether a node's label has this cost.
@@ -52,19 +53,12 @@ impl<K: Key> Wave<K> {
     /// Those tracks of an entry that still have its label: others have another entry too, or went
     /// on.
     #[inline(always)]
-    pub(super) fn tracks_left(
-        &self,
-        entry: QueueEntry<K>,
-        group: &Group,
-        ground: &Ground<'_>,
-    ) -> u64
-        requires ground { IsGround ground.now }
-        requires wave { IsWave ground.now self.now }
-        requires group { group.now ≡ group_at (groups_of ground.now) entry.group }
+    pub(super) fn tracks_left(&self, entry: QueueEntry<K>, group: &Group) -> u64
+        requires there { (j : ℕ) → bit_at entry.tracks j ≡ 1 →
+            node_on group.now j < length self.now.labels }
         requires small { group.now.base + 64 * group.now.stride < 2 ^ 30 }
-        requires tracks { AreTracks ground.now (entry_of K.value entry) }
         requires fits { K.value entry.label < K.greatest }
-        ensures { AreTracksLeft ground.now self.now (entry_of K.value entry) result }
+        ensures { AreTracksLeft self.now group.now (entry_of K.value entry) result }
     {
         let mut rest = entry.tracks;
         let mut left = 0;

@@ -62,44 +62,9 @@ impl<K: Key> Wave<K> {
     ghost use Rattle.wave_queue.specs.kept.Bits.{IsOnlyBit};
     ghost use Rattle.wave_ground.specs.kept.Grounds.{IsGround, groups_of};
     ghost use Rattle.group_wave.specs.kept.Labels.{label_of};
-    ghost use Rattle.group_wave.specs.kept.Wave.{IsBound, IsWave, label_at};
+    ghost use Rattle.group_wave.specs.kept.Wave.{IsWave, cost_at, label_at};
     ghost use Rattle.group_wave.specs.kept.Steps.{IsLive, IsOffer, IsStep, IsTarget, Relaxes, RelaxesSome, RelaxesTrack, Spreads, TookWires, WaitsFresh, fresh_entry, IsOut};
     ghost use Rattle.wave_queue.specs.kept.Queues.{entry_of};
-
-    /// Lowers a wire's label, and lets the wire wait by itself, where a way on costs so much at least.
-    #[inline(always)]
-    fn lower_with(
-        &mut self,
-        ground: &Ground<'_>,
-        step: Relaxing<K>,
-        to: Target,
-        row: LabelRow<K>,
-        cost: K,
-        bound: K,
-    ) -> Result<(), AllocError>
-        requires ground { IsGround ground.now }
-        requires wave { IsWave ground.now self.old }
-        requires from { IsStep ground.now self.old (K.value step.label) to.wire to.parent }
-        requires to { IsTarget ground.now step.group to.track to.wire }
-        requires few { to.track < 64 }
-        requires bound { IsBound ground.now self.old to.wire (K.value bound) }
-        requires row { label_of K.value K.greatest row ≡ label_at self.old to.wire }
-        requires fits { K.value row.cost ≤ K.greatest }
-        requires cost { K.value cost ≡
-            min (K.value step.label + entry_cost ground.now.space to.wire) K.greatest }
-        requires less { K.value cost < K.value row.cost }
-        ensures { OnOk result (RelaxesTrack ground.now self.old self.new
-            (K.value step.label) (K.value step.least) to.wire false) }
-    {
-        self.set(to.wire, cost, to.parent)?;
-        self.wait(QueueEntry {
-            key: cost.plus(bound),
-            label: cost,
-            group: step.group,
-            tracks: with_bit(0, to.track),
-            is_begun: false,
-        })
-    }
 
     /// Lowers a wire's label, and lets the wire wait by itself.
     #[inline(always)]
@@ -108,7 +73,6 @@ impl<K: Key> Wave<K> {
         ground: &Ground<'_>,
         step: Relaxing<K>,
         to: Target,
-        row: LabelRow<K>,
         cost: K,
     ) -> Result<(), AllocError>
         requires ground { IsGround ground.now }
@@ -116,16 +80,21 @@ impl<K: Key> Wave<K> {
         requires from { IsStep ground.now self.old (K.value step.label) to.wire to.parent }
         requires to { IsTarget ground.now step.group to.track to.wire }
         requires few { to.track < 64 }
-        requires row { label_of K.value K.greatest row ≡ label_at self.old to.wire }
-        requires fits { K.value row.cost ≤ K.greatest }
-        requires cost { K.value cost ≡
-            min (K.value step.label + entry_cost ground.now.space to.wire) K.greatest }
-        requires less { K.value cost < K.value row.cost }
+        requires cost { K.value cost ≡ K.value step.label + entry_cost ground.now.space to.wire }
+        requires fits { K.value cost < K.greatest }
+        requires less { K.value cost < cost_at self.old to.wire }
         ensures { OnOk result (RelaxesTrack ground.now self.old self.new
             (K.value step.label) (K.value step.least) to.wire false) }
     {
         let wires = self.wires_left(ground, step.group);
-        self.lower_with(ground, step, to, row, cost, bound_over(wires))
+        self.set(to.wire, cost, to.parent)?;
+        self.wait(QueueEntry {
+            key: cost.plus(bound_over(wires)),
+            label: cost,
+            group: step.group,
+            tracks: with_bit(0, to.track),
+            is_begun: false,
+        })
     }
 
     /// Lowers a wire's label. Where that is not the least there can be, the wire waits by itself;
@@ -136,7 +105,6 @@ impl<K: Key> Wave<K> {
         ground: &Ground<'_>,
         step: Relaxing<K>,
         to: Target,
-        row: LabelRow<K>,
         cost: K,
     ) -> Result<bool, AllocError>
         requires ground { IsGround ground.now }
@@ -144,18 +112,16 @@ impl<K: Key> Wave<K> {
         requires from { IsStep ground.now self.old (K.value step.label) to.wire to.parent }
         requires to { IsTarget ground.now step.group to.track to.wire }
         requires few { to.track < 64 }
-        requires row { label_of K.value K.greatest row ≡ label_at self.old to.wire }
-        requires fits { K.value row.cost ≤ K.greatest }
-        requires cost { K.value cost ≡
-            min (K.value step.label + entry_cost ground.now.space to.wire) K.greatest }
+        requires cost { K.value cost ≡ K.value step.label + entry_cost ground.now.space to.wire }
+        requires fits { K.value cost < K.greatest }
         requires least { K.value step.least ≤ K.value cost }
-        requires less { K.value cost < K.value row.cost }
+        requires less { K.value cost < cost_at self.old to.wire }
         ensures relaxed { IfOk result (RelaxesTrack ground.now self.old self.new
             (K.value step.label) (K.value step.least) to.wire) }
         ensures fits { IfOk result (λ fresh. IsTrue fresh → K.value step.least < K.greatest) }
     {
         if step.least.is_below(cost) {
-            self.lower_alone(ground, step, to, row, cost)?;
+            self.lower_alone(ground, step, to, cost)?;
             return Ok(false);
         }
         self.set(to.wire, cost, to.parent)?;
@@ -188,7 +154,7 @@ impl<K: Key> Wave<K> {
         }
         let cost = label_by(ground, step, to.wire);
         if cost.is_below(row.cost) {
-            return self.lower(ground, step, to, row, cost);
+            return self.lower(ground, step, to, cost);
         }
         self.keep_least(to.wire, to.parent, row, cost);
         Ok(false)
@@ -316,7 +282,7 @@ impl<K: Key> Wave<K> {
     {
         let cost = label_by(ground, step, to.wire);
         if cost.is_below(row.cost) {
-            return self.lower_alone(ground, step, to, row, cost);
+            return self.lower_alone(ground, step, to, cost);
         }
         self.keep_least(to.wire, to.parent, row, cost);
         Ok(())

@@ -9,14 +9,14 @@ use wave_ground::Ground;
 use wave_queue::{Key, QueueEntry, only_bit};
 
 impl<K: Key> Wave<K> {
-    ghost use Rattle.std.specs.Prelude.{OnOk, IfOk, IfSome, IfNone, IsTrue, IsFalse, None, ◌↔◌};
+    ghost use Rattle.std.specs.Prelude.{length, OnOk, IfOk, IfSome, IfNone, IsTrue, IsFalse, None, ◌↔◌};
     ghost use Rattle.track_groups.specs.Groups.{group_at};
     ghost use Rattle.wavefront.specs.Space.{IsWanted};
     ghost use Rattle.wave_ground.specs.kept.Boxes.{IsLow, wire_of};
     ghost use Rattle.group_wave.specs.kept.WaveState.{FAR};
     ghost use Rattle.wave_ground.specs.kept.Grounds.{IsGround, groups_of};
     ghost use Rattle.wave_queue.specs.kept.Queues.{entry_of};
-    ghost use Rattle.group_wave.specs.kept.Wave.{AreTracks, IsBest, IsComplete, IsOpen, IsWave, weight_of, work_of, IsCompleteButFor};
+    ghost use Rattle.group_wave.specs.kept.Wave.{AreTracks, IsBest, IsComplete, IsOpen, IsOrigin, IsWave, cost_at, weight_of, work_of, IsCompleteButFor};
     ghost use Rattle.group_wave.specs.kept.Steps.{GoesOn, IsAbove, IsLeastKey, IsLive, IsPopped, IsPushed, IsTaken, SameOrigins, Settles, WaitsAgain, IsNearest, IsOut};
 
     /// Takes an entry out that a way to the nearest sink may cost as much as.
@@ -141,7 +141,7 @@ impl<K: Key> Wave<K> {
             return Ok(());
         }
         let group = ground.group(entry.group);
-        let tracks = self.tracks_left(entry, &group, ground);
+        let tracks = self.tracks_left(entry, &group);
         if tracks == 0 {
             return Ok(());
         }
@@ -186,14 +186,12 @@ impl<K: Key> Wave<K> {
         }
     }
 
-    /// Whether it is a sink that the wave has yet to take, at the least cost.
-    fn is_nearest(&self, ground: &Ground<'_>, sink: u32) -> bool
-        requires ground { IsGround ground.now }
-        requires wave { IsWave ground.now self.now }
-        requires best { IsBest ground.now self.now }
+    /// Whether the wave has yet to take a sink that costs no more than the nearest.
+    fn is_nearest(&self, sink: u32) -> bool
+        requires there { sink < length self.now.labels }
         requires reached { self.now.best < FAR }
-        requires sink { IsWanted ground.now.space sink }
-        ensures nearest { IsTrue result ↔ IsNearest ground.now self.now sink }
+        ensures { IsTrue result ↔ ((IsOrigin self.now sink → ⊥)
+            × (cost_at self.now sink ≤ self.now.best)) }
     {
         !self.starts_at(sink) && !self.best.is_below(self.labels.row(sink).cost)
     }
@@ -224,7 +222,7 @@ impl<K: Key> Wave<K> {
         ensures before { IfNone result (first ≡ None) }
         ensures none { IfNone result (IsNearest ground.now self.now sink → ⊥) }
     {
-        if !self.is_nearest(ground, sink) {
+        if !self.is_nearest(sink) {
             return first;
         }
         Some(self.first_of(ground, first, sink))

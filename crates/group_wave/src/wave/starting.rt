@@ -40,7 +40,7 @@ impl<K: Key> Wave<K> {
     ghost use Rattle.std.specs.Prelude.{length, Contains, IfOk, IsFalse, OnOk};
     ghost use Rattle.routing_problem.specs.Nodes.{kind_of_node};
     ghost use Rattle.track_groups.specs.Groups.{HasPlace};
-    ghost use Rattle.wavefront.specs.Space.{HasEdge, IsInside, IsWanted, entry_cost};
+    ghost use Rattle.wavefront.specs.Space.{HasEdge, IsInside, entry_cost};
     ghost use Rattle.wavefront.specs.kept.Spaces.{node_count};
     ghost use Rattle.wave_ground.specs.kept.Grounds.{IsGround, groups_of};
     ghost use Rattle.wavefront.specs.Boxes.{box_of_node};
@@ -51,7 +51,7 @@ impl<K: Key> Wave<K> {
     ghost use Rattle.group_wave.specs.kept.WaveState.{FAR};
     ghost use Rattle.group_wave.specs.kept.Wave.{IsBest, IsComplete, IsOpen, IsOrigin, IsWave, Serves, WentAlong, WentOn, cost_at};
     ghost use Rattle.group_wave.specs.kept.Steps.{Enters, IsStarted, LeadsToSink, MoreOrigins, NoOrigins, SameOrigins, Spreads};
-    ghost use Rattle.group_wave.specs.kept.Starts.{HasNoBoxes, IsAimed, IsBestPut, IsCleared, IsEnd, IsAroundLeft, IsBoxPut, IsLeastCost, IsNarrowed, IsNearerOf, IsWithout, MayStart, ServesMore, StartsAt, TookDrive};
+    ghost use Rattle.group_wave.specs.kept.Starts.{HasNoBoxes, IsAimed, IsBestPut, IsCleared, IsAroundLeft, IsBoxPut, IsLeastCost, IsNarrowed, IsNearerOf, IsWithout, MayStart, ServesMore, StartsAt, TookDrive};
 
     /// A wave that reaches no node, of so many nodes and groups.
     pub(crate) fn new(alloc: Global, nodes: usize, groups: usize) -> Result<Wave<K>, AllocError>
@@ -434,18 +434,6 @@ impl<K: Key> Wave<K> {
         self.drive(ground, pin, label)
     }
 
-    /// Lets the wave start at a node from which no way leads on.
-    fn start_end(&mut self, ground: &Ground<'_>, node: u32) -> Result<(), AllocError>
-        requires ground { IsGround ground.now }
-        requires wave { IsWave ground.now self.old }
-        requires complete { IsComplete ground.now self.old }
-        requires there { node < node_count ground.now.space }
-        requires end { IsEnd ground.now self.old node }
-        ensures { OnOk result (StartsAt ground.now self.old self.new node) }
-    {
-        self.set(node, K::zero(), node)
-    }
-
     /// Lets the wave start at a node of a way too.
     fn start(&mut self, ground: &Ground<'_>, node: u32) -> Result<(), AllocError>
         requires ground { IsGround ground.now }
@@ -461,7 +449,7 @@ impl<K: Key> Wave<K> {
         if is_output(ground.kind(node)) {
             return self.start_output(ground, node);
         }
-        self.start_end(ground, node)
+        self.set(node, K::zero(), node)
     }
 
     /// Lets the wave start at the nodes of a way to a sink too, the sink first.
@@ -482,12 +470,10 @@ impl<K: Key> Wave<K> {
     }
 
     /// The lower of a cost and that of a sink, if the wave has yet to take it.
-    fn nearer(&self, ground: &Ground<'_>, sink: u32, least: K) -> K
-        requires ground { IsGround ground.now }
-        requires wave { IsWave ground.now self.now }
-        requires sink { IsWanted ground.now.space sink }
+    fn nearer(&self, sink: u32, least: K) -> K
+        requires there { sink < length self.now.labels }
         requires fits { K.value least ≤ K.greatest }
-        ensures nearer { IsNearerOf ground.now self.now sink (widened K.greatest (K.value least))
+        ensures nearer { IsNearerOf self.now sink (widened K.greatest (K.value least))
             (widened K.greatest (K.value result)) }
         ensures fits { K.value result ≤ K.greatest }
     {
@@ -507,7 +493,7 @@ impl<K: Key> Wave<K> {
     {
         let mut least = K::greatest();
         for sink in ground.sinks() {
-            least = self.nearer(ground, *sink, least);
+            least = self.nearer(*sink, least);
         }
         least
     }

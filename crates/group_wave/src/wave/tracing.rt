@@ -4,15 +4,13 @@ ghost use Rattle.std.specs.Prelude.{◌≡◌, ◌<◌};
 
 use super::Wave;
 use std::alloc::AllocError;
-use wave_ground::Ground;
 use wave_queue::Key;
 
 impl<K: Key> Wave<K> {
     ghost use Rattle.std.specs.Prelude.{IfOk, [], length, reverse};
-    ghost use Rattle.wave_ground.specs.kept.Grounds.{IsGround};
-    ghost use Rattle.group_wave.specs.kept.WaveState.{FAR};
-    ghost use Rattle.group_wave.specs.kept.Wave.{IsOpen, IsWave, cost_at, parent_of};
-    ghost use Rattle.group_wave.specs.kept.Steps.{IsTraced};
+    ghost use Rattle.wave_ground.specs.kept.Grounds.{Ground};
+    ghost use Rattle.group_wave.specs.kept.Wave.{parent_of};
+    ghost use Rattle.group_wave.specs.kept.Steps.{HasReached, IsWayBack};
 
     /// The node before a node.
     fn parent(&self, node: u32) -> u32
@@ -24,39 +22,22 @@ impl<K: Key> Wave<K> {
 
     /// Puts the nodes of the way to a sink that was taken into the list, and answers the node from
     /// which it starts.
-    pub(crate) fn trace(
-        &self,
-        ground: &Ground<'_>,
-        sink: u32,
-        way: &mut Vec<u32>,
-    ) -> Result<u32, AllocError>
-        requires ground { IsGround ground.now }
-        requires wave { IsWave ground.now self.now }
-        requires sink { IsOpen ground.now self.now sink }
-        requires reached { cost_at self.now sink < FAR }
-        ensures { IfOk result (λ a. IsTraced ground.now self.now a way.new.items sink) }
+    pub(crate) fn trace(&self, sink: u32, way: &mut Vec<u32>) -> Result<u32, AllocError>
+        requires { (ground : Ground) × HasReached ground self.now sink }
+        ensures { IfOk result (λ a. IsWayBack self.now a way.new.items sink) }
     {
         way.clear();
-        let start = self.trace_back(ground, sink, way)?;
+        let start = self.trace_back(sink, way)?;
         way.reverse();
         Ok(start)
     }
 
     /// Puts the nodes of the way to a sink into the list, the sink first, and answers the node from
     /// which it starts.
-    fn trace_back(
-        &self,
-        ground: &Ground<'_>,
-        sink: u32,
-        way: &mut Vec<u32>,
-    ) -> Result<u32, AllocError>
-        requires ground { IsGround ground.now }
-        requires wave { IsWave ground.now self.now }
-        requires sink { IsOpen ground.now self.now sink }
-        requires reached { cost_at self.now sink < FAR }
+    fn trace_back(&self, sink: u32, way: &mut Vec<u32>) -> Result<u32, AllocError>
+        requires sink { (ground : Ground) × HasReached ground self.now sink }
         requires empty { way.old.items ≡ [] }
-        ensures { IfOk result
-            (λ a. IsTraced ground.now self.now a (reverse way.new.items) sink) }
+        ensures { IfOk result (λ a. IsWayBack self.now a (reverse way.new.items) sink) }
     {
         way.push(sink)?;
         let mut node = self.parent(sink);

@@ -5,25 +5,34 @@ use Rattle.wavefront.proofs.RowNodes.{start_row, same_root}
 use Rattle.group_wave.proofs.Added.{IsAdded, added_growth, added_kept, added_taken}
 use Rattle.group_wave.proofs.Counted.{fewer_open}
 use Rattle.group_wave.proofs.Shortcut.{shut}
+use Rattle.group_wave.proofs.Traced.{taken_reached, taken_traced}
 use Rattle.group_wave.proofs.route.add_way.Goals as goal
 use Rattle.group_wave.proofs.route.add_way.Given.{Over}
 
 pub returns-in_default-clause-shut : goal.returns-in_default-clause-shut
 returns-in_default-clause-shut g c _ all = shut c.args.ground.now (pairs_of c.args.tree.now) c.args.scratch.now.wave c.take_sink.new.self c.requires.ground c.requires.growth.origins c.in_ok-sink.ensures.settles.origins (rw all at (rw c.in_default.is at c.in_ok-sink.ensures.spent))
 
+pub trace-requires : goal.trace-requires
+trace-requires g c = (c.args.ground.now, taken_reached c.args.ground.now c.take_sink.new.self c.in-Some.sink c.requires.ground c.in_ok-sink.ensures.settles.wave (rw c.in-Some.is at c.in_ok-sink.ensures.taken))
+
 first_start : (g : Over) → (c : goal.After-as_slice g) → IsStart c.args.ground.now.space (pairs_of c.args.tree.now) c.in_ok-start.start
-first_start g c = (c.requires.growth.origins c.in_ok-start.start).0 ((c.in_ok-sink.ensures.settles.origins c.in_ok-start.start).0 c.in_ok-start.ensures.start)
+first_start g c =
+    let traced = taken_traced c.args.ground.now c.take_sink.new.self _ _ c.in-Some.sink c.requires.ground c.in_ok-sink.ensures.settles.wave (rw c.in-Some.is at c.in_ok-sink.ensures.taken) c.in_ok-start.ensures in
+    (c.requires.growth.origins c.in_ok-start.start).0 ((c.in_ok-sink.ensures.settles.origins c.in_ok-start.start).0 traced.start)
 
 pub row_of-requires : goal.row_of-requires
 row_of-requires g c = rw c.as_slice.ensures.rows (start_row c.args.ground.now.space c.args.tree.now c.in_ok-start.start c.as_slice.ensures.tree c.requires.growth.root (first_start g c).covered)
 
 pub start_way-requires-clause-walk : goal.start_way-requires-clause-walk
-start_way-requires-clause-walk g c = rw c.deref-2.ensures.value (record {
-  from = c.in_ok-start.start;
-  sink = c.in-Some.sink;
-  walk = c.in_ok-start.ensures.walk;
-  wanted = (rw c.in-Some.is at c.in_ok-sink.ensures.taken).«open».0;
-})
+start_way-requires-clause-walk g c =
+    let taken = rw c.in-Some.is at c.in_ok-sink.ensures.taken in
+    let traced = taken_traced c.args.ground.now c.take_sink.new.self _ _ c.in-Some.sink c.requires.ground c.in_ok-sink.ensures.settles.wave taken c.in_ok-start.ensures in
+    rw c.deref-2.ensures.value (record {
+      from = c.in_ok-start.start;
+      sink = c.in-Some.sink;
+      walk = traced.walk;
+      wanted = taken.«open».0;
+    })
 
 added : (g : Over) → (c : goal.After-renew g) → IsAdded c.args.ground.now (pairs_of c.args.tree.now) c.trace.new.way.items c.args.scratch.now.wave c.take_sink.new.self c.leave_source.new.wave c.start_way.new.self c.in_ok-start.start c.in-Some.sink
 added g c = record {
@@ -32,7 +41,7 @@ added g c = record {
   origins = c.requires.growth.origins;
   same = c.in_ok-sink.ensures.settles.origins;
   taken = rw c.in-Some.is at c.in_ok-sink.ensures.taken;
-  traced = c.in_ok-start.ensures;
+  traced = taken_traced c.args.ground.now c.take_sink.new.self _ _ c.in-Some.sink c.requires.ground c.in_ok-sink.ensures.settles.wave (rw c.in-Some.is at c.in_ok-sink.ensures.taken) c.in_ok-start.ensures;
   left = c.in_ok-leave_source.ensures;
   started = rw c.deref-2.ensures.value at c.in_ok-start_way.ensures.started;
 }

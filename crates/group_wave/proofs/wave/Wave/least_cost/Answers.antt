@@ -10,14 +10,15 @@ loop-sink-init g c = record {
   fits = omega (arith, c.greatest-least.ensures);
 }
 
-pub nearer-least-requires-clause-sink : goal.nearer-least-requires-clause-sink
-nearer-least-requires-clause-sink g c = rw c.sinks-sink-items.ensures (is_sink_at c.args.ground.now.space c.loop-sink.sink-index (rw c.sinks-sink-items.ensures at c.loop-sink-test.true))
+pub nearer-least-requires-clause-there : goal.nearer-least-requires-clause-there
+nearer-least-requires-clause-there g c = rw c.sinks-sink-items.ensures (omega (arith, c.requires.ground.space.sinks_in _ (is_sink_at c.args.ground.now.space c.loop-sink.sink-index (rw c.sinks-sink-items.ensures at c.loop-sink-test.true)), c.requires.wave.rows))
 
 pub loop-sink-preserved : goal.loop-sink-preserved
 loop-sink-preserved g c =
     let at = ap (λ xs. slice_index xs c.loop-sink.sink-index) c.sinks-sink-items.ensures in
+    let wanted = is_sink_at c.args.ground.now.space c.loop-sink.sink-index (rw c.sinks-sink-items.ensures at c.loop-sink-test.true) in
     record {
-      least = least_more c.args.ground.now c.args.self.now c.loop-sink.sink-index _ _ c.loop-sink.invariant.least (rw at at c.nearer-least.ensures.nearer);
+      least = least_more c.args.ground.now c.args.self.now c.loop-sink.sink-index _ _ wanted c.loop-sink.invariant.least (rw at at c.nearer-least.ensures.nearer);
       fits = c.nearer-least.ensures.fits;
     }
 
