@@ -3,7 +3,7 @@
 ghost use Rattle.std.specs.Prelude.{◌≡◌, ◌+◌, ◌<◌, ◌≤◌, length, None, IfOk, IfErr, OnOk};
 ghost use Rattle.node_cost.specs.Options.{most_iterations, most_workers};
 ghost use Rattle.congestion_book.specs.Turns.{IsFirstWaiting};
-ghost use Rattle.congestion_book.specs.Contents.{IsFresh, net_count};
+ghost use Rattle.congestion_book.specs.Contents.{IsFresh, IsSound, net_count};
 ghost use Rattle.congestion_book.specs.Steps.{after_close};
 ghost use Rattle.net_workers.specs.declared.fault.WorkFault.TheVariants.{Memory};
 ghost use Rattle.iteration.specs.Progress.{IsIteration};
@@ -20,6 +20,7 @@ fn close(alloc: Global, book: &mut Book) -> Result<(), WorkFault>
     requires done { IsFirstWaiting book.old.turns (net_count book.old) None }
     requires few { length book.old.rows < most_iterations }
     ensures closed { OnOk result (book.new ≡ after_close book.old) }
+    ensures sound { IsSound book.new }
     ensures memory { IfErr result (λ fault. fault ≡ Memory) }
 {
     match book.close(alloc) {
@@ -53,7 +54,6 @@ pub(crate) fn make_iteration<R: Threads + Wait + Sync, G: Gate + Sync>(
         rt, alloc, workspace, book, settings, iteration, workers, gate,
     )?;
     close(alloc, &mut book)?;
-    let _sound = book.problem();
     gate.closed(iteration, &book);
     Ok(book)
 }

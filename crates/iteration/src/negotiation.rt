@@ -1,7 +1,7 @@
 //! A negotiation, iteration by iteration.
 
-ghost use Rattle.std.specs.Prelude.{◌≡◌, ◌<◌, ◌≤◌, false, length, IfOk, IfErr};
-ghost use Rattle.node_cost.specs.Options.{most_workers};
+ghost use Rattle.std.specs.Prelude.{◌≡◌, ◌<◌, ◌≤◌, false, length, IfOk, IfErr, OnOk};
+ghost use Rattle.node_cost.specs.Options.{AreWithinLimits, most_iterations, most_workers};
 ghost use Rattle.congestion_book.specs.Contents.{opening};
 ghost use Rattle.net_workers.specs.declared.fault.WorkFault.TheVariants.{Memory};
 ghost use Rattle.iteration.specs.Progress.{IsIteration, IsReached, goes_on, unrouted_of, overused_of};
@@ -67,7 +67,8 @@ impl Negotiation {
 
     /// Whether another iteration follows.
     fn goes_on(&self, settings: &Settings) -> bool
-        ensures { result ≡ goes_on settings.now self.now }
+        ensures goes_on { result ≡ goes_on settings.now self.now }
+        ensures limits { AreWithinLimits settings.now }
     {
         let limit = settings.iterations() as usize;
         let made = self.book.rows().len();
@@ -85,10 +86,9 @@ impl Negotiation {
         gate: &G,
     ) -> Result<Negotiation, WorkFault>
         requires workers { (1 ≤ workers) × (workers ≤ most_workers) }
-        requires few { length self.rows < settings.now.iterations }
+        requires few { length self.rows < most_iterations }
         ensures { IfOk result (IsIteration settings.now workers self) }
     {
-        let _limits = settings.iterations();
         let Negotiation {
             book,
             mut workspace,
@@ -153,7 +153,6 @@ fn success<R: Threads + Wait + Sync>(
     requires within { overused_of book.now ≡ 0 }
     ensures { IfOk result (λ r. r ≡ book.now.lists) }
 {
-    let _sound = book.problem();
     let routing = routing_of(alloc, book)?;
     match check_routing(rt, alloc, problem, &routing)? {
         None => Ok(routing),
@@ -173,9 +172,8 @@ fn run<R: Threads + Wait + Sync, G: Gate + Sync>(
     requires { (1 ≤ workers) × (workers ≤ most_workers) }
     ensures reached { IfOk result (IsReached problem settings.now workers) }
     ensures ended { IfOk result (λ n. goes_on settings.now n ≡ false) }
-    ensures limit { 1 ≤ settings.now.iterations }
+    ensures limit { OnOk result (1 ≤ settings.now.iterations) }
 {
-    let _limits = settings.iterations();
     let mut negotiation = Negotiation::begin(alloc, problem, settings)?;
     while negotiation.goes_on(settings) {
         negotiation = negotiation.advance(rt, alloc, settings, workers, gate)?;
@@ -194,7 +192,7 @@ fn outcome_of<R: Threads + Wait + Sync, G: Gate + Sync>(
 ) -> Result<Outcome, WorkFault>
     requires { (1 ≤ workers) × (workers ≤ most_workers) }
     ensures run { IfOk result (EndsNegotiation problem settings.now workers) }
-    ensures limit { 1 ≤ settings.now.iterations }
+    ensures limit { OnOk result (1 ≤ settings.now.iterations) }
 {
     gate.begins(&problem);
     let negotiation = run(rt, alloc, problem, settings, workers, gate)?;

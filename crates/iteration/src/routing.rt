@@ -3,7 +3,7 @@
 ghost use Rattle.std.specs.Prelude.{◌≡◌, ◌<◌, length, IfOk};
 ghost use Rattle.route_tree.specs.TreeLists.{list_of_tree};
 ghost use Rattle.route_tree.specs.Usage.{list_in};
-ghost use Rattle.congestion_book.specs.Contents.{net_count};
+ghost use Rattle.congestion_book.specs.Contents.{IsSound, net_count};
 
 use congestion_book::Book;
 use route_tree::{Routing, Tree};
@@ -22,7 +22,8 @@ fn tree_of(alloc: Global, book: &Book, net: u32) -> Result<Option<Tree>, AllocEr
 /// The recorded trees of a book as a routing: of each net the pairs, or none where it has no tree.
 #[tactic(auto, using(crate::proofs::Routings::trees_more, crate::proofs::Routings::trees_all))]
 pub fn routing_of(alloc: Global, book: &Book) -> Result<Routing, AllocError>
-    ensures { IfOk result (λ r. r ≡ book.now.lists) }
+    ensures trees { IfOk result (λ r. r ≡ book.now.lists) }
+    ensures sound { IsSound book.now }
 {
     let nets = book.problem().nets();
     let mut trees = Vec::with_capacity(alloc, nets as usize)?;

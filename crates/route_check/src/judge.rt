@@ -21,7 +21,6 @@ fn tree_fault(
     requires { net < length problem.now.nets }
     ensures { IfOk result (Judges problem.now net pairs.now) }
 {
-    let _limits = problem.nets();
     let net = BorrowedTerminals {
         source: problem.source(net),
         sinks: problem.sinks(net),

@@ -2,7 +2,7 @@
 
 ghost use Rattle.std.specs.Prelude.{◌≡◌, ◌↔◌, ◌<◌, All, length, false, Err, IsOk};
 ghost use Rattle.routing_problem.specs.Nodes.{node_count_of};
-ghost use Rattle.routing_problem.specs.Problems.{net_in};
+ghost use Rattle.routing_problem.specs.Problems.{IsProblem, net_in};
 ghost use Rattle.route_tree.specs.Rows.{pairs_of, IsTree};
 ghost use Rattle.route_tree.specs.Legality.{is_among};
 ghost use Rattle.route_tree.specs.Faults.{begins_elsewhere, misses_sink, IsFirstFault, IsRoute};
@@ -107,6 +107,7 @@ fn fault(problem: &Problem, net: u32, rows: &[Row], stamps: &mut Stamps) -> Opti
     requires fits { length stamps.old ≡ node_count_of problem.now.device }
     ensures fault { result ≡ fault_of problem.now net (pairs_of rows.now) }
     ensures length { length stamps.new ≡ length stamps.old }
+    ensures limits { IsProblem problem.now }
 {
     if net >= problem.nets() {
         return Some(TreeFault::NoNet);
@@ -141,6 +142,5 @@ pub fn check_tree(
         ↔ IsFirstFault problem.now net (pairs_of tree.now) fault }
     ensures fits { marks.new ≡ marks.old }
 {
-    let _limits = problem.nets();
     or_ok(fault(problem, net, &tree.rows, &mut marks.stamps))
 }

@@ -1,6 +1,6 @@
 //! The device and its look-ups.
 
-ghost use Rattle.std.specs.Prelude.{◌≡◌, ℕ, ◌^◌, ◌<◌, ◌≤◌, ◌↔◌, ◌⊎◌, [], ◌∷◌, length, nat_le, Contains, true, IfOk, IfSome, IsSome, Some, OnOk, OnErr, IsOk};
+ghost use Rattle.std.specs.Prelude.{◌≡◌, ℕ, ◌^◌, ◌<◌, ◌≤◌, ◌↔◌, ◌⊎◌, [], ◌∷◌, length, nat_le, Contains, true, IfOk, IfErr, IfSome, IsSome, Some, OnOk, OnErr, IsOk};
 ghost use Rattle.std.specs.List.Sorted.{IsStrictlyIncreasing};
 ghost use Rattle.std.specs.Option.{option_map};
 ghost use Rattle.arch_file.specs.Architecture.{longest_side};
@@ -32,6 +32,17 @@ impl Model for Device {
     ghost view = { λ d. d.graph };
 }
 
+/// `Width` for a width that no device has: those from 1 to 256 are.
+fn check_width(width: u32) -> Result<(), DeviceFault>
+    ensures width { (result ≡ Err DeviceFault.Width) ↔ ((width ≡ 0) ⊎ (most_tracks < width)) }
+    ensures memory { IfErr result (λ fault. fault ≡ DeviceFault.Width) }
+{
+    if width == 0 || width > 256 {
+        return Err(DeviceFault::Width);
+    }
+    Ok(())
+}
+
 impl Device {
     /// A device in which each track has wires of its own. `Width` is answered for a width outside 1 to 256.
     pub fn new(
@@ -46,7 +57,9 @@ impl Device {
         ensures made { IfOk result (λ d. d ≡ fabric_with nx ny width Mode.Detailed arch.now) }
         ensures width { (result ≡ Err DeviceFault.Width) ↔ ((width ≡ 0) ⊎ (most_tracks < width)) }
     {
-        Device::make(alloc, arch, nx, ny, width, Mode::Detailed)
+        check_width(width)?;
+        let device = Device::with_mode(alloc, arch, nx, ny, width, Mode::Detailed)?;
+        Ok(device)
     }
 
     /// A device in which each place of a channel is one node, as wide as the channel.
@@ -63,26 +76,8 @@ impl Device {
         ensures made { IfOk result (λ d. d ≡ fabric_with nx ny width Mode.Global arch.now) }
         ensures width { (result ≡ Err DeviceFault.Width) ↔ ((width ≡ 0) ⊎ (most_tracks < width)) }
     {
-        Device::make(alloc, arch, nx, ny, width, Mode::Global)
-    }
-
-    fn make(
-        alloc: Global,
-        arch: &Arch,
-        nx: u32,
-        ny: u32,
-        width: u32,
-        mode: Mode,
-    ) -> Result<Device, DeviceFault>
-        requires columns { (1 ≤ nx) × (nx ≤ longest_side) }
-        requires rows { (1 ≤ ny) × (ny ≤ longest_side) }
-        ensures made { IfOk result (λ d. d ≡ fabric_with nx ny width mode arch.now) }
-        ensures width { (result ≡ Err DeviceFault.Width) ↔ ((width ≡ 0) ⊎ (most_tracks < width)) }
-    {
-        if width == 0 || width > 256 {
-            return Err(DeviceFault::Width);
-        }
-        let device = Device::with_mode(alloc, arch, nx, ny, width, mode)?;
+        check_width(width)?;
+        let device = Device::with_mode(alloc, arch, nx, ny, width, Mode::Global)?;
         Ok(device)
     }
 

@@ -184,7 +184,8 @@ impl Problem {
     /// The node at which a net begins: a source.
     pub fn source(&self, net: u32) -> u32
         requires { net < length self.now.nets }
-        ensures { result ≡ (net_in self.now.nets net).source }
+        ensures source { result ≡ (net_in self.now.nets net).source }
+        ensures limits { IsProblem self.now }
     {
         self.nets[net as usize].source
     }

@@ -80,5 +80,5 @@ unfoldable pub problem_from : Fabric → netlist.Netlist → Placement → Routi
 problem_from f netlist placement = record { device = f; nets = map (net_of_design f netlist placement) (routed_numbers netlist) }
 
 -- the routing problem of a placed design on the device of its array
-abbrev pub problem_with : (width : ℕ) → Mode → Architecture → netlist.Netlist → Placement → RoutingProblem
-problem_with width mode a netlist p = problem_from (fabric_with p.nx p.ny width mode a) netlist p
+abbrev pub problem_with : Mode → Architecture → netlist.Netlist → Placement → (width : ℕ) → RoutingProblem
+problem_with mode a netlist p width = problem_from (fabric_with p.nx p.ny width mode a) netlist p

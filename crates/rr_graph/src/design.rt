@@ -2,10 +2,11 @@
 
 ghost use Rattle.std.specs.Prelude.{◌≡◌, ℕ, ◌||◌, not, true, map, List, IfOk};
 ghost use Rattle.std.specs.List.{list_all, filter_map};
+ghost use Rattle.net_file.specs.Facts.{IsNetlist};
 ghost use Rattle.net_file.specs.Reads.{ReadsBytes};
 ghost use Rattle.net_file.specs.Routed.{is_routed_net, routed_numbers};
 ghost use Rattle.place_file.specs.Placement.{IsPlaced};
-ghost use Rattle.channel_tables.specs.Fabric.{is_block};
+ghost use Rattle.channel_tables.specs.Fabric.{IsFabric, is_block};
 ghost use Rattle.rr_graph.specs.Designs.{label_on, node_on, terminal_node, has_node, has_nodes, has_size_of, are_on_sites, suits_design, nodes_of_sinks, net_on_device, net_of_design};
 
 use channel_tables::{Kind, Node};
@@ -30,7 +31,8 @@ fn is_routed(net: &Net) -> bool
 
 /// Whether the placement's array has the size of the device's.
 fn has_size_of(device: &Device, placement: &Placement) -> bool
-    ensures { result ≡ has_size_of device.now placement.now }
+    ensures limits { IsFabric device.now }
+    ensures same { result ≡ has_size_of device.now placement.now }
 {
     device.nx() == placement.nx() && device.ny() == placement.ny()
 }
@@ -114,7 +116,8 @@ fn suits_nets(device: &Device, placement: &Placement, nets: &[Net]) -> bool
 
 #[tactic(auto, unfolding(crate::specs::Designs::suits_design))]
 fn suits_design(device: &Device, netlist: &Netlist, placement: &Placement) -> bool
-    ensures { result ≡ suits_design device.now netlist.now placement.now }
+    ensures limits { IsFabric device.now }
+    ensures suits { result ≡ suits_design device.now netlist.now placement.now }
 {
     has_size_of(device, placement)
         && (are_on_sites(placement, netlist.blocks().len())
@@ -179,7 +182,8 @@ pub(crate) fn nets_of_design(
     netlist: &Netlist,
     placement: &Placement,
 ) -> Result<Vec<Terminals>, AllocError>
-    ensures { IfOk result
+    ensures facts { IsNetlist netlist.now }
+    ensures nets { IfOk result
         (λ v. v.items ≡ map (net_of_design device.now netlist.now placement.now)
         (routed_numbers netlist.now)) }
 {
@@ -211,7 +215,6 @@ impl SuitsDesigns for Device {
             → IsPlaced self.now.architecture.io_rat netlist.now.blocks placement.now
             → self.now.nx ≡ placement.now.nx → self.now.ny ≡ placement.now.ny → result ≡ true }
     {
-        let _limits = self.nx();
         suits_design(self, netlist, placement)
     }
 }

@@ -43,8 +43,8 @@ pub trait MadeOfDesigns {
         requires tracks { (1 ≤ width) × (width ≤ most_tracks) }
         requires read { (bytes : List ℕ) × ReadsBytes arch.now.pins bytes netlist.now }
         requires placed { IsPlaced arch.now.io_rat netlist.now.blocks placement.now }
-        ensures made { IfOk result (λ p. p ≡ problem_with width mode arch.now netlist.now
-            placement.now) }
+        ensures made { IfOk result (λ p. p ≡ problem_with mode arch.now netlist.now
+            placement.now width) }
         // The nets keep the numbers that they have in the netlist.
         ensures numbers { IfOk result (λ p. map (λ n. n.number) p.nets
             ≡ routed_numbers netlist.now) };
@@ -59,7 +59,6 @@ impl MadeOfDesigns for Problem {
         netlist: &Netlist,
         placement: &Placement,
     ) -> Result<Problem, AllocError> {
-        let _limits = netlist.nets();
         let nets = nets_of_design(alloc, &device, netlist, placement)?;
         Ok(Problem::of_nets(device, nets))
     }

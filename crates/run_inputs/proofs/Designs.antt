@@ -91,7 +91,7 @@ module _ (width : ℕ) (mode : Mode) (t : NetlistText) (place : Input) where
 
 -- ---- the problem of a design
 
-module _ (width : ℕ) (mode : Mode) (a : Architecture) (n : Netlist) (p : Placement) (problem : RoutingProblem) (made : problem ≡ problem_with width mode a n p) where
+module _ (width : ℕ) (mode : Mode) (a : Architecture) (n : Netlist) (p : Placement) (problem : RoutingProblem) (made : problem ≡ problem_with mode a n p width) where
   pub device_made : problem.device ≡ fabric_with p.nx p.ny width mode a
   unfolding problem_from
   device_made = ap (λ (q : RoutingProblem). q.device) made

@@ -11,7 +11,7 @@ use Rattle.rr_graph.specs.node.Mode.{Mode}
 use Rattle.rr_graph.specs.Problems.{RoutingProblem}
 use Rattle.route_tree.specs.Paths.{Pair}
 use Rattle.route_file.specs.Reading.{routing_of}
-use Rattle.width_search.specs.Reports.{problem_at}
+use Rattle.rr_graph.specs.Designs.{problem_with}
 use Rattle.run_inputs.specs.declared.fault.InputFile.{InputFile}
 use Rattle.run_inputs.specs.declared.fault.InputFile.TheVariants as file
 use Rattle.run_inputs.specs.declared.fault.AppFault.{AppFault}
@@ -60,7 +60,7 @@ placed_with a netlist p = record { arch = a; netlist = netlist; placement = p }
 
 -- its problem on the device of its array, of this mode and width
 abbrev pub placed_problem : Mode → PlacedNetlist → (width : ℕ) → RoutingProblem
-placed_problem mode p = problem_at mode p.arch p.netlist p.placement
+placed_problem mode p = problem_with mode p.arch p.netlist p.placement
 
 -- what the architecture, the netlist and its placement say
 unfoldable pub placed_in : DesignFiles → Result PlacedNetlist AppFault

@@ -6,7 +6,7 @@ ghost use Rattle.net_file.specs.Routed.{routed_numbers};
 ghost use Rattle.place_file.specs.Placement.{IsPlaced};
 ghost use Rattle.rr_graph.specs.Fabric.{most_tracks};
 ghost use Rattle.route_file.specs.Design.{IsDesign};
-ghost use Rattle.width_search.specs.Reports.{problem_at};
+ghost use Rattle.rr_graph.specs.Designs.{problem_with};
 ghost use Rattle.run_inputs.specs.Inputs.{ends_before, placed_problem};
 ghost use Rattle.run_inputs.specs.Runs.{Meets, reading};
 ghost use Rattle.vpr_text.specs.Readings.{Gives};
@@ -37,7 +37,7 @@ fn problem_of(
     requires read { (bytes : List ℕ) × ReadsBytes arch.now.pins bytes netlist.now }
     requires placed { IsPlaced arch.now.io_rat netlist.now.blocks placement.now }
     ensures made { IfOk result
-        (λ p. p ≡ problem_at mode arch.now netlist.now placement.now width) }
+        (λ p. p ≡ problem_with mode arch.now netlist.now placement.now width) }
     ensures fits { IfOk result (IsDesign netlist.now placement.now) }
     ensures numbers { IfOk result (λ p. map (λ n. n.number) p.nets ≡ routed_numbers netlist.now) }
 {

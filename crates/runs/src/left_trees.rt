@@ -59,7 +59,6 @@ fn write_recorded<W: ByteSink>(
     ensures nothing { ends_free result ≡ true
         → TakesNothing (writing_to W.taken W.failed file.old file.new) }
 {
-    let _sound = book.problem();
     let trees = routing_of(alloc, book)?;
     write_trees(
         design.netlist(),

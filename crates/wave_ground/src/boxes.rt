@@ -2,7 +2,7 @@
 
 ghost use Rattle.std.specs.Prelude.{◌≡◌, ◌<◌, ℕ, length, IfOk};
 ghost use Rattle.wavefront.specs.Boxes.{box_around, box_of_net, box_of_node, box_of_span, box_with, touches};
-ghost use Rattle.routing_problem.specs.Problems.{net_in};
+ghost use Rattle.routing_problem.specs.Problems.{IsProblem, net_in};
 ghost use Rattle.wavefront.specs.Boxes as plain;
 ghost use Rattle.wave_ground.specs.kept.Boxes.{AreFirstBoxes, IsWidened, box_shared, boxed};
 
@@ -120,7 +120,8 @@ impl BoundingBox {
     pub(crate) fn of_net(boxes: &[BoundingBox], problem: &Problem, net: u32) -> BoundingBox
         requires net { net < length problem.now.nets }
         requires boxes { AreFirstBoxes problem.now.device boxes.now }
-        ensures { boxed result ≡ box_of_net problem.now.device (net_in problem.now.nets net) }
+        ensures boxed { boxed result ≡ box_of_net problem.now.device (net_in problem.now.nets net) }
+        ensures limits { IsProblem problem.now }
     {
         let device = problem.device();
         let source = BoundingBox::of_node_in(boxes, device, problem.source(net));

@@ -116,8 +116,6 @@ impl<'a> Ground<'a> {
         } }
         ensures facts { IsGround result }
     {
-        let _nodes = problem.device().node_count();
-        let _nets = problem.nets();
         let _bounds = view.len();
         Ground {
             problem,
@@ -276,7 +274,6 @@ impl<'a> Ground<'a> {
         requires is { is_wire_at self.now.space.device wire ≡ true }
         ensures { IsTrue result → entry_cost self.now.space wire ≡ least_wire_cost }
     {
-        let _some = self.wire_room();
         self.view.is_free(wire)
     }
 

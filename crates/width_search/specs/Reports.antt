@@ -5,7 +5,6 @@ use Rattle.arch_file.specs.Architecture.{Architecture}
 use Rattle.net_file.specs.Netlist.{Netlist}
 use Rattle.place_file.specs.Placement.{Placement}
 use Rattle.rr_graph.specs.node.Mode.{Mode}
-use Rattle.rr_graph.specs.Designs.{problem_with}
 use Rattle.rr_graph.specs.Problems.{RoutingProblem}
 use Rattle.node_cost.specs.Options.{RouterOptions}
 use Rattle.iteration.specs.declared.outcome.Outcome.{Outcome}
@@ -29,11 +28,7 @@ is_success (NotRouted unrouted overused iterations) = false
 
 -- ---- a search
 
--- the problem of a placed netlist on a device of each width
-abbrev pub problem_at : Mode → Architecture → Netlist → Placement → (width : ℕ) → RoutingProblem
-problem_at mode a netlist p width = problem_with width mode a netlist p
-
--- what a negotiation at this width may come to
+-- what a negotiation at this width, of the problem of each width, may come to
 abbrev pub Negotiates : (problem : ℕ → RoutingProblem) → RouterOptions → (workers : ℕ) → (width : ℕ) → Outcome → Type 0
 Negotiates problem o workers width outcome = IsOutcome (problem width) o outcome × EndsNegotiation (problem width) o workers outcome
 

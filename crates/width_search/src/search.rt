@@ -5,7 +5,8 @@ ghost use Rattle.net_file.specs.Reads.{ReadsBytes};
 ghost use Rattle.place_file.specs.Placement.{IsPlaced};
 ghost use Rattle.rr_graph.specs.Fabric.{most_tracks};
 ghost use Rattle.node_cost.specs.Options.{most_workers};
-ghost use Rattle.width_search.specs.Reports.{IsWidthReport, Negotiates, problem_at};
+ghost use Rattle.rr_graph.specs.Designs.{problem_with};
+ghost use Rattle.width_search.specs.Reports.{IsWidthReport, Negotiates};
 ghost use Rattle.width_search.specs.kept.Trials.{end_of};
 
 use crate::report::WidthReport;
@@ -62,7 +63,7 @@ pub fn negotiate_at<R: Threads + Wait + Sync, G: Gate + Sync>(
     requires workers { (1 ≤ workers) × (workers ≤ most_workers) }
     requires read { (bytes : List ℕ) × ReadsBytes arch.now.pins bytes netlist.now }
     requires placed { IsPlaced arch.now.io_rat netlist.now.blocks placement.now }
-    ensures { IfOk result (Negotiates (problem_at mode arch.now netlist.now placement.now)
+    ensures { IfOk result (Negotiates (problem_with mode arch.now netlist.now placement.now)
         settings.now workers width) }
 {
     gate.tries(width);
@@ -99,7 +100,7 @@ pub fn least_width<R: Threads + Wait + Sync, G: Gate + Sync>(
     requires placed { IsPlaced arch.now.io_rat netlist.now.blocks placement.now }
     // The trials are those that the search makes, and the routing is that of the least width that was routed.
     ensures { IfOk result (IsWidthReport (Negotiates
-        (problem_at mode arch.now netlist.now placement.now) settings.now workers) start) }
+        (problem_with mode arch.now netlist.now placement.now) settings.now workers) start) }
 {
     let mut report = WidthReport::new(alloc);
     while let Some(width) = next_width(start, report.trials()) {

@@ -14,7 +14,7 @@ count_list-requires c =
     let there = list_read lists net c.index-lists-net.result pairs (omega (arith, c.requires.there, c.requires.one_each)) c.index-lists-net.is c.in-Some.is in
     let route = routed_by p lists net pairs c.requires.routed there in
     record {
-      room = subst (HasRoom c.args.counts.now) (sym (ap₂ (λ s ps. s ∷ ends_of ps) c.source.ensures (c.deref.ensures.value ∙ c.pairs.view_is)))
+      room = subst (HasRoom c.args.counts.now) (sym (ap₂ (λ s ps. s ∷ ends_of ps) c.source.ensures.source (c.deref.ensures.value ∙ c.pairs.view_is)))
           (room_for p c.requires.limits lists net c.requires.there c.args.counts.now c.requires.so_far pairs route);
     }
 
@@ -28,5 +28,5 @@ returns-in-Some c =
     let route = routed_by p lists net pairs c.requires.routed there in
     uses_more p c.requires.limits lists net c.requires.there c.args.counts.now c.requires.so_far pairs route
     (omega (arith, c.requires.there, c.requires.one_each)) there c.count_list.new.counts
-    (subst (λ nodes. Counts c.args.counts.now nodes c.count_list.new.counts) (ap₂ (λ s ps. s ∷ ends_of ps) c.source.ensures
+    (subst (λ nodes. Counts c.args.counts.now nodes c.count_list.new.counts) (ap₂ (λ s ps. s ∷ ends_of ps) c.source.ensures.source
     (c.deref.ensures.value ∙ c.pairs.view_is)) c.count_list.ensures)

@@ -6,5 +6,5 @@ pub returns : goal.returns
 unfolding tree_fault_words
 returns g c =
     let name = rw c.tree_fault_name.ensures at c.push.ensures in
-    let reason = rw (c.new-list.ensures, c.device-device.ensures.device, c.source-source.ensures, c.sinks-sinks.ensures) at c.put_reason.ensures in
+    let reason = rw (c.new-list.ensures, c.device-device.ensures.device, c.source-source.ensures.source, c.sinks-sinks.ensures) at c.put_reason.ensures in
     sends_then name (sends_then c.push-2.ensures reason)

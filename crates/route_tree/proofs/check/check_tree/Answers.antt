@@ -14,7 +14,7 @@ returns-clause-route c =
     let answer = fault_of p i (pairs_of rows) in
     let reported = c.or_ok.ensures ∙ ap or_ok (c.fault.ensures.fault ∙ ap (λ r. fault_of p i (pairs_of r)) (c.deref.ensures.value ∙ c.tree.view_is)) in
     let tree = subst IsTree c.tree.view_is c.tree.invariant in
-    let law = routes p c.nets-limits.ensures.limits i (pairs_of rows) (rows_hang rows (net_in p.nets i).source tree) in
+    let law = routes p c.fault.ensures.limits i (pairs_of rows) (rows_hang rows (net_in p.nets i).source tree) in
     (λ h. law.0 ((ok_none answer).0 (subst IsOk reported h)), λ r. subst IsOk (sym reported) ((ok_none answer).1 (law.1 r)))
 
 pub returns-clause-faults : goal.returns-clause-faults
@@ -25,5 +25,5 @@ returns-clause-faults c = λ fault.
     let answer = fault_of p i (pairs_of rows) in
     let reported = c.or_ok.ensures ∙ ap or_ok (c.fault.ensures.fault ∙ ap (λ r. fault_of p i (pairs_of r)) (c.deref.ensures.value ∙ c.tree.view_is)) in
     let tree = subst IsTree c.tree.view_is c.tree.invariant in
-    let law = faults p c.nets-limits.ensures.limits i (pairs_of rows) (rows_hang rows (net_in p.nets i).source tree) fault in
+    let law = faults p c.fault.ensures.limits i (pairs_of rows) (rows_hang rows (net_in p.nets i).source tree) fault in
     (λ h. law.0 ((err_some answer fault).0 (sym reported ∙ h)), λ r. reported ∙ (err_some answer fault).1 (law.1 r))

@@ -7,4 +7,4 @@ pub returns-clause-fault : goal.returns-clause-fault
 returns-clause-fault c =
     c.net_fault.ensures.fault
     ∙ there c.args.problem.now c.args.net (pairs_of c.args.rows.now) c.device.result.now c.source-source.result c.sinks-sinks.result.now
-    (omega (arith, c.nets.ensures.count, c.if-net-nets.false)) c.device.ensures.device c.source-source.ensures c.sinks-sinks.ensures
+    (omega (arith, c.nets.ensures.count, c.if-net-nets.false)) c.device.ensures.device c.source-source.ensures.source c.sinks-sinks.ensures

@@ -14,6 +14,6 @@ loop-n-preserved c =
       | else-is_routed w ↦ ap (λ v. v.items) w.list-is ∙ skipped (sym w.if-is_routed.ensures)
     ]
 
-pub returns : goal.returns
-returns c =
+pub returns-clause-nets : goal.returns-clause-nets
+returns-clause-nets c =
     all_routed c.args.device.now c.args.netlist.now c.args.placement.now c.loop-n.n c.loop-n.list.items (omega (arith, c.loop-n-test.false, c.loop-n.auto.n-end, ap length c.nets-nets.ensures.entry)) c.loop-n.invariant

@@ -1,7 +1,7 @@
-use Rattle.std.proofs.Common.{arith, ap}
+use Rattle.std.proofs.Common.{arith}
 use Rattle.std.proofs.lemmas.List.Elements.{All-contains, Contains-get_or}
-use Rattle.routing_problem.specs.Nodes.{node_count_of}
 use Rattle.routing_problem.specs.Problems.{IsNet, no_net}
+use Rattle.routing_problem.proofs.Order.{node_count_below}
 use Rattle.wavefront.specs.Growth.{space_of}
 use Rattle.wavefront.proofs.Spaces.{is_space}
 use Rattle.wave_ground.proofs.Opened.{wire_node}
@@ -10,13 +10,12 @@ use Rattle.wave_ground.proofs.ground.Ground.new.Goals as goal
 pub returns-clause-facts : goal.returns-clause-facts
 returns-clause-facts c =
     let p = c.args.problem.now in
-    let net = All-contains (IsNet p.device) p.nets _ c.nets-nets.ensures.limits.nets (Contains-get_or p.nets c.args.net no_net c.requires.net) in
-    let nodes = ap node_count_of c.device.ensures.device in
+    let net = All-contains (IsNet p.device) p.nets _ c.of_net.ensures.limits.nets (Contains-get_or p.nets c.args.net no_net c.requires.net) in
     record {
       space = rw c.borrowed.ensures (is_space (space_of p c.args.net c.args.view.now c.args.present c.args.bb)
           c.device.ensures.limits
           net
-          (omega (arith, nodes, c.node_count-nodes.ensures.count, c.node_count-nodes.ensures.few))
+          (omega (arith, node_count_below p.device c.device.ensures.limits))
           c.requires.present c.len-bounds.ensures.others c.len-bounds.ensures.histories);
       tabled = c.requires.groups;
       driven = c.requires.drives;
