@@ -23,7 +23,7 @@ impl<K: Key> Wave<K> {
     /// Puts the nodes of the way to a sink that was taken into the list, and answers the node from
     /// which it starts.
     pub(crate) fn trace(&self, sink: u32, way: &mut Vec<u32>) -> Result<u32, AllocError>
-        requires { (ground : Ground) × HasReached ground self.now sink }
+        requires { (g : Ground) × HasReached g self.now sink }
         ensures { IfOk result (λ a. IsWayBack self.now a way.new.items sink) }
     {
         way.clear();
@@ -35,7 +35,7 @@ impl<K: Key> Wave<K> {
     /// Puts the nodes of the way to a sink into the list, the sink first, and answers the node from
     /// which it starts.
     fn trace_back(&self, sink: u32, way: &mut Vec<u32>) -> Result<u32, AllocError>
-        requires sink { (ground : Ground) × HasReached ground self.now sink }
+        requires sink { (g : Ground) × HasReached g self.now sink }
         requires empty { way.old.items ≡ [] }
         ensures { IfOk result (λ a. IsWayBack self.now a (reverse way.new.items) sink) }
     {
