@@ -51,7 +51,8 @@ pub(crate) fn numbers(block: &BlockNumbers, kind: Kind) -> &[u32]
 #[tactic(auto, using(crate::proofs::PlaceStarts::few_numbers))]
 pub(crate) fn count_at_block(block: &BlockNumbers, kind: Kind) -> u32
     requires { (f : Fabric) × IsBlock f block.now }
-    ensures count { (f : Fabric) → IsBlock f block.now → result ≡ length (block_numbers f kind) }
+    ensures count { (f : Fabric) → IsBlock f block.now
+        → result ≡ length (block_numbers f kind) }
     ensures few { result ≤ most_pins }
 {
     numbers(block, kind).len() as u32

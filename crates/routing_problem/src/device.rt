@@ -34,7 +34,8 @@ impl Model for Device {
 
 /// `Width` for a width that no device has: those from 1 to 256 are.
 fn check_width(width: u32) -> Result<(), DeviceFault>
-    ensures width { (result ≡ Err DeviceFault.Width) ↔ ((width ≡ 0) ⊎ (most_tracks < width)) }
+    ensures width { (result ≡ Err DeviceFault.Width)
+        ↔ ((width ≡ 0) ⊎ (most_tracks < width)) }
     ensures memory { IfErr result (λ fault. fault ≡ DeviceFault.Width) }
 {
     if width == 0 || width > 256 {

@@ -29,7 +29,8 @@ impl DeviceGraph {
         requires place { (1 ≤ x) × (x ≤ self.now.nx) }
         requires row { y ≤ self.now.ny }
         requires track { track < tracks_in self.now.mode self.now.width }
-        ensures run { result ≡ run_along Axis.Row self.now track y (first_of self.now self.now.nx track x) }
+        ensures run { result ≡ run_along Axis.Row self.now track y
+            (first_of self.now self.now.nx track x) }
         ensures small { IsSmallRun result }
     {
         let wire = self.tables().wire_at(Axis::Row, track, x);
@@ -49,7 +50,8 @@ impl DeviceGraph {
         requires place { (1 ≤ y) × (y ≤ self.now.ny) }
         requires column { x ≤ self.now.nx }
         requires track { track < tracks_in self.now.mode self.now.width }
-        ensures run { result ≡ run_along Axis.Column self.now track x (first_of self.now self.now.ny track y) }
+        ensures run { result ≡ run_along Axis.Column self.now track x
+            (first_of self.now self.now.ny track y) }
         ensures small { IsSmallRun result }
     {
         let step = self.tables().right_step();

@@ -120,7 +120,8 @@ impl BoundingBox {
     pub(crate) fn of_net(boxes: &[BoundingBox], problem: &Problem, net: u32) -> BoundingBox
         requires net { net < length problem.now.nets }
         requires boxes { AreFirstBoxes problem.now.device boxes.now }
-        ensures boxed { boxed result ≡ box_of_net problem.now.device (net_in problem.now.nets net) }
+        ensures boxed { boxed result
+            ≡ box_of_net problem.now.device (net_in problem.now.nets net) }
         ensures limits { IsProblem problem.now }
     {
         let device = problem.device();
