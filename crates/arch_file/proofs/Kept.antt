@@ -188,10 +188,6 @@ segment_suits before words x e =
     let a = accepted (has_wrong_value pairs) (not (has_segment_keys pairs)) (is_unsupported pairs) (leb 16 (length (segments_of before))) (line.Segment (segment_in pairs)) x e in
     subst (Suits before) a.1 (length_fits pairs a.0.no_bad_number (not-false (has_segment_keys pairs) a.0.no_bad_word) a.0.no_unsupported, leb-false 16 (length (segments_of before)) a.0.not_too_many)
 
--- a line that says the same whatever its words are
-given_suits : (before : List ArchLine) (given x : ArchLine) → Suits before given → given ≡ x → Suits before x
-given_suits before given x suits e = subst (Suits before) e suits
-
 chan_width_io_suits : (before : List ArchLine) (words : List (List ℕ)) (x : ArchLine) → chan_width_io_line words ≡ Ok x → Suits before x
 unfolding chan_width_io_line
 chan_width_io_suits before words x e = subst (Suits before) (accepted (is_not_fixed words 1) (not (eqb (length words) 2)) (not (is_one words 1)) false line.ChanWidthIo x e).1 tt

@@ -1,3 +1,4 @@
+pub mod Lists
 pub mod Lines
 pub mod Faultless
 pub mod Directions

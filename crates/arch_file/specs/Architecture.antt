@@ -1,4 +1,5 @@
--- An architecture as the record of its entries (VPR and T-VPack manual 4.30, "The Architecture File Format").
+-- An architecture as the record of its entries (VPR and T-VPack manual 4.30, "The Architecture File
+-- Format").
 use Rattle.std.specs.Prelude.{◌≡◌, ℕ, ◌+◌, ◌<◌, ◌≤◌, ◌==◌, List, length, max, fold, find, count_by, Option, Some, All}
 use Rattle.std.specs.Option.{option_map}
 use Rattle.arch_file.specs.declared.entries.Direction.{Direction}

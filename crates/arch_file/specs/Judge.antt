@@ -1,5 +1,5 @@
--- A line, given what the lines before it say: what it says, or its first fault (VPR and T-VPack manual 4.30; the order of
--- the faults is this project's profile).
+-- A line, given what the lines before it say: what it says, or its first fault (VPR and T-VPack
+-- manual 4.30; the order of the faults is this project's profile).
 use Rattle.std.specs.Prelude.{ℕ, Bool, false, ◌&&◌, if◌then◌else◌, List, Option, None, Some, option_and_then, slice_get, Result, Ok, Err}
 use Rattle.std.specs.Option.{option_map_or}
 use Rattle.std.specs.List.{list_any}

@@ -1,4 +1,5 @@
--- The keywords of an architecture file (VPR and T-VPack manual 4.30, "The Architecture File Format").
+-- The keywords of an architecture file (VPR and T-VPack manual 4.30, "The Architecture File
+-- Format").
 use Rattle.std.specs.Prelude.{ℕ, ◌==◌, Bool, true, false, ◌||◌, if◌then◌else◌, List, Option, Some, None, codes, nat_eq}
 use Rattle.std.specs.List.{starts_with}
 use Rattle.line_reader.specs.Word.{is_text}

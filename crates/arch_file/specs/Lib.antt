@@ -10,6 +10,6 @@ pub mod SwitchLine
 pub mod Judge
 pub mod Reading
 pub mod Reads
-pub mod Same
-pub mod SameLaws
+pub mod Equality
+pub mod EqualityLaws
 pub mod kept

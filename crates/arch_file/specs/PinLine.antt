@@ -1,5 +1,5 @@
--- `inpin` and `outpin` lines: what each says, or its first fault (VPR and T-VPack manual 4.30; the limits, a side named
--- twice and the order of the faults are this project's profile).
+-- `inpin` and `outpin` lines: what each says, or its first fault (VPR and T-VPack manual 4.30; the
+-- limits, a side named twice and the order of the faults are this project's profile).
 use Rattle.std.specs.Prelude.{ℕ, Bool, true, false, not, ◌&&◌, ◌||◌, ◌==◌, nat_le, if◌then◌else◌, List, length, drop, unwrap_or, Result, codes}
 use Rattle.std.specs.Option.{option_map_or}
 use Rattle.std.specs.List.{list_any, list_all}

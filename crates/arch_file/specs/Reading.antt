@@ -1,5 +1,5 @@
--- An architecture file as a list of lines, read line by line: what is read, or the first fault (VPR and T-VPack manual
--- 4.30; the faults and their order are this project's profile).
+-- An architecture file as a list of lines, read line by line: what is read, or the first fault (VPR
+-- and T-VPack manual 4.30; the faults and their order are this project's profile).
 use Rattle.std.specs.Prelude.{ℕ, ◌-◌, Bool, not, ◌&&◌, ◌||◌, ◌==◌, nat_lt, if◌then◌else◌, List, [], ◌∷◌, ◌++◌, length, Option, None, Some, unwrap_or, fold, Result, Ok, Err}
 use Rattle.std.specs.List.{list_any}
 use Rattle.vpr_text.specs.Readings.{◌>>=◌, with_fault}
@@ -61,7 +61,8 @@ missing_of lines =
     else (if lacks_switch lines then Some entry.Switch
     else None))))))))))))
 
--- the value that a line gives, or x where none does; no two lines give one, since its keyword stands once
+-- the value that a line gives, or x where none does; no two lines give one, since its keyword
+-- stands once
 abbrev pub value_in : {X : Type 0} → (ArchLine → Option X) → List ArchLine → X → X
 value_in f lines x = fold (λ value line. unwrap_or (f line) value) x lines
 
@@ -83,7 +84,8 @@ abbrev pub completed : List ArchLine → Option Entry → Result Architecture Ar
 completed lines None = Ok (architecture_from lines)
 completed lines (Some e) = Err (arch.Missing e)
 
--- lines as an architecture: the fault of the first faulty line, else the first entry that is missing
+-- lines as an architecture: the fault of the first faulty line, else the first entry that is
+-- missing
 unfoldable pub reading : List Line → Result Architecture ArchFault
 reading lines = entries_from [] lines >>= λ entries. completed entries (missing_of entries)
 

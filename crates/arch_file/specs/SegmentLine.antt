@@ -1,5 +1,6 @@
--- `segment` lines: what each says, or its first fault (VPR and T-VPack manual 4.30; lengths, limits and the order of the
--- faults are this project's profile). The pairs are the words after the keyword.
+-- `segment` lines: what each says, or its first fault (VPR and T-VPack manual 4.30; lengths, limits
+-- and the order of the faults are this project's profile). The pairs are the words after the
+-- keyword.
 use Rattle.std.specs.Prelude.{ℕ, Bool, false, not, ◌&&◌, ◌||◌, ◌==◌, nat_lt, nat_le, if◌then◌else◌, List, length, drop, unwrap_or, is_none, Result, codes}
 use Rattle.std.specs.List.{list_any}
 use Rattle.arch_file.specs.declared.fault.LineFault.{LineFault}
@@ -19,7 +20,8 @@ use Rattle.arch_file.specs.Architecture.{most_segments, longest_wire}
 abbrev pub is_wrong_length : List ℕ → Bool
 is_wrong_length word = not (is_text word (codes "longline")) && (unwrap_or (number_of word) 0 == 0)
 
--- what the value of a key has to be: a number with decimals, the number of a switch, or a decimal that isn't used
+-- what the value of a key has to be: a number with decimals, the number of a switch, or a decimal
+-- that isn't used
 unfoldable pub wants_fixed : List ℕ → Bool
 wants_fixed key = is_text key (codes "frequency:") || is_text key (codes "Frac_cb:") || is_text key (codes "Frac_sb:")
 
@@ -54,7 +56,8 @@ has_other_keys pairs =
     && has_key pairs (codes "Rmetal:")
     && has_key pairs (codes "Cmetal:")
 
--- the words are the eight pairs: with as many words and each key among them, no key is unknown, repeated or left out
+-- the words are the eight pairs: with as many words and each key among them, no key is unknown,
+-- repeated or left out
 unfoldable pub has_segment_keys : List (List ℕ) → Bool
 has_segment_keys pairs = (length pairs == 16) && has_wire_keys pairs && has_other_keys pairs
 

@@ -1,5 +1,6 @@
--- `switch` lines: what each says, or its first fault (VPR and T-VPack manual 4.30; limits and the order of the faults are
--- this project's profile). The pairs are the words after the keyword and the number.
+-- `switch` lines: what each says, or its first fault (VPR and T-VPack manual 4.30; limits and the
+-- order of the faults are this project's profile). The pairs are the words after the keyword and
+-- the number.
 use Rattle.std.specs.Prelude.{ℕ, Bool, false, not, ◌&&◌, ◌||◌, ◌==◌, nat_lt, if◌then◌else◌, List, length, drop, unwrap_or, is_none, Result, Err, codes}
 use Rattle.std.specs.Option.{option_map_or}
 use Rattle.std.specs.List.{list_any}
@@ -34,7 +35,8 @@ has_wrong_value pairs = list_any is_wrong_value (pairs_of pairs)
 unfoldable pub has_bad_number : List (List ℕ) → Bool
 has_bad_number words = (has words 1 && is_none (number_in words 1)) || has_wrong_value (drop 2 words)
 
--- the words are the five pairs: with as many words and each key among them, no key is unknown, repeated or left out
+-- the words are the five pairs: with as many words and each key among them, no key is unknown,
+-- repeated or left out
 unfoldable pub has_switch_keys : List (List ℕ) → Bool
 has_switch_keys pairs =
     (length pairs == 10)

@@ -1,5 +1,6 @@
--- Lines of one value: what each says, or its first fault (VPR and T-VPack manual 4.30; the limits, what is not supported
--- and the order of the faults are this project's profile). Words are counted from 0, which is the keyword.
+-- Lines of one value: what each says, or its first fault (VPR and T-VPack manual 4.30; the limits,
+-- what is not supported and the order of the faults are this project's profile). Words are counted
+-- from 0, which is the keyword.
 use Rattle.std.specs.Prelude.{ℕ, Bool, false, not, ◌&&◌, ◌||◌, ◌==◌, nat_lt, if◌then◌else◌, List, length, unwrap_or, is_none, Result, Ok, Err, codes}
 use Rattle.arch_file.specs.declared.fault.LineFault.{LineFault}
 use Rattle.arch_file.specs.declared.fault.LineFault.TheVariants.{BadWord, Unsupported}

@@ -67,8 +67,8 @@ impl Arch {
         self.pins.iter().filter(|pin| pin.class == class).count()
     }
 
-    /// The direction of a class: that of its first pin, and so of each, since a file that mixes them is refused. None where there
-    /// is no such class.
+    /// The direction of a class: that of its first pin, and so of each, since a file that mixes
+    /// them is refused. None where there is no such class.
     pub fn class_direction(&self, class: u32) -> Option<Direction>
         ensures { result ≡ class_direction self.now class }
     {

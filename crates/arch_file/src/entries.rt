@@ -27,7 +27,8 @@ pub struct Pin {
     pub sides: Sides,
 }
 
-/// What the values of `Fc_output`, `Fc_input` and `Fc_pad` count: tracks, or a share of a channel's tracks.
+/// What the values of `Fc_output`, `Fc_input` and `Fc_pad` count: tracks, or a share of a channel's
+/// tracks.
 #[derive(Clone, Copy, Debug, PartialEq, Eq)]
 pub enum FcType {
     Absolute,

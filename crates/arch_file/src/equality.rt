@@ -2,8 +2,8 @@
 
 ghost use Rattle.std.specs.Prelude.{◌≡◌, ◌↔◌, true};
 ghost use Rattle.std.specs.Cmp.Lexicographic.{pointwise};
-ghost use Rattle.arch_file.specs.Same.{same_pin, same_segment, same_switch, is_same_architecture};
-ghost use Rattle.arch_file.specs.SameLaws.{same_architecture_symmetric, same_architecture_equivalence};
+ghost use Rattle.arch_file.specs.Equality.{same_pin, same_segment, same_switch, is_same_architecture};
+ghost use Rattle.arch_file.specs.EqualityLaws.{same_architecture_symmetric, same_architecture_equivalence};
 
 use crate::arch::Arch;
 use crate::entries::{Pin, Segment, Switch};
@@ -28,7 +28,7 @@ fn are_same_switches(a: &[Switch], b: &[Switch]) -> bool
 
 impl Arch {
     /// Whether this architecture has the entries of another one, in the same order.
-    #[tactic(auto, unfolding(crate::specs::Same::is_same_architecture))]
+    #[tactic(auto, unfolding(crate::specs::Equality::is_same_architecture))]
     fn has_entries_of(&self, other: &Arch) -> bool
         ensures { result ≡ is_same_architecture self.now other.now }
     {
@@ -49,7 +49,7 @@ impl PartialEq for Arch {
     ghost laws = { same_architecture_symmetric };
 
     /// Whether the two have the same entries, in the same order.
-    #[tactic(auto, using(crate::specs::SameLaws::same_architecture))]
+    #[tactic(auto, using(crate::specs::EqualityLaws::same_architecture))]
     fn eq(&self, other: &Arch) -> bool
         ensures test { result ≡ is_same_architecture self.now other.now }
         ensures same { (result ≡ true) ↔ (self.now ≡ other.now) }

@@ -29,8 +29,8 @@ pub enum Entry {
     Switch,
 }
 
-/// What is wrong with an architecture. A line is the number of the faulty logical line: that of its first physical
-/// line, counted from 1.
+/// What is wrong with an architecture. A line is the number of the faulty logical line: that of its
+/// first physical line, counted from 1.
 #[derive(Clone, Copy, Debug, PartialEq, Eq, Error)]
 pub enum ArchFault {
     /// The text has no lines.
@@ -42,7 +42,8 @@ pub enum ArchFault {
     /// The keyword, or the number of the switch, stands on an earlier line.
     #[error("line {0} repeats an entry")]
     Repeated(u32),
-    /// A word isn't the number that is wanted there, or a pin mixes inputs and outputs in one class.
+    /// A word isn't the number that is wanted there, or a pin mixes inputs and outputs in one
+    /// class.
     #[error("line {0} has a bad number")]
     BadNumber(u32),
     /// A word is wrong, left out or too many.

@@ -7,7 +7,8 @@ ghost use Rattle.arch_file.specs.Pairs.{pairs_of, pair_with, value_of, has_key, 
 use line_reader::{Words, is_text};
 use vpr_text::{fixed, number};
 
-/// Each key with the word after it, in the order of the line. A last key without a value gives no pair.
+/// Each key with the word after it, in the order of the line. A last key without a value gives no
+/// pair.
 #[derive(Drop)]
 pub(crate) struct KeyedWords<'t, 'a> {
     words: Words<'t, 'a>,

@@ -225,16 +225,18 @@ fn arch_in(alloc: Global, source: &[u8]) -> Result<Arch, ArchFault>
     }
 }
 
-/// The architecture that a file's bytes describe, by "The Architecture File Format" of the VPR and T-VPack manual 4.30 and
-/// the limits of this project's profile: 1 to 16 pads at each place of the perimeter, 1 to 64 pins of a logic block in
-/// classes 0 to 63, 1 to 16 segments of 1 to 16 logic blocks or longlines, and switches 0 to 255.
+/// The architecture that a file's bytes describe, by "The Architecture File Format" of the VPR and
+/// T-VPack manual 4.30 and the limits of this project's profile: 1 to 16 pads at each place of the
+/// perimeter, 1 to 64 pins of a logic block in classes 0 to 63, 1 to 16 segments of 1 to 16 logic
+/// blocks or longlines, and switches 0 to 255.
 ///
-/// A fault of the text comes first, then that of the first faulty line, then the first entry that is missing. Of the
-/// faults of one line it is the first in the order of `ArchFault`.
+/// A fault of the text comes first, then that of the first faulty line, then the first entry that
+/// is missing. Of the faults of one line it is the first in the order of `ArchFault`.
 pub fn parse(alloc: Global, source: &[u8]) -> Result<Arch, ArchFault>
     // What is read is the architecture of the text.
     ensures found { IfOk result (λ a. ReadsBytes source.now a) }
-    // A text has no other architecture, and one that has an architecture is read, unless memory runs out.
+    // A text has no other architecture, and one that has an architecture is read, unless memory
+    // runs out.
     ensures only { (a : Architecture) → ReadsBytes source.now a
         → Gives Memory (λ b. b) result (Ok a) }
     // Which fault it is.

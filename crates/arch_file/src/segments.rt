@@ -91,7 +91,8 @@ fn has_wire_keys(pairs: &Words) -> bool
         && has_key(pairs, "opin_switch:")
 }
 
-/// Whether the keys that say what a wire connects to, and of what it is made, stand among the pairs.
+/// Whether the keys that say what a wire connects to, and of what it is made, stand among the
+/// pairs.
 #[tactic(auto, unfolding(crate::specs::SegmentLine::has_other_keys))]
 fn has_other_keys(pairs: &Words) -> bool
     ensures { result ≡ has_other_keys pairs.now }
@@ -102,8 +103,8 @@ fn has_other_keys(pairs: &Words) -> bool
         && has_key(pairs, "Cmetal:")
 }
 
-/// Whether the words are the eight pairs: with as many words and each key among them, no key is unknown, repeated or
-/// left out.
+/// Whether the words are the eight pairs: with as many words and each key among them, no key is
+/// unknown, repeated or left out.
 #[tactic(auto, unfolding(crate::specs::SegmentLine::has_segment_keys))]
 fn has_segment_keys(pairs: &Words) -> bool
     ensures { result ≡ has_segment_keys pairs.now }

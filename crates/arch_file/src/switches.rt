@@ -58,8 +58,8 @@ fn has_wrong_value(pairs: &Words) -> bool
     pairs_in(pairs).any(|pair| is_wrong_value(pair.0, pair.1))
 }
 
-/// Whether the words are the five pairs: with as many words and each key among them, no key is unknown, repeated or left
-/// out.
+/// Whether the words are the five pairs: with as many words and each key among them, no key is
+/// unknown, repeated or left out.
 #[tactic(auto, unfolding(crate::specs::SwitchLine::has_switch_keys))]
 fn has_switch_keys(pairs: &Words) -> bool
     ensures { result ≡ has_switch_keys pairs.now }

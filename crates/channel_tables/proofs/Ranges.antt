@@ -7,6 +7,7 @@ use Rattle.std.specs.Prelude.{◌||◌}
 use Rattle.std.proofs.lemmas.Bool.{or_from, or_left, or_right}
 use Rattle.std.proofs.lemmas.List.Sums.{position_or_len_is, sum_by_push}
 use Rattle.std.proofs.lemmas.List.FromFn.{length-range_with_len, get_or-range_with_len, get_or-map-range_with_len}
+pub use Rattle.arch_file.proofs.Lists.{range_more, below_next}
 
 pub first_in_range : (p : ℕ → Bool) (a n i : ℕ) → i ≤ n → ((k : ℕ) → k < i → p (a + k) ≡ false) → (i < n → p (a + i) ≡ true) → position_or_len p (range_with_len a n) ≡ i
 first_in_range p a n i le below here =
@@ -46,16 +47,6 @@ none_mapped p g n h = list_any-map p g (range_with_len 0 n) ∙ none_below (λ k
 
 pub some_mapped : (p : ℕ → Bool) (g : ℕ → ℕ) (n i : ℕ) → i < n → p (g i) ≡ true → list_any p (map g (range_with_len 0 n)) ≡ true
 some_mapped p g n i l h = list_any-map p g (range_with_len 0 n) ∙ some_below (λ k. p (g k)) n i l h
-
-pub range_more : (a n : ℕ) → range_with_len a (n + 1) ≡ range_with_len a n ++ (a + n) ∷ []
-range_more a zero = let e : a ≡ a + 0 = omega arith in ap (λ b. b ∷ []) e
-range_more a (suc n) =
-    let e : suc n + 1 ≡ suc (n + 1) = omega arith in
-    let s : a + 1 + n ≡ a + suc n = omega arith in
-    ap (range_with_len a) e ∙ ap (λ ys. a ∷ ys) (range_more (a + 1) n ∙ ap (λ b. range_with_len (a + 1) n ++ b ∷ []) s)
-
-pub below_next : (n : ℕ) → range_with_len 0 (n + 1) ≡ range_with_len 0 n ++ n ∷ []
-below_next n = range_more 0 n ∙ ap (λ b. range_with_len 0 n ++ b ∷ []) (zero-add n)
 
 pub length_below : {X : Type 0} (g : ℕ → X) (n : ℕ) → length (map g (range_with_len 0 n)) ≡ n
 length_below g n = length-map (range_with_len 0 n) g ∙ length-range_with_len 0 n

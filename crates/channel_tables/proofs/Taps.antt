@@ -86,7 +86,8 @@ module _ (count w p t : ℕ) (some : 0 < count) (wide : 0 < w) where
   abbrev any_lands : Bool
   any_lands = list_any (λ k. k == t) (map track_of (range_with_len 0 count))
 
-  -- of those that land on the track none comes before the first tap that reaches as far, and all lie as far as that one
+  -- of those that land on the track none comes before the first tap that reaches as far, and all
+  -- lie as far as that one
   landing : t < w → (k : ℕ) → k < count → track_of k ≡ t
       → (first_tap count w (steps w p t) ≤ k) × ((first_tap count w (steps w p t) * w) / count ≡ steps w p t)
   landing l k m h =

@@ -1,8 +1,8 @@
 -- The tracks of a channel in the order of where their wires through a place begin.
-use Rattle.std.proofs.Common.{◌≡◌, ℕ, ◌+◌, ◌-◌, ◌*◌, ◌<◌, ◌≤◌, zero, suc, Bool, true, false, cond, List, [], ◌∷◌, ◌++◌, length, take, drop, refl, sym, ap, ◌∙◌, arith, All, inl, inr}
+use Rattle.std.proofs.Common.{◌≡◌, ℕ, ◌+◌, ◌-◌, ◌*◌, ◌<◌, ◌≤◌, zero, suc, Bool, true, false, cond, List, [], ◌∷◌, ◌++◌, length, take, drop, refl, sym, ap, ◌∙◌, arith, All}
 use Rattle.std.specs.Prelude.{◌==◌}
 use Rattle.std.specs.List.{range_with_len, filter, flat_map, prefix_len}
-use Rattle.std.proofs.lemmas.Bool.{eq-eqb, ne_eqb, eqb-true, cases_lt}
+use Rattle.std.proofs.lemmas.Bool.{eq-eqb, ne_eqb, eqb-true}
 use Rattle.std.proofs.Math.Seq.{take-append_seam, drop-append_seam}
 use Rattle.std.proofs.Math.Nat.{mul-le-mul_right}
 use Rattle.std.proofs.lemmas.List.{append_assoc, append-nil}
@@ -81,12 +81,6 @@ module _ (f : Fabric) (n p : ℕ) where
   pub through_none : tracks_through f n 0 ≡ []
   unfolding tracks_since
   through_none = refl
-
-  pub through_some : (i : ℕ) → i < length (tracks_through f n p) → 1 ≤ p
-  through_some i l = elim (cases_lt 0 p) [
-    | inl some ↦ some
-    | inr none ↦ let e : p ≡ 0 = omega arith in absurd (omega (arith, ap (λ k. length (tracks_through f n k)) e, ap length through_none))
-  ]
 
   pub through-length : 1 ≤ p → length (tracks_through f n p) ≡ tracks_in f.mode f.width
   through-length l =

@@ -1,4 +1,5 @@
--- The wires of one track of a channel, in one dimension: which of them touch a corner, and which are next to a wire.
+-- The wires of one track of a channel, in one dimension: which of them touch a corner, and which
+-- are next to a wire.
 use Rattle.std.proofs.Common.{◌≡◌, ℕ, ◌+◌, ◌-◌, ◌<◌, ◌≤◌, inl, inr, zero, suc, Bool, true, false, List, [], ◌∷◌, ◌++◌, length, refl, sym, ap, ◌∙◌, subst, arith, zero-add}
 use Rattle.std.specs.Prelude.{◌==◌, ◌&&◌, not, nat_le}
 use Rattle.std.specs.List.{range_with_len, list_any, flat_map, position_or_len}

@@ -1,5 +1,5 @@
--- The channels of a device along its two axes: above each row, from 0 on, and right of each column, from 0 on (VPR and T-VPack
--- manual 4.30; Betz, Rose and Marquardt 1999, "routing-resource graph").
+-- The channels of a device along its two axes: above each row, from 0 on, and right of each column,
+-- from 0 on (VPR and T-VPack manual 4.30; Betz, Rose and Marquardt 1999, "routing-resource graph").
 use Rattle.std.specs.Prelude.{ℕ}
 use Rattle.channel_tables.specs.declared.axis.Axis.{Axis}
 use Rattle.channel_tables.specs.declared.axis.Axis.TheVariants.{Row, Column}
@@ -10,7 +10,8 @@ abbrev pub places_along : Axis → Fabric → ℕ
 places_along Row f = f.nx
 places_along Column f = f.ny
 
--- along what the channels run that cross it; of these there is one behind each place, and one before the first
+-- along what the channels run that cross it; of these there is one behind each place, and one
+-- before the first
 abbrev pub across : Axis → Axis
 across Row = Column
 across Column = Row

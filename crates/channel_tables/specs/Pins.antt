@@ -1,5 +1,5 @@
--- The pins of logic blocks and pads, and the tracks that they tap (VPR and T-VPack manual 4.30, "Fc"; which tracks a
--- pin taps is this project's choice).
+-- The pins of logic blocks and pads, and the tracks that they tap (VPR and T-VPack manual 4.30,
+-- "Fc"; which tracks a pin taps is this project's choice).
 use Rattle.std.specs.Prelude.{ℕ, ◌+◌, ◌-◌, ◌*◌, ◌/◌, ◌%◌, ◌==◌, Bool, ◌&&◌, not, true, false, min, max, if◌then◌else◌, List, [], ◌∷◌, ◌++◌, length, map, slice_get, Option, Some, None, ◌≡◌}
 use Rattle.std.specs.List.{list_any, filter}
 use Rattle.std.specs.Option.{option_map}
@@ -41,7 +41,8 @@ fc_tracks Fractional fc width = fc * width
 abbrev pub tap_count : FcType → (fc width : ℕ) → ℕ
 tap_count t fc width = max 1 (min width ((fc_tracks t fc width + 500000000) / 1000000000))
 
--- the tracks that pin p taps by Fc, spread evenly and shifted by the pin's number; in a global device the one track
+-- the tracks that pin p taps by Fc, spread evenly and shifted by the pin's number; in a global
+-- device the one track
 abbrev pub tracks_by : Mode → (count width p : ℕ) → List ℕ
 tracks_by Detailed count width p = map (λ i. (p + (i * width) / count) % width) (numbers_below count)
 tracks_by Global count width p = 0 ∷ []
@@ -96,7 +97,8 @@ abbrev pub has_class : Option Pin → ℕ → Bool
 has_class (Some p) class = p.class == class
 has_class None class = false
 
--- the pin is of the terminal, a node of kind Source or Sink: of its class at a block, of its position at a pad
+-- the pin is of the terminal, a node of kind Source or Sink: of its class at a block, of its
+-- position at a pad
 unfoldable pub belongs : Fabric → (pin terminal : Node) → Bool
 belongs f pin terminal =
     (pin.x == terminal.x && pin.y == terminal.y) && (if is_block f pin.x pin.y then has_class (slice_get f.architecture.pins pin.number) terminal.number else pin.number == terminal.number)

@@ -37,7 +37,8 @@ on_side Right s = s.right
 on_side Left s = s.left
 on_side Pad s = false
 
--- the places, among the input pins of a block or the pads of a place, of those that tap a track on a side
+-- the places, among the input pins of a block or the pads of a place, of those that tap a track on
+-- a side
 abbrev pub tapping_on : Side → Fabric → (track : ℕ) → List ℕ
 tapping_on Pad f track = tapping_pads f track
 tapping_on side f track = tapping_pins f (on_side side) track

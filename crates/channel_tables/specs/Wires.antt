@@ -1,5 +1,5 @@
--- The tracks of a channel and the wires in them (this project's profile; the subject is that of Betz, Rose and
--- Marquardt 1999, "segmented routing").
+-- The tracks of a channel and the wires in them (this project's profile; the subject is that of
+-- Betz, Rose and Marquardt 1999, "segmented routing").
 use Rattle.std.specs.Prelude.{ℕ, ◌+◌, ◌-◌, ◌*◌, ◌%◌, ◌==◌, Bool, ◌||◌, ◌&&◌, false, max, nat_lt, nat_le, if◌then◌else◌, List, length, take, slice_get, Option, Some, None}
 use Rattle.std.specs.List.{sum_by, position_or_len, range_with_len, filter}
 use Rattle.arch_file.specs.declared.entries.Segment.{Segment}
@@ -48,7 +48,8 @@ abbrev pub places_of_length : ℕ → SegmentLength → ℕ
 places_of_length n (Places k) = k
 places_of_length n Longline = n
 
--- how many places a wire of this type passes in a channel of n places; 1 for no type, which no track lacks
+-- how many places a wire of this type passes in a channel of n places; 1 for no type, which no
+-- track lacks
 abbrev pub places_of_type : ℕ → Option Segment → ℕ
 places_of_type n (Some s) = places_of_length n s.length
 places_of_type n None = 1
@@ -65,12 +66,13 @@ length_of f n track = length_by f.mode f.architecture.segments f.width n track
 unfoldable pub reach_of : Fabric → (track : ℕ) → ℕ
 reach_of f track = max (length_of f f.nx track) (length_of f f.ny track)
 
--- a wire of the track begins at a place of a channel of n places, which are counted from 1: at the first place, and at
--- every place that is a whole number of wires away, shifted by the track's rank
+-- a wire of the track begins at a place of a channel of n places, which are counted from 1: at the
+-- first place, and at every place that is a whole number of wires away, shifted by the track's rank
 unfoldable pub begins : Fabric → (n track place : ℕ) → Bool
 begins f n track place = place == 1 || (place - 1 + rank_of f.architecture.segments f.width track) % length_of f n track == 0
 
--- how many places a wire goes on after the place where it begins: up to the next beginning, or the channel's end
+-- how many places a wire goes on after the place where it begins: up to the next beginning, or the
+-- channel's end
 unfoldable pub steps_of : Fabric → (n track place : ℕ) → ℕ
 steps_of f n track place = position_or_len (begins f n track) (range_with_len (place + 1) (n - place))
 

@@ -3,7 +3,8 @@
 ghost use Rattle.std.specs.Prelude.{◌≡◌};
 ghost use Rattle.channel_tables.specs.Axes.{across};
 
-/// Along what a channel runs: above a row, where its places are columns, or right of a column, where they are rows.
+/// Along what a channel runs: above a row, where its places are columns, or right of a column,
+/// where they are rows.
 #[derive(Clone, Copy, Debug)]
 pub enum Axis {
     Row,

@@ -1,5 +1,5 @@
-//! The wires of a channel, in tables that are made once: how many begin before a place, where each begins, and which
-//! wire of a track runs through a place.
+//! The wires of a channel, in tables that are made once: how many begin before a place, where each
+//! begins, and which wire of a track runs through a place.
 
 ghost use Rattle.std.specs.Prelude.{◌≡◌, ℕ, All, ◌+◌, ◌-◌, ◌*◌, ◌<◌, ◌≤◌, ◌++◌, length, map, slice_get, Some, true, IfOk, OnOk};
 ghost use Rattle.std.specs.List.{flat_map};
@@ -238,7 +238,8 @@ impl Staggers<'_> {
         rest
     }
 
-    /// The wire of a track through a place: a new one of that number, or the one through the place before.
+    /// The wire of a track through a place: a new one of that number, or the one through the place
+    /// before.
     #[tactic(auto, using(crate::proofs::WireTables::wire_here, crate::proofs::WireTables::wire_before))]
     fn wire_through(&self, wires: &[Wire], place: u32, track: u32, number: u32) -> Wire
         requires place { (1 ≤ place) × (place ≤ self.now.places) }

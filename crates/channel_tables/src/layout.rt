@@ -1,4 +1,5 @@
-//! What a device is made from: its architecture, the size of its array, the width of its channels, and its mode.
+//! What a device is made from: its architecture, the size of its array, the width of its channels,
+//! and its mode.
 
 ghost use Rattle.std.specs.Prelude.{◌≡◌, ℕ, ◌+◌, ◌≤◌, ◌<◌, IfOk};
 ghost use Rattle.arch_file.specs.Architecture.{longest_side};

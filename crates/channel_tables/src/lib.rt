@@ -1,5 +1,5 @@
-//! The channels of a device: their tracks and wires, and the pins that tap them, in tables that are made once
-//! (Betz, Rose and Marquardt 1999; VPR and T-VPack manual 4.30).
+//! The channels of a device: their tracks and wires, and the pins that tap them, in tables that are
+//! made once (Betz, Rose and Marquardt 1999; VPR and T-VPack manual 4.30).
 #![tactic(auto)]
 
 mod axis;

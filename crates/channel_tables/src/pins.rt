@@ -34,7 +34,8 @@ pub fn has_class(pin: Option<Pin>, class: u32) -> bool
     }
 }
 
-/// How many tracks on from the first track of pin `number` a track lies, where track 0 comes after the last.
+/// How many tracks on from the first track of pin `number` a track lies, where track 0 comes after
+/// the last.
 #[tactic(auto, using(crate::proofs::Taps::steps_ahead, crate::proofs::Taps::steps_around))]
 fn steps_on(width: u32, number: u32, track: u32) -> u32
     requires wide { 1 ≤ width }
@@ -55,8 +56,9 @@ fn steps_on(width: u32, number: u32, track: u32) -> u32
     }
 }
 
-/// Whether pin `number` taps the track of a detailed device, where it taps `count` of `width` tracks. Its tap `i` lies
-/// `i * width / count` tracks on from the first one: only the first tap that is as far on as the track can be on it.
+/// Whether pin `number` taps the track of a detailed device, where it taps `count` of `width`
+/// tracks. Its tap `i` lies `i * width / count` tracks on from the first one: only the first tap
+/// that is as far on as the track can be on it.
 fn is_tapped(width: u32, count: u32, number: u32, track: u32) -> bool
     requires wide { 1 ≤ width }
     requires narrow { width ≤ most_tracks }
@@ -152,7 +154,8 @@ impl Layout {
         }
     }
 
-    /// Whether the wire runs beside a side where the pin of the block at (x, y) is reached; `last` is the wire's last place.
+    /// Whether the wire runs beside a side where the pin of the block at (x, y) is reached; `last`
+    /// is the wire's last place.
     fn is_beside_block(&self, pin: Option<Pin>, x: u32, y: u32, wire: Node, last: u32) -> bool
         requires { last ≡ last_by wire.kind self.now wire }
         ensures { result ≡ list_any (runs_through self.now wire) (channels_of_pin pin x y) }
@@ -199,7 +202,8 @@ impl Layout {
         }
     }
 
-    /// Whether the pin, a node of kind Opin or Ipin, taps the wire; `last` is the wire's last place.
+    /// Whether the pin, a node of kind Opin or Ipin, taps the wire; `last` is the wire's last
+    /// place.
     #[inline(always)]
     #[tactic(auto, unfolding(crate::specs::Pins::taps, crate::specs::Pins::tapped_tracks))]
     pub fn taps(&self, counts: TapCounts, pin: Node, wire: Node, last: u32) -> bool

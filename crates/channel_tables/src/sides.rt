@@ -24,7 +24,8 @@ pub enum Side {
     Pad,
 }
 
-/// For each track the places, among the input pins of a block or the pads of a place, of those that tap it.
+/// For each track the places, among the input pins of a block or the pads of a place, of those that
+/// tap it.
 #[derive(Drop)]
 pub(crate) struct Tapping {
     /// Where the places of each track start in `places`, and last where they end.
@@ -98,7 +99,8 @@ impl Layout {
         }
     }
 
-    /// Whether an input pin on a side, or a pad, taps the track, where `count` is how many tracks it taps.
+    /// Whether an input pin on a side, or a pad, taps the track, where `count` is how many tracks
+    /// it taps.
     #[tactic(auto, unfolding(crate::specs::Pins::tapped_tracks))]
     fn taps_from(&self, side: Side, count: u32, track: u32, pin: u32) -> bool
         requires some { 1 ≤ count }
@@ -161,7 +163,8 @@ impl Layout {
         Ok(Tapping { starts, places })
     }
 
-    /// The places, among a block's input pins or the pads of a place, of those that tap a track on a side.
+    /// The places, among a block's input pins or the pads of a place, of those that tap a track on
+    /// a side.
     #[tactic(auto, using(crate::proofs::TappingTables::places_of_track_are, crate::proofs::TappingTables::few_pins, crate::proofs::TappingTables::few_pads))]
     pub(crate) fn tapping_on<'a>(&self, sides: &'a BlockSides, side: Side, track: u32) -> &'a [u8]
         requires limits { IsFabric self.now }

@@ -143,7 +143,8 @@ impl ChannelTables {
         self.layout.wires_before(self.channel(axis), place)
     }
 
-    /// How many wires of a channel above a row begin at place `x`: so much greater is the number of a wire one row up.
+    /// How many wires of a channel above a row begin at place `x`: so much greater is the number of
+    /// a wire one row up.
     #[tactic(auto, using(crate::proofs::WireTables::before_next))]
     pub fn above_step(&self, x: u32) -> u32
         requires { x ≤ self.now.nx }
@@ -154,7 +155,8 @@ impl ChannelTables {
         self.wires_before(Axis::Row, x + 1) - before
     }
 
-    /// How many wires a channel right of a column has: so much greater is the number of a wire one column on.
+    /// How many wires a channel right of a column has: so much greater is the number of a wire one
+    /// column on.
     pub fn right_step(&self) -> u32
         ensures step { result ≡ wires_before self.now self.now.ny (self.now.ny + 1) }
         ensures few { result ≤ 25856 }
@@ -172,7 +174,8 @@ impl ChannelTables {
         self.layout.beginning_at(self.channel(axis), index)
     }
 
-    /// The places, among a block's input pins or the pads of a place, of those that tap a track on a side.
+    /// The places, among a block's input pins or the pads of a place, of those that tap a track on
+    /// a side.
     #[inline(always)]
     pub fn tapping(&self, side: Side, track: u32) -> &[u8]
         requires { track < tracks_in self.now.mode self.now.width }

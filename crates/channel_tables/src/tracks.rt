@@ -1,4 +1,5 @@
-//! The tracks of a channel in the order of where their wires through a place begin, in a table that is made once.
+//! The tracks of a channel in the order of where their wires through a place begin, in a table that
+//! is made once.
 
 ghost use Rattle.std.specs.Prelude.{◌≡◌, ◌+◌, ◌<◌, ◌≤◌, ◌==◌, ◌++◌, All, IfOk, OnOk};
 ghost use Rattle.std.specs.List.{flat_map, prefix_len};
@@ -100,7 +101,8 @@ impl Layout {
 }
 
 impl ChannelTables {
-    /// The tracks in the order of where their wires through a place of the channels along an axis begin.
+    /// The tracks in the order of where their wires through a place of the channels along an axis
+    /// begin.
     pub fn tracks_through(&self, axis: Axis, place: u32) -> &[u8]
         requires { place ≤ places_along axis self.now }
         ensures { result.now ≡ tracks_through self.now (places_along axis self.now) place }
@@ -108,7 +110,8 @@ impl ChannelTables {
         self.layout.tracks_through(self.channel(axis), place)
     }
 
-    /// How many of the tracks stand before the first one whose wire through a column does not begin at place `first`.
+    /// How many of the tracks stand before the first one whose wire through a column does not begin
+    /// at place `first`.
     #[tactic(auto, using(std::proofs::lemmas::List::Sums::prefix_len_is))]
     fn count_begun(&self, tracks: &[u8], column: u32, first: u32) -> usize
         requires column { (1 ≤ column) × (column ≤ self.now.nx) }
@@ -125,7 +128,8 @@ impl ChannelTables {
         tracks.len()
     }
 
-    /// Of the tracks whose wires through a column begin at place `first` or behind it, those at `first`, and the others.
+    /// Of the tracks whose wires through a column begin at place `first` or behind it, those at
+    /// `first`, and the others.
     #[tactic(auto, using(crate::proofs::TrackOrder::begun_front, crate::proofs::TrackOrder::begun_rest, crate::proofs::TrackOrder::since_small))]
     pub fn split_tracks<'a>(
         &self,

@@ -1,4 +1,5 @@
--- Histories worked by hand: with a factor of 20, node 39 is overused by one in the first iteration, and nodes 32, 38 and 39 in the second.
+-- Histories worked by hand: with a factor of 20, node 39 is overused by one in the first iteration,
+-- and nodes 32, 38 and 39 in the second.
 use Rattle.std.proofs.Common.{◌≡◌, List, [], ◌∷◌, refl}
 use Rattle.congestion_book.specs.Histories.{Amount, history_of}
 

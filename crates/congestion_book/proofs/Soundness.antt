@@ -1,7 +1,6 @@
 -- Every event keeps a book sound.
-use Rattle.std.proofs.Common.{◌≡◌, ℕ, ◌+◌, ◌<◌, ◌≤◌, ◌==◌, List, [], ◌∷◌, ◌++◌, length, replicate, All, Option, None, refl, sym, ap, subst, ◌∙◌, arith, length-append}
+use Rattle.std.proofs.Common.{◌≡◌, ℕ, ◌+◌, ◌<◌, ◌≤◌, List, [], ◌∷◌, ◌++◌, length, replicate, All, Option, None, refl, sym, ap, subst, ◌∙◌, arith, length-append}
 use Rattle.std.proofs.lemmas.List.{length-replicate}
-use Rattle.std.proofs.lemmas.List.Sums.{sum_by-cons}
 use Rattle.std.proofs.lemmas.Option.{none-some}
 use Rattle.routing_problem.specs.Problems.{RoutingProblem}
 use Rattle.route_tree.proofs.Uses.{unused}
@@ -9,13 +8,12 @@ use Rattle.std.proofs.lemmas.List.Elements.{All-nil, All-push}
 use Rattle.std.proofs.lemmas.Bool.Decides.{nat_tests}
 use Rattle.routing_problem.specs.Nodes.{node_count_of}
 use Rattle.route_tree.specs.TreeLists.{lists_of_trees}
-use Rattle.congestion_book.specs.declared.turn.Turn.{Turn}
-use Rattle.congestion_book.specs.Turns.{TurnTable, AreInOrder, NameEachOnce, IsFirstWaiting, turns_at, one_if}
+use Rattle.congestion_book.specs.Turns.{TurnTable, AreInOrder, NameEachOnce, IsFirstWaiting}
 use Rattle.congestion_book.specs.kept.TurnTables.{first_table, table_closed}
 use Rattle.congestion_book.specs.kept.Counts.{AreRecorded}
 use Rattle.congestion_book.specs.Histories.{Amount, IsRow, histories_of, row_of}
 use Rattle.congestion_book.specs.kept.HistoryTables.{HistoryTable, AreHistories}
-use Rattle.congestion_book.specs.Contents.{Content, IsSound, IsFresh, opening, table_in}
+use Rattle.congestion_book.specs.Contents.{Content, IsSound, opening}
 use Rattle.congestion_book.specs.Steps.{after_close}
 use Rattle.congestion_book.specs.declared.book.Book.TheInside.{Inside}
 use Rattle.std.specs.Arc.{arc_value}
@@ -55,19 +53,6 @@ opening_sound p acc =
       few = omega arith;
       formed = All-nil (IsRow nodes nets);
     }
-
-undrawn : (t : TurnTable) (i : ℕ) → AreInOrder t → t.drawn ≡ 0 → turns_at t.turns i ≡ 0
-undrawn t i order none = let once = order.once i in grind (arith, nat_tests, none, once)
-
-no_turn : (ts : List Turn) → ((i : ℕ) → turns_at ts i ≡ 0) → ts ≡ []
-no_turn [] none = refl
-no_turn (t ∷ ts) none =
-    let here = none t.net in
-    let one : one_if (t.net == t.net) ≡ 1 = grind (arith, nat_tests) in
-    absurd (omega (arith, here, one, sum_by-cons (λ (u : Turn). one_if (u.net == t.net)) t ts))
-
-pub fresh_turns : (c : Content) → IsSound c → IsFresh c → c.turns ≡ []
-fresh_turns c sound none = no_turn c.turns (λ i. undrawn (table_in c) i sound.order none)
 
 -- what is counted of the recorded trees
 pub recorded : (b : Inside) → IsBookInside b →

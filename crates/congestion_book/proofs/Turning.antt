@@ -1,17 +1,16 @@
 -- Draws, turns and closes keep each net's turns in order.
-use Rattle.std.proofs.Common.{◌≡◌, inl, inr, ℕ, zero, suc, ◌+◌, ◌<◌, ◌≤◌, ◌==◌, nat_lt, List, [], ◌∷◌, ◌++◌, length, Option, Some, None, is_some, Bool, true, false, get_or, set, refl, sym, ap, subst, vec_capacity, ◌∙◌, arith, length-set, length-append, get_or-set_other}
+use Rattle.std.proofs.Common.{◌≡◌, inl, inr, ℕ, zero, suc, ◌+◌, ◌<◌, ◌≤◌, nat_lt, List, [], ◌∷◌, ◌++◌, length, Option, Some, None, is_some, Bool, true, false, get_or, set, refl, sym, ap, subst, vec_capacity, ◌∙◌, arith, length-set, length-append, get_or-set_other}
 use Rattle.std.proofs.lemmas.Bool.{cases_eq, cases_lt, both_ways}
 use Rattle.std.proofs.lemmas.Bool.Decides.{nat_tests}
 use Rattle.std.proofs.lemmas.Grind.{get_or-set_at}
-use Rattle.std.proofs.lemmas.List.Sums.{sum_by-set, sum_by-append, get_or-le-sum_by}
+use Rattle.std.proofs.lemmas.List.Sums.{sum_by-set}
 use Rattle.std.proofs.lemmas.List.{length-replicate}
 use Rattle.std.proofs.lemmas.List.Elements.{All-append, All-cons, All-nil}
 use Rattle.std.specs.Prelude.{count_by, replicate}
-use Rattle.congestion_book.specs.declared.turn.Turn.{Turn}
 use Rattle.congestion_book.specs.declared.turns.Turns.TheInside.{Inside}
 use Rattle.congestion_book.specs.kept.Fields.{table_of, AreTurns}
-use Rattle.congestion_book.specs.Turns.{TurnTable, AreInOrder, IsFirstWaiting, NameEachOnce, holder_in, turns_at, one_if, turn_of}
-use Rattle.congestion_book.specs.kept.TurnTables.{table_drawn, table_turned, table_closed}
+use Rattle.congestion_book.specs.Turns.{TurnTable, AreInOrder, IsFirstWaiting, NameEachOnce, holder_in, turns_at, one_if}
+use Rattle.congestion_book.specs.kept.TurnTables.{table_drawn, table_closed}
 
 -- how many are held after one entry changes
 pub count-set : (xs : List (Option ℕ)) (i : ℕ) (y : Option ℕ) → i < length xs →
@@ -52,43 +51,12 @@ held_within [] i w h = cc
 held_within (x ∷ xs) zero w h = omega arith
 held_within (x ∷ xs) (suc i) w h = let below = held_within xs i w h in omega arith
 
-turned_once : (hs : List (Option ℕ)) (ts : List Turn) (i j d : ℕ) (t : Turn) → i < length hs → one_if (is_some (get_or hs i None)) ≡ 1 → t.net ≡ i
-    → one_if (is_some (get_or hs j None)) + count_by (λ u. u.net == j) ts ≡ one_if (nat_lt j d)
-    → one_if (is_some (get_or (set hs i None) j None)) + count_by (λ u. u.net == j) (ts ++ t ∷ []) ≡ one_if (nat_lt j d)
-turned_once hs ts i j d t within here is o =
-    let more = sum_by-append (λ (u : Turn). one_if (u.net == j)) ts (t ∷ []) in
-    elim (cases_eq j i) [
-      | inl e ↦ rw (get_or-set_at hs i j None None e within) (grind (arith, nat_tests))
-      | inr n ↦ rw (get_or-set_other hs i j None None n) (grind (arith, nat_tests))
-    ]
-
 module _ (t : TurnTable) (w i : ℕ) (passed : Bool) (s : AreInOrder t) (held : holder_in t.holders i ≡ Some w) where
   within : i < length t.holders
   within = held_within t.holders i w held
 
   here : one_if (is_some (holder_in t.holders i)) ≡ 1
   here = rw held refl
-
-  pub turn_in_order : AreInOrder (table_turned t w i passed)
-  turn_in_order =
-      let same = length-set t.holders i None in
-      record {
-        drawn = rw same s.drawn;
-        once = λ j. turned_once t.holders t.turns i j t.drawn (turn_of w i passed) within here refl (s.once j);
-        closed = rw same s.closed;
-      }
-
-  pub turn_all : count_by is_some t.holders + length t.turns ≡ t.drawn →
-      count_by is_some (set t.holders i None) + length (t.turns ++ turn_of w i passed ∷ []) ≡ t.drawn
-  turn_all all =
-      let less = count-set t.holders i None within in
-      omega (arith, here, less, all, length-append t.turns (turn_of w i passed ∷ []))
-
-  -- where a net is held a turn is still to come
-  pub turn_to_come : count_by is_some t.holders + length t.turns ≡ t.drawn → length t.turns < length t.holders
-  turn_to_come all =
-      let one = get_or-le-sum_by (λ (o : Option ℕ). one_if (is_some o)) t.holders i None within in
-      omega (arith, here, one, all, s.drawn)
 
 -- ---- who waits
 free_turned : (t : TurnTable) (i : ℕ) → AreInOrder t → i < t.drawn → holder_in t.holders i ≡ None → turns_at t.turns i ≡ 1

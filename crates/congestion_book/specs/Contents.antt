@@ -1,4 +1,5 @@
--- What a congestion book holds, and when it is sound (McMurchie and Ebeling 1995, "occupancy", "history of congestion").
+-- What a congestion book holds, and when it is sound (McMurchie and Ebeling 1995, "occupancy",
+-- "history of congestion").
 use Rattle.std.specs.Prelude.{◌≡◌, ℕ, ◌-◌, ◌<◌, ◌≤◌, List, [], ◌∷◌, ◌++◌, length, map, get_or, replicate, Option, None, All}
 use Rattle.routing_problem.specs.Fabric.{numbers_below}
 use Rattle.routing_problem.specs.Nodes.{node_count_of}
@@ -23,7 +24,8 @@ pub record Content : Type 0 where
   pub rows : List (List Amount)
   -- of each node its history
   pub histories : List ℕ
-  -- of the open iteration: how many nets were drawn, the worker that holds each net, and the turns made
+  -- of the open iteration: how many nets were drawn, the worker that holds each net, and the turns
+  -- made
   pub drawn : ℕ
   pub holders : List (Option ℕ)
   pub turns : List Turn
@@ -51,7 +53,8 @@ pub record IsSound (c : Content) : Type 0 where
   -- each history is the accumulated overuse
   pub remembered : length c.histories ≡ node_total c
   pub accumulated : (a : ℕ) → a < node_total c → get_or c.histories a 0 ≡ history_of c.acc c.rows a
-  -- each net below the count drawn is held or had one turn, and in each closed iteration each net had one
+  -- each net below the count drawn is held or had one turn, and in each closed iteration each net
+  -- had one
   pub held : length c.holders ≡ net_count c
   pub order : AreInOrder (table_in c)
   -- there is a row for each closed iteration, and at most 500

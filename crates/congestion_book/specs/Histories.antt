@@ -1,4 +1,5 @@
--- The history of a node: its overuse in the closed iterations, added up (McMurchie and Ebeling 1995, "the history of congestion").
+-- The history of a node: its overuse in the closed iterations, added up (McMurchie and Ebeling
+-- 1995, "the history of congestion").
 use Rattle.std.specs.Prelude.{ℕ, ◌+◌, ◌*◌, ◌<◌, ◌≤◌, ◌==◌, nat_lt, if◌then◌else◌, List, [], ◌∷◌, map, sum_by, All}
 use Rattle.std.specs.List.{filter}
 use Rattle.routing_problem.specs.Fabric.{numbers_below}
@@ -19,7 +20,8 @@ abbrev pub AscendFrom : (least : ℕ) → List Amount → Type 0
 AscendFrom least [] = Unit {0}
 AscendFrom least (e ∷ es) = (least ≤ e.0) × AscendFrom (e.0 + 1) es
 
--- A row of overuse: nodes of the device, ascending, each overused by one net at least and by no more than there are nets.
+-- A row of overuse: nodes of the device, ascending, each overused by one net at least and by no
+-- more than there are nets.
 pub record IsRow (nodes nets : ℕ) (row : List Amount) : Type 0 where
   pub ascending : AscendFrom 0 row
   pub there : All (λ e. e.0 < nodes) row
@@ -34,6 +36,7 @@ history_of acc rows a = acc * sum_by (λ row. amount_in row a) rows
 unfoldable pub histories_of : (nodes acc : ℕ) → (rows : List (List Amount)) → List ℕ
 histories_of nodes acc rows = map (history_of acc rows) (numbers_below nodes)
 
--- the row of an iteration that ends with these lists: the overused nodes, ascending, each with its overuse
+-- the row of an iteration that ends with these lists: the overused nodes, ascending, each with its
+-- overuse
 unfoldable pub row_of : RoutingProblem → Lists → List Amount
 row_of p lists = filter (λ e. nat_lt 0 e.1) (map (λ a. (a, overuse_of p lists a)) (numbers_below (node_count_of p.device)))

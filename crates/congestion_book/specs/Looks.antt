@@ -1,4 +1,5 @@
--- What a net sees when it looks again while it is held, and whether the others have filled a node of its tree since it looked.
+-- What a net sees when it looks again while it is held, and whether the others have filled a node
+-- of its tree since it looked.
 use Rattle.std.specs.Prelude.{◌≡◌, ◌≢◌, ℕ, nat_le, Bool, ◌&&◌, not, List, length, Result, Ok, Err}
 use Rattle.std.specs.List.{list_any}
 use Rattle.routing_problem.specs.Nodes.{node_at}
@@ -23,6 +24,7 @@ fills p a others = nat_le (room_of p.device (node_at p.device a)) others
 unfoldable pub has_filled : RoutingProblem → Lists → (i : ℕ) → NetView → ℕ → Bool
 has_filled p lists i view a = fills p a (use_by_others p.nets lists i a) && not (fills p a (others_in view a))
 
--- a node of the tree of these rows is full now by the others of net i, and was not by those in the view
+-- a node of the tree of these rows is full now by the others of net i, and was not by those in the
+-- view
 abbrev pub have_filled : Content → (i : ℕ) → NetView → List Row → Bool
 have_filled c i view rows = list_any (λ r. has_filled c.problem c.lists i view r.node) rows

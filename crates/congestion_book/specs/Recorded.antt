@@ -1,5 +1,5 @@
--- What the recorded lists come to: how many nets use each node, how many nodes are overused and by how much, how many nets have no list,
--- and how long all nets are.
+-- What the recorded lists come to: how many nets use each node, how many nodes are overused and by
+-- how much, how many nets have no list, and how long all nets are.
 use Rattle.std.specs.Prelude.{◌≡◌, ℕ, nat_lt, List, map, sum, Some, is_none, count_by}
 use Rattle.std.specs.List.{sum_by}
 use Rattle.routing_problem.specs.Fabric.{numbers_below}

@@ -21,7 +21,8 @@ use Rattle.congestion_book.specs.Contents.{Content, net_count, node_total, view_
 abbrev pub after_draw : Content → (worker : ℕ) → Content
 after_draw c worker = record c { drawn = c.drawn + 1; holders = set c.holders c.drawn (Some worker) }
 
--- the net has this list, or none, occupancies are those of the new lists, nobody holds it, and the turn is noted
+-- the net has this list, or none, occupancies are those of the new lists, nobody holds it, and the
+-- turn is noted
 abbrev pub after_turn : Content → (worker net : ℕ) → Option (List Pair) → Content
 after_turn c worker net list =
     record c {
@@ -31,7 +32,8 @@ after_turn c worker net list =
       turns = c.turns ++ turn_of worker net (is_none list) ∷ [];
     }
 
--- the iteration's row is appended, the histories grow by it, and the next iteration opens with nothing drawn, held or turned
+-- the iteration's row is appended, the histories grow by it, and the next iteration opens with
+-- nothing drawn, held or turned
 abbrev pub after_close : Content → Content
 after_close c =
     record c {
@@ -43,7 +45,8 @@ after_close c =
       earlier = c.earlier ++ c.turns ∷ [];
     }
 
--- A draw gives the least net that was not drawn, and its view; none where all were drawn. A view of another size is refused first.
+-- A draw gives the least net that was not drawn, and its view; none where all were drawn. A view of
+-- another size is refused first.
 abbrev pub Draws : Content → NetView → (worker : ℕ) → Result (Option ℕ) DrawFault → Content → NetView → Type 0
 Draws old seen worker (Err ViewSize) new sees = (length seen ≢ node_total old) × (new ≡ old) × (sees ≡ seen)
 Draws old seen worker (Ok None) new sees = (length seen ≡ node_total old) × (old.drawn ≡ net_count old) × (new ≡ old) × (sees ≡ seen)
@@ -54,7 +57,8 @@ Draws old seen worker (Ok (Some net)) new sees =
 abbrev pub MayCommit : Content → (worker net : ℕ) → List Pair → Type 0
 MayCommit c worker net pairs = (holder_in c.holders net ≡ Some worker) × IsRoute c.problem net pairs
 
--- A commit needs the worker's hold on the net, and then pairs that route it; else the first fault is reported, and nothing changes.
+-- A commit needs the worker's hold on the net, and then pairs that route it; else the first fault
+-- is reported, and nothing changes.
 abbrev pub Commits : Content → (worker net : ℕ) → List Pair → Result (Unit {0}) CommitFault → Content → Type 0
 Commits old worker net pairs (Ok done) new =
     (holder_in old.holders net ≡ Some worker) × IsRoute old.problem net pairs × (new ≡ after_turn old worker net (Some pairs))

@@ -13,7 +13,8 @@ turns_at turns i = count_by (λ t. t.net == i) turns
 abbrev pub one_if : Bool → ℕ
 one_if b = if b then 1 else 0
 
--- Of the open iteration: how many nets were drawn, the worker that holds each net, and the turns made; and those of the closed ones.
+-- Of the open iteration: how many nets were drawn, the worker that holds each net, and the turns
+-- made; and those of the closed ones.
 pub record TurnTable : Type 0 where
   pub drawn : ℕ
   pub holders : List (Option ℕ)
@@ -24,8 +25,8 @@ pub record TurnTable : Type 0 where
 abbrev pub NameEachOnce : (nets : ℕ) → List Turn → Type 0
 NameEachOnce nets turns = (i : ℕ) → turns_at turns i ≡ one_if (nat_lt i nets)
 
--- Each net below the count drawn is either held or had one turn, and no other net is held or had one; in each closed iteration each net
--- had one.
+-- Each net below the count drawn is either held or had one turn, and no other net is held or had
+-- one; in each closed iteration each net had one.
 pub record AreInOrder (t : TurnTable) : Type 0 where
   pub drawn : t.drawn ≤ length t.holders
   pub once : (i : ℕ) → one_if (is_some (holder_in t.holders i)) + turns_at t.turns i ≡ one_if (nat_lt i t.drawn)

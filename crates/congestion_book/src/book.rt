@@ -23,8 +23,9 @@ use std::alloc::{AllocError, Global};
 use std::marker::Model;
 use std::sync::Arc;
 
-/// The congestion book of a negotiation: the recorded trees of the nets, how many of them use each node, the history of each node, and who
-/// holds or had which net. Contracts see the record of its content; that it is sound is a fact of the type.
+/// The congestion book of a negotiation: the recorded trees of the nets, how many of them use each
+/// node, the history of each node, and who holds or had which net. Contracts see the record of its
+/// content; that it is sound is a fact of the type.
 #[derive(Drop)]
 pub struct Book {
     pub(crate) problem: Problem,
@@ -46,7 +47,8 @@ impl Model for Book {
     ghost invariant = { IsBookInside };
 }
 
-/// What the next iteration needs: the row of the open one, the histories with it, and room for the turns.
+/// What the next iteration needs: the row of the open one, the histories with it, and room for the
+/// turns.
 #[derive(Drop)]
 pub(crate) struct NextIteration {
     row: OveruseRow,
@@ -73,8 +75,9 @@ impl Book {
         })
     }
 
-    /// Gives the worker the least net that was not drawn in the open iteration, with its view. None where all were drawn. The worker holds
-    /// the net until it commits or passes it. A view of another size is refused; it stays as it was where no net is given.
+    /// Gives the worker the least net that was not drawn in the open iteration, with its view. None
+    /// where all were drawn. The worker holds the net until it commits or passes it. A view of
+    /// another size is refused; it stays as it was where no net is given.
     pub fn draw(&mut self, worker: u32, view: &mut View) -> Result<Option<u32>, DrawFault>
         ensures step { Draws self.old view.old worker result self.new view.new }
         ensures sound { IsSound self.new }
@@ -89,8 +92,9 @@ impl Book {
         Ok(Some(net))
     }
 
-    /// Records the tree of a net that the worker holds, in place of the one before, and ends the turn. A tree that doesn't route the net
-    /// is refused, and so is another worker than the net's holder: then nothing changes, and the tree comes back.
+    /// Records the tree of a net that the worker holds, in place of the one before, and ends the
+    /// turn. A tree that doesn't route the net is refused, and so is another worker than the net's
+    /// holder: then nothing changes, and the tree comes back.
     pub fn commit(&mut self, worker: u32, net: u32, tree: Tree) -> Result<(), (CommitFault, Tree)>
         ensures exactly { IsOk result ↔ MayCommit self.old worker net (pairs_of tree) }
         ensures step { Commits self.old worker net (pairs_of tree) (fault_alone result) self.new }
@@ -107,7 +111,8 @@ impl Book {
         Ok(())
     }
 
-    /// Records a tree of which it is known that it routes the net, as `commit` does: it isn't looked at again.
+    /// Records a tree of which it is known that it routes the net, as `commit` does: it isn't
+    /// looked at again.
     pub fn commit_routed(
         &mut self,
         worker: u32,
@@ -127,7 +132,8 @@ impl Book {
         Ok(())
     }
 
-    /// Ends the turn at a net that the worker holds; the net has no tree afterwards. Another worker than the net's holder is refused.
+    /// Ends the turn at a net that the worker holds; the net has no tree afterwards. Another worker
+    /// than the net's holder is refused.
     pub fn pass(&mut self, worker: u32, net: u32) -> Result<(), PassFault>
         ensures step { Passes self.old worker net result self.new }
         ensures sound { IsSound self.new }
@@ -151,8 +157,9 @@ impl Book {
         self.turns.end_turn(worker, net, passed);
     }
 
-    /// Closes the open iteration, in which each net had its turn: its row is appended, the histories grow, and the next iteration opens
-    /// with nothing drawn. Everything that the next iteration needs is made first, and where memory is refused nothing changes.
+    /// Closes the open iteration, in which each net had its turn: its row is appended, the
+    /// histories grow, and the next iteration opens with nothing drawn. Everything that the next
+    /// iteration needs is made first, and where memory is refused nothing changes.
     pub fn close(&mut self, alloc: Global) -> Result<(), CloseFault>
         ensures step { Closes self.old result self.new }
         ensures sound { IsSound self.new }

@@ -27,7 +27,8 @@ impl Book {
         &self.problem
     }
 
-    /// The recorded tree of a net, which routes it. None where it has none, or where there is no such net.
+    /// The recorded tree of a net, which routes it. None where it has none, or where there is no
+    /// such net.
     pub fn tree(&self, net: u32) -> Option<&Tree>
         ensures exact { MatchOption result (list_in self.now.lists net ≡ None)
             (λ t. list_in self.now.lists net ≡ Some (pairs_of t.now)) }
@@ -59,7 +60,8 @@ impl Book {
         self.history.histories().get(id)
     }
 
-    /// The rows of the closed iterations, the earliest first: of each its overused nodes, ascending, with by how many nets.
+    /// The rows of the closed iterations, the earliest first: of each its overused nodes,
+    /// ascending, with by how many nets.
     pub fn rows(&self) -> &[OveruseRow]
         ensures exact { result.now ≡ self.now.rows }
         ensures few { length self.now.rows ≤ most_iterations }
@@ -68,7 +70,8 @@ impl Book {
         self.history.rows()
     }
 
-    /// The turns of an iteration, counted from 1, in the order in which they were made. The last iteration is the open one.
+    /// The turns of an iteration, counted from 1, in the order in which they were made. The last
+    /// iteration is the open one.
     pub fn turns(&self, iteration: usize) -> &[Turn]
         requires first { 1 ≤ iteration }
         requires last { iteration ≤ length self.now.rows + 1 }
@@ -112,7 +115,8 @@ impl Book {
         self.routes.wirelength(&self.problem)
     }
 
-    /// Fills the view of a net as a draw does, by the trees as they are now. A view of another size is refused, and stays as it was.
+    /// Fills the view of a net as a draw does, by the trees as they are now. A view of another size
+    /// is refused, and stays as it was.
     pub fn look(&self, net: u32, view: &mut View) -> Result<(), DrawFault>
         requires { net < net_count self.now }
         ensures { Looks self.now view.old net result view.new }
@@ -125,7 +129,8 @@ impl Book {
         Ok(())
     }
 
-    /// Whether a node of a tree is full now by the nets but this one, and was not by those in the view.
+    /// Whether a node of a tree is full now by the nets but this one, and was not by those in the
+    /// view.
     pub fn has_filled(&self, net: u32, tree: &Tree, view: &View) -> bool
         requires net { net < net_count self.now }
         requires size { length view.now ≡ node_total self.now }

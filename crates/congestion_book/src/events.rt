@@ -38,14 +38,15 @@ pub enum Reply {
 /// Why a list of events was not run to its end.
 #[derive(Clone, Copy, Debug, PartialEq, Eq, Error)]
 pub enum RunFault {
-    /// Memory ran out at an event that takes some, or ahead of them all. So many events, the first ones, stand, and no other.
+    /// Memory ran out at an event that takes some, or ahead of them all. So many events, the first
+    /// ones, stand, and no other.
     #[error("memory ran out after {0} events")]
     Memory(usize),
 }
 
 impl Book {
-    /// Lets the events happen, one after another, and gives their replies. The view is that of the last draw that gave a net, or as it
-    /// was. Trees are copied. A book is sound after each event.
+    /// Lets the events happen, one after another, and gives their replies. The view is that of the
+    /// last draw that gave a net, or as it was. Trees are copied. A book is sound after each event.
     pub fn run(
         &mut self,
         alloc: Global,

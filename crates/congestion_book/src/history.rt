@@ -12,7 +12,8 @@ use std::alloc::{AllocError, Global};
 use std::marker::Model;
 use std::sync::Arc;
 
-/// The nodes that were overused when an iteration was closed, ascending, each with by how many nets. Contracts see the list.
+/// The nodes that were overused when an iteration was closed, ascending, each with by how many
+/// nets. Contracts see the list.
 #[derive(Debug, Drop)]
 pub struct OveruseRow {
     pub amounts: Vec<(u32, u32)>,
@@ -27,7 +28,8 @@ impl Model for OveruseRow {
     ghost view = { λ r. r.amounts.items };
 }
 
-/// The rows of the closed iterations, and the histories of the nodes. Contracts see the record of them.
+/// The rows of the closed iterations, and the histories of the nodes. Contracts see the record of
+/// them.
 #[derive(Drop)]
 pub(crate) struct History {
     acc: u16,

@@ -1,5 +1,5 @@
-//! The congestion book: the recorded trees of nets, how many of them use each node, and the histories that their overuse leaves
-//! (McMurchie and Ebeling 1995).
+//! The congestion book: the recorded trees of nets, how many of them use each node, and the
+//! histories that their overuse leaves (McMurchie and Ebeling 1995).
 #![tactic(auto)]
 
 mod book;

@@ -25,7 +25,8 @@ use routing_problem::Problem;
 use std::alloc::{AllocError, Global};
 use std::sync::Arc;
 
-/// The recorded tree of each net, or none, how many nets have none, and how many nets use each node.
+/// The recorded tree of each net, or none, how many nets have none, and how many nets use each
+/// node.
 #[derive(Drop)]
 pub(crate) struct Routes {
     pub(crate) trees: Vec<Option<Tree>>,
@@ -106,7 +107,8 @@ impl Routes {
 }
 
 impl Routes {
-    /// Whether a node of the tree of these rows is full now by the nets but this one, and was not by those in the view.
+    /// Whether a node of the tree of these rows is full now by the nets but this one, and was not
+    /// by those in the view.
     pub(crate) fn has_filled(&self, problem: &Problem, net: u32, rows: &[Row], view: &View) -> bool
         requires there { net < length problem.now.nets }
         requires recorded { AreExact problem.now self.now }

@@ -28,7 +28,8 @@ impl Model for TurnList {
     ghost view = { λ t. t.turns.items };
 }
 
-/// Which nets were drawn in the open iteration, which worker holds each, and the turns made, in this iteration and in those before.
+/// Which nets were drawn in the open iteration, which worker holds each, and the turns made, in
+/// this iteration and in those before.
 #[derive(Drop)]
 pub(crate) struct Turns {
     drawn: u32,

@@ -13,7 +13,8 @@ use route_tree::Row;
 use routing_problem::Device;
 use std::alloc::{AllocError, Global};
 
-/// How many nets use each node of a device, and how many nodes more nets use than they have room for.
+/// How many nets use each node of a device, and how many nodes more nets use than they have room
+/// for.
 #[derive(Drop)]
 pub(crate) struct Usage {
     pub(crate) counts: Counts,

@@ -1,10 +1,9 @@
 -- What is kept where boxes are put around the sinks and taken away, and how a wave begins.
-use Rattle.std.proofs.Common.{◌≡◌, ℕ, zero, suc, ◌+◌, ◌<◌, ◌≤◌, ◌⊎◌, List, [], ◌∷◌, ◌++◌, length, slice_index, slice_index_or, slice_set, get_or, get_or-set_same, get_or-set_other, replicate, Option, None, inl, inr, refl, sym, ap, ◌∙◌, subst, arith}
+use Rattle.std.proofs.Common.{◌≡◌, ℕ, zero, suc, ◌+◌, ◌<◌, ◌≤◌, ◌⊎◌, List, length, slice_index, slice_index_or, slice_set, get_or, get_or-set_same, get_or-set_other, replicate, Option, None, inl, inr, refl, sym, ap, ◌∙◌, subst, arith}
 use Rattle.std.specs.Prelude.{Contains}
 use Rattle.std.specs.Option.{option_map, option_map_or}
 use Rattle.std.proofs.lemmas.Bool.{cases_eq, cases_lt}
 use Rattle.std.proofs.lemmas.List.{get_or_default, length-replicate, length-set}
-use Rattle.std.proofs.lemmas.List.Elements.{Contains-append_left, Contains-push}
 use Rattle.std.proofs.lemmas.List.Sorted.{Contains-permutation, IsPermutation-sym}
 use Rattle.std.proofs.lemmas.Option.{none-some}
 use Rattle.routing_problem.specs.node.Kind.{Kind}
@@ -19,7 +18,7 @@ use Rattle.wavefront.specs.Space.{IsWanted}
 use Rattle.wavefront.proofs.Lists.{contains_cases, contains_later, contains_none}
 use Rattle.wave_ground.specs.kept.Boxes.{SinkBox, box_shared, wire_of}
 use Rattle.wave_ground.specs.kept.Grounds.{Ground, groups_of}
-use Rattle.group_wave.specs.kept.WaveState.{FAR, Label, Wave}
+use Rattle.group_wave.specs.kept.WaveState.{FAR, NodeLabel, Wave}
 use Rattle.group_wave.specs.kept.Wave.{AreKnown, IsBest, IsComplete, IsOpen, IsServed, IsWave, Serves, WentOn, cost_at, label_at, unreached}
 use Rattle.group_wave.specs.kept.Steps.{NoOrigins, SameOrigins}
 use Rattle.group_wave.specs.kept.Starts.{HasNoBoxes, IsAimed, IsBestPut, IsCleared, IsLeastCost, IsAroundLeft, IsBoxPut, IsNarrowed, IsNearerOf, IsWithin, IsWithout, ServesMore}
@@ -38,7 +37,7 @@ module _ (g : Ground) (s t : Wave) (labels : t.labels ≡ s.labels) (queue : t.q
   label_stays v = ap (λ ls. slice_index_or ls v unreached) labels
 
   pub cost_stays : (v : ℕ) → cost_at t v ≡ cost_at s v
-  cost_stays v = ap (λ (l : Label). l.cost) (label_stays v)
+  cost_stays v = ap (λ (l : NodeLabel). l.cost) (label_stays v)
 
   pub origins_stay : SameOrigins s t
   origins_stay = same_origins s t label_stays
@@ -123,25 +122,6 @@ pub record IsAiming (g : Ground) (old new : Wave) (i : ℕ) : Type 0 where
   pub served : (p : ℕ) → p < i → IsServed g new.boxes p
 
 module _ (g : Ground) where
-  -- a box is put in that is around the sinks that it is for
-  pub serves_more : (s t : Wave) (box : SinkBox) → t.labels ≡ s.labels → t.queue ≡ s.queue → t.limit ≡ s.limit → t.best ≡ s.best → t.known ≡ s.known → t.boxes ≡ s.boxes ++ box ∷ []
-      → ((p : ℕ) → box.from ≤ p → p < box.until → IsInsideBox (box_of_node g.space.device (slice_index g.space.net.sinks p)) box.place) → ServesMore g s t box.from box.until
-  serves_more s t box labels queue limit best known boxes covers = record {
-    labels = labels;
-    queue = queue;
-    limit = limit;
-    best = best;
-    known = known;
-    more = λ b there. rw boxes (Contains-append_left s.boxes (box ∷ []) b there);
-    part = λ p from until. record {
-      box = box;
-      there = rw boxes (Contains-push s.boxes box);
-      from = from;
-      until = until;
-      around = surrounded g.space.device (slice_index g.space.net.sinks p) box.place (covers p from until);
-    };
-  }
-
   pub aiming_first : (s t : Wave) → HasNoBoxes s t → IsAiming g s t 0
   aiming_first s t none = record { labels = none.labels; queue = none.queue; limit = none.limit; best = none.best; known = none.known; within = omega arith; served = λ p lt. absurd (omega (arith, lt)) }
 
@@ -159,22 +139,9 @@ module _ (g : Ground) where
     ];
   }
 
-  pub aiming_all : (w s : Wave) (i : ℕ) → length g.space.net.sinks ≤ i → IsAiming g w s i → IsAimed g w s
-  aiming_all w s i all done = record {
-    labels = done.labels;
-    queue = done.queue;
-    limit = done.limit;
-    best = done.best;
-    known = done.known;
-    serves = λ p lt target. done.served p (omega (arith, lt, all));
-  }
-
   -- ---- boxes are taken away, or made narrower
   same_within : (boxes : List SinkBox) (box : SinkBox) → Contains boxes box → IsWithin boxes box
   same_within boxes box there = record { outer = box; there = there; inside = itself box.place }
-
-  pub narrowed_none : (w : Wave) → Serves g w → IsNarrowed g w w
-  narrowed_none w serves = record { labels = refl; queue = refl; limit = refl; best = refl; known = refl; within = same_within w.boxes; serves = serves }
 
   pub narrowed_more : (w s t : Wave) → IsNarrowed g w s → IsNarrowed g s t → IsNarrowed g w t
   narrowed_more w s t a b = record {
@@ -278,7 +245,7 @@ module _ (g : Ground) where
     begun_labels = aimed.labels ∙ cleared.labels
 
     begun_cost : (v : ℕ) → cost_at u v ≡ FAR
-    begun_cost v = ap (λ (l : Label). l.cost) (ap (λ ls. slice_index_or ls v unreached) begun_labels ∙ blank_at unreached (length s.labels) v)
+    begun_cost v = ap (λ (l : NodeLabel). l.cost) (ap (λ ls. slice_index_or ls v unreached) begun_labels ∙ blank_at unreached (length s.labels) v)
 
     pub begun_wave : length s.labels ≡ node_count g.space → length s.known ≡ length (groups_of g) → IsWave g u
     begun_wave rows sized = record {

@@ -5,7 +5,7 @@ use Rattle.std.proofs.lemmas.Bool.{cases_lt, false≢true}
 use Rattle.std.proofs.lemmas.Bool.Decides.{nat_tests}
 use Rattle.group_wave.specs.declared.labels.LabelRow.{LabelRow}
 use Rattle.group_wave.specs.kept.Labels.{label_of}
-use Rattle.group_wave.specs.kept.WaveState.{FAR, Label}
+use Rattle.group_wave.specs.kept.WaveState.{FAR, NodeLabel}
 use Rattle.group_wave.proofs.LabelRows.{reached_is}
 
 -- a test that fails
@@ -15,7 +15,7 @@ no_less r a b is off = elim (cases_lt a b) [
   | inr more ↦ more
 ]
 
-module _ {K : Type 0} (value : K → ℕ) (greatest : ℕ) (row : LabelRow K) (label : Label) (is : label_of value greatest row ≡ label) where
+module _ {K : Type 0} (value : K → ℕ) (greatest : ℕ) (row : LabelRow K) (label : NodeLabel) (is : label_of value greatest row ≡ label) where
   -- a row below the greatest has the label's cost
   pub cost_below : value row.cost < greatest → label.cost ≡ value row.cost
   cost_below below = sym (ap (λ l. l.cost) is) ∙ ap (λ l. l.cost) (reached_is value greatest row below)

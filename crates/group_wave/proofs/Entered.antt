@@ -209,9 +209,6 @@ module _ (g : Ground) (ok : IsGround g) (s : Wave) (wave : IsWave g s) (sink pin
       some = let paid = enters.paid in let costs = ok.space.costly parent pin sink enters.edge leads.edge in omega (arith, paid, costs);
     }
 
-    pub pin_open : IsOpen g s sink → IsOpen g t sink
-    pin_open target = (target.0, λ o. target.1 ((pin_down.origins sink).0 o))
-
   -- and its sink offered the way over it
   pub pin_lowered : (t u : Wave) (cost parent : ℕ) → IsLabelled s t pin (record { cost = cost; parent = parent }) → t.best ≡ s.best → IsEntering g s cost parent pin → cost < FAR → Enters g t u cost sink → LowersPin g s u pin cost
   pin_lowered t u cost parent set best enters near after =
@@ -254,6 +251,3 @@ module _ (g : Ground) (ok : IsGround g) (s : Wave) (wave : IsWave g s) (sink pin
         best = best;
         labels = λ b wanted. label_there g s t pin _ set lt b (λ e. false≢true (sym (ok.space.ends pin sink leads.edge) ∙ ok.space.are_sinks pin (rw e at wanted)));
       }) was
-
-  pub pin_entered : (u : Wave) (label cost : ℕ) → LowersPin g s u pin cost → cost ≡ label + entry_cost g.space pin → Enters g s u label pin
-  pin_entered u label cost low sum = record { spreads = low.spreads; went = λ h. inr (let at = low.at in omega (arith, at, sum)) }

@@ -126,7 +126,8 @@ first_root g rows more grew one e = rw (e, one) refl
 first_pairs : (g : Ground) (rows grew : List Row) (nodes all : List ℕ) → IsAlone g rows → pairs_of grew ≡ pairs_of rows ++ pairs_along (node_in rows 0) nodes → nodes ≡ all → pairs_of grew ≡ [] ++ pairs_along g.space.net.source all
 first_pairs g rows grew nodes all one e same = e ∙ ap (λ rs. pairs_of rs ++ pairs_along (node_in rs 0) nodes) one ∙ ap (λ ps. ps ++ pairs_along g.space.net.source nodes) (alone_pairs g.space.net.source) ∙ ap (pairs_along g.space.net.source) same
 
--- the wave w, from which a sink was taken, starts at the way's nodes too in t, and is u when the tree has the way
+-- the wave w, from which a sink was taken, starts at the way's nodes too in t, and is u when the
+-- tree has the way
 pub first_growth : (g : Ground) (w t u : Wave) (rows grew more : List Row) (pin sink : ℕ) (way nodes : List ℕ) → IsGround g → ((v : ℕ) → IsOrigin w v → IsOnlyOutput g v) → IsTaken g w sink → IsTraced g w pin way sink → IsStarted g w t way
     → IsAlone g rows → grew ≡ rows ++ more → pairs_of grew ≡ pairs_of rows ++ pairs_along (node_in rows 0) nodes → nodes ≡ pin ∷ way → IsWave g u → IsComplete g u → IsBest g u → SameOrigins t u → IsGrowth g grew u
 first_growth g w t u rows grew more pin sink way nodes ok each taken traced started one added pairs is wave complete best same =

@@ -19,15 +19,6 @@ use Rattle.group_wave.proofs.RelaxedTracks.{no_bit}
 pub settles_refl : (g : Ground) (w : Wave) → IsWave g w → IsComplete g w → Settles g w w
 settles_refl g w wave complete = record { wave = wave; complete = complete; origins = λ v. (λ o. o, λ o. o); best = λ b. b; boxes = refl }
 
-pub settles_then : (g : Ground) (s t u : Wave) → Settles g s t → Settles g t u → Settles g s u
-settles_then g s t u a b = record {
-  wave = b.wave;
-  complete = b.complete;
-  origins = origins_then g s t u a.origins b.origins;
-  best = λ was. b.best (a.best was);
-  boxes = b.boxes ∙ a.boxes;
-}
-
 -- ---- what is owed to the tracks of an entry
 -- is nothing where it has none
 pub none_owed : (g : Ground) (w : Wave) (e : Waiting) → e.tracks ≡ 0 → IsCompleteBut g w (IsOf g w e) → IsComplete g w

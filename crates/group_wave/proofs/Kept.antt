@@ -30,10 +30,6 @@ module _ {K : Type 0} (value : K → ℕ) (greatest : ℕ) (w : Wave) (node : �
     | inr ge ↦ let e = row_far ge in omega (arith, e, less, fits, narrow)
   ]
 
-  -- a label that is no greater, where it is one
-  pub row_most : (cost : ℕ) → value row.cost ≤ cost → value row.cost < greatest → cost_at w node ≤ cost
-  row_most cost most less = let e = row_exact less in omega (arith, e, most)
-
   pub start_is : 0 < greatest → ((value row.cost ≡ 0) × (row.parent ≡ node)) ↔ IsOrigin w node
   start_is some = (
     λ h. (let e = row_exact (let zero = h.0 in omega (arith, zero, some)) in e ∙ h.0, sym (ap (λ l. l.parent) at) ∙ h.1),

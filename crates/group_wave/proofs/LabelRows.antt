@@ -1,13 +1,13 @@
 -- Rows of labels, of which some are noted.
-use Rattle.std.proofs.Common.{◌≡◌, ◌⊎◌, ℕ, ◌+◌, ◌<◌, ◌≤◌, inl, inr, get_or, get_or-set_same, get_or-set_other, List, [], ◌∷◌, All, map, replicate, length, refl, sym, ap, ◌∙◌, arith, slice_set, true, false}
+use Rattle.std.proofs.Common.{◌≡◌, ◌⊎◌, ℕ, ◌<◌, ◌≤◌, inl, inr, get_or, get_or-set_other, List, [], ◌∷◌, All, map, replicate, length, refl, sym, ap, ◌∙◌, arith, slice_set, true, false}
 use Rattle.std.specs.Prelude.{nat_le}
 use Rattle.std.specs.List.{AllByRecursion}
 use Rattle.std.proofs.lemmas.Bool.{cases_eq, cases_lt}
 use Rattle.std.proofs.lemmas.Bool.Decides.{nat_tests}
-use Rattle.std.proofs.lemmas.List.{length-set, map-set, get_or-map, get_or_default, length-map}
+use Rattle.std.proofs.lemmas.List.{length-set, map-set, get_or-map, length-map}
 use Rattle.std.proofs.lemmas.List.Elements.{recursion_from_All, All-push, All-set, Contains-push, Contains-append_left}
 use Rattle.group_wave.specs.declared.labels.LabelRow.{LabelRow}
-use Rattle.group_wave.specs.kept.WaveState.{FAR, Label}
+use Rattle.group_wave.specs.kept.WaveState.{FAR, NodeLabel}
 use Rattle.group_wave.specs.kept.Wave.{unreached}
 use Rattle.group_wave.specs.kept.Labels.{AreNoted, Notes, label_of}
 
@@ -36,12 +36,12 @@ module _ {K : Type 0} (value : K → ℕ) (greatest : ℕ) where
   none_noted rows nodes blank k d within = inl (blank k d within)
 
   -- ---- a label is put
-  pub label_put : (rows : List (LabelRow K)) (labels : List Label) (node : ℕ) (row : LabelRow K) → value row.cost < greatest → map (label_of value greatest) rows ≡ labels
+  pub label_put : (rows : List (LabelRow K)) (labels : List NodeLabel) (node : ℕ) (row : LabelRow K) → value row.cost < greatest → map (label_of value greatest) rows ≡ labels
       → map (label_of value greatest) (slice_set rows node row) ≡ slice_set labels node (record { cost = value row.cost; parent = row.parent })
   label_put rows labels node row below e = map-set (label_of value greatest) rows node row ∙ rw (e, reached_is row below) refl
 
   -- a row that is reached keeps its cost
-  pub parent_put : (rows : List (LabelRow K)) (labels : List Label) (node parent : ℕ) (row : LabelRow K) → row ≡ get_or rows node row → node < length labels → map (label_of value greatest) rows ≡ labels
+  pub parent_put : (rows : List (LabelRow K)) (labels : List NodeLabel) (node parent : ℕ) (row : LabelRow K) → row ≡ get_or rows node row → node < length labels → map (label_of value greatest) rows ≡ labels
       → (get_or labels node unreached).cost < FAR
       → map (label_of value greatest) (slice_set rows node (record { cost = row.cost; parent = parent })) ≡ slice_set labels node (record { cost = (get_or labels node unreached).cost; parent = parent })
   parent_put rows labels node parent row there within e near =
@@ -102,30 +102,6 @@ module _ {K : Type 0} (value : K → ℕ) (greatest : ℕ) where
 
   abbrev pub AreNotedFrom : (rows : List (LabelRow K)) → (nodes : List ℕ) → (i : ℕ) → Type 0
   AreNotedFrom rows nodes i = (k : ℕ) (d : LabelRow K) → k < length rows → (label_of value greatest (get_or rows k d) ≡ unreached) ⊎ IsNotedFrom nodes i k
-
-  pub from_first : (rows : List (LabelRow K)) (nodes : List ℕ) → AreNoted value greatest rows nodes → AreNotedFrom rows nodes 0
-  from_first rows nodes noted k d within = elim (noted k d within) [
-    | inl blank ↦ inl blank
-    | inr has ↦ inr (has.0, omega arith, has.1, has.2)
-  ]
-
-  pub one_off : (rows : List (LabelRow K)) (nodes : List ℕ) (i node : ℕ) (put : LabelRow K) → node ≡ get_or nodes i node → label_of value greatest put ≡ unreached → AreNotedFrom rows nodes i
-      → AreNotedFrom (slice_set rows node put) nodes (i + 1)
-  one_off rows nodes i node put is blank noted k d within =
-      let size : length (slice_set rows node put) ≡ length rows = length-set rows node put in
-      let inside : k < length rows = omega (arith, size, within) in
-      elim (cases_eq k node) [
-        | inl same ↦ inl (rw same (ap (label_of value greatest) (get_or-set_same rows node put d (omega (arith, same, inside))) ∙ blank))
-        | inr other ↦ elim (noted k d inside) [
-          | inl before ↦ inl (ap (label_of value greatest) (get_or-set_other rows node k put d other) ∙ before)
-          | inr has ↦ elim (cases_eq i has.0) [
-            | inl at ↦
-                let here : get_or nodes i node ≡ k = get_or_default nodes i node k (omega (arith, has.2, at)) ∙ ap (λ j. get_or nodes j k) at ∙ has.3 in
-                absurd (other (sym here ∙ sym is))
-            | inr later ↦ inr (has.0, omega (arith, has.1, later), has.2, has.3)
-          ]
-        ]
-      ]
 
   pub all_off : (rows : List (LabelRow K)) (nodes : List ℕ) (i : ℕ) → length nodes ≤ i → AreNotedFrom rows nodes i → AreBlank rows
   all_off rows nodes i ends noted k d within = elim (noted k d within) [

@@ -8,7 +8,6 @@ use Rattle.wave_queue.specs.kept.Bits.{PutsBit, TakesBit}
 use Rattle.wave_queue.specs.kept.Queues.{Waiting}
 use Rattle.group_wave.specs.kept.WaveState.{Wave}
 use Rattle.group_wave.specs.kept.Wave.{cost_at}
-use Rattle.group_wave.specs.kept.Steps.{AreTracksLeft}
 use Rattle.group_wave.proofs.RelaxedTracks.{no_bit}
 
 -- of the tracks that aren't in the rest, those that have its label
@@ -26,9 +25,6 @@ module _ (w : Wave) (is : Group) (e : Waiting) where
     all = λ j one gone same. absurd (gone one);
     rest_of = λ j one. one;
   }
-
-  pub left_all : (tracks : ℕ) → AreLeft w is e 0 tracks → AreTracksLeft w is e tracks
-  left_all tracks left = record { of = left.of; labels = left.labels; all = λ j one same. left.all j one (no_bit j) same }
 
   module _ (rest next tracks track : ℕ) (taken : TakesBit rest next track) (left : AreLeft w is e rest tracks) where
     still_rest : (j : ℕ) → bit_at next j ≡ 1 → bit_at rest j ≡ 1

@@ -4,7 +4,7 @@ use Rattle.std.specs.Prelude.{Contains}
 use Rattle.std.proofs.lemmas.List.Sums.{sum_by-set}
 use Rattle.std.proofs.lemmas.List.{length-set}
 use Rattle.std.proofs.lemmas.Bool.{cases_eq}
-use Rattle.group_wave.specs.kept.WaveState.{FAR, Label, Wave}
+use Rattle.group_wave.specs.kept.WaveState.{FAR, NodeLabel, Wave}
 use Rattle.wavefront.specs.Space.{HasEdge, IsInside, entry_cost}
 use Rattle.wavefront.proofs.WayNodes.{way_cost_more}
 use Rattle.wave_ground.specs.kept.Grounds.{Ground}
@@ -80,7 +80,8 @@ module _ (g : Ground) where
     | inr covered ↦ inr (still_covered s t v b (keeps s t low.origins) low.kept same covered)
   ]
 
-  -- what was complete but for some nodes is so but for those of them that keep their labels, and new ones
+  -- what was complete but for some nodes is so but for those of them that keep their labels, and
+  -- new ones
   pub complete_lower : (s t : Wave) (New Old Owed : ℕ → Type 0) → Lowers g s t New → ((v : ℕ) → Old v → cost_at t v ≡ cost_at s v → Owed v) → ((v : ℕ) → New v → Owed v)
       → IsCompleteBut g s Old → IsCompleteBut g t Owed
   complete_lower s t New Old Owed low old new but = record {
@@ -151,7 +152,7 @@ module _ (g : Ground) where
       ]
 
   -- ---- a label is set
-  module _ (s t : Wave) (node : ℕ) (label : Label) (set : IsLabelled s t node label) (lt : node < length s.labels) where
+  module _ (s t : Wave) (node : ℕ) (label : NodeLabel) (set : IsLabelled s t node label) (lt : node < length s.labels) where
     pub label_here : label_at t node ≡ label
     label_here = ap (λ xs. slice_index_or xs node unreached) set.labels ∙ get_or-set_same s.labels node label unreached lt
 

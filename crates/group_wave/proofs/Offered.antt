@@ -49,7 +49,8 @@ module _ (g : Ground) (ok : IsGround g) (old s : Wave) (label least first step g
         within = rw same at (wire_within g ok (on_track group track) on);
       }
 
--- tracks that are yet to wait: no way over them costs less than what they and the ways on cost at least
+-- tracks that are yet to wait: no way over them costs less than what they and the ways on cost at
+-- least
 pub fresh_bound : (g : Ground) (ok : IsGround g) (old s : Wave) (label least group tracks left fresh : ℕ) (is : Group) → is ≡ group_at (groups_of g) group → RelaxesSome g old s label least group tracks left fresh
     → (wires key : ℕ) → IsLow old.boxes (wire_of is) wires → key ≤ least + left_over wires → (v : ℕ) → IsOf g s (fresh_entry least group fresh) v → IsBound g s v (key - least)
 fresh_bound g ok old s label least group tracks left fresh is at some wires key low up v of b way target walk =

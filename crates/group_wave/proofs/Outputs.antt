@@ -25,7 +25,7 @@ use Rattle.node_cost.specs.Views.{history_in, others_in}
 use Rattle.wavefront.specs.Space.{HasEdge, IsInside, Space, base_cost, entry_cost}
 use Rattle.wavefront.proofs.Lists.{contains_none, contains_cases}
 use Rattle.wave_ground.specs.kept.Grounds.{Ground, IsGround, groups_of}
-use Rattle.group_wave.specs.kept.WaveState.{FAR, Label, Wave}
+use Rattle.group_wave.specs.kept.WaveState.{FAR, NodeLabel, Wave}
 use Rattle.group_wave.specs.kept.Wave.{IsOrigin, IsWave, WentAlong, WentOn, cost_at, weight_of}
 use Rattle.group_wave.specs.kept.Steps.{Enters, IsFrom, IsLabelled, IsOffer, Lowers, Relaxes, Spreads}
 use Rattle.group_wave.specs.kept.Starts.{TookDrive}
@@ -178,9 +178,6 @@ module _ (g : Ground) (ok : IsGround g) (pin : ℕ) (kind : kind_of_node g.space
     pub drive_outside : (w : Wave) (label : ℕ) → touches g.space.bb (box_of_net g.space.device g.space.net) (group_at (groups_of g) d.group).span ≡ false → TookDrive g w label d
     drive_outside w label out j bit within = absurd (false≢true (sym (inside_of j bit ∙ out) ∙ within))
 
-    pub drive_none : (w : Wave) (label : ℕ) → ((j : ℕ) → bit_at d.tracks j ≡ 1 → ⊥) → TookDrive g w label d
-    drive_none w label none j bit within = absurd (none j bit)
-
     pub drive_took : (s t : Wave) (label : ℕ) → Relaxes g s t label d.group d.tracks → TookDrive g t label d
     drive_took s t label relaxes j bit within = relaxes.went j bit
 
@@ -233,7 +230,7 @@ module _ (g : Ground) (ok : IsGround g) (s : Wave) (wave : IsWave g s) (pin : �
     output_down = set_lowers g s t pin _ set output_in less (let z = start.0 in omega (arith, z))
 
     pub output_at : cost_at t pin ≡ cost
-    output_at = ap (λ (l : Label). l.cost) (label_here g s t pin _ set output_in)
+    output_at = ap (λ (l : NodeLabel). l.cost) (label_here g s t pin _ set output_in)
 
     pub output_wave : IsWave g t
     output_wave =
@@ -275,9 +272,6 @@ module _ (g : Ground) (pins : List ℕ) where
   pub record IsEntering (s t : Wave) (i : ℕ) : Type 0 where
     pub spreads : Spreads g s t
     pub went : (k : ℕ) → k < i → k < length pins → IsInside g.space (get_or pins k 0) → WentOn g t 0 (get_or pins k 0)
-
-  pub entering_first : (s : Wave) → IsWave g s → IsEntering s s 0
-  entering_first s wave = record { spreads = spreads_refl g s wave; went = λ k lt. absurd (omega (arith, lt)) }
 
   pub entering_more : (s t u : Wave) (i : ℕ) → IsEntering s t i → Enters g t u 0 (get_or pins i 0) → IsEntering s u (i + 1)
   entering_more s t u i before step = record {

@@ -1,4 +1,5 @@
--- What stands where an entry is taken, and what it says of every way that all keys are greater than the best.
+-- What stands where an entry is taken, and what it says of every way that all keys are greater than
+-- the best.
 use Rattle.std.proofs.Common.{◌≡◌, ℕ, ◌+◌, ◌<◌, ◌≤◌, List, [], ◌∷◌, length, Contains, slice_index_or, ◌⊎◌, inl, inr, sym, ap, ◌∙◌, arith, sum_by, min}
 use Rattle.std.proofs.lemmas.List.Sorted.{Contains-permutation, IsPermutation-sym, sum_by_popped}
 use Rattle.std.proofs.lemmas.Bool.{cases_lt}
@@ -81,7 +82,8 @@ module _ (g : Ground) (s t : Wave) (x : Waiting) (p : IsPopped s t x) where
   }
 
 -- ---- what the end of a wave says of every way
--- some entry's key is at most k, or what costs that much may be left out, or an open sink is reached at that
+-- some entry's key is at most k, or what costs that much may be left out, or an open sink is
+-- reached at that
 abbrev HasBelow : Ground → Wave → ℕ → Type 0
 HasBelow g w k = (w.limit ≤ k) ⊎ (((e : Waiting) × Contains w.queue e × (e.key ≤ k)) ⊎ ((b : ℕ) × IsOpen g w b × (cost_at w b ≤ k)))
 

@@ -10,10 +10,6 @@ use Rattle.group_wave.specs.kept.Wave.{AreTracks, IsBound, IsOf, IsWaiting, IsWa
 use Rattle.group_wave.specs.kept.Steps.{IsPushed, Lowers}
 use Rattle.group_wave.proofs.Lower.{keeps, same_origins, still_of, still_bound, still_serves, still_settled, waiting_settled, entered_same}
 
--- what entries count of the work
-abbrev pub queue_work : Wave → ℕ
-queue_work w = sum_by weight_of w.queue
-
 module _ (g : Ground) (s t : Wave) (e : Waiting) (p : IsPushed s t e) where
   pub pushed_label : (v : ℕ) → label_at t v ≡ label_at s v
   pushed_label v = ap (λ ls. slice_index_or ls v unreached) p.labels

@@ -8,7 +8,7 @@ use Rattle.wave_queue.specs.kept.Bits.{PutsBit, TakesBit}
 use Rattle.wave_ground.specs.kept.Grounds.{Ground, groups_of}
 use Rattle.wave_queue.specs.kept.Queues.{Waiting}
 use Rattle.group_wave.specs.kept.WaveState.{Wave}
-use Rattle.group_wave.specs.kept.Wave.{Holds, IsBound, IsOf, IsWave, WentOn, cost_at}
+use Rattle.group_wave.specs.kept.Wave.{Holds, IsBound, IsOf, WentOn, cost_at}
 use Rattle.group_wave.specs.kept.Steps.{IsPushed, Relaxes, RelaxesSome, RelaxesTrack, fresh_entry}
 use Rattle.group_wave.proofs.Lower.{lowers_then, origins_then, still_of, went_lower}
 use Rattle.group_wave.proofs.Pushed.{new_wait, pushed_lowers, pushed_label, pushed_wave, pushed_work}
@@ -16,24 +16,6 @@ use Rattle.group_wave.proofs.Sinks.{sinks_best, sinks_then}
 
 pub no_bit : (j : ℕ) → bit_at 0 j ≡ 1 → ⊥
 no_bit j e = let none = bit_at-zero j in omega (arith, e, none)
-
-pub relaxed_none : (g : Ground) (s : Wave) (label least group tracks : ℕ) → IsWave g s → RelaxesSome g s s label least group tracks tracks 0
-relaxed_none g s label least group tracks wave = record {
-  wave = wave;
-  lowers = record {
-    down = λ v. omega arith;
-    wait = λ v. inl refl;
-    origins = λ v. (λ o. o, λ o. o);
-    kept = λ e h. h;
-    limit = omega arith;
-    boxes = refl;
-  };
-  on = λ j one. absurd (no_bit j one);
-  of = λ j one. one;
-  went = λ j one gone. absurd (gone one);
-  work = omega arith;
-  sinks = record { best = refl; labels = λ b wanted. refl };
-}
 
 module _ (g : Ground) (old s t : Wave) (label least group tracks left rest fresh track wire : ℕ) (taken : TakesBit left rest track)
     (on : IsOn (groups_of g) (on_track group track)) (at : wire_on (groups_of g) (on_track group track) ≡ wire) (some : RelaxesSome g old s label least group tracks left fresh) where

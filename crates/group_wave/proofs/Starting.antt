@@ -13,7 +13,7 @@ use Rattle.wavefront.specs.kept.Spaces.{node_count}
 use Rattle.wave_queue.specs.kept.Bits.{PutsBit}
 use Rattle.wave_ground.specs.kept.Grounds.{Ground, IsGround, groups_of}
 use Rattle.wave_queue.specs.kept.Queues.{Waiting}
-use Rattle.group_wave.specs.kept.WaveState.{FAR, Label, Wave}
+use Rattle.group_wave.specs.kept.WaveState.{FAR, NodeLabel, Wave}
 use Rattle.group_wave.specs.kept.Wave.{AreTracks, IsBest, IsComplete, IsCompleteBut, IsOf, IsOrigin, IsSettled, IsWave, WentAlong, WentOn, cost_at, label_at}
 use Rattle.group_wave.specs.kept.Steps.{IsLabelled, IsNoted, IsPushed, KeepsOrigins, MoreOrigins, Spreads}
 use Rattle.group_wave.specs.kept.Starts.{IsEnd, StartsAt}
@@ -23,7 +23,7 @@ use Rattle.group_wave.proofs.Pushed.{pushed_lowers, pushed_waits, pushed_wave}
 use Rattle.group_wave.proofs.Grouped.{group_bound, wire_within}
 
 -- the label of a start
-abbrev pub start_label : ℕ → Label
+abbrev pub start_label : ℕ → NodeLabel
 start_label node = record { cost = 0; parent = node }
 
 -- nothing is owed to a node that is settled
@@ -40,7 +40,7 @@ settled_complete g w node but settled = record {
 
 module _ (g : Ground) (s t : Wave) (node : ℕ) (set : IsLabelled s t node (start_label node)) (lt : node < length s.labels) where
   pub start_here : IsOrigin t node
-  start_here = let here = label_here g s t node _ set lt in (ap (λ (l : Label). l.cost) here, ap (λ (l : Label). l.parent) here)
+  start_here = let here = label_here g s t node _ set lt in (ap (λ (l : NodeLabel). l.cost) here, ap (λ (l : NodeLabel). l.parent) here)
 
   there : (v : ℕ) → (v ≡ node → ⊥) → label_at t v ≡ label_at s v
   there v ne = label_there g s t node _ set lt v ne
@@ -69,7 +69,7 @@ module _ (g : Ground) (s t : Wave) (node : ℕ) (set : IsLabelled s t node (star
       | inl e ↦ inl (subst (IsOrigin t) (sym e) start_here)
       | inr ne ↦
           let same = there v ne in
-          let key = ap (λ (l : Label). l.cost) same in
+          let key = ap (λ (l : NodeLabel). l.cost) same in
           elim (wave.entered v (omega (arith, key, reached))) [
             | inl o ↦ inl (same_origin s t v same o)
             | inr e ↦ inr (entered_lower g s t node _ set lt v down same e)
@@ -88,7 +88,7 @@ module _ (g : Ground) (s t : Wave) (node : ℕ) (set : IsLabelled s t node (star
     each = λ v reached b edge inside. elim (cases_eq v node) [
       | inl e ↦ inr (inr e)
       | inr ne ↦
-          let same = ap (λ (l : Label). l.cost) (there v ne) in
+          let same = ap (λ (l : NodeLabel). l.cost) (there v ne) in
           elim (complete.each v (omega (arith, same, reached)) b edge inside) [
             | inl went ↦ inl (went_start v b same went)
             | inr other ↦ elim other [
@@ -106,11 +106,11 @@ module _ (g : Ground) (s t : Wave) (node : ℕ) (set : IsLabelled s t node (star
       record {
         low = λ b target.
             let l = best.low b (still_open g s t b start_keeps target) in
-            let k = ap (λ (l : Label). l.cost) (kept b target.0) in
+            let k = ap (λ (l : NodeLabel). l.cost) (kept b target.0) in
             omega (arith, l, k, same);
         met = elim best.met [
           | inl far ↦ inl (same ∙ far)
-          | inr m ↦ inr (m.0, (m.1.0, λ o. m.1.1 (same_origin t s m.0 (sym (kept m.0 m.1.0)) o)), ap (λ (l : Label). l.cost) (kept m.0 m.1.0) ∙ m.2 ∙ sym same)
+          | inr m ↦ inr (m.0, (m.1.0, λ o. m.1.1 (same_origin t s m.0 (sym (kept m.0 m.1.0)) o)), ap (λ (l : NodeLabel). l.cost) (kept m.0 m.1.0) ∙ m.2 ∙ sym same)
         ];
       }
 

@@ -2,7 +2,7 @@
 use Rattle.std.proofs.Common.{◌≡◌, ℕ, ◌+◌, ◌<◌, ◌≤◌, List, [], ◌∷◌, ◌++◌, reverse, Contains, length, ◌⊎◌, inl, inr, refl, sym, ap, ◌∙◌, arith}
 use Rattle.std.proofs.lemmas.Bool.{cases_lt, false≢true}
 use Rattle.std.proofs.lemmas.List.{get_or_past, reverse-append}
-use Rattle.group_wave.specs.kept.WaveState.{FAR, Label, Wave}
+use Rattle.group_wave.specs.kept.WaveState.{FAR, NodeLabel, Wave}
 use Rattle.wavefront.specs.Space.{HasEdge, entry_cost}
 use Rattle.wavefront.specs.Ways.{AreDistinct, IsWay, way_cost}
 use Rattle.wave_ground.specs.kept.Grounds.{Ground, IsGround}
@@ -25,7 +25,7 @@ pub record IsTracing (g : Ground) (w : Wave) (v : ℕ) (way : List ℕ) (sink : 
 pub reached_in : (w : Wave) (v : ℕ) → cost_at w v < FAR → v < length w.labels
 reached_in w v near = elim (cases_lt v (length w.labels)) [
   | inl within ↦ within
-  | inr past ↦ absurd (let none = ap (λ (l : Label). l.cost) (get_or_past w.labels v unreached past) in omega (arith, near, none))
+  | inr past ↦ absurd (let none = ap (λ (l : NodeLabel). l.cost) (get_or_past w.labels v unreached past) in omega (arith, near, none))
 ]
 
 -- a sink that is taken is reached

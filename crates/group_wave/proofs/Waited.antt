@@ -15,7 +15,3 @@ fits_more (Err x) greatest e old new more none fits all = rw none all
 pub on_ok : {T E P : Type 0} (r : Result T E) → P → OnOk r P
 on_ok (Ok x) p = p
 on_ok (Err x) p = search rules
-
-pub on_ok_both : {T E P Q R : Type 0} (r : Result T E) → (P → Q → R) → OnOk r P → OnOk r Q → OnOk r R
-on_ok_both (Ok x) f p q = f p q
-on_ok_both (Err x) f p q = p

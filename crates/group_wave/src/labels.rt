@@ -81,9 +81,9 @@ pub(crate) struct Labels<K: Key> {
 
 impl<K: Key> Model for Labels<K> {
     ghost use Rattle.std.specs.Prelude.{List};
-    ghost use Rattle.group_wave.specs.kept.WaveState.{Label};
+    ghost use Rattle.group_wave.specs.kept.WaveState.{NodeLabel};
 
-    ghost Value = { List Label };
+    ghost Value = { List NodeLabel };
 
     ghost use Rattle.group_wave.specs.kept.Labels.{labels_of, AreLabels};
 

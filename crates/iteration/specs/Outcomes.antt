@@ -11,8 +11,9 @@ use Rattle.iteration.specs.declared.outcome.Outcome.{Outcome}
 use Rattle.iteration.specs.declared.outcome.Outcome.TheVariants.{Success, NotRouted}
 use Rattle.iteration.specs.Progress.{IsReached, goes_on, unrouted_of, overused_of}
 
--- The outcome tells what a book holds: its trees, where each net has one and no node is overused; else how many nets have none and how
--- many nodes are overused. It tells of as many iterations as the book has rows.
+-- The outcome tells what a book holds: its trees, where each net has one and no node is overused;
+-- else how many nets have none and how many nodes are overused. It tells of as many iterations as
+-- the book has rows.
 abbrev pub IsOutcomeOf : Content → Outcome → Type 0
 IsOutcomeOf c (Success lists iterations) = (lists ≡ c.lists) × (iterations ≡ length c.rows) × (unrouted_of c ≡ 0) × (overused_of c ≡ 0)
 IsOutcomeOf c (NotRouted unrouted overused iterations) =
@@ -31,14 +32,16 @@ pub record IsBookAfter (p : RoutingProblem) (o : RouterOptions) (iterations : �
   pub acc : c.acc ≡ o.acc
   pub rows : length c.rows ≡ iterations
 
--- What is left where a negotiation doesn't succeed within its limit: after so many iterations, some nets have no tree, each of which is
--- stuck in what it could see in the last iteration, or some nodes are overused. Before the limit it ends only where a net has no tree.
+-- What is left where a negotiation doesn't succeed within its limit: after so many iterations, some
+-- nets have no tree, each of which is stuck in what it could see in the last iteration, or some
+-- nodes are overused. Before the limit it ends only where a net has no tree.
 pub record IsLeft (p : RoutingProblem) (o : RouterOptions) (unrouted overused iterations : ℕ) : Type 0 where
   pub some : 1 ≤ unrouted + overused
   pub least : 1 ≤ iterations
   pub most : iterations ≤ o.iterations
   pub early : iterations < o.iterations → 1 ≤ unrouted
-  -- the book before the last iteration, and the one that it leaves: both are sound, and this one has the iteration's row besides
+  -- the book before the last iteration, and the one that it leaves: both are sound, and this one
+  -- has the iteration's row besides
   pub before : Content
   pub book : Content
   pub begins : IsBookAfter p o (iterations - 1) before
@@ -50,7 +53,8 @@ pub record IsLeft (p : RoutingProblem) (o : RouterOptions) (unrouted overused it
   pub over : overused_of book ≡ overused
   pub stuck : (i : ℕ) → i < length p.nets → list_in book.lists i ≡ None → IsStuckNet before (present_of o iterations) o.bb i
 
--- A success is a routing of the problem: one legal list for each net, and no node overused. What else is left is reported.
+-- A success is a routing of the problem: one legal list for each net, and no node overused. What
+-- else is left is reported.
 abbrev pub IsOutcome : RoutingProblem → RouterOptions → Outcome → Type 0
 IsOutcome p o (Success lists iterations) = IsRouted p lists × (1 ≤ iterations) × (iterations ≤ o.iterations)
 IsOutcome p o (NotRouted unrouted overused iterations) = IsLeft p o unrouted overused iterations

@@ -1,4 +1,5 @@
--- How a negotiation goes on, iteration by iteration (McMurchie and Ebeling 1995, "negotiated congestion").
+-- How a negotiation goes on, iteration by iteration (McMurchie and Ebeling 1995, "negotiated
+-- congestion").
 use Rattle.std.specs.Prelude.{◌≡◌, ℕ, ◌+◌, ◌==◌, nat_lt, Bool, true, ◌&&◌, ◌||◌, List, length}
 use Rattle.routing_problem.specs.Problems.{RoutingProblem}
 use Rattle.node_cost.specs.Options.{RouterOptions, present_of}
@@ -15,7 +16,8 @@ unrouted_of c = unrouted_in c.lists
 abbrev pub overused_of : Content → ℕ
 overused_of c = overused_in c.problem c.lists
 
--- One iteration, by so many workers: their reports agree with the book that they leave, which is then closed.
+-- One iteration, by so many workers: their reports agree with the book that they leave, which is
+-- then closed.
 pub record IsIteration (o : RouterOptions) (workers : ℕ) (old new : Content) : Type 0 where
   pub between : Content
   pub reports : List (List ReportEntry)
@@ -23,11 +25,13 @@ pub record IsIteration (o : RouterOptions) (workers : ℕ) (old new : Content) :
   pub closed : new ≡ after_close between
   pub sound : IsSound new
 
--- another iteration follows: none was made yet; or each net has a tree, a node is overused, and the limit isn't reached
+-- another iteration follows: none was made yet; or each net has a tree, a node is overused, and the
+-- limit isn't reached
 abbrev pub goes_on : RouterOptions → Content → Bool
 goes_on o c = length c.rows == 0 || ((unrouted_of c == 0) && nat_lt 0 (overused_of c) && nat_lt (length c.rows) o.iterations)
 
--- where the negotiation of a problem may stand: at its beginning, or after one iteration more, by all workers, where it goes on
+-- where the negotiation of a problem may stand: at its beginning, or after one iteration more, by
+-- all workers, where it goes on
 pub data IsReached (p : RoutingProblem) (o : RouterOptions) (workers : ℕ) : Content → Type 0 where
   begun : IsReached p o workers (opening p o.acc)
   followed : (old new : Content) → IsReached p o workers old → goes_on o old ≡ true → IsIteration o workers old new → IsReached p o workers new

@@ -1,4 +1,5 @@
-//! The driver of a negotiation: iteration by iteration, until each net has a tree and no node is overused (McMurchie and Ebeling 1995).
+//! The driver of a negotiation: iteration by iteration, until each net has a tree and no node is
+//! overused (McMurchie and Ebeling 1995).
 #![tactic(auto)]
 
 mod closing;

@@ -141,7 +141,8 @@ impl Negotiation {
     }
 }
 
-/// The routing of a book in which each net has a tree and no node is overused, judged anew on a copy of its problem.
+/// The routing of a book in which each net has a tree and no node is overused, judged anew on a
+/// copy of its problem.
 fn success<R: Threads + Wait + Sync>(
     rt: &R,
     alloc: Global,
@@ -199,13 +200,14 @@ fn outcome_of<R: Threads + Wait + Sync, G: Gate + Sync>(
     negotiation.end(rt, alloc, gate)
 }
 
-/// Negotiates a routing of the problem. Iteration by iteration each net is routed anew by so many workers, on one congestion book, and the
-/// iteration is closed: nodes that stay overused cost more from then on. It ends where each net has a tree and no node is overused; else
-/// after the iteration in which a net found no path, and after the last one that the settings allow. The gate is reported before the first
-/// iteration, before each, after its close, and at the end.
+/// Negotiates a routing of the problem. Iteration by iteration each net is routed anew by so many
+/// workers, on one congestion book, and the iteration is closed: nodes that stay overused cost more
+/// from then on. It ends where each net has a tree and no node is overused; else after the
+/// iteration in which a net found no path, and after the last one that the settings allow. The gate
+/// is reported before the first iteration, before each, after its close, and at the end.
 ///
-/// `NoThread`, `Memory` and `Astray` as `iterate` answers them; `Memory` also where a copy, a close or the last check found none. The call
-/// waits for the workers.
+/// `NoThread`, `Memory` and `Astray` as `iterate` answers them; `Memory` also where a copy, a close
+/// or the last check found none. The call waits for the workers.
 pub fn negotiate<R: Threads + Wait + Sync, G: Gate + Sync>(
     rt: &R,
     alloc: Global,

@@ -1,4 +1,5 @@
-//! `lab`: makes the calls of the router's libraries that a script asks for, and prints their answers.
+//! `lab`: makes the calls of the router's libraries that a script asks for, and prints their
+//! answers.
 #![tactic(auto)]
 
 mod calls;
@@ -26,7 +27,8 @@ fn main(rt: HostRuntime) -> ExitCode {
     }
 }
 
-/// Runs the scripts that the command line names, or that of standard input; whether all answers were as wanted.
+/// Runs the scripts that the command line names, or that of standard input; whether all answers
+/// were as wanted.
 fn run(rt: &(impl Runtime + Threads + Wait + Sync + AllocGlobal)) -> io::Result<bool> {
     let words: Vec<String> = env::args(rt)?.collect(rt.alloc())?;
     match words.as_slice() {

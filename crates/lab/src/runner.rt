@@ -241,7 +241,8 @@ impl<R: Runtime + Threads + Wait + Sync + AllocGlobal, I: BufRead> ScriptRun<'_,
         self.answer(Call { name, given, text })
     }
 
-    /// Answers a call, and where it lacked memory, answers it once more. No event of a list stands before.
+    /// Answers a call, and where it lacked memory, answers it once more. No event of a list stands
+    /// before.
     fn answer(&mut self, call: Call<'_>) -> IoResult<()> {
         self.session.books.standing = 0;
         let lacked = self.answer_once(call)?;

@@ -16,7 +16,8 @@ use std::time::Instant;
 /// How a line of events is written.
 const EVENT: &str = "draw WORKER, commit WORKER NET TREE, pass WORKER NET or close";
 
-/// How many bytes the line of a reply has at most: the longest ones name a fault with a number or another fault in it.
+/// How many bytes the line of a reply has at most: the longest ones name a fault with a number or
+/// another fault in it.
 const LONGEST_REPLY: usize = 64;
 
 /// Makes a call, and adds its answer.
@@ -36,7 +37,8 @@ pub fn call(
     }
 }
 
-/// Lets the events happen that a text tells, and adds the reply to each. There is room for the replies before one happens.
+/// Lets the events happen that a text tells, and adds the reply to each. There is room for the
+/// replies before one happens.
 fn run(alloc: Global, books: &mut Books, text: &[u8], out: &mut String) -> Result<(), Unanswered> {
     let events = events(alloc, text_of(text)?)?;
     out.reserve(events.len().saturating_mul(LONGEST_REPLY))?;
@@ -54,7 +56,8 @@ fn run_events(
     put_replies(replies.as_slice(), out)
 }
 
-/// Lets the events happen that a text tells, and tells how many replies there are and how long that took.
+/// Lets the events happen that a text tells, and tells how many replies there are and how long that
+/// took.
 fn run_timed(
     rt: &(impl Runtime + AllocGlobal),
     books: &mut Books,

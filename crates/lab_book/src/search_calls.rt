@@ -52,7 +52,8 @@ struct Asked {
     bb: u32,
 }
 
-/// Searches for the tree of a net by the session's view, and keeps and tells it, or the sink that isn't reached.
+/// Searches for the tree of a net by the session's view, and keeps and tells it, or the sink that
+/// isn't reached.
 fn search(
     alloc: Global,
     session: &mut Session,

@@ -9,8 +9,8 @@ use std::alloc::Global;
 use std::sync::Wait;
 use std::sync::atomic::{AtomicU32, Ordering};
 
-/// Counts how many nets came after their draws and after their searches, keeps which workers came with them, and what the driver
-/// told.
+/// Counts how many nets came after their draws and after their searches, keeps which workers came
+/// with them, and what the driver told.
 #[derive(Drop)]
 pub struct Counting<'a, R: Wait> {
     drawn: AtomicU32,

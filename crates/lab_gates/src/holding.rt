@@ -4,8 +4,9 @@ use crate::patience::Patience;
 use lab_session::unanswered::Unanswered;
 use std::sync::atomic::{AtomicBool, AtomicU32, Ordering};
 
-/// Holds a worker at its first net, after its search, until all other nets were searched for. The other workers wait behind their
-/// draws until that worker has drawn. It does so in the first iteration of a negotiation alone, which all workers make.
+/// Holds a worker at its first net, after its search, until all other nets were searched for. The
+/// other workers wait behind their draws until that worker has drawn. It does so in the first
+/// iteration of a negotiation alone, which all workers make.
 #[derive(Drop)]
 pub struct Holding {
     worker: u32,

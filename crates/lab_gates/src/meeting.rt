@@ -10,8 +10,9 @@ pub fn flag(number: u32) -> u32 {
     1u32.checked_shl(number).unwrap_or(0)
 }
 
-/// Holds each of the first nets until all of them came as far: after their draws, and again after their searches. It does so in the
-/// first iteration of a negotiation alone, which all workers make.
+/// Holds each of the first nets until all of them came as far: after their draws, and again after
+/// their searches. It does so in the first iteration of a negotiation alone, which all workers
+/// make.
 #[derive(Drop)]
 pub struct Meeting {
     nets: u32,

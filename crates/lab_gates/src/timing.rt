@@ -11,8 +11,9 @@ use std::time::{Clock, Duration};
 /// How many workers there are at most.
 const WORKERS: usize = 16;
 
-/// Adds up what the parts of iterations take: the searches of all workers; their turns, from the iteration's begin or the search before
-/// up to the next draw; and the end, from the last search to the close. Times are microseconds since it was made.
+/// Adds up what the parts of iterations take: the searches of all workers; their turns, from the
+/// iteration's begin or the search before up to the next draw; and the end, from the last search to
+/// the close. Times are microseconds since it was made.
 #[derive(Drop)]
 pub struct Timing<'a, R: Wait + Clock> {
     rt: &'a R,

@@ -7,7 +7,8 @@ use std::fmt;
 use std::sync::atomic::{AtomicU32, Ordering};
 use std::sync::{Mutex, Wait};
 
-/// A call of a gate by the driver, or what the parts of an iteration or a trial took, in microseconds.
+/// A call of a gate by the driver, or what the parts of an iteration or a trial took, in
+/// microseconds.
 #[derive(Clone, Copy, Debug)]
 pub enum Told {
     Opened {

@@ -8,7 +8,8 @@ use rr_graph::{Device, EdgeFinder};
 use smallvec::SmallVec;
 use std::alloc::{AllocError, Global};
 
-/// A prime above any count of nodes, so that as many steps of it come to each number below the count once.
+/// A prime above any count of nodes, so that as many steps of it come to each number below the
+/// count once.
 const STRIDE: u64 = 8_388_617;
 
 /// What is looked up in a walk.
@@ -164,7 +165,8 @@ fn number_again(device: &Device, id: u32) -> Option<u32> {
     }
 }
 
-/// Lists where nodes lead that jump about, all in one list that is used again; the sum is that of all numbers in it.
+/// Lists where nodes lead that jump about, all in one list that is used again; the sum is that of
+/// all numbers in it.
 fn walk_successors(alloc: Global, device: &Device) -> Result<Walked, AllocError> {
     let count = device.node_count();
     let mut list: SmallVec<u32, 8> = SmallVec::new(alloc);
@@ -176,7 +178,8 @@ fn walk_successors(alloc: Global, device: &Device) -> Result<Walked, AllocError>
     Ok(walked)
 }
 
-/// Lists where wires lead, one after another, all in one list that is used again; the sum is that of all numbers in it.
+/// Lists where wires lead, one after another, all in one list that is used again; the sum is that
+/// of all numbers in it.
 fn walk_wires(alloc: Global, device: &Device) -> Result<Walked, AllocError> {
     let mut list: SmallVec<u32, 8> = SmallVec::new(alloc);
     let mut walked = Walked::NOTHING;
@@ -215,7 +218,8 @@ fn add_edges(walked: &mut Walked, device: &Device, from: u32, list: &[u32]) {
     }
 }
 
-/// Asks one finder for each edge, from nodes that jump about; the sum is that of the nodes in which they end.
+/// Asks one finder for each edge, from nodes that jump about; the sum is that of the nodes in which
+/// they end.
 fn walk_joins(alloc: Global, device: &Device) -> Result<Walked, AllocError> {
     let count = device.node_count();
     let mut finder = EdgeFinder::new(device);

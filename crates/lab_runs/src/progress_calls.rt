@@ -1,4 +1,5 @@
-//! Calls of `runs`: the progress of a negotiation, on a terminal that keeps what is written and by a clock that a script sets.
+//! Calls of `runs`: the progress of a negotiation, on a terminal that keeps what is written and by
+//! a clock that a script sets.
 
 use lab_session::answer::{added, put};
 use lab_session::sources::BELOW;

@@ -314,8 +314,8 @@ fn put_ran(
     put_taken("route", written, out)
 }
 
-/// Adds the status of a run, and the line of its fault. Memory that a sink lacked is told as such, and so is a run without memory or a
-/// thread of which no sink took anything.
+/// Adds the status of a run, and the line of its fault. Memory that a sink lacked is told as such,
+/// and so is a run without memory or a thread of which no sink took anything.
 pub fn put_end(
     alloc: Global,
     answer: Result<u8, AppFault>,
@@ -344,7 +344,8 @@ fn put_fault(alloc: Global, fault: &AppFault, out: &mut String) -> Result<(), Un
     put_name(out, line.into_inner().as_slice())
 }
 
-/// Adds the lines that a sink took, each behind the sink's name, and where the last one isn't whole that it breaks off.
+/// Adds the lines that a sink took, each behind the sink's name, and where the last one isn't whole
+/// that it breaks off.
 pub fn put_taken(name: &str, taken: &ShortSink, out: &mut String) -> Result<(), Unanswered> {
     let bytes = taken.bytes.as_slice();
     let Ok(text) = str::from_utf8(bytes) else {

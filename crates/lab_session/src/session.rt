@@ -121,8 +121,8 @@ pub struct DesignTexts<'a> {
     pub place: &'a [u8],
 }
 
-/// What a design is made of. A netlist and a placement are kept as the texts that they were read from, and are read again where a call
-/// looks into them.
+/// What a design is made of. A netlist and a placement are kept as the texts that they were read
+/// from, and are read again where a call looks into them.
 #[derive(Drop)]
 pub struct Design {
     pub arch: Option<Arch>,

@@ -60,7 +60,8 @@ pub fn failing_source(bytes: &[u8], left: Option<usize>) -> Adapted<Failing<&[u8
     Adapted::new(Failing { inner: bytes, left })
 }
 
-/// The bytes of the file of this name, or of the text below a call, from a source that fails behind so many, or never.
+/// The bytes of the file of this name, or of the text below a call, from a source that fails behind
+/// so many, or never.
 fn named_source(
     rt: &(impl Runtime + AllocGlobal),
     name: &str,
@@ -84,7 +85,8 @@ pub fn source(rt: &(impl Runtime + AllocGlobal), call: Call<'_>) -> Result<Vec<u
     named_source(rt, *name, call.text, bytes_before_failing(rest)?)
 }
 
-/// All bytes of the file that a call names, or of the text below it, and behind how many of them a source is to fail.
+/// All bytes of the file that a call names, or of the text below it, and behind how many of them a
+/// source is to fail.
 pub fn whole_source(
     rt: &(impl Runtime + AllocGlobal),
     call: Call<'_>,

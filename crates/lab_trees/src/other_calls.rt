@@ -109,7 +109,8 @@ fn suits_other(
     suits_both(alloc, design, device, &netlist, other.as_slice())
 }
 
-/// Whether a device suits a netlist, and the placement of a design as it is read for the netlist of a text.
+/// Whether a device suits a netlist, and the placement of a design as it is read for the netlist of
+/// a text.
 fn suits_both(
     alloc: Global,
     design: DesignTexts<'_>,

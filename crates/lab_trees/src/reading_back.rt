@@ -43,7 +43,8 @@ pub fn call(
     }
 }
 
-/// Whether the text of the design's routing on the device, which must be legal, is read as the routing.
+/// Whether the text of the design's routing on the device, which must be legal, is read as the
+/// routing.
 fn is_read_back(
     rt: &(impl Runtime + Threads + Sync + AllocGlobal),
     design: &Design,

@@ -42,7 +42,7 @@ pub fn call(
 }
 
 /// The routing problem of a design that suits the device.
-#[tactic(auto, using(route_file::proofs::Making::design_made))]
+#[tactic(auto, using(route_file::proofs::DesignProblems::design_made))]
 fn problem_on(
     alloc: Global,
     device: Device,

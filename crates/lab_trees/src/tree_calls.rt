@@ -109,7 +109,8 @@ fn put_marks_fit(
     }
 }
 
-/// Tells whether the tree routes a net of the problem. The marks of a check serve the next one, where they fit its problem.
+/// Tells whether the tree routes a net of the problem. The marks of a check serve the next one,
+/// where they fit its problem.
 fn check(
     alloc: Global,
     problem: &Option<Problem>,

@@ -145,7 +145,8 @@ fn act_of_words(alloc: Global, name: &str, given: &[&str]) -> Result<Act, Unansw
     }
 }
 
-/// Lets so many workers take steps at a desk of a book, and tells how many turns each share counts; the book.
+/// Lets so many workers take steps at a desk of a book, and tells how many turns each share counts;
+/// the book.
 fn at_desk<L: Round>(
     alloc: Global,
     book: Book,

@@ -56,8 +56,8 @@ pub fn take_fresh(kept: &mut Option<Book>) -> Result<Book, Unanswered>
     }
 }
 
-/// Makes an iteration of the book by several workers, and tells their reports, worker by worker or net by net. A fault lets the book
-/// go.
+/// Makes an iteration of the book by several workers, and tells their reports, worker by worker or
+/// net by net. A fault lets the book go.
 fn make_iteration(
     rt: &(impl Runtime + Threads + Wait + Sync + AllocGlobal),
     book: &mut Option<Book>,
@@ -86,7 +86,8 @@ fn net_count(book: &Option<Book>) -> Result<u32, Unanswered> {
     }
 }
 
-/// Makes an iteration of the book under a gate, and tells what was done. The book is back when all is told.
+/// Makes an iteration of the book under a gate, and tells what was done. The book is back when all
+/// is told.
 fn iterate_under<R: Runtime + Threads + Wait + Sync + AllocGlobal>(
     rt: &R,
     kept: &mut Option<Book>,

@@ -1,9 +1,8 @@
 -- What is left of a list from a place on.
-use Rattle.std.proofs.Common.{◌≡◌, ℕ, zero, suc, ◌+◌, ◌-◌, ◌<◌, ◌≤◌, List, [], ◌∷◌, length, get_or, drop, Some, None, refl, sym, ◌∙◌, add-one, arith}
+use Rattle.std.proofs.Common.{◌≡◌, ℕ, zero, suc, ◌+◌, ◌<◌, List, [], ◌∷◌, length, get_or, drop, Some, None, refl, sym, ◌∙◌, add-one, arith}
 use Rattle.std.specs.Prelude.{slice_get}
 use Rattle.std.proofs.Math.Seq.{drop-cons}
-use Rattle.std.proofs.lemmas.List.{length-drop}
-use Rattle.std.proofs.lemmas.Option.{slice_get_past, slice_get_within, get_or_from_slice_get}
+use Rattle.std.proofs.lemmas.Option.{slice_get_within, get_or_from_slice_get}
 
 pub slice_get-drop : {X : Type 0} (n : ℕ) (xs : List X) (i : ℕ) → slice_get (drop n xs) i ≡ slice_get xs (n + i)
 slice_get-drop zero xs i = let e : 0 + i ≡ i = omega arith in rw e refl
@@ -23,7 +22,3 @@ drop_next n xs x e =
 pub drop_end : {X : Type 0} (xs : List X) → slice_get xs 0 ≡ None → xs ≡ []
 drop_end [] e = refl
 drop_end (x ∷ xs) e = absurd cc
-
--- a list has nothing at a place past its end
-pub get_past_rest : {X : Type 0} (n : ℕ) (xs : List X) (i : ℕ) → length xs - n ≤ i → slice_get (drop n xs) i ≡ None
-get_past_rest n xs i past = slice_get_past (drop n xs) i (omega (arith, length-drop n xs))

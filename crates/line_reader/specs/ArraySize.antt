@@ -1,4 +1,5 @@
--- The line that tells the size of an array, in placements and in routings (VPR and T-VPack manual 4.30). Words are counted from 0.
+-- The line that tells the size of an array, in placements and in routings (VPR and T-VPack manual
+-- 4.30). Words are counted from 0.
 use Rattle.std.specs.Prelude.{ℕ, Bool, ◌&&◌, ◌==◌, List, length, codes}
 use Rattle.line_reader.specs.Word.{is_at, is_number}
 

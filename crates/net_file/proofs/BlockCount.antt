@@ -53,7 +53,8 @@ first_false false b h = refl
 abbrev waiting : Option BlockKind → ℕ
 waiting o = cond (is_some o) 1 0
 
--- of a line after others: p, whether it is a pinlist, e, whether it is an element; o, whether an element waits before it
+-- of a line after others: p, whether it is a pinlist, e, whether it is an element; o, whether an
+-- element waits before it
 step : (p e o : Bool) (count blocks more : ℕ) → (p ≡ true → e ≡ false) → (p ≡ true → o ≡ true) → (p ≡ false → o ≡ false) → more ≡ cond e (blocks + 1) blocks
     → count + cond o 1 0 ≤ blocks → (count + cond p 1 0) + cond e 1 0 ≤ more
 step true true o count blocks more a b c m h = absurd (ff (a refl))

@@ -75,7 +75,8 @@ added : (before : List Line) (l : Line) → is_double (block_names before) l.wor
 unfolding block_names
 added before l single = words_more block_name_on before l ∙ with_element (block_names before) l.words (is_element l.words) refl single
 
--- xs are the names of the elements that have their pinlists, and name is that of the one that waits, if one does
+-- xs are the names of the elements that have their pinlists, and name is that of the one that
+-- waits, if one does
 named_from : (pins : ℕ) (before ls : List Line) (xs : List (List ℕ)) (name : List ℕ) → block_names before ≡ xs ++ cond (is_some (opened before)) (name ∷ []) []
     → AreAccepted pins before ls → opened (before ++ ls) ≡ None → block_names (before ++ ls) ≡ xs ++ names_from name ls
 named_from pins before [] xs name so_far h none =

@@ -5,9 +5,8 @@ use Rattle.std.specs.List.{AllByRecursion, position_from}
 use Rattle.std.specs.Str.{bytes_eq}
 use Rattle.std.proofs.lemmas.Bool.{cases_lt}
 use Rattle.std.proofs.lemmas.List.{get_or_append_left, get_or_push}
-use Rattle.std.proofs.lemmas.Option.{same_Some}
 use Rattle.net_file.specs.Names.{number_among, is_among, with_name, with_names, AreDifferent}
-use Rattle.net_file.proofs.Each.{each_joined}
+use Rattle.vpr_text.proofs.WordBytes.{each_joined}
 use Rattle.net_file.proofs.Numbered.{one_from_same, same_itself, number_push, numbered, pushed, kept}
 
 true_false : {P : Type 0} (b : Bool) → b ≡ true → b ≡ false → P
@@ -48,10 +47,6 @@ different_with names (x ∷ xs) different = different_with (with_name names x) x
 -- names of which each is kept once
 pub distinct_differ : (names : List (List ℕ)) → AreDifferent (with_names [] names)
 distinct_differ names = different_with [] names none_different
-
--- of different names no two stand at different places
-pub different_places : (names : List (List ℕ)) → AreDifferent names → (i j : ℕ) → i < length names → j < length names → get_or names i [] ≡ get_or names j [] → i ≡ j
-different_places names different i j here there e = same_Some i j (sym (different i here) ∙ ap (number_among names) e ∙ different j there)
 
 -- ---- what holds of each name
 

@@ -1,9 +1,10 @@
 -- What holds of each element of lists that are made from numbers.
-use Rattle.std.proofs.Common.{◌≡◌, ℕ, zero, suc, ◌+◌, ◌<◌, ◌≤◌, Bool, true, false, cond, List, [], ◌∷◌, ◌++◌, map, All, flat_map, Option, Some, None, refl, sym, subst, arith, zero-add}
+use Rattle.std.proofs.Common.{◌≡◌, ℕ, zero, suc, ◌+◌, ◌<◌, ◌≤◌, Bool, true, false, cond, List, [], ◌∷◌, map, All, flat_map, Option, Some, None, refl, sym, subst, arith, zero-add}
 use Rattle.std.specs.Prelude.{filter}
 use Rattle.std.specs.Option.{IfSome, option_map}
 use Rattle.std.specs.List.{AllByRecursion, filter_map, cons_option, range_with_len}
 use Rattle.std.proofs.lemmas.List.FromFn.{get_or-map-range_with_len, length-map-range_with_len}
+use Rattle.vpr_text.proofs.WordBytes.{each_joined}
 
 -- ---- of each number below n
 
@@ -32,10 +33,6 @@ each_picked P h a (suc n) each =
     picked_by P (h a) (filter_map h (range_with_len (a + 1) n)) (each a (omega arith) (omega arith))
     (each_picked P h (a + 1) n (λ k low high. each k (omega (arith, low)) (omega (arith, high))))
 
-pub each_joined : {Y : Type 0} (P : Y → Type 0) (xs ys : List Y) → AllByRecursion P xs → AllByRecursion P ys → AllByRecursion P (xs ++ ys)
-each_joined P [] ys h k = k
-each_joined P (x ∷ xs) ys h k = (h.0, each_joined P xs ys h.1 k)
-
 pub each_listed : {Y : Type 0} (P : Y → Type 0) (g : ℕ → List Y) (a n : ℕ) → ((k : ℕ) → a ≤ k → k < a + n → AllByRecursion P (g k)) → AllByRecursion P (flat_map g (range_with_len a n))
 each_listed P g a zero h = tt
 each_listed P g a (suc n) h =
@@ -55,10 +52,6 @@ each_passed P p (y ∷ ys) h = passed_by P (p y) y (filter p ys) h.0 (each_passe
 pub each_made : {X Y : Type 0} (P : Y → Type 0) (f : X → Y) (xs : List X) → AllByRecursion (λ x. P (f x)) xs → AllByRecursion P (map f xs)
 each_made P f [] h = tt
 each_made P f (x ∷ xs) h = (h.0, each_made P f xs h.1)
-
-pub each_weaker : {Y : Type 0} (P Q : Y → Type 0) (ys : List Y) → ((y : Y) → P y → Q y) → AllByRecursion P ys → AllByRecursion Q ys
-each_weaker P Q [] f h = tt
-each_weaker P Q (y ∷ ys) f h = (f y h.0, each_weaker P Q ys f h.1)
 
 pub if_mapped : {X Y : Type 0} (P : Y → Type 0) (f : X → Y) (o : Option X) → ((x : X) → P (f x)) → IfSome (option_map f o) P
 if_mapped P f None h = tt

@@ -15,7 +15,8 @@ use Rattle.net_file.specs.Lines.{kind_of, is_element, is_pinlist, is_global, is_
 use Rattle.net_file.specs.Reads.{AreAccepted}
 use Rattle.net_file.proofs.BlockCount.{no_element, of_bad_line, stands_not}
 use Rattle.net_file.proofs.Distinct.{distinct_each}
-use Rattle.net_file.proofs.Each.{each_joined, each_passed}
+use Rattle.vpr_text.proofs.WordBytes.{each_joined}
+use Rattle.net_file.proofs.Each.{each_passed}
 use Rattle.net_file.proofs.PinCounts.{no_early}
 
 -- ---- an element is its two words

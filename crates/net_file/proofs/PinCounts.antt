@@ -1,4 +1,5 @@
--- What accepted lines keep: a pinlist stands after an element, and has a net, or none, for each pin of the block.
+-- What accepted lines keep: a pinlist stands after an element, and has a net, or none, for each pin
+-- of the block.
 use Rattle.std.proofs.Common.{◌≡◌, ℕ, zero, suc, ◌+◌, ◌-◌, ◌<◌, Bool, true, false, eqb, not, List, [], ◌∷◌, ◌++◌, length, get_or, take, Option, None, Some, refl, sym, ap, ◌∙◌, arith}
 use Rattle.std.specs.Prelude.{is_some}
 use Rattle.std.specs.Option.{option_map_or}

@@ -28,8 +28,8 @@ use Rattle.net_file.specs.WholeFile.{driver_count, net_fault, fault_at, is_globa
 use Rattle.net_file.proofs.Each.{each_mapped, each_kept, each_picked, each_listed, each_passed, each_made, if_mapped}
 use Rattle.net_file.proofs.PinCounts.{HasPins, pinlist_fits}
 
--- a pin of this direction at a block of this kind: an input pad drives its net, an output pad takes it, and both have no class; a
--- pin of a logic block is one of the architecture, with its class
+-- a pin of this direction at a block of this kind: an input pad drives its net, an output pad takes
+-- it, and both have no class; a pin of a logic block is one of the architecture, with its class
 abbrev pub IsPin : List Pin → Direction → BlockKind → Option ℕ → Type 0
 IsPin pins direction InputPad class = (direction ≡ Output) × (class ≡ None)
 IsPin pins direction OutputPad class = (direction ≡ Input) × (class ≡ None)

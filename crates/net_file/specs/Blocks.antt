@@ -1,4 +1,5 @@
--- The blocks that accepted lines describe, each by an element and the pinlist after it (VPR and T-VPack manual 4.30).
+-- The blocks that accepted lines describe, each by an element and the pinlist after it (VPR and
+-- T-VPack manual 4.30).
 use Rattle.std.specs.Prelude.{ℕ, ◌-◌, if◌then◌else◌, List, length, drop, map, filter, Option, None, unwrap_or}
 use Rattle.std.specs.List.{range_with_len}
 use Rattle.vpr_text.specs.Words.{Line, words_at, number_at}
@@ -32,7 +33,8 @@ pinlists lines = filter (λ i. is_pinlist (words_at lines i)) (numbers_below (le
 unfoldable pub block_at : List (List ℕ) → List Line → ℕ → Block
 block_at nets lines i = block_of nets (words_at lines (i - 1)) (words_at lines i)
 
--- the blocks of the lines, for nets with these names, and the numbers of the lines of their pinlists
+-- the blocks of the lines, for nets with these names, and the numbers of the lines of their
+-- pinlists
 unfoldable pub blocks_of : List (List ℕ) → List Line → List Block
 blocks_of nets lines = map (block_at nets lines) (pinlists lines)
 

@@ -1,5 +1,5 @@
--- A line, given the lines before it: its first fault, if it has one (VPR and T-VPack manual 4.30; the limits and the order
--- of the faults are this project's profile).
+-- A line, given the lines before it: its first fault, if it has one (VPR and T-VPack manual 4.30;
+-- the limits and the order of the faults are this project's profile).
 use Rattle.std.specs.Prelude.{ℕ, ◌+◌, Bool, true, false, not, ◌&&◌, ◌||◌, nat_lt, nat_le, ◌==◌, if◌then◌else◌, List, [], ◌∷◌, ◌++◌, length, Option, None, Some, is_some}
 use Rattle.std.specs.Option.{option_map_or}
 use Rattle.vpr_text.specs.Words.{Line}
@@ -21,7 +21,8 @@ is_logic_block InputPad = false
 is_logic_block OutputPad = false
 is_logic_block LogicBlock = true
 
--- a line that stands by itself: an element with a name, names of global nets, or a subblock of a logic block
+-- a line that stands by itself: an element with a name, names of global nets, or a subblock of a
+-- logic block
 abbrev pub stands : Option BlockKind → List (List ℕ) → Bool
 stands block words =
     (is_element words && length words == 2)

@@ -1,4 +1,5 @@
--- Names in order: a name is the list of its bytes, and two names are one only where all their bytes are.
+-- Names in order: a name is the list of its bytes, and two names are one only where all their bytes
+-- are.
 use Rattle.std.specs.Prelude.{◌≡◌, ℕ, ◌<◌, Bool, if◌then◌else◌, List, [], ◌∷◌, ◌++◌, length, Option, Some, fold, slice_index_or}
 use Rattle.std.specs.Str.{bytes_eq}
 use Rattle.std.specs.List.{list_any, position_from}

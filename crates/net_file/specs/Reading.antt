@@ -1,5 +1,5 @@
--- A netlist file as a list of lines, read line by line: what is read, or the first fault (VPR and T-VPack manual 4.30; the
--- faults and their order are this project's profile).
+-- A netlist file as a list of lines, read line by line: what is read, or the first fault (VPR and
+-- T-VPack manual 4.30; the faults and their order are this project's profile).
 use Rattle.std.specs.Prelude.{ℕ, Bool, if◌then◌else◌, List, [], ◌∷◌, ◌++◌, length, map, filter, find, Option, None, Some, unwrap_or, is_some, slice_index_or, Result, Ok}
 use Rattle.std.specs.Option.{option_map}
 use Rattle.vpr_text.specs.Readings.{◌>>=◌, unless_faulty, with_fault}
@@ -30,7 +30,8 @@ abbrev pub or_else : Option LineFault → ℕ → Option NetFault → Option Net
 or_else (Some fault) n rest = Some (at_line fault n)
 or_else None n rest = rest
 
--- the fault of the first faulty line, after those before it; at the end no element waits for its pinlist
+-- the fault of the first faulty line, after those before it; at the end no element waits for its
+-- pinlist
 unfoldable pub line_fault_from : ℕ → List Line → List Line → Option NetFault
 line_fault_from pins before [] = if is_some (opened before) then Some (net.BadLine 0) else None
 line_fault_from pins before (l ∷ ls) = or_else (fault_of_next pins before l) l.number (line_fault_from pins (before ++ l ∷ []) ls)

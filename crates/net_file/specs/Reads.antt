@@ -15,7 +15,8 @@ abbrev pub AreAccepted : ℕ → List Line → List Line → Type 0
 AreAccepted pins before [] = Unit {0}
 AreAccepted pins before (l ∷ ls) = (fault_of_next pins before l ≡ None) × AreAccepted pins (before ++ l ∷ []) ls
 
--- no line is faulty, each element has its pinlist, no net is faulty, and the netlist has exactly the blocks and nets of the lines
+-- no line is faulty, each element has its pinlist, no net is faulty, and the netlist has exactly
+-- the blocks and nets of the lines
 pub record ReadsNet (pins : List Pin) (lines : List Line) (netlist : Netlist) : Type 0 where
   pub each_line : AreAccepted (length pins) [] lines
   pub complete : opened lines ≡ None

@@ -36,7 +36,8 @@ impl<'a> Block<'a> {
         self.name
     }
 
-    /// For each pin the number of its net, if it is connected: a pad has one pin, a logic block those of the architecture.
+    /// For each pin the number of its net, if it is connected: a pad has one pin, a logic block
+    /// those of the architecture.
     pub fn nets(&self) -> &[Option<usize>]
         ensures { result.now ≡ self.now.nets }
     {

@@ -9,8 +9,9 @@ use std::alloc::{AllocError, AllocFailed};
 use thiserror::Error;
 use vpr_text::TextFault;
 
-/// What is wrong with a netlist. A line is the number of the faulty logical line: that of its first physical line, counted
-/// from 1; 0 is the end of the file. The faults of nets carry the line of the net's first pinlist.
+/// What is wrong with a netlist. A line is the number of the faulty logical line: that of its first
+/// physical line, counted from 1; 0 is the end of the file. The faults of nets carry the line of
+/// the net's first pinlist.
 #[derive(Clone, Copy, Debug, PartialEq, Eq, Error)]
 pub enum NetFault {
     /// The text has no lines.

@@ -50,7 +50,8 @@ fn has_subblocks(block: Option<BlockKind>) -> bool
     }
 }
 
-/// Whether the line stands by itself: an element with a name, names of global nets, or a subblock of a logic block.
+/// Whether the line stands by itself: an element with a name, names of global nets, or a subblock
+/// of a logic block.
 fn stands(block: Option<BlockKind>, words: &Words) -> bool
     ensures { result ≡ stands block words.now }
 {

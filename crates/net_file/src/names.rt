@@ -7,8 +7,8 @@ use std::alloc::{AllocError, Global};
 use std::collections::BTreeMap;
 use std::marker::Model;
 
-/// Names, each once; a name's number is its place among them. A name is found in a number of comparisons that grows
-/// with the logarithm of how many names there are.
+/// Names, each once; a name's number is its place among them. A name is found in a number of
+/// comparisons that grows with the logarithm of how many names there are.
 #[derive(Drop)]
 pub(crate) struct Names<'a> {
     list: Vec<&'a [u8]>,

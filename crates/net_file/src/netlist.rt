@@ -9,7 +9,8 @@ use crate::names::Names;
 use crate::net::Net;
 use std::marker::Model;
 
-/// A netlist, as `parse` reads it: names are slices of the source. Contracts see it as the record of its blocks and nets.
+/// A netlist, as `parse` reads it: names are slices of the source. Contracts see it as the record
+/// of its blocks and nets.
 #[derive(Drop)]
 pub struct Netlist<'a> {
     pub(crate) blocks: Vec<Block<'a>>,
@@ -47,8 +48,8 @@ impl<'a> Netlist<'a> {
         self.nets.as_slice()
     }
 
-    /// The number of the block with this name, if there is one. It takes a number of comparisons that grows with the logarithm of
-    /// how many blocks there are.
+    /// The number of the block with this name, if there is one. It takes a number of comparisons
+    /// that grows with the logarithm of how many blocks there are.
     pub fn block_named(&self, name: &[u8]) -> Option<usize>
         ensures { result ≡ number_among (names_of_blocks self.now.blocks) name.now }
     {

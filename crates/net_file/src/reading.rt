@@ -124,11 +124,12 @@ fn netlist_in<'a>(alloc: Global, source: &'a [u8], pins: &[Pin]) -> Result<Netli
     }
 }
 
-/// The netlist that a file's bytes describe, by "The Netlist File Format" of the VPR and T-VPack manual 4.30 and the limits of
-/// this project's profile: at most 20,000 blocks and 65,535 nets. A logic block has the pins of `arch`.
+/// The netlist that a file's bytes describe, by "The Netlist File Format" of the VPR and T-VPack
+/// manual 4.30 and the limits of this project's profile: at most 20,000 blocks and 65,535 nets. A
+/// logic block has the pins of `arch`.
 ///
-/// A fault of the text comes first, then that of the first faulty line, then that of the least faulty net. Of the faults of
-/// one line or net it is the first in the order of `NetFault`.
+/// A fault of the text comes first, then that of the first faulty line, then that of the least
+/// faulty net. Of the faults of one line or net it is the first in the order of `NetFault`.
 pub fn parse<'a>(alloc: Global, source: &'a [u8], arch: &Arch) -> Result<Netlist<'a>, NetFault>
     // What is read is the netlist of the text.
     ensures found { IfOk result (λ n. ReadsBytes arch.now.pins source.now n) }

@@ -1,4 +1,5 @@
--- How many turns are a worker's, or at a net; and what follows where all together are as many as there may be.
+-- How many turns are a worker's, or at a net; and what follows where all together are as many as
+-- there may be.
 use Rattle.std.proofs.Common.{◌≡◌, inl, inr, ℕ, zero, suc, ◌+◌, ◌<◌, ◌≤◌, ◌==◌, nat_lt, ◌∷◌, [], List, length, take, get_or, refl, sym, ap, ◌∙◌, arith, add-one, Option, None, Some, is_some}
 use Rattle.std.proofs.lemmas.Bool.{cases_lt, eq-eqb}
 use Rattle.std.proofs.lemmas.Bool.Decides.{nat_tests}

@@ -1,4 +1,4 @@
-pub mod Parts
+pub mod WorkerParts
 pub mod Draws
 pub mod Telling
 pub mod Counts

@@ -1,4 +1,5 @@
--- What the reports of an iteration tell of a net: one of them has an entry for it, and the net is stuck where the book has no tree of it.
+-- What the reports of an iteration tell of a net: one of them has an entry for it, and the net is
+-- stuck where the book has no tree of it.
 use Rattle.std.proofs.Common.{◌≡◌, inl, inr, ℕ, ◌+◌, ◌<◌, ◌≤◌, ◌==◌, ◌∷◌, [], List, map, get_or, sym, refl, ap, subst, ◌∙◌, arith, Option, None, Some, Bool, true, false, cond}
 use Rattle.std.proofs.lemmas.Bool.{cases_eq, eq-eqb, ne_eqb}
 use Rattle.std.proofs.lemmas.Bool.Decides.{nat_tests}

@@ -7,7 +7,7 @@ use Rattle.congestion_book.specs.Turns.{NameEachOnce, holder_in, turn_of}
 use Rattle.route_tree.specs.Usage.{list_in}
 use Rattle.congestion_book.specs.Contents.{Content, net_count}
 use Rattle.net_workers.specs.declared.report.ReportEntry.{ReportEntry}
-use Rattle.net_workers.specs.Parts.{IsOfIteration}
+use Rattle.net_workers.specs.WorkerParts.{IsOfIteration}
 use Rattle.net_workers.specs.Searches.{AreFound}
 
 -- the turn that a worker's entry reports
@@ -23,8 +23,8 @@ pub record IsReportOf (c : Content) (worker : ℕ) (entries : List ReportEntry) 
   pub turns : filter (λ t. t.worker == worker) c.turns ≡ map (reported_turn worker) entries
   pub recorded : All (IsRecorded c) entries
 
--- The new book is the old one after an iteration of so many workers, with this present-congestion factor and this margin of the
--- boxes, and these are their reports.
+-- The new book is the old one after an iteration of so many workers, with this present-congestion
+-- factor and this margin of the boxes, and these are their reports.
 pub record Agrees (old new : Content) (present bb workers : ℕ) (reports : List (List ReportEntry)) : Type 0 where
   -- all but the open iteration is as it was
   pub within : IsOfIteration old new

@@ -1,4 +1,4 @@
-pub mod Parts
+pub mod WorkerParts
 pub mod Searches
 pub mod Looks
 pub mod Agreement

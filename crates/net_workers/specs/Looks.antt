@@ -1,4 +1,5 @@
--- When a worker that comes to commit a tree looks and searches again (ours): where the others have filled a node of the tree since it looked.
+-- When a worker that comes to commit a tree looks and searches again (ours): where the others have
+-- filled a node of the tree since it looked.
 use Rattle.std.specs.Prelude.{◌≡◌, ℕ, ◌==◌, nat_lt, Bool, true, false, ◌&&◌, List, length, Result, Ok, Err}
 use Rattle.route_tree.specs.declared.tree.Row.{Row}
 use Rattle.route_tree.specs.Rows.{pairs_of}
@@ -9,14 +10,15 @@ use Rattle.congestion_book.specs.Looks.{have_filled}
 use Rattle.congestion_book.specs.Steps.{Commits}
 use Rattle.net_workers.specs.declared.turn_or_look.TurnOrLook.{TurnOrLook}
 use Rattle.net_workers.specs.declared.turn_or_look.TurnOrLook.TheVariants.{Turn, Look}
-use Rattle.net_workers.specs.Parts.{Part, one_more}
+use Rattle.net_workers.specs.WorkerParts.{Part, one_more}
 use Rattle.net_workers.specs.Searches.{IsSeenIn}
 
 -- the others have filled a node of the net's tree since this view of the net was shown
 abbrev pub looks_again : Content → (net : ℕ) → NetView → List Row → Bool
 looks_again c net seen rows = nat_lt net (net_count c) && (length seen == node_total c) && have_filled c net seen rows
 
--- One hold of the lock: where the others have filled a node of the tree the worker looks again, and the book is as it was; else it commits.
+-- One hold of the lock: where the others have filled a node of the tree the worker looks again, and
+-- the book is as it was; else it commits.
 abbrev pub CommitsOrLooks : Content → NetView → (worker net : ℕ) → List Row → Result TurnOrLook CommitFault → Content → NetView → Type 0
 CommitsOrLooks old seen worker net rows (Ok Look) new sees = (looks_again old net seen rows ≡ true) × (new ≡ old) × (sees ≡ view_of old net)
 CommitsOrLooks old seen worker net rows (Ok Turn) new sees =

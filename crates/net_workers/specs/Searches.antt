@@ -7,9 +7,10 @@ use Rattle.wavefront.specs.Growth.{IsWhole, IsStuck, space_of}
 use Rattle.congestion_book.specs.declared.faults.DrawFault.{DrawFault}
 use Rattle.congestion_book.specs.Contents.{Content, IsSound, net_count, view_of}
 use Rattle.net_workers.specs.declared.report.ReportEntry.{ReportEntry}
-use Rattle.net_workers.specs.Parts.{IsOfIteration}
+use Rattle.net_workers.specs.WorkerParts.{IsOfIteration}
 
--- what a net may see in the iteration that opens with a book: what a sound book of that iteration shows of it
+-- what a net may see in the iteration that opens with a book: what a sound book of that iteration
+-- shows of it
 pub record IsSeenIn (opening : Content) (net : ℕ) (view : NetView) : Type 0 where
   pub book : Content
   pub sound : IsSound book

@@ -42,7 +42,8 @@ fn is_reported(book: &Book, worker: u32, turn: &Turn, entry: &ReportEntry) -> bo
     *turn == reported && is_recorded(book, entry)
 }
 
-/// Whether the worker's turns are the first entries of its report, in order, and the book records their trees.
+/// Whether the worker's turns are the first entries of its report, in order, and the book records
+/// their trees.
 fn begins(book: &Book, worker: u32, report: &Report) -> bool
     ensures { IsTrue result → (n : ℕ) × Begins book.now book.now.turns worker n report.now }
 {

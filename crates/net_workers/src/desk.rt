@@ -1,4 +1,5 @@
-//! What lies under the lock of an iteration: the book, and the total of the turns that the workers made.
+//! What lies under the lock of an iteration: the book, and the total of the turns that the workers
+//! made.
 
 ghost use Rattle.std.specs.Prelude.{◌≡◌, ◌+◌, ◌<◌, ◌↔◌, true, if◌then◌else◌, [], length, vec_len, sum_by, All, Some, IfOk, IfErr, IsOk, OnOk, OnErr};
 ghost use Rattle.route_tree.specs.Rows.{pairs_of};
@@ -6,7 +7,7 @@ ghost use Rattle.route_tree.specs.Faults.{IsRoute};
 ghost use Rattle.congestion_book.specs.Turns.{holder_in};
 ghost use Rattle.congestion_book.specs.Contents.{IsSound, IsFresh, view_of};
 ghost use Rattle.congestion_book.specs.Steps.{Draws, Commits, Passes, fault_alone};
-ghost use Rattle.net_workers.specs.Parts.{AreParts, IsOfIteration, one_more};
+ghost use Rattle.net_workers.specs.WorkerParts.{AreParts, IsOfIteration, one_more};
 ghost use Rattle.net_workers.specs.Searches.{IsSeenIn, ShowsNet};
 ghost use Rattle.net_workers.specs.Looks.{looks_again, CommitsOrLooks, part_with, ShowsAgain};
 
@@ -20,9 +21,10 @@ use std::marker::Model;
 use std::sync::ledger;
 use std::sync::ledger::Blank;
 
-/// The book of an iteration, with the total of its shares. Contracts see the book's content. That each open turn is a worker's of the
-/// round, that the total is the number of open turns, and that the book is one of the iteration that opens with the book handed in, are
-/// facts of the type, and so is the congestion invariant, by the book's.
+/// The book of an iteration, with the total of its shares. Contracts see the book's content. That
+/// each open turn is a worker's of the round, that the total is the number of open turns, and that
+/// the book is one of the iteration that opens with the book handed in, are facts of the type, and
+/// so is the congestion invariant, by the book's.
 #[derive(Drop)]
 pub struct Desk<L: Round> {
     book: Book,
@@ -136,7 +138,8 @@ impl<L: Round> Desk<L> {
         }
     }
 
-    /// Records a tree of which it is known that it routes the net, as `commit` does: it isn't looked at again.
+    /// Records a tree of which it is known that it routes the net, as `commit` does: it isn't
+    /// looked at again.
     pub(crate) fn commit_routed(
         &mut self,
         share: &mut Share<L>,
@@ -160,9 +163,9 @@ impl<L: Round> Desk<L> {
         }
     }
 
-    /// Comes to commit the tree of a net, which was found with this view. Where a node of the tree is full now by the other nets, and was
-    /// not by those in the view, the view becomes that of the net as the book is now, and the tree is let go; else it is committed as
-    /// `commit` does.
+    /// Comes to commit the tree of a net, which was found with this view. Where a node of the tree
+    /// is full now by the other nets, and was not by those in the view, the view becomes that of
+    /// the net as the book is now, and the tree is let go; else it is committed as `commit` does.
     pub fn commit_or_look(
         &mut self,
         share: &mut Share<L>,
@@ -185,7 +188,8 @@ impl<L: Round> Desk<L> {
         }
     }
 
-    /// Comes to commit a tree of which it is known that it routes the net, as `commit_or_look` does.
+    /// Comes to commit a tree of which it is known that it routes the net, as `commit_or_look`
+    /// does.
     pub(crate) fn commit_routed_or_look(
         &mut self,
         share: &mut Share<L>,
@@ -208,7 +212,8 @@ impl<L: Round> Desk<L> {
         }
     }
 
-    /// Fills the view of a net anew where the others have filled a node of its tree. Whether it did.
+    /// Fills the view of a net anew where the others have filled a node of its tree. Whether it
+    /// did.
     fn looks_again(&self, net: u32, tree: &Tree, view: &mut View) -> bool
         ensures exact { result ≡ looks_again self.now net view.old tree.now }
         ensures view { view.new ≡

@@ -4,7 +4,7 @@ ghost use Rattle.std.specs.Prelude.{◌≡◌, ◌<◌, ◌≤◌, length, vec_l
 ghost use Rattle.node_cost.specs.Options.{present_of, most_iterations, most_workers};
 ghost use Rattle.congestion_book.specs.Contents.{IsSound, IsFresh};
 ghost use Rattle.net_workers.specs.Agreement.{Agrees};
-ghost use Rattle.net_workers.specs.Parts.{AreParts, IsOfIteration};
+ghost use Rattle.net_workers.specs.WorkerParts.{AreParts, IsOfIteration};
 ghost use Rattle.net_workers.specs.kept.Faults.{first_of, first_met};
 ghost use Rattle.net_workers.specs.Searches.{AreFound};
 
@@ -190,17 +190,20 @@ fn iterate_as<L: Round + Send + Sync, R: Threads + Wait + Sync, G: Gate + Sync>(
     work_at(rt, alloc, desk, prepared, tools, options, shares, gate)
 }
 
-/// Iteration k of a negotiation: so many workers draw the nets of the book, in whose open iteration nothing was drawn yet, search for
-/// their trees and make a turn at each. After the first iteration a worker that comes to commit a tree of which the others have filled a
-/// node looks and searches again, up to four times. The workers wait for one another at the book's lock, and the call waits for them all.
-/// The book comes back sound, with the iteration still open, and a report of each worker, whose turns and trees are those of the book.
+/// Iteration k of a negotiation: so many workers draw the nets of the book, in whose open iteration
+/// nothing was drawn yet, search for their trees and make a turn at each. After the first iteration
+/// a worker that comes to commit a tree of which the others have filled a node looks and searches
+/// again, up to four times. The workers wait for one another at the book's lock, and the call waits
+/// for them all. The book comes back sound, with the iteration still open, and a report of each
+/// worker, whose turns and trees are those of the book.
 ///
 /// The workers search in the workspace, which is of the book's problem, and leave there what they
 /// searched with, so that the next iteration needn't make it anew. Contracts see no more of it than
 /// its problem.
 ///
-/// `NoThread` where a thread couldn't be started, `Memory` where memory ran out, `Astray` where the book refused a call or a report
-/// disagrees with it. Of several the first is answered, and the book is let go.
+/// `NoThread` where a thread couldn't be started, `Memory` where memory ran out, `Astray` where the
+/// book refused a call or a report disagrees with it. Of several the first is answered, and the
+/// book is let go.
 pub fn iterate_in<R: Threads + Wait + Sync, G: Gate + Sync>(
     rt: &R,
     alloc: Global,

@@ -1,4 +1,5 @@
-//! One iteration of a negotiation by several workers, each in a thread of its own, on one congestion book under one lock.
+//! One iteration of a negotiation by several workers, each in a thread of its own, on one
+//! congestion book under one lock.
 #![tactic(auto)]
 
 mod comparison;

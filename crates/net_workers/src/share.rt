@@ -2,14 +2,14 @@
 
 ghost use Rattle.std.specs.Prelude.{◌≡◌, ◌+◌, ◌≤◌, ◌<◌, ℕ, [], length};
 ghost use Rattle.congestion_book.specs.Contents.{Content};
-ghost use Rattle.net_workers.specs.Parts.{no_book, no_turns, one_more};
+ghost use Rattle.net_workers.specs.WorkerParts.{no_book, no_turns, one_more};
 
 use std::marker::{Brand, Model};
 use std::sync::ledger;
 use std::sync::ledger::Ledger;
 
-/// One iteration: the number of its workers, by how much the boxes of nets are widened, the present-congestion factor, and the book
-/// that was handed in. Its ledger counts the turns.
+/// One iteration: the number of its workers, by how much the boxes of nets are widened, the
+/// present-congestion factor, and the book that was handed in. Its ledger counts the turns.
 pub trait Round: Ledger {
     ghost workers: { ℕ };
 
@@ -30,7 +30,8 @@ impl Round for Brand {
     ghost opening = { no_book };
 }
 
-/// A worker's part in an iteration: its number, and how many turns it made. Contracts see the record of both.
+/// A worker's part in an iteration: its number, and how many turns it made. Contracts see the
+/// record of both.
 #[derive(Drop)]
 pub struct Share<L: Round> {
     worker: u32,
@@ -40,7 +41,7 @@ pub struct Share<L: Round> {
 
 impl<L: Round> Model for Share<L> {
     ghost use Rattle.std.specs.Prelude.{◌≡◌, ◌<◌};
-    ghost use Rattle.net_workers.specs.Parts.{Part};
+    ghost use Rattle.net_workers.specs.WorkerParts.{Part};
 
     ghost Value = { Part };
 

@@ -1,4 +1,5 @@
-//! The workers of an iteration, each in a thread of its own, but for the last, which works in the thread that calls.
+//! The workers of an iteration, each in a thread of its own, but for the last, which works in the
+//! thread that calls.
 
 ghost use Rattle.std.specs.Prelude.{◌≡◌, All};
 

@@ -4,7 +4,7 @@ ghost use Rattle.std.specs.Prelude.{◌≡◌, ◌<◌, ◌≤◌, length, vec_l
 ghost use Rattle.routing_problem.specs.Nodes.{node_count_of};
 ghost use Rattle.node_cost.specs.Options.{greatest_present, present_of, most_iterations};
 ghost use Rattle.wavefront.specs.Growth.{space_of};
-ghost use Rattle.net_workers.specs.Parts.{one_more};
+ghost use Rattle.net_workers.specs.WorkerParts.{one_more};
 ghost use Rattle.net_workers.specs.Searches.{AreFound, IsFound, IsFoundIn};
 ghost use Rattle.net_workers.specs.Looks.{part_with, ShowsAgain};
 ghost use Rattle.net_workers.specs.kept.Attempts.{most_looks, GoesOn, part_going_on, IsFoundAgain, RoutesNet, entry_with};
@@ -30,8 +30,8 @@ use wavefront::{Found, SearchFault};
 /// How many times a worker may look again at a net that it holds, in an iteration after the first.
 const MOST_LOOKS: u32 = 4;
 
-/// The present-congestion factor of an iteration, by how much the boxes of nets are widened, and how many times a worker may look again at
-/// a net.
+/// The present-congestion factor of an iteration, by how much the boxes of nets are widened, and
+/// how many times a worker may look again at a net.
 #[derive(Clone, Copy)]
 pub(crate) struct SearchOptions {
     pub(crate) present: u32,
@@ -120,8 +120,8 @@ fn end_turn<L: Round, R: Wait>(
     Ok(())
 }
 
-/// Comes to commit the tree of a net that the worker drew, and passes the net where there is none. A look where the others have filled a
-/// node of the tree: then the view is filled anew.
+/// Comes to commit the tree of a net that the worker drew, and passes the net where there is none.
+/// A look where the others have filled a node of the tree: then the view is filled anew.
 fn try_turn<L: Round, R: Wait>(
     rt: &R,
     desk: &Mutex<Desk<L>>,
@@ -145,8 +145,8 @@ fn try_turn<L: Round, R: Wait>(
     }
 }
 
-/// Makes the worker's turn at a net with a tree, or with none. Where the others have filled a node of the tree it makes none, and searches
-/// again: then what it finds, and a copy of it.
+/// Makes the worker's turn at a net with a tree, or with none. Where the others have filled a node
+/// of the tree it makes none, and searches again: then what it finds, and a copy of it.
 fn turn_or_search<L: Round, R: Wait, G: Gate>(
     rt: &R,
     alloc: Global,
@@ -178,8 +178,9 @@ fn turn_or_search<L: Round, R: Wait, G: Gate>(
     }
 }
 
-/// Makes the worker's turn at a net with the tree that was found with this view, or with none. Where the others have filled a node of the
-/// tree, it looks and searches again, as often as the options allow. A copy of the tree with which it makes its turn.
+/// Makes the worker's turn at a net with the tree that was found with this view, or with none.
+/// Where the others have filled a node of the tree, it looks and searches again, as often as the
+/// options allow. A copy of the tree with which it makes its turn.
 fn settle<L: Round, R: Wait, G: Gate>(
     rt: &R,
     alloc: Global,
@@ -258,7 +259,8 @@ impl<L: Round> Finished<L> {
     }
 }
 
-/// A worker: its share, what it reports of its turns, and what it searches with. Contracts see what it reports.
+/// A worker: its share, what it reports of its turns, and what it searches with. Contracts see what
+/// it reports.
 #[derive(Drop)]
 struct Worker<L: Round> {
     share: Share<L>,
@@ -302,7 +304,8 @@ impl<L: Round> Worker<L> {
         })
     }
 
-    /// Draws a net, searches for its tree and makes a turn at it. False where there was none to draw.
+    /// Draws a net, searches for its tree and makes a turn at it. False where there was none to
+    /// draw.
     fn make_turn<R: Wait, G: Gate>(
         &mut self,
         rt: &R,

@@ -29,7 +29,8 @@ unfolding number_at
 number_within word zero = omega arith
 number_within word (suc p) = omega (arith, shifted_next (number_at (word / 16) p) p, number_within (word / 16) p)
 
--- the new word is the old one where what stood at the place is taken off and this number is added there
+-- the new word is the old one where what stood at the place is taken off and this number is added
+-- there
 abbrev IsExchanged : (place number word new : ℕ) → Type 0
 IsExchanged place number word new = new + number_at word place * 2 ^ (4 * place) ≡ word + number * 2 ^ (4 * place)
 

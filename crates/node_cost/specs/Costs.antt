@@ -5,7 +5,7 @@ use Rattle.std.specs.Prelude.{ℕ, ◌+◌, ◌-◌, ◌*◌}
 abbrev pub unit_factor : ℕ
 unit_factor = 16
 
--- The base cost and the history, times a factor that grows with each net beyond the capacity: those that use the node already, and
--- this one. (`-` stops at 0: below the capacity the factor is 1.)
+-- The base cost and the history, times a factor that grows with each net beyond the capacity: those
+-- that use the node already, and this one. (`-` stops at 0: below the capacity the factor is 1.)
 abbrev pub cost_of : (base history capacity others present : ℕ) → ℕ
 cost_of base history capacity others present = (base + history) * (unit_factor + present * (others + 1 - capacity))

@@ -1,5 +1,5 @@
--- What a user chooses of the negotiation (VPR and T-VPack manual 4.30, "Router Options"), and the present-congestion factors that
--- follow from it.
+-- What a user chooses of the negotiation (VPR and T-VPack manual 4.30, "Router Options"), and the
+-- present-congestion factors that follow from it.
 use Rattle.std.specs.Prelude.{ℕ, ◌-◌, ◌*◌, ◌/◌, ◌≤◌, zero, suc, Bool, ◌&&◌, nat_le, not, min, if◌then◌else◌, Result, Ok, Err}
 use Rattle.node_cost.specs.declared.settings.Range.{Range}
 use Rattle.node_cost.specs.declared.settings.Range.TheVariants.{First, Init, Mult, Acc, Bb, Iterations}

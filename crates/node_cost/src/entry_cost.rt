@@ -12,7 +12,8 @@ pub const GREATEST_HISTORY: u64 = 1 << 42;
 /// The greatest present-congestion factor.
 pub const GREATEST_PRESENT: u32 = 1 << 20;
 
-/// The factor by which a node's cost grows: 16, which stands for 1, and more for each net beyond the node's capacity.
+/// The factor by which a node's cost grows: 16, which stands for 1, and more for each net beyond
+/// the node's capacity.
 #[tactic(auto, using(crate::proofs::Bounds::factor_bounded))]
 fn congestion_factor(capacity: u32, others: u32, present: u32) -> u64
     requires capacity { 1 ≤ capacity }
@@ -25,8 +26,9 @@ fn congestion_factor(capacity: u32, others: u32, present: u32) -> u64
     16 + u64::from(present) * u64::from(excess)
 }
 
-/// The cost of entering a node: its base cost and its history, times a factor that grows with every net beyond the node's capacity
-/// that would use it together with this one. A factor of 16 stands for 1.
+/// The cost of entering a node: its base cost and its history, times a factor that grows with every
+/// net beyond the node's capacity that would use it together with this one. A factor of 16 stands
+/// for 1.
 #[tactic(auto, using(crate::proofs::Bounds::cost_bounded))]
 pub fn cost(base: u32, history: u64, capacity: u32, others: u32, present: u32) -> u128
     requires base { base ≤ 20 }

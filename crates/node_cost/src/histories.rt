@@ -7,11 +7,13 @@ use crate::packed::{narrow, put_narrow};
 use std::alloc::{AllocError, Global};
 use std::marker::Model;
 
-/// The history of each node: what its overuse in the iterations so far adds to its cost. Contracts see the list of these numbers.
+/// The history of each node: what its overuse in the iterations so far adds to its cost. Contracts
+/// see the list of these numbers.
 #[derive(Debug, Drop)]
 pub struct Histories {
     histories: Vec<u64>,
-    /// Four bits a node, which are 0 where its history is: most are, and the table needn't be looked at.
+    /// Four bits a node, which are 0 where its history is: most are, and the table needn't be
+    /// looked at.
     some: Vec<u64>,
 }
 

@@ -1,4 +1,5 @@
-//! How many nets use each node, packed: four bits a node, and a table of the numbers that don't fit.
+//! How many nets use each node, packed: four bits a node, and a table of the numbers that don't
+//! fit.
 
 ghost use Rattle.std.specs.Prelude.{◌≡◌, ◌<◌, ◌≤◌, ◌+◌, ◌*◌, ◌/◌, ℕ, true, false, length, get_or, set};
 ghost use Rattle.node_cost.specs.kept.Packed.{narrow_of, count_of, counts_of, IsMarked, PutsNarrow, CopiesPart, CopiesBlock};

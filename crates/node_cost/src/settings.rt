@@ -30,7 +30,8 @@ pub enum Range {
     Iterations,
 }
 
-/// What a user chooses of the negotiation, all within its ranges. Contracts see the record of the options.
+/// What a user chooses of the negotiation, all within its ranges. Contracts see the record of the
+/// options.
 #[derive(Clone, Copy, Debug, PartialEq, Eq)]
 pub struct Settings {
     first: u32,

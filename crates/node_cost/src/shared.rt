@@ -73,7 +73,8 @@ impl SharedHistories {
         self.own.set(id, history);
     }
 
-    /// Becomes what these histories of as many nodes are: it shares them, or where that can't be had copies them.
+    /// Becomes what these histories of as many nodes are: it shares them, or where that can't be
+    /// had copies them.
     pub(crate) fn share(&mut self, histories: &Arc<Histories, Global>)
         requires { length self.old ≡ length (arc_value histories.now) }
         ensures { self.new ≡ arc_value histories.now }

@@ -13,8 +13,8 @@ use std::alloc::{AllocError, Global};
 use std::marker::Model;
 use std::sync::Arc;
 
-/// What a net sees of the others when it is routed: of each node how many other nets use it, and its history.
-/// Contracts see the list of these pairs.
+/// What a net sees of the others when it is routed: of each node how many other nets use it, and
+/// its history. Contracts see the list of these pairs.
 #[derive(Drop)]
 pub struct View {
     others: Counts,
@@ -159,7 +159,8 @@ impl View {
         self.histories.set(id, history);
     }
 
-    /// Becomes the view of a net that sees these counts and histories, of as many nodes. It shares the histories where it can.
+    /// Becomes the view of a net that sees these counts and histories, of as many nodes. It shares
+    /// the histories where it can.
     #[tactic(auto, using(crate::proofs::Views::length_seen))]
     pub fn look_at(&mut self, counts: &Counts, histories: &Arc<Histories, Global>)
         requires counts { length self.old ≡ length counts.now }

@@ -139,7 +139,8 @@ found_right f at x y j t l m e h =
     let start : place_start f Chany x y + j ≡ kind_start f Chany + at = omega (arith, right_start f x y l, h) in
     ap (node_at f) (sym start) ∙ node_at_place f Chany x y j t (ap (λ ns. slice_get ns j) (numbers_right f x y l) ∙ e) (omega arith) (omega arith)
 
--- what the look-ups of a wire above a row find: h rows but one, its place, how many wires begin before it and there
+-- what the look-ups of a wire above a row find: h rows but one, its place, how many wires begin
+-- before it and there
 pub record RowFound (f : Fabric) (at h place before step : ℕ) : Type 0 where
   pub upto : place ≤ f.nx
   pub below : (h + 1) * before ≤ at

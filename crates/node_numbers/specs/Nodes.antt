@@ -1,4 +1,5 @@
--- The nodes of a device in their order (Betz, Rose and Marquardt 1999, "routing-resource graph"; the order is this project's).
+-- The nodes of a device in their order (Betz, Rose and Marquardt 1999, "routing-resource graph";
+-- the order is this project's).
 use Rattle.std.specs.Prelude.{ℕ, ◌+◌, ◌==◌, Bool, true, false, ◌&&◌, nat_le, if◌then◌else◌, List, [], ◌∷◌, length, map, slice_get, Option, Some, None}
 use Rattle.std.specs.List.{flat_map, position}
 use Rattle.std.specs.Option.{option_map, option_map_or}
@@ -119,7 +120,8 @@ capacity_by Ipin f n = 1
 capacity_by Chanx f n = wire_capacity f.mode f.width
 capacity_by Chany f n = wire_capacity f.mode f.width
 
--- how many nets may use a node: the pins of a block's class; in a global device the width of a channel; else 1
+-- how many nets may use a node: the pins of a block's class; in a global device the width of a
+-- channel; else 1
 abbrev pub capacity_of : Fabric → Node → ℕ
 capacity_of f n = capacity_by n.kind f n
 
@@ -132,8 +134,8 @@ span_by _ f n = record { x1 = n.x; y1 = n.y; x2 = n.x; y2 = n.y }
 abbrev pub span_of : Fabric → Node → Span
 span_of f n = span_by n.kind f n
 
--- a wire's kind, its first and last place, and how many places the wires of its track pass at most; none where the
--- node is no wire
+-- a wire's kind, its first and last place, and how many places the wires of its track pass at most;
+-- none where the node is no wire
 unfoldable pub wire_in : Fabric → Option Node → Option (Kind × Span × ℕ)
 wire_in f None = None
 wire_in f (Some n) = if is_wire n.kind then Some (n.kind, span_of f n, reach_of f n.number) else None

@@ -1,4 +1,5 @@
-//! The node of a number, and its kind alone, by arithmetic. What makes a node is inlined: through a call it would pass through memory.
+//! The node of a number, and its kind alone, by arithmetic. What makes a node is inlined: through a
+//! call it would pass through memory.
 
 ghost use Rattle.std.specs.Prelude.{◌≡◌, ◌+◌, ◌-◌, ◌*◌, ◌/◌, ◌%◌, ◌≤◌, ◌<◌, true, false, length, slice_get, Some};
 ghost use Rattle.std.specs.Option.{option_map};
@@ -205,7 +206,8 @@ impl NodeNumbers {
         self.strides.rows.quotient(at)
     }
 
-    /// How often what begins at place `x` of a channel above a row goes into a number, and what is left.
+    /// How often what begins at place `x` of a channel above a row goes into a number, and what is
+    /// left.
     #[tactic(auto, using(channel_tables::proofs::Ranges::length_below, channel_tables::proofs::Ranges::get_below))]
     fn by_place(&self, x: u32, rest: u32) -> (u32, u32)
         requires { x ≤ self.now.nx }

@@ -1,4 +1,5 @@
-//! Division by one number over and over, by a multiplication each time (Granlund and Montgomery 1994).
+//! Division by one number over and over, by a multiplication each time (Granlund and Montgomery
+//! 1994).
 
 ghost use Rattle.std.specs.Prelude.{◌≡◌, ℕ, ◌+◌, ◌*◌, ◌/◌, ◌%◌, ◌<◌, ◌≤◌};
 

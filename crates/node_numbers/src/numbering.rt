@@ -16,7 +16,8 @@ use crate::numbers::NodeNumbers;
 use crate::starts::kind_start;
 use channel_tables::{Axis, Kind, Layout, Node};
 
-/// How many nodes of a kind of terminals or pins, of which a block has `count`, stand in the columns before `x`.
+/// How many nodes of a kind of terminals or pins, of which a block has `count`, stand in the
+/// columns before `x`.
 #[tactic(auto, unfolding(crate::specs::kept::Columns::columns_length))]
 fn columns_length(layout: &Layout, count: u32, x: u32) -> u32
     requires few { count ≤ most_pins }

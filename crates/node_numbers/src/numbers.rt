@@ -154,8 +154,8 @@ impl NodeNumbers {
         }
     }
 
-    /// The kind of a wire, the places that it passes, and how many the wires of its track pass at most, from one look-up;
-    /// None for what is no wire.
+    /// The kind of a wire, the places that it passes, and how many the wires of its track pass at
+    /// most, from one look-up; None for what is no wire.
     #[tactic(auto, unfolding(crate::specs::Nodes::wire_in))]
     pub fn wire(&self, id: u32) -> Option<(Kind, Span, u32)>
         ensures { result ≡ wire_in self.now (node_at self.now id) }

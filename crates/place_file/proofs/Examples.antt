@@ -1,5 +1,5 @@
--- Worked examples that compute: an array of one logic block with two pads at each place, and the blocks a and b, which are
--- pads, and c.
+-- Worked examples that compute: an array of one logic block with two pads at each place, and the
+-- blocks a and b, which are pads, and c.
 use Rattle.std.proofs.Common.{◌≡◌, ℕ, true, false, List, [], ◌∷◌, Some, None, Ok, refl}
 use Rattle.std.specs.Prelude.{codes}
 use Rattle.vpr_text.specs.Words.{Line}

@@ -1,5 +1,5 @@
--- Rows of which each block has one give it its site, and have no fault; and rows without a fault that give all blocks sites
--- are such.
+-- Rows of which each block has one give it its site, and have no fault; and rows without a fault
+-- that give all blocks sites are such.
 use Rattle.std.proofs.Common.{◌≡◌, ℕ, zero, suc, ◌+◌, ◌<◌, ◌≤◌, Bool, true, false, cond, eqb, ltb, List, [], ◌∷◌, length, map, get_or, take, Option, None, Some, inl, inr, refl, sym, ap, subst, ◌∙◌, add-one, arith, eq-or-lt_of_le}
 use Rattle.std.specs.Prelude.{is_some, slice_get, unwrap_or}
 use Rattle.std.specs.Option.{option_or}

@@ -22,7 +22,7 @@ use Rattle.place_file.specs.Judge.{rows_fault_from, header_fault}
 use Rattle.place_file.specs.Lines.{array_on, block_on, site_on, rows_of}
 use Rattle.place_file.specs.Placement.{Placement, IsPlaced, is_site, kind_at}
 use Rattle.place_file.specs.Reading.{first_missing, completed, placing, reading, placement_of}
-use Rattle.vpr_text.specs.Readings.{unless_faulty, Gives}
+use Rattle.vpr_text.specs.Readings.{Gives}
 use Rattle.place_file.specs.Sites.{site_in, sites_in, site_at, is_on, is_occupied, same_site}
 use Rattle.place_file.proofs.Steps.{IsGood, good_row, good_within, site_more, site_here, count_sites}
 

@@ -1,10 +1,12 @@
 -- Sites and their places in the table.
-use Rattle.std.proofs.Common.{◌≡◌, ℕ, ◌<◌, Bool, true, false, ◌||◌, List, [], ◌∷◌, length, map, get_or, set, replicate, Option, Some, None, refl, sym, ap, subst, ◌∙◌, arith, ◌≢◌, zero, suc}
+use Rattle.std.proofs.Common.{◌≡◌, ℕ, ◌<◌, Bool, true, false, ◌||◌, List, [], ◌∷◌, length, map, get_or, set, replicate, Option, Some, None, refl, sym, ap, subst, ◌∙◌, arith, ◌≢◌}
 use Rattle.std.specs.Prelude.{IfSome}
 use Rattle.std.specs.List.{list_any}
 use Rattle.std.proofs.lemmas.Bool.Decides.{nat_tests}
 use Rattle.std.proofs.lemmas.List.{get_or-set_same, get_or-set_other, get_or-replicate, length-map, length-set, length-replicate}
 use Rattle.std.proofs.lemmas.Bool.{true≢false}
+use Rattle.std.proofs.Math.Bool.{or-false}
+use Rattle.arch_file.proofs.Lists.{any_set}
 use Rattle.net_file.specs.declared.terminal.BlockKind.{BlockKind}
 use Rattle.net_file.specs.declared.terminal.BlockKind.TheVariants.{InputPad, OutputPad, LogicBlock}
 use Rattle.net_file.specs.Facts.{names_of_blocks}
@@ -57,15 +59,10 @@ none_taken a xs taken e =
       tells = λ s i. ap (λ t. get_or t (entry_of s) false) e ∙ get_or-replicate (table_size a) (entry_of s) false false (entry_within a s i) ∙ sym (none_on s xs);
     }
 
-or_swap : (a b c : Bool) → (a || (b || c)) ≡ (b || (a || c))
-or_swap true true c = refl
-or_swap true false c = refl
-or_swap false b c = refl
-
-any_set : (p : Option Site → Bool) (xs : List (Option Site)) (b : ℕ) (t : Option Site) → b < length xs → get_or xs b None ≡ None → p None ≡ false → list_any p (set xs b t) ≡ (p t || list_any p xs)
-any_set p [] b t within free none = absurd (omega (arith, within))
-any_set p (x ∷ xs) zero t within free none = let skip : p x ≡ false = ap p free ∙ none in rw skip refl
-any_set p (x ∷ xs) (suc b) t within free none = ap (λ r. p x || r) (any_set p xs b t (omega (arith, within)) free none) ∙ or_swap (p x) (p t) (list_any p xs)
+put_among : (p : Option Site → Bool) (xs : List (Option Site)) (b : ℕ) (t : Option Site) → b < length xs → get_or xs b None ≡ None → p None ≡ false → list_any p (set xs b t) ≡ (p t || list_any p xs)
+put_among p xs b t within free none =
+    let skip : p (get_or xs b None) ≡ false = ap p free ∙ none in
+    any_set p (p t) xs b None t within (rw skip (sym (or-false (p t))))
 
 tells_more : (a : Array) (xs : List (Option Site)) (taken : List Bool) (t s : Site) (one : Bool) → same_site s t ≡ one → is_in_table a t ≡ true → is_in_table a s ≡ true → IsTable a xs taken
     → get_or (set taken (entry_of t) true) (entry_of s) false ≡ (one || list_any (is_on s) xs)
@@ -82,5 +79,5 @@ unfolding is_occupied
 one_taken a xs taken b t entry is table within free j =
     rw is (record {
       size = length-set taken (entry_of t) true ∙ table.size;
-      tells = λ s i. tells_more a xs taken t s (same_site s t) refl j i table ∙ sym (any_set (is_on s) xs b (Some t) within free refl);
+      tells = λ s i. tells_more a xs taken t s (same_site s t) refl j i table ∙ sym (put_among (is_on s) xs b (Some t) within free refl);
     })

@@ -1,5 +1,5 @@
--- The first fault of the lines of a placement, each row judged by the rows before it (VPR and T-VPack manual 4.30; the order
--- of the faults is this project's profile).
+-- The first fault of the lines of a placement, each row judged by the rows before it (VPR and
+-- T-VPack manual 4.30; the order of the faults is this project's profile).
 use Rattle.std.specs.Prelude.{ℕ, Bool, not, ◌&&◌, nat_lt, if◌then◌else◌, List, [], ◌∷◌, ◌++◌, length, Option, None, Some, is_some}
 use Rattle.std.specs.Option.{option_or}
 use Rattle.vpr_text.specs.Words.{Line, words_at, number_at}

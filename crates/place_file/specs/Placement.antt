@@ -1,4 +1,5 @@
--- A placement, and what it is to be placed (VPR and T-VPack manual 4.30, "The Placement File Format").
+-- A placement, and what it is to be placed (VPR and T-VPack manual 4.30, "The Placement File
+-- Format").
 use Rattle.std.specs.Prelude.{◌≡◌, ℕ, ◌+◌, ◌≤◌, Bool, true, ◌&&◌, ◌||◌, ◌==◌, nat_le, nat_lt, List, length, Some, slice_get, slice_index_or}
 pub use Rattle.arch_file.specs.Architecture.{longest_side}
 use Rattle.net_file.specs.declared.terminal.BlockKind.{BlockKind}

@@ -1,5 +1,5 @@
--- A placement file as a list of lines: what is read, or the first fault (VPR and T-VPack manual 4.30; the faults and their
--- order are this project's profile).
+-- A placement file as a list of lines: what is read, or the first fault (VPR and T-VPack manual
+-- 4.30; the faults and their order are this project's profile).
 use Rattle.std.specs.Prelude.{ℕ, not, List, [], Option, is_some, Result, Ok}
 use Rattle.std.specs.Option.{option_map}
 use Rattle.std.specs.List.{position, filter_map}

@@ -1,5 +1,5 @@
--- Which placement a text is, for these blocks and io_rat pads at a place (VPR and T-VPack manual 4.30, "The Placement File
--- Format").
+-- Which placement a text is, for these blocks and io_rat pads at a place (VPR and T-VPack manual
+-- 4.30, "The Placement File Format").
 use Rattle.std.specs.Prelude.{◌≡◌, ℕ, ◌<◌, true, List, ◌∷◌, length, Some, Ok, slice_get}
 use Rattle.vpr_text.specs.Words.{Line, words_at}
 use Rattle.vpr_text.specs.Text.{lines_of}

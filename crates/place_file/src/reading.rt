@@ -53,11 +53,12 @@ fn placement_in(
     }
 }
 
-/// The placement of a netlist's blocks that a file's bytes describe, by "The Placement File Format" of the VPR and T-VPack
-/// manual 4.30 and the limits of this project's profile: 1 to 100 columns and rows of logic blocks.
+/// The placement of a netlist's blocks that a file's bytes describe, by "The Placement File Format"
+/// of the VPR and T-VPack manual 4.30 and the limits of this project's profile: 1 to 100 columns
+/// and rows of logic blocks.
 ///
-/// A fault of the text comes first, then that of the first faulty line, then the least block that no line places. Of the
-/// faults of one line it is the first in the order of `PlaceFault`.
+/// A fault of the text comes first, then that of the first faulty line, then the least block that
+/// no line places. Of the faults of one line it is the first in the order of `PlaceFault`.
 #[tactic(auto, using(crate::proofs::Placed::placed_given, crate::proofs::Related::found, crate::proofs::Related::only))]
 pub fn parse(
     alloc: Global,

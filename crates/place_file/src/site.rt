@@ -15,7 +15,8 @@ pub struct Site {
     pub subblk: u32,
 }
 
-/// An array of `nx` columns and `ny` rows of logic blocks, with `io_rat` pads at each place beside it.
+/// An array of `nx` columns and `ny` rows of logic blocks, with `io_rat` pads at each place beside
+/// it.
 #[derive(Clone, Copy, Debug)]
 pub(crate) struct Array {
     pub(crate) io_rat: u32,

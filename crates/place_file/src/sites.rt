@@ -10,8 +10,8 @@ use crate::site::{Array, Site};
 use std::alloc::{AllocError, Global};
 use std::marker::Model;
 
-/// How many entries the table of an array's sites has: there is a column beside it on both sides, and the highest column
-/// has places 0 to 101, with at most 16 pads.
+/// How many entries the table of an array's sites has: there is a column beside it on both sides,
+/// and the highest column has places 0 to 101, with at most 16 pads.
 fn table_size(array: Array) -> usize
     requires { IsFit array }
     ensures { result ≡ table_size array }

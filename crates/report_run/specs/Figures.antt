@@ -26,8 +26,8 @@ device_lines f =
     codes "array " ++ (decimal f.nx ++ (codes " x " ++ (decimal f.ny
     ++ (codes "\nwidth " ++ (decimal f.width ++ codes "\n")))))
 
--- as `nets 120`, `global 1` and `trees 117 of 119`: of the nets that are to be routed, how many have
--- a list
+-- as `nets 120`, `global 1` and `trees 117 of 119`: of the nets that are to be routed, how many
+-- have a list
 unfoldable pub net_count_lines : Netlist → Figures → List ℕ
 net_count_lines netlist c =
     codes "nets " ++ (decimal (length netlist.nets)
@@ -44,8 +44,8 @@ abbrev pub longest_text : Netlist → RoutingProblem → Option ℕ → List ℕ
 longest_text netlist p None = []
 longest_text netlist p (Some i) = name_text netlist p i
 
--- as `wirelength 345`, `mean 2.89`, over the nets that have a list, and `greatest 21 n_17`, with the
--- first net that has it
+-- as `wirelength 345`, `mean 2.89`, over the nets that have a list, and `greatest 21 n_17`, with
+-- the first net that has it
 unfoldable pub length_lines : Netlist → RoutingProblem → Figures → List ℕ
 length_lines netlist p c =
     codes "wirelength " ++ (decimal c.wirelength

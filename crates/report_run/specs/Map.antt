@@ -16,8 +16,8 @@ occupied_at channels i m = get_or (get_or channels i no_channel).occupied m 0
 abbrev pub right_of : Fabric → (column : ℕ) → ℕ
 right_of f column = f.ny + 1 + column
 
--- the blanks before a number, so that it ends in the fourth column of text; one before a number that
--- is too long for that
+-- the blanks before a number, so that it ends in the fourth column of text; one before a number
+-- that is too long for that
 abbrev pub blanks_before : ℕ → List ℕ
 blanks_before n = if nat_lt n 10 then codes "   " else (if nat_lt n 100 then codes "  " else codes " ")
 

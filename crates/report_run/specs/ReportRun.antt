@@ -42,6 +42,7 @@ PrintsReport is_map out r result =
     let p = r.design.problem in
     PrintsText out (route_report_text is_map r.design.netlist p r.lines (route_report_on p r.routing)) tt result
 
--- A run of `report`, memory aside: where its files say a routing of a problem, its report is printed.
+-- A run of `report`, memory aside: where its files say a routing of a problem, its report is
+-- printed.
 abbrev pub RunsReport : (is_map : Bool) → (out : Writing) → Result Reported AppFault → Result (Unit {0}) AppFault → Type 0
 RunsReport is_map out = StopsOrGoesOn (TakesNothing out) (PrintsReport is_map out)

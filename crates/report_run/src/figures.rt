@@ -10,19 +10,26 @@ use crate::text::{put_mean, put_name, put_share};
 use net_file::Netlist;
 use route_report::Figures;
 use rr_graph::{Device, Problem};
-use text_output::{ByteSink, OutputBuffer, put_number};
+use text_output::{ByteSink, OutputBuffer, Piece, put_number, put_pieces};
 
 /// Prints the lines on the device.
+#[tactic(auto, unfolding(crate::specs::Figures::device_lines))]
 fn put_device<W: ByteSink>(out: &mut OutputBuffer, sink: &mut W, device: &Device)
     ensures { SendsTo W.taken W.failed sink.old sink.new out.old out.new (device_lines device.now) }
 {
-    out.push(sink, b"array ");
-    put_number(out, sink, device.nx());
-    out.push(sink, b" x ");
-    put_number(out, sink, device.ny());
-    out.push(sink, b"\nwidth ");
-    put_number(out, sink, device.width());
-    out.push(sink, b"\n");
+    put_pieces(
+        out,
+        sink,
+        &[
+            Piece::Text(b"array "),
+            Piece::Number(device.nx()),
+            Piece::Text(b" x "),
+            Piece::Number(device.ny()),
+            Piece::Text(b"\nwidth "),
+            Piece::Number(device.width()),
+            Piece::Text(b"\n"),
+        ],
+    );
 }
 
 /// Prints the lines on how many nets there are, and how many have a list.

@@ -7,18 +7,25 @@ ghost use Rattle.report_run.specs.Named.{named_at, named_text, naming_line, nami
 use route_file::node_named;
 use route_report::is_over;
 use rr_graph::Device;
-use text_output::{ByteSink, OutputBuffer, put_number};
+use text_output::{ByteSink, OutputBuffer, Piece, put_pieces};
 use vpr_text::Lines;
 
 /// Prints that a line names a node.
+#[tactic(auto, unfolding(crate::specs::Named::naming_line))]
 fn put_naming<W: ByteSink>(out: &mut OutputBuffer, sink: &mut W, line: u32, node: u32)
     ensures { SendsTo W.taken W.failed sink.old sink.new out.old out.new (naming_line line node) }
 {
-    out.push(sink, b"line ");
-    put_number(out, sink, line);
-    out.push(sink, b" node ");
-    put_number(out, sink, node);
-    out.push(sink, b"\n");
+    put_pieces(
+        out,
+        sink,
+        &[
+            Piece::Text(b"line "),
+            Piece::Number(line),
+            Piece::Text(b" node "),
+            Piece::Number(node),
+            Piece::Text(b"\n"),
+        ],
+    );
 }
 
 /// The overused node that a line of the file names, if it names one.

@@ -9,7 +9,7 @@ use crate::text::{put_name, put_share};
 use net_file::Netlist;
 use route_report::OverusedNode;
 use rr_graph::Problem;
-use text_output::{ByteSink, OutputBuffer, put_node_of, put_number};
+use text_output::{ByteSink, OutputBuffer, Piece, put_node_of, put_number, put_pieces};
 
 /// Prints the names of nets of the problem.
 fn put_names<W: ByteSink>(
@@ -55,12 +55,19 @@ fn put_overuse<W: ByteSink>(
 }
 
 /// Prints the line of how many nodes are overused.
+#[tactic(auto, unfolding(crate::specs::Overused::overused_line))]
 fn put_count<W: ByteSink>(out: &mut OutputBuffer, sink: &mut W, count: usize)
     ensures { SendsTo W.taken W.failed sink.old sink.new out.old out.new (overused_line count) }
 {
-    out.push(sink, b"overused ");
-    put_number(out, sink, count);
-    out.push(sink, b"\n");
+    put_pieces(
+        out,
+        sink,
+        &[
+            Piece::Text(b"overused "),
+            Piece::LongNumber(count as u64),
+            Piece::Text(b"\n"),
+        ],
+    );
 }
 
 /// Prints the lines of these nodes.

@@ -7,15 +7,22 @@ ghost use Rattle.report_run.specs.Texts.{hundredths_left, mean_text, name_text, 
 use net_file::Netlist;
 use rr_graph::Problem;
 use run_inputs::{net_name, number_of_net};
-use text_output::{ByteSink, OutputBuffer, put_number};
+use text_output::{ByteSink, OutputBuffer, Piece, put_pieces};
 
 /// Prints how many of what there is.
+#[tactic(auto, unfolding(crate::specs::Texts::share_text))]
 pub(crate) fn put_share<W: ByteSink>(out: &mut OutputBuffer, sink: &mut W, part: u64, whole: u64)
     ensures { SendsTo W.taken W.failed sink.old sink.new out.old out.new (share_text part whole) }
 {
-    put_number(out, sink, part);
-    out.push(sink, b" of ");
-    put_number(out, sink, whole);
+    put_pieces(
+        out,
+        sink,
+        &[
+            Piece::LongNumber(part),
+            Piece::Text(b" of "),
+            Piece::LongNumber(whole),
+        ],
+    );
 }
 
 /// What is left of a number after a division, in hundredths of the divisor.
@@ -28,16 +35,23 @@ fn hundredths_left(number: u64, by: u64) -> u64
 }
 
 /// Prints a quotient with two decimals.
+#[tactic(auto, unfolding(crate::specs::Texts::quotient_text))]
 fn put_quotient<W: ByteSink>(out: &mut OutputBuffer, sink: &mut W, number: u64, by: u64)
     requires some { 1 ≤ by }
     requires few { by < 2 ^ 32 }
     ensures { SendsTo W.taken W.failed sink.old sink.new out.old out.new (quotient_text number by) }
 {
     let hundredths = hundredths_left(number, by);
-    put_number(out, sink, number / by);
-    out.push(sink, b".");
-    put_number(out, sink, hundredths / 10);
-    put_number(out, sink, hundredths % 10);
+    put_pieces(
+        out,
+        sink,
+        &[
+            Piece::LongNumber(number / by),
+            Piece::Text(b"."),
+            Piece::LongNumber(hundredths / 10),
+            Piece::LongNumber(hundredths % 10),
+        ],
+    );
 }
 
 /// A number of things, of which there is at least one.
@@ -57,6 +71,7 @@ pub(crate) fn put_mean<W: ByteSink>(out: &mut OutputBuffer, sink: &mut W, sum: u
 }
 
 /// Prints the name of a net of the problem, after a blank.
+#[tactic(auto, unfolding(crate::specs::Texts::name_text))]
 pub fn put_name<W: ByteSink>(
     out: &mut OutputBuffer,
     sink: &mut W,
@@ -68,6 +83,9 @@ pub fn put_name<W: ByteSink>(
         (name_text netlist.now problem.now net) }
 {
     let number = number_of_net(problem, net);
-    out.push(sink, b" ");
-    out.push(sink, net_name(netlist, number));
+    put_pieces(
+        out,
+        sink,
+        &[Piece::Text(b" "), Piece::Text(net_name(netlist, number))],
+    );
 }

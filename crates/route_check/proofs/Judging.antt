@@ -2,7 +2,6 @@
 use Rattle.std.proofs.Common.{◌≡◌, ℕ, ◌<◌, ◌≤◌, Bool, true, false, not, cond, List, [], ◌∷◌, length, Option, Some, None, All, if◌then◌else◌, refl, sym, ap, ◌∙◌, subst, arith}
 use Rattle.std.specs.Prelude.{MatchOption}
 use Rattle.std.specs.List.{find}
-use Rattle.std.specs.List.Sorted.{IsStrictlyIncreasing}
 use Rattle.std.proofs.lemmas.Bool.{both_ways, MatchBool-at_true, MatchBool-at_false, not-false, not-true}
 use Rattle.std.proofs.lemmas.List.Elements.{All-get_or, All-weaker}
 use Rattle.routing_problem.specs.Fabric.{Fabric}
@@ -227,7 +226,3 @@ module _ (p : RoutingProblem) (i : ℕ) (there : i < length p.nets) (pairs : Lis
       judged_by keeps answer (early_fault_of p.device n.source n.sinks pairs) refl
       (subst (λ g. IsReportedBy g n.source n.sinks pairs answer) a (subst (λ s. IsReportedBy f s n.sinks pairs answer) b
       (subst (λ s. IsReportedBy f source s pairs answer) c reported)))
-
-  pub sinks_ascend : IsProblem p → (sinks : List ℕ) → sinks ≡ n.sinks → IsStrictlyIncreasing sinks
-  sinks_ascend keeps sinks e =
-      subst IsStrictlyIncreasing (sym e) (All-get_or (IsNet p.device) p.nets i no_net there keeps.nets).ascending

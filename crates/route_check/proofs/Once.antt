@@ -1,5 +1,6 @@
--- Pairs of which no two end in one node, and none in the source; what look-ups of their ends and of sinks say.
-use Rattle.std.proofs.Common.{◌≡◌, ◌≢◌, ℕ, ◌<◌, ◌≤◌, ◌==◌, true, false, List, length, get_or, Option, Some, Result, Ok, Err, inl, inr, sym, ap, ◌∙◌, subst, arith}
+-- Pairs of which no two end in one node, and none in the source; what look-ups of their ends and of
+-- sinks say.
+use Rattle.std.proofs.Common.{◌≡◌, ◌≢◌, ℕ, ◌<◌, ◌≤◌, ◌==◌, true, false, List, length, get_or, Option, Some, Result, Ok, Err, inl, inr, sym, ◌∙◌, subst, arith}
 use Rattle.std.specs.Prelude.{Contains, MatchResult, is_ok}
 use Rattle.std.specs.Ordering.{nat_cmp}
 use Rattle.std.specs.List.Sorted.{IsBinarySearchResult, IsStrictlyIncreasing}
@@ -7,12 +8,11 @@ use Rattle.std.proofs.lemmas.Bool.{both_ways, cases_lt, cases_order, eq-eqb, fal
 use Rattle.std.proofs.lemmas.List.{length-map}
 use Rattle.std.proofs.lemmas.List.Elements.{at_from_Contains}
 use Rattle.std.proofs.lemmas.List.Folds.{list_any_at}
-use Rattle.std.proofs.lemmas.List.Kept.{AllPairs-from_increasing}
 use Rattle.std.proofs.lemmas.List.Sorted.{searched}
 use Rattle.route_tree.specs.Paths.{Pair, ends_of}
 use Rattle.route_tree.specs.Legality.{is_among, has_twice}
 use Rattle.route_tree.specs.Faults.{reaches_twice}
-use Rattle.route_tree.proofs.Members.{among_contains, contains_among, end_among, end_at, once_each}
+use Rattle.route_tree.proofs.Members.{among_contains, contains_among, end_among, end_at, once_each, rising}
 use Rattle.route_check.specs.kept.Ends.{end_in, IsRowOf}
 
 module _ (source : ℕ) (pairs : List Pair) (once : reaches_twice source pairs ≡ false) where
@@ -41,13 +41,6 @@ some_is pairs a r k row e =
     contains_among (ends_of pairs) a (subst (Contains (ends_of pairs)) is.1 (end_among pairs k is.0))
 
 -- numbers that ascend, and what a search among them says
-rising : (xs : List ℕ) → IsStrictlyIncreasing xs → (i j : ℕ) → i ≤ j → j < length xs → get_or xs i 0 ≤ get_or xs j 0
-rising xs up i j le l = elim (cases_order i j) [
-  | inl e ↦ (let same = ap (λ k. get_or xs k 0) e in omega (arith, same))
-  | inr (inl low) ↦ (let below = AllPairs-from_increasing xs up i j 0 low l in omega (arith, below))
-  | inr (inr high) ↦ absurd (omega arith)
-]
-
 found_by : (xs : List ℕ) (a : ℕ) (r : Result ℕ ℕ) →
     MatchResult r (λ i. (i < length xs) × (get_or xs i 0 ≡ a)) (λ i. (i ≤ length xs) × ((k : ℕ) → k < i → get_or xs k 0 < a) ×
     ((k : ℕ) → i ≤ k → k < length xs → a < get_or xs k 0)) →

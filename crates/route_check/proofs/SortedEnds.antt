@@ -1,4 +1,5 @@
--- Ends of pairs that are sorted by node: each pair's end stands among them, and a node that stands twice stands beside itself.
+-- Ends of pairs that are sorted by node: each pair's end stands among them, and a node that stands
+-- twice stands beside itself.
 use Rattle.std.proofs.Common.{◌≡◌, ◌≢◌, ℕ, ◌+◌, ◌-◌, ◌<◌, Bool, true, false, List, length, map, get_or, All, Some, inl, inr, refl, sym, ap, ◌∙◌, subst, arith}
 use Rattle.std.specs.Prelude.{Contains}
 use Rattle.std.specs.List.{list_any}

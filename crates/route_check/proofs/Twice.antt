@@ -1,4 +1,5 @@
--- Numbers that stand in a list twice: by their places, by how often they stand there, and in another order.
+-- Numbers that stand in a list twice: by their places, by how often they stand there, and in
+-- another order.
 use Rattle.std.proofs.Common.{◌≡◌, ℕ, ◌+◌, ◌<◌, ◌≤◌, ◌==◌, zero, suc, Bool, true, false, cond, List, [], ◌∷◌, length, get_or, inl, inr, refl, sym, ap, ◌∙◌, arith}
 use Rattle.std.specs.Prelude.{count_by}
 use Rattle.std.specs.List.Sorted.{IsPermutation}

@@ -1,9 +1,8 @@
 -- Walks from each of the sinks: what none of them met is on no way to a sink.
-use Rattle.std.proofs.Common.{◌≡◌, ℕ, ◌+◌, ◌<◌, ◌≤◌, ◌⊎◌, ◌==◌, zero, Bool, true, false, List, length, get_or, replicate, All, inl, inr, refl, sym, ap, ◌∙◌, subst, arith}
+use Rattle.std.proofs.Common.{◌≡◌, ℕ, ◌<◌, ◌⊎◌, ◌==◌, Bool, true, false, List, length, get_or, All, inl, inr, refl, sym, ap, ◌∙◌, subst, arith}
 use Rattle.std.specs.Prelude.{Contains}
 use Rattle.std.specs.List.{list_any}
-use Rattle.std.proofs.lemmas.Bool.{both_ways, cases_lt, eq-eqb, eqb-true}
-use Rattle.std.proofs.lemmas.List.{get_or_past, get_or-replicate, length-replicate}
+use Rattle.std.proofs.lemmas.Bool.{both_ways, eq-eqb, eqb-true}
 use Rattle.std.proofs.lemmas.List.Elements.{All-get_or, All-from_get_or, at_from_Contains}
 use Rattle.std.proofs.lemmas.List.Folds.{list_any_at}
 use Rattle.route_tree.specs.Paths.{Pair, Path, ends_of}
@@ -16,24 +15,7 @@ use Rattle.route_check.specs.kept.Judged.{net_of, Dangles, TellsDangling}
 use Rattle.route_check.specs.kept.Walks.{IsMet, HasMetParent, AreWalked, AreAllMet, IsWalkedFrom, AreAllWalked}
 use Rattle.route_check.proofs.Once.{not_source, same_row}
 
--- noughts, and what is read past their end
-noughts : (n k : ℕ) → get_or (replicate n zero) k zero ≡ zero
-noughts n k = elim (cases_lt k n) [
-  | inl l ↦ get_or-replicate n k zero zero l
-  | inr past ↦ get_or_past (replicate n zero) k zero (omega (arith, past, length-replicate n zero))
-]
-
 module _ (source : ℕ) (sinks : List ℕ) (pairs : List Pair) where
-  -- ---- before the first walk
-  pub none_walked : (walks : List ℕ) → walks ≡ replicate (length pairs) 0 → AreWalked source sinks pairs 1 walks
-  none_walked walks e =
-      let zero = λ (k : ℕ). ap (λ w. get_or w k 0) e ∙ noughts (length pairs) k in
-      record {
-        each = ap length e ∙ length-replicate (length pairs) 0;
-        earlier = λ k. let z = zero k in omega (arith, z);
-        met = λ k l met. absurd (met (zero k));
-      }
-
   -- ---- a sink at which no pair ends
   pub walked_past : (walk a : ℕ) (walks : List ℕ) → AreWalked source sinks pairs walk walks → is_among (ends_of pairs) a ≡ false →
       IsWalkedFrom source sinks pairs walk a walks walks
@@ -47,20 +29,6 @@ module _ (source : ℕ) (sinks : List ℕ) (pairs : List Pair) where
   -- ---- one more walk
   abbrev pub AreLeft : ℕ → List ℕ → Type 0
   AreLeft i walks = (j : ℕ) → j < i → AreAllMet pairs walks (get_or sinks j 0)
-
-  pub left_next : (i : ℕ) (old new : List ℕ) → AreLeft i old → IsWalkedFrom source sinks pairs (i + 1) (get_or sinks i 0) old new → AreLeft (i + 1) new
-  left_next i old new left from j l = elim (cases_lt j i) [
-    | inl before ↦ λ k m same. from.kept k (left j before k m same)
-    | inr behind ↦ (let at : i ≡ j = omega (arith, l, behind) in subst (λ i. AreAllMet pairs new (get_or sinks i 0)) at from.left)
-  ]
-
-  pub all_walked : (i : ℕ) (walks : List ℕ) → length sinks ≤ i → AreWalked source sinks pairs (i + 1) walks → AreLeft i walks →
-      AreAllWalked source sinks pairs walks
-  all_walked i walks all walked left = record {
-    each = walked.each;
-    met = walked.met;
-    left = λ s there. let at = at_from_Contains sinks s there in let l = at.1 in subst (AreAllMet pairs walks) (at.2 0) (left at.0 (omega (arith, all, l)));
-  }
 
   -- ---- after all walks
   module _ (once : reaches_twice source pairs ≡ false) (walks : List ℕ) (walked : AreAllWalked source sinks pairs walks) where

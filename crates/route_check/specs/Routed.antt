@@ -1,4 +1,5 @@
--- When a routing routes a problem (Betz, Rose and Marquardt 1999; McMurchie and Ebeling 1995, "a feasible solution").
+-- When a routing routes a problem (Betz, Rose and Marquardt 1999; McMurchie and Ebeling 1995, "a
+-- feasible solution").
 use Rattle.std.specs.Prelude.{◌≡◌, ℕ, ◌<◌, List, length, Some}
 use Rattle.routing_problem.specs.Problems.{RoutingProblem}
 use Rattle.route_tree.specs.Paths.{Pair}

@@ -77,10 +77,11 @@ fn lists_fault(
 
 /// Whether a routing routes a problem: none where it does, else its first fault in the order of
 /// `RouteFault`. It judges the lists of pairs alone, which need not be those of trees. The nets are
-/// judged side by side, in as many threads as the runtime gives; the answer is that of one thread. A
-/// growth that is refused for any net is answered ahead of every fault but `Length`.
+/// judged side by side, in as many threads as the runtime gives; the answer is that of one thread.
+/// A growth that is refused for any net is answered ahead of every fault but `Length`.
 ///
-/// It takes time of the order of n log n for a net of n pairs, and memory of the order of the nodes.
+/// It takes time of the order of n log n for a net of n pairs, and memory of the order of the
+/// nodes.
 pub fn check_routing(
     rt: &(impl Threads + Sync),
     alloc: Global,

@@ -71,7 +71,8 @@ fn is_foreign(device: &Device, sinks: &[u32], ends: &[End], place: usize) -> boo
     device.is_sink(node) && !is_one_of(sinks, place, node)
 }
 
-/// Whether a pair ends in a sink of the device that is none of these. By node sinks stand before wires and input pins.
+/// Whether a pair ends in a sink of the device that is none of these. By node sinks stand before
+/// wires and input pins.
 fn has_foreign_end(device: &Device, sinks: &[u32], ends: &[End]) -> bool
     requires { IsStrictlyIncreasing sinks.now }
     ensures { result ≡ list_any (is_foreign device.now sinks.now) ends.now }
@@ -144,7 +145,8 @@ fn early_fault(
     None
 }
 
-/// The first fault of the others, where it is known whether a pair dangles, and whether the pairs are in order.
+/// The first fault of the others, where it is known whether a pair dangles, and whether the pairs
+/// are in order.
 #[tactic(auto, unfolding(crate::specs::kept::Judged::late_fault_of))]
 fn late_fault(
     dangles: bool,

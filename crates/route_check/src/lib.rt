@@ -1,4 +1,5 @@
-//! Whether a routing routes a problem, judged from lists of pairs alone (Betz, Rose and Marquardt 1999; McMurchie and Ebeling 1995).
+//! Whether a routing routes a problem, judged from lists of pairs alone (Betz, Rose and Marquardt
+//! 1999; McMurchie and Ebeling 1995).
 #![tactic(auto)]
 
 mod check;

@@ -15,8 +15,9 @@ use crate::terminals::BorrowedTerminals;
 use routing_problem::Device;
 use std::alloc::{AllocError, Global};
 
-/// Walks from a pair up to the source, or to what an earlier walk met, and writes the walk's number to each pair that it meets.
-/// Whether it comes there: else it goes in a circle, or ends at a node that is not the source.
+/// Walks from a pair up to the source, or to what an earlier walk met, and writes the walk's number
+/// to each pair that it meets. Whether it comes there: else it goes in a circle, or ends at a node
+/// that is not the source.
 fn climb(
     net: &BorrowedTerminals<'_>,
     listing: &Listing<'_>,
@@ -113,8 +114,9 @@ fn is_unmet(
     Ok(has_unmet(net, listing, &mut walks))
 }
 
-/// Whether a pair is on no way from the source to a sink, where it is known whether the pairs are in order. Of those that are, each is on
-/// a way where the last one ends in a sink: no walk is needed then.
+/// Whether a pair is on no way from the source to a sink, where it is known whether the pairs are
+/// in order. Of those that are, each is on a way where the last one ends in a sink: no walk is
+/// needed then.
 pub(crate) fn dangles(
     alloc: Global,
     listed: bool,

@@ -10,9 +10,6 @@ use Rattle.route_explain.specs.declared.index.NetIndex.{NetIndex}
 use Rattle.route_explain.specs.kept.Findings.{AreIndexes, IsIndexOf}
 
 module _ (p : RoutingProblem) (lists : Lists) (faults : List (Option RouteFault)) where
-  pub none_indexed : (indexes : List NetIndex) → indexes ≡ [] → AreIndexes p lists faults 0 indexes
-  none_indexed indexes e = record { count = ap length e; each = λ i d l. absurd (omega (arith, l)) }
-
   pub one_indexed : (k : ℕ) (old new : List NetIndex) (x : NetIndex) → new ≡ old ++ x ∷ [] → (is_some (get_or faults k None) ≡ true → IsIndexOf p lists k x)
       → AreIndexes p lists faults k old → AreIndexes p lists faults (k + 1) new
   one_indexed k old new x more is h =

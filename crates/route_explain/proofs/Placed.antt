@@ -1,9 +1,8 @@
 -- Where nodes stand first, and which are among those before a place.
-use Rattle.std.proofs.Common.{◌≡◌, ℕ, ◌+◌, ◌<◌, ◌≤◌, ◌==◌, zero, suc, Bool, true, false, cond, ◌||◌, List, [], ◌∷◌, ◌++◌, length, get_or, take, Option, None, Some, refl, sym, ap, subst, ◌∙◌, arith}
+use Rattle.std.proofs.Common.{◌≡◌, ℕ, ◌+◌, ◌<◌, ◌≤◌, ◌==◌, zero, suc, Bool, true, false, cond, ◌||◌, List, [], ◌∷◌, ◌++◌, length, get_or, take, Option, None, Some, refl, sym, ap, ◌∙◌, arith}
 use Rattle.std.specs.Prelude.{is_some, nat_lt}
 use Rattle.std.specs.List.{list_any, position_from}
 use Rattle.std.specs.Option.{option_or}
-use Rattle.std.proofs.lemmas.Bool.{eqb-true}
 use Rattle.std.proofs.lemmas.List.{length-take-le, take_more}
 use Rattle.route_tree.specs.Legality.{is_among}
 use Rattle.route_tree.specs.Paths.{Pair, ends_of}
@@ -53,26 +52,6 @@ position_push : (p : ℕ → Bool) (j : ℕ) (xs : List ℕ) (x : ℕ) → posit
 position_push p j [] x = let e : j + 0 ≡ j = omega arith in rw e refl
 position_push p j (y ∷ ys) x =
     pushed_by (p y) (p x) j ((j + 1) + length ys) (j + suc (length ys)) (position_from p (j + 1) ys) (position_from p (j + 1) (ys ++ x ∷ [])) (omega arith) (position_push p (j + 1) ys x)
-
-pub none_placed : (p : Places) → p.first.entries ≡ [] → ArePlaces [] p
-none_placed p e = λ a. rw e refl
-
-pub places_kept : (old new : Places) (node place : ℕ) → is_some (place_in old node) ≡ true → new ≡ old → HasMore old new node place
-places_kept old new node place there same = λ a. ap (λ (p : Places). place_in p a) same ∙ by_node a (node == a) refl
-  where
-    some_stays : (o : Option ℕ) (k : ℕ) → is_some o ≡ true → o ≡ option_or o (Some k)
-    some_stays (Some i) k e = refl
-    some_stays None k e = absurd cc
-
-    none_stays : (o : Option ℕ) → o ≡ option_or o None
-    none_stays (Some i) = refl
-    none_stays None = refl
-
-    by_node : (a : ℕ) (t : Bool) → (node == a) ≡ t → place_in old a ≡ with_place (place_in old a) node place a
-    by_node a true e =
-        let here : is_some (place_in old a) ≡ true = subst (λ b. is_some (place_in old b) ≡ true) (eqb-true node a e) there in
-        some_stays (place_in old a) place here ∙ ap (λ t. option_or (place_in old a) (cond t (Some place) None)) (sym e)
-    by_node a false e = none_stays (place_in old a) ∙ ap (λ t. option_or (place_in old a) (cond t (Some place) None)) (sym e)
 
 pub places_more : (nodes : List ℕ) (i x : ℕ) (old new : Places) → i < length nodes → x ≡ get_or nodes i x → ArePlaces (take i nodes) old → HasMore old new x i → ArePlaces (take (i + 1) nodes) new
 places_more nodes i x old new below is are more = λ a.

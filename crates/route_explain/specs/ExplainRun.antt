@@ -32,6 +32,7 @@ PrintsBoth out words path r result = PrintsVerdict out (judged_of r) result × E
 abbrev pub TakeNothing : (out words : Writing) → Type 0
 TakeNothing out words = TakesNothing out × TakesNothing words
 
--- A run, memory aside: where its files say a routing of a problem, the verdict on it is printed, and explained.
+-- A run, memory aside: where its files say a routing of a problem, the verdict on it is printed,
+-- and explained.
 abbrev pub RunsExplain : (out words : Writing) → (path : List ℕ) → Result Reported AppFault → Result (Option RouteFault) AppFault → Type 0
 RunsExplain out words path = StopsOrGoesOn (TakeNothing out words) (PrintsBoth out words path)

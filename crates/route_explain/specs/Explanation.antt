@@ -82,7 +82,8 @@ pub record IsFirstLine (faults : List (Option RouteFault)) (fault : RouteFault) 
   pub there : get_or faults net None ≡ Some fault
   pub none_before : (j : ℕ) → j < net → get_or faults j None ≡ None
 
--- the nets that have a fault, how many nodes are overused, a line for each of these, and one for each line of the file that names one
+-- the nets that have a fault, how many nodes are overused, a line for each of these, and one for
+-- each line of the file that names one
 unfoldable pub explanation_text : (path : List ℕ) → Netlist → RoutingProblem → List Line → Lists → List (Option RouteFault) → List ℕ
 explanation_text path netlist p lines lists faults =
     net_lines path netlist p lines lists faults

@@ -42,7 +42,8 @@ ends_step f (Some a) next = is_some next && not (is_sink f a)
 abbrev pub left_after : (is_step : Bool) → (left : ℕ) → ℕ
 left_after is_step left = if is_step then left - 1 else left
 
--- the line at which a step of a section ends before which so many others end, after a node; 0 where none does
+-- the line at which a step of a section ends before which so many others end, after a node; 0 where
+-- none does
 abbrev pub step_line : Fabric → (last : Option ℕ) → (left : ℕ) → List Line → ℕ
 step_line f last left [] = 0
 step_line f last left (l ∷ ls) =

@@ -52,8 +52,8 @@ is_dead_end sinks pairs p = not (is_among sinks p.1) && not (begins_at pairs p.1
 abbrev pub is_cut_off : (source : ℕ) → List Pair → Pair → Bool
 is_cut_off source pairs p = not (p.0 == source) && not (ends_at pairs p.0)
 
--- the step at row k may begin where it does, after one that ends at a node: there; or, where that is a sink, at the source or where
--- an earlier one ends
+-- the step at row k may begin where it does, after one that ends at a node: there; or, where that
+-- is a sink, at the source or where an earlier one ends
 abbrev pub may_follow : Fabric → (source : ℕ) → List Pair → (k last : ℕ) → Bool
 may_follow f source pairs k last =
     let a = (pair_at pairs k).0 in last == a || (is_sink f last && (source == a || ends_before pairs k a))

@@ -12,7 +12,8 @@ abbrev pub wires_reason : (is_one_track : Bool) → List ℕ
 wires_reason true = codes "they touch no common corner"
 wires_reason false = codes "they are of two tracks"
 
--- of nodes of these kinds: the tests by which they would be joined (is_edge of rr_graph), else that such nodes are never joined
+-- of nodes of these kinds: the tests by which they would be joined (is_edge of rr_graph), else that
+-- such nodes are never joined
 abbrev pub reason_by : Kind → Kind → (is_one_track : Bool) → List ℕ
 reason_by Source Opin t = codes "the pin does not belong to it"
 reason_by Ipin Sink t = codes "the pin does not belong to it"

@@ -15,9 +15,10 @@ use crate::switches::switch_reason;
 use crate::text::{put_after, put_end, put_step};
 use route_tree::TreeFault;
 use rr_graph::Device;
-use text_output::{ByteSink, OutputBuffer, put_node_of};
+use text_output::{ByteSink, OutputBuffer, Piece, put_node_of, put_pieces};
 
 /// Prints at which node a list begins, and at which it should.
+#[tactic(auto, unfolding(crate::specs::Reasons::other_beginning_text))]
 fn put_other_beginning<W: ByteSink>(
     out: &mut OutputBuffer,
     sink: &mut W,
@@ -28,10 +29,16 @@ fn put_other_beginning<W: ByteSink>(
     ensures { SendsTo W.taken W.failed sink.old sink.new out.old out.new
         (other_beginning_text device.now source node) }
 {
-    out.push(sink, b"the first step leaves ");
-    put_node_of(out, sink, device, node);
-    out.push(sink, b" and not ");
-    put_node_of(out, sink, device, source);
+    put_pieces(
+        out,
+        sink,
+        &[
+            Piece::Text(b"the first step leaves "),
+            Piece::Node(device, node),
+            Piece::Text(b" and not "),
+            Piece::Node(device, source),
+        ],
+    );
 }
 
 /// Prints where a list begins that doesn't begin at the source of its net.
@@ -56,8 +63,7 @@ fn put_because<W: ByteSink>(out: &mut OutputBuffer, sink: &mut W, reason: &[u8])
     ensures { SendsTo W.taken W.failed sink.old sink.new out.old out.new
         (codes ": " ++ reason.now) }
 {
-    out.push(sink, b": ");
-    out.push(sink, reason);
+    put_pieces(out, sink, &[Piece::Text(b": "), Piece::Text(reason)]);
 }
 
 /// Prints why there is no switch for the step at a row, if there is one.

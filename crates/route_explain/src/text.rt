@@ -7,21 +7,20 @@ ghost use Rattle.route_explain.specs.Reasons.{end_text, node_text, pair_text, st
 
 use crate::steps::pair_at;
 use rr_graph::Device;
-use text_output::{ByteSink, OutputBuffer, put_node_of, put_number};
+use text_output::{ByteSink, OutputBuffer, Piece, put_node_of, put_number, put_pieces};
 
 /// Prints words, and then a node.
-pub(crate) fn put_after<W: ByteSink>(
+pub(crate) fn put_after<'a, W: ByteSink>(
     out: &mut OutputBuffer,
     sink: &mut W,
-    device: &Device,
-    words: &[u8],
+    device: &'a Device,
+    words: &'a [u8],
     node: u32,
 )
     ensures { SendsTo W.taken W.failed sink.old sink.new out.old out.new
         (words.now ++ node_text device.now node) }
 {
-    out.push(sink, words);
-    put_node_of(out, sink, device, node);
+    put_pieces(out, sink, &[Piece::Text(words), Piece::Node(device, node)]);
 }
 
 /// Prints the nodes of a step.
@@ -29,9 +28,15 @@ fn put_pair<W: ByteSink>(out: &mut OutputBuffer, sink: &mut W, device: &Device, 
     ensures { SendsTo W.taken W.failed sink.old sink.new out.old out.new
         (pair_text device.now pair) }
 {
-    put_node_of(out, sink, device, pair.0);
-    out.push(sink, b" to ");
-    put_node_of(out, sink, device, pair.1);
+    put_pieces(
+        out,
+        sink,
+        &[
+            Piece::Node(device, pair.0),
+            Piece::Text(b" to "),
+            Piece::Node(device, pair.1),
+        ],
+    );
 }
 
 /// Prints the nodes of the step at a row, if there is one.

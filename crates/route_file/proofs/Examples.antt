@@ -117,7 +117,8 @@ pub path_text :
 unfolding digits bytes_on routed_net_lines node_lines nodes_of numbers_at classes_of pins_of is_sink begins length_of rank_of type_of weight_of_first steps_of span_text place_text
 path_text = refl
 
--- a path after a sink begins with the node where it joins; a pair that begins at a sink names it again
+-- a path after a sink begins with the node where it joins; a pair that begins at a sink names it
+-- again
 pub joints :
     (printed_nodes small_block ((37, 31) ∷ (31, 13) ∷ (37, 40) ∷ (40, 35) ∷ []) ≡ 37 ∷ 31 ∷ 13 ∷ 37 ∷ 40 ∷ 35 ∷ [])
     × (printed_nodes small_block ((31, 13) ∷ (13, 37) ∷ []) ≡ 31 ∷ 13 ∷ 13 ∷ 37 ∷ [])

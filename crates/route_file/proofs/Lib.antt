@@ -15,7 +15,7 @@ pub mod Digits
 pub mod PlainWords
 pub mod LineWords
 pub mod TextWords
-pub mod Making
+pub mod DesignProblems
 pub mod PrintedPairs
 pub mod ReadNumbers
 pub mod ReadNodes

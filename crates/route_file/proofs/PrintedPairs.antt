@@ -129,7 +129,8 @@ unfolding is_detached
 tied f before a among =
     ap (λ t. option_map_or (is_sink f) (last_or None before) false && not t) among ∙ and-false (option_map_or (is_sink f) (last_or None before) false)
 
--- after nodes that end with `e` and have the source and all ends so far, the nodes of a pair are attached
+-- after nodes that end with `e` and have the source and all ends so far, the nodes of a pair are
+-- attached
 attached_by : (f : Fabric) (e : ℕ) (p : Pair) (before later : List ℕ) → is_sink f p.0 ≡ false → last_or None before ≡ Some e → is_among before p.0 ≡ true → Joint f e p
     → AreAttached f (before ++ p.1 ∷ []) later → AreAttached f ((before ++ p.0 ∷ []) ++ p.1 ∷ []) later → AreAttached f before (nodes_for f (Some e) p ++ later)
 attached_by f e p before later leaves last among (goes same te se) h k =
@@ -162,7 +163,8 @@ attached_after f source e es (p ∷ ps) before leaves listed last covers =
     (attached_after f source p.1 (e ∷ es) ps ((before ++ p.0 ∷ []) ++ p.1 ∷ []) leaves.1 h.1 (last_append None (before ++ p.0 ∷ []) p.1)
     (covers_next (before ++ p.0 ∷ []) source p.1 (e ∷ es) (covers_again before p.0 (source ∷ e ∷ es) covers)))
 
--- the nodes that are named for a list in order are those of a section: after a sink stands a node that stood there before
+-- the nodes that are named for a list in order are those of a section: after a sink stands a node
+-- that stood there before
 pub nodes_attached : (f : Fabric) (source : ℕ) (p : Pair) (ps : List Pair) → LeaveSinks f (p ∷ ps) → is_listed_after f source [] (p ∷ ps) ≡ true → AreAttached f [] (printed_nodes f (p ∷ ps))
 unfolding is_detached
 nodes_attached f source p ps leaves listed =

@@ -1,4 +1,5 @@
--- Worked examples of reading that compute: a netlist of the nets a and y, of which y is global, on no particular device.
+-- Worked examples of reading that compute: a netlist of the nets a and y, of which y is global, on
+-- no particular device.
 use Rattle.std.proofs.Common.{◌≡◌, ℕ, Bool, true, false, List, [], ◌∷◌, Some, None, Ok, Err, refl}
 use Rattle.std.specs.Prelude.{codes, ◌==◌}
 use Rattle.vpr_text.specs.Words.{Line}

@@ -27,7 +27,8 @@ or_left true b e g = refl
 or_left false b e g = absurd (false≢true (sym g ∙ e))
 
 module _ (netlist : Netlist) (f : Fabric) (wanted : ℕ → Option (List Pair)) where
-  -- the nets before net n are done: no line was of a later one, and the routed ones have their lists
+  -- the nets before net n are done: no line was of a later one, and the routed ones have their
+  -- lists
   pub record AreDone (before : List Line) (n : ℕ) : Type 0 where
     pub none_had : (m : ℕ) → n ≤ m → had_line netlist before m ≡ false
     pub lists : (m : ℕ) → m < n → is_routed_at netlist m ≡ true → list_of_net netlist f before m ≡ wanted m

@@ -1,5 +1,5 @@
 -- Reading line by line, as the loop does.
-use Rattle.std.proofs.Common.{◌≡◌, ℕ, ◌+◌, ◌<◌, ◌≤◌, List, [], ◌∷◌, length, get_or, take, drop, Option, Some, None, Result, Ok, Err, refl, sym, ap, subst, ◌∙◌, add-one, zero-add}
+use Rattle.std.proofs.Common.{◌≡◌, ℕ, ◌+◌, ◌<◌, ◌≤◌, List, [], ◌∷◌, length, get_or, take, drop, Option, Some, None, Result, Ok, Err, sym, ap, subst, ◌∙◌, add-one, zero-add}
 use Rattle.std.specs.List.{range_with_len}
 use Rattle.std.specs.Option.{option_or}
 use Rattle.std.proofs.Math.Seq.{drop-cons}
@@ -10,7 +10,6 @@ use Rattle.net_file.specs.Netlist.{Netlist}
 use Rattle.rr_graph.specs.Fabric.{Fabric}
 use Rattle.route_file.specs.declared.entry.FileEntry.{FileEntry}
 use Rattle.route_file.specs.declared.fault.RouteFileFault.{RouteFileFault}
-use Rattle.route_file.specs.declared.fault.RouteFileFault.TheVariants as route
 use Rattle.route_file.specs.declared.seen.Seen.{Seen}
 use Rattle.route_file.specs.Judge.{judge, fault_in, line_fault, fault_from}
 use Rattle.route_file.specs.kept.LinesSeen.{IsSeen, Notes, entry_after, routed_list, lists_by_net}
@@ -37,9 +36,6 @@ module _ (netlist : Netlist) (f : Fabric) (ls : List Line) where
   -- what the lines so far say is kept, and none of them is faulty
   abbrev pub IsSoFar : ℕ → Seen → Type 0
   IsSoFar i seen = IsSeen netlist f (take i ls) seen × (first_from i ≡ fault_from netlist f [] ls)
-
-  pub so_far_none : (seen : Seen) → IsSeen netlist f [] seen → IsSoFar 0 seen
-  so_far_none seen h = (h, refl)
 
   judged_at : (i line : ℕ) (words : List (List ℕ)) (seen : Seen) (r : Result FileEntry RouteFileFault) → line ≡ number_at ls i → words ≡ words_at ls i → r ≡ entry_after netlist f seen line words → IsSoFar i seen → r ≡ judge netlist f (take i ls) (line_at i)
   judged_at i line words seen r at here is h = is ∙ rw (at, here) (judged_same netlist f (take i ls) (line_at i) seen h.0)
@@ -72,5 +68,3 @@ module _ (netlist : Netlist) (f : Fabric) (ls : List Line) where
             let within : n < count = subst (λ k. n < k) all.lists_count lt in
             all.lists n within ∙ sym (get_or-map-range_with_len (routed_list netlist f ls) 0 count n n None within (zero-add n))),
       )
-
--- ---- the lines after the first two

@@ -1,5 +1,5 @@
--- The fault of a line of a routing, judged by the lines before it (VPR and T-VPack manual 4.30, "Routing File Format"; the order of
--- the faults is this project's profile).
+-- The fault of a line of a routing, judged by the lines before it (VPR and T-VPack manual 4.30,
+-- "Routing File Format"; the order of the faults is this project's profile).
 use Rattle.std.specs.Prelude.{ℕ, Bool, false, not, ◌&&◌, ◌||◌, ◌==◌, nat_lt, if◌then◌else◌, List, [], ◌∷◌, ◌++◌, length, Option, None, Some, Result, Ok, Err, codes}
 use Rattle.std.specs.List.{last_or}
 use Rattle.std.specs.Option.{option_map_or, option_or}

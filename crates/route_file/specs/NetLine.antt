@@ -53,6 +53,7 @@ is_global_at netlist n = (slice_index_or netlist.nets n no_net).global
 abbrev pub if_global : Netlist → Bool → ℕ → Option ℕ
 if_global netlist global n = if same_answer (is_global_at netlist n) global then Some n else None
 
--- the number of the net that a net's line names: of a global net in the form of global nets, else of another one
+-- the number of the net that a net's line names: of a global net in the form of global nets, else
+-- of another one
 unfoldable pub net_on : Netlist → List (List ℕ) → Option ℕ
 net_on netlist words = option_and_then (if_global netlist (is_global_form words)) (number_among (names_of_nets netlist.nets) (name_on words))

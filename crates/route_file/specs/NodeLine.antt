@@ -1,5 +1,5 @@
--- Which node a line names by its words (VPR and T-VPack manual 4.30, "Routing File Format"; that a wire of several places is
--- named by both its ends is this project's profile).
+-- Which node a line names by its words (VPR and T-VPack manual 4.30, "Routing File Format"; that a
+-- wire of several places is named by both its ends is this project's profile).
 use Rattle.std.specs.Prelude.{ℕ, Bool, true, false, ◌&&◌, ◌||◌, ◌==◌, if◌then◌else◌, List, length, Option, Some, None, unwrap_or, option_and_then, slice_get, codes}
 use Rattle.std.specs.List.{position}
 use Rattle.std.specs.Option.{option_map_or}
@@ -85,7 +85,8 @@ is_span_line words =
     && takes_both (kind_on words) (label_on words 6)
     && is_number words 7
 
--- the ends, the label and the number that a line of the node's kind tells; of five words both ends are the one place
+-- the ends, the label and the number that a line of the node's kind tells; of five words both ends
+-- are the one place
 unfoldable pub place_text : List (List ℕ) → NodeText
 place_text words =
     record {
@@ -120,7 +121,8 @@ are_ends s t =
     (s.x1 == t.x1 && s.y1 == t.y1 && (s.x2 == t.x2 && s.y2 == t.y2))
     || (s.x1 == t.x2 && s.y1 == t.y2 && (s.x2 == t.x1 && s.y2 == t.y1))
 
--- the node is the one that is reported: of this kind and number, between these ends, with the label that its place gives it
+-- the node is the one that is reported: of this kind and number, between these ends, with the label
+-- that its place gives it
 unfoldable pub is_reported : Fabric → NodeText → Node → Bool
 is_reported f t n = rank_of_kind n.kind == rank_of_kind t.kind && n.number == t.number && are_ends (span_of f n) t && same_label (label_of f n) t.label
 
@@ -128,6 +130,7 @@ is_reported f t n = rank_of_kind n.kind == rank_of_kind t.kind && n.number == t.
 unfoldable pub node_reported : Fabric → NodeText → Option ℕ
 node_reported f t = position (is_reported f t) (nodes_of f)
 
--- the number of the node that a line with these words names, if it is a node's line and the device has the node
+-- the number of the node that a line with these words names, if it is a node's line and the device
+-- has the node
 unfoldable pub node_on : Fabric → List (List ℕ) → Option ℕ
 node_on f words = option_and_then (node_reported f) (text_of (node_words words))

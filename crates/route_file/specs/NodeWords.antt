@@ -1,4 +1,5 @@
--- The words of a node's line: there `(`, `,` and `)` separate words too (VPR and T-VPack manual 4.30, "Routing File Format").
+-- The words of a node's line: there `(`, `,` and `)` separate words too (VPR and T-VPack manual
+-- 4.30, "Routing File Format").
 use Rattle.std.specs.Prelude.{ℕ, Bool, ◌||◌, ◌==◌, List, filter}
 use Rattle.std.specs.List.{flat_map, slice_split}
 use Rattle.vpr_text.specs.Words.{is_filled}

@@ -1,4 +1,5 @@
--- The nodes that a routing's text names for a list of pairs (VPR and T-VPack manual 4.30, "Routing File Format").
+-- The nodes that a routing's text names for a list of pairs (VPR and T-VPack manual 4.30, "Routing
+-- File Format").
 use Rattle.std.specs.Prelude.{ℕ, ◌==◌, Bool, false, not, ◌&&◌, if◌then◌else◌, List, [], ◌∷◌, ◌++◌, Option, Some, None}
 use Rattle.rr_graph.specs.Fabric.{Fabric}
 use Rattle.rr_graph.specs.Problems.{is_sink}
@@ -9,7 +10,8 @@ abbrev pub goes_on : Fabric → (before : Option ℕ) → Pair → Bool
 goes_on f None p = false
 goes_on f (Some a) p = p.0 == a && not (is_sink f a)
 
--- the nodes that are named for a pair: where it goes on from the pair before it its second alone, else both
+-- the nodes that are named for a pair: where it goes on from the pair before it its second alone,
+-- else both
 abbrev pub nodes_for : Fabric → (before : Option ℕ) → Pair → List ℕ
 nodes_for f before p = if goes_on f before p then p.1 ∷ [] else (p.0 ∷ p.1 ∷ [])
 

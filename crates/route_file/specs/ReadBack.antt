@@ -6,7 +6,8 @@ use Rattle.rr_graph.specs.Problems.{Net, RoutingProblem, net_in, is_sink}
 use Rattle.route_tree.specs.Paths.{Pair}
 use Rattle.route_tree.specs.Legality.{is_listed}
 
--- the list has pairs, they are in the order in which routings are written, and none begins at a sink
+-- the list has pairs, they are in the order in which routings are written, and none begins at a
+-- sink
 abbrev pub is_reported_whole : Fabric → Net → List Pair → Bool
 is_reported_whole f n pairs = nat_lt 0 (length pairs) && is_listed f n pairs && not (list_any (λ p. is_sink f p.0) pairs)
 

@@ -1,5 +1,5 @@
--- A routing file as a list of lines: what is read, or the first fault (VPR and T-VPack manual 4.30; the faults and their order
--- are this project's profile).
+-- A routing file as a list of lines: what is read, or the first fault (VPR and T-VPack manual 4.30;
+-- the faults and their order are this project's profile).
 use Rattle.std.specs.Prelude.{ℕ, List, [], drop, map, Option, Result, Ok}
 use Rattle.vpr_text.specs.Readings.{◌>>=◌, unless_faulty, with_fault}
 use Rattle.vpr_text.specs.Words.{Line}

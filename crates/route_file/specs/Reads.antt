@@ -1,4 +1,5 @@
--- Which routing a text is, for a netlist and a routing problem of its routed nets (VPR and T-VPack manual 4.30, "Routing File Format").
+-- Which routing a text is, for a netlist and a routing problem of its routed nets (VPR and T-VPack
+-- manual 4.30, "Routing File Format").
 use Rattle.std.specs.Prelude.{◌≡◌, ℕ, ◌<◌, ◌≤◌, true, List, [], ◌∷◌, ◌++◌, length, drop, slice_index_or, Option, None, Ok}
 use Rattle.vpr_text.specs.Words.{Line, words_at}
 use Rattle.vpr_text.specs.Text.{lines_of}
@@ -14,7 +15,8 @@ abbrev pub AreAccepted : Netlist → Fabric → (before ls : List Line) → Type
 AreAccepted netlist f before [] = Unit {0}
 AreAccepted netlist f before (l ∷ ls) = (line_fault netlist f before l ≡ None) × AreAccepted netlist f (before ++ l ∷ []) ls
 
--- the first two lines are the head, no line after them is faulty, and each net's list is that of its section
+-- the first two lines are the head, no line after them is faulty, and each net's list is that of
+-- its section
 pub record ReadsRoute (netlist : Netlist) (problem : RoutingProblem) (lines : List Line) (routing : List (Option (List Pair))) : Type 0 where
   pub two_lines : 2 ≤ length lines
   pub size_line : is_size_line (words_at lines 0) ≡ true

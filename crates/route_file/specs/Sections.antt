@@ -1,5 +1,5 @@
--- The sections of a routing's lines, one for each net, and the nodes that stand in them (VPR and T-VPack manual 4.30, "Routing File
--- Format").
+-- The sections of a routing's lines, one for each net, and the nodes that stand in them (VPR and
+-- T-VPack manual 4.30, "Routing File Format").
 use Rattle.std.specs.Prelude.{ℕ, ◌==◌, Bool, false, not, if◌then◌else◌, List, [], ◌∷◌, filter, fold, Option, Some, None}
 use Rattle.std.specs.List.{list_any, filter_map}
 use Rattle.std.specs.Option.{option_map_or}

@@ -1,4 +1,5 @@
--- The text of a routing (VPR and T-VPack manual 4.30, "Routing File Format"; which nets are written, and in which order, is ours).
+-- The text of a routing (VPR and T-VPack manual 4.30, "Routing File Format"; which nets are
+-- written, and in which order, is ours).
 use Rattle.std.specs.Prelude.{ℕ, if◌then◌else◌, List, [], ◌∷◌, length, map, filter, Option, Some, None, slice_index_or}
 use Rattle.std.specs.List.{flat_map}
 use Rattle.net_file.specs.Blocks.{numbers_below}

@@ -1,4 +1,5 @@
--- The lines of a routing's text, and their bytes (VPR and T-VPack manual 4.30, "Routing File Format"; the layout is ours).
+-- The lines of a routing's text, and their bytes (VPR and T-VPack manual 4.30, "Routing File
+-- Format"; the layout is ours).
 use Rattle.std.specs.Prelude.{ℕ, List, ◌++◌, Option, Some, None, codes, decimal}
 use Rattle.rr_graph.specs.node.Kind.{Kind}
 use Rattle.rr_graph.specs.node.Kind.TheVariants.{Source, Sink, Opin, Ipin, Chanx, Chany}

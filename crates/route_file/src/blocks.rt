@@ -7,10 +7,10 @@ ghost use Rattle.net_file.specs.Connections.{no_block};
 ghost use Rattle.route_file.specs.TextLine.{Block, GlobalNet, line_text};
 ghost use Rattle.route_file.specs.Text.{no_site, block_line, global_net_lines};
 
-use crate::text::{put_blank, put_class};
+use crate::text::{put_blank, put_class, put_line};
 use net_file::{Net, Netlist, Terminal};
 use place_file::{Placement, Site};
-use text_output::{ByteSink, OutputBuffer, put_number, put_place};
+use text_output::{ByteSink, OutputBuffer, Piece, put_number, put_place};
 
 /// The name of a block; none past the last one.
 fn block_name<'a>(netlist: &Netlist<'a>, number: usize) -> &'a [u8]
@@ -92,16 +92,22 @@ fn put_terminals<W: ByteSink>(
 }
 
 /// Prints the line that begins a global net.
+#[tactic(auto, unfolding(crate::specs::TextLine::bytes_on))]
 fn put_global_heading<W: ByteSink>(out: &mut OutputBuffer, sink: &mut W, number: usize, name: &[u8])
     ensures { SendsTo W.taken W.failed sink.old sink.new out.old out.new
         (line_text (GlobalNet number name.now)) }
 {
-    out.push(sink, b"Net ");
-    put_number(out, sink, number);
-    out.push(sink, b" (");
-    out.push(sink, name);
-    out.push(sink, b"): global net connecting:");
-    out.push(sink, b"\n");
+    put_line(
+        out,
+        sink,
+        &[
+            Piece::Text(b"Net "),
+            Piece::LongNumber(number as u64),
+            Piece::Text(b" ("),
+            Piece::Text(name),
+            Piece::Text(b"): global net connecting:"),
+        ],
+    );
 }
 
 /// Prints the lines of a global net: what drives it, and what takes its signal.

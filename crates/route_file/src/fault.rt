@@ -8,8 +8,8 @@ use std::alloc::{AllocError, AllocFailed};
 use thiserror::Error;
 use vpr_text::TextFault;
 
-/// What is wrong with a `.route` file. A line is the number of the faulty logical line: that of its first physical line,
-/// counted from 1; 0 is the end of the file.
+/// What is wrong with a `.route` file. A line is the number of the faulty logical line: that of its
+/// first physical line, counted from 1; 0 is the end of the file.
 #[derive(Clone, Copy, Debug, PartialEq, Eq, Error)]
 pub enum RouteFileFault {
     /// The text has no lines.

@@ -1,4 +1,5 @@
-//! Laws of the `.route` file: functions that do nothing, and whose contracts are theorems about the definitions.
+//! Laws of the `.route` file: functions that do nothing, and whose contracts are theorems about the
+//! definitions.
 
 ghost use Rattle.std.specs.Prelude.{◌≡◌, ◌≤◌, ◌^◌, length, true};
 ghost use Rattle.net_file.specs.Facts.{IsNetlist};
@@ -29,8 +30,9 @@ pub fn one_reading(
     ensures { one.now ≡ other.now }
 {}
 
-/// What `write` writes is read back: where each list of a routing has pairs, in the order in which routings are written, none of
-/// which begins at a sink, and where the text isn't too long for a file.
+/// What `write` writes is read back: where each list of a routing has pairs, in the order in which
+/// routings are written, none of which begins at a sink, and where the text isn't too long for a
+/// file.
 #[tactic(auto, using(crate::proofs::ReadBack::read_back))]
 pub fn read_back(netlist: &Netlist, placement: &Placement, problem: &Problem, routing: &Routing)
     requires netlist { IsNetlist netlist.now }

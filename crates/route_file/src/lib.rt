@@ -1,5 +1,5 @@
-//! The routing file of VPR 4.30: for each net of a placed design the nodes that its routing goes over. It is written, and read
-//! back.
+//! The routing file of VPR 4.30: for each net of a placed design the nodes that its routing goes
+//! over. It is written, and read back.
 #![tactic(auto)]
 
 mod blocks;

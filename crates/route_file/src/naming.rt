@@ -13,7 +13,8 @@ use net_file::Netlist;
 use rr_graph::Device;
 use vpr_text::Lines;
 
-/// The number of the node that a line names, if it is a node's line and the device has the node. None past the last line.
+/// The number of the node that a line names, if it is a node's line and the device has the node.
+/// None past the last line.
 #[tactic(auto, unfolding(crate::specs::NodeLine::node_on))]
 pub fn node_named(lines: &Lines, device: &Device, line: usize) -> Option<u32>
     ensures { result ≡ node_on device.now (words_at lines.now line) }
@@ -31,7 +32,8 @@ pub fn begins_section(lines: &Lines, line: usize) -> bool
     Words::new(lines, line).is(0, "Net")
 }
 
-/// The number in the netlist of the net whose section a line begins, if it begins one and the netlist has the net.
+/// The number in the netlist of the net whose section a line begins, if it begins one and the
+/// netlist has the net.
 #[tactic(auto, unfolding(crate::specs::NetLine::net_on))]
 pub fn net_begun(lines: &Lines, netlist: &Netlist, line: usize) -> Option<u32>
     ensures { result ≡ net_begun netlist.now (words_at lines.now line) }

@@ -103,7 +103,8 @@ pub(crate) fn is_routed_at(netlist: &Netlist, n: usize) -> bool
     }
 }
 
-/// The number of the net whose line this is: of a global net in the form of global nets, else of another one.
+/// The number of the net whose line this is: of a global net in the form of global nets, else of
+/// another one.
 #[tactic(auto, using(crate::proofs::Named::within))]
 pub(crate) fn net_on(netlist: &Netlist, heading: &NetHeading) -> Option<u32>
     ensures { result ≡ option_and_then (if_global netlist.now heading.now.is_global)

@@ -11,7 +11,8 @@ use crate::node_words::NodeWords;
 use line_reader::{Words, is_text};
 use rr_graph::{Device, Kind, Label, Node, Span};
 
-/// What a node's line tells: its kind, its two ends, which may be one place, and what its number counts.
+/// What a node's line tells: its kind, its two ends, which may be one place, and what its number
+/// counts.
 #[derive(Clone, Copy, Debug)]
 pub(crate) struct NodeText {
     pub(crate) kind: Kind,
@@ -112,7 +113,8 @@ fn takes(kind: Kind, label: Label) -> bool
     same_label(label, label_by(kind, true)) || same_label(label, label_by(kind, false))
 }
 
-/// The kind of node that a line tells, and what word `j` says that its number counts, where nodes of the kind have that label.
+/// The kind of node that a line tells, and what word `j` says that its number counts, where nodes
+/// of the kind have that label.
 fn kind_and_label(words: &NodeWords, j: usize) -> Option<(Kind, Label)>
     ensures both { is_some result ≡ takes_both (kind_on words.now) (label_on words.now j) }
     ensures kind { IfSome result (λ p. kind_on words.now ≡ Some p.0) }

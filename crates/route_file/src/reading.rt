@@ -80,11 +80,13 @@ fn routing_in(
     }
 }
 
-/// The routing that a file's bytes describe, by "The Routing File Format" of the VPR and T-VPack manual 4.30: for each net of
-/// the problem the pairs of nodes of its section, or none. The problem's nets are the routed nets of the netlist.
+/// The routing that a file's bytes describe, by "The Routing File Format" of the VPR and T-VPack
+/// manual 4.30: for each net of the problem the pairs of nodes of its section, or none. The
+/// problem's nets are the routed nets of the netlist.
 ///
-/// Whether the lists route their nets isn't judged. A fault of the text comes first, then that of the first faulty line. Of the
-/// faults of one line it is the first in the order of `RouteFileFault`.
+/// Whether the lists route their nets isn't judged. A fault of the text comes first, then that of
+/// the first faulty line. Of the faults of one line it is the first in the order of
+/// `RouteFileFault`.
 pub fn parse(
     alloc: Global,
     source: &[u8],

@@ -1,11 +1,12 @@
 //! Pieces of a routing's text, printed through a buffer.
 
-ghost use Rattle.std.specs.Prelude.{◌≡◌};
+ghost use Rattle.std.specs.Prelude.{◌≡◌, ◌++◌, codes};
 ghost use Rattle.vpr_text.specs.Output.{SendsTo};
+ghost use Rattle.text_output.specs.Pieces.{pieces_text};
 ghost use Rattle.route_file.specs.TextLine.{Blank, line_text, class_text, kind_field};
 
 use rr_graph::Kind;
-use text_output::{ByteSink, OutputBuffer, put_number};
+use text_output::{ByteSink, OutputBuffer, Piece, put_number, put_pieces};
 
 /// A node's kind, at the right of six places.
 pub(crate) fn kind_field(kind: Kind) -> &'static [u8]
@@ -21,11 +22,21 @@ pub(crate) fn kind_field(kind: Kind) -> &'static [u8]
     }
 }
 
+/// Prints a line of pieces.
+pub(crate) fn put_line<W: ByteSink>(out: &mut OutputBuffer, sink: &mut W, pieces: &[Piece<'_>])
+    ensures { SendsTo W.taken W.failed sink.old sink.new out.old out.new
+        (pieces_text pieces.now ++ codes "\n") }
+{
+    put_pieces(out, sink, pieces);
+    out.push(sink, b"\n");
+}
+
 /// Prints an empty line.
+#[tactic(auto, unfolding(crate::specs::TextLine::bytes_on))]
 pub(crate) fn put_blank<W: ByteSink>(out: &mut OutputBuffer, sink: &mut W)
     ensures { SendsTo W.taken W.failed sink.old sink.new out.old out.new (line_text Blank) }
 {
-    out.push(sink, b"\n");
+    put_line(out, sink, &[]);
 }
 
 /// Prints the class of a pin; a pad has none.

@@ -13,12 +13,12 @@ ghost use Rattle.route_file.specs.Writes.{Writes};
 
 use crate::blocks::put_global_net;
 use crate::nodes::put_pairs;
-use crate::text::put_blank;
+use crate::text::{put_blank, put_line};
 use net_file::{Net, Netlist};
 use place_file::Placement;
 use route_tree::{Pairs, Routing};
 use rr_graph::{Device, Problem};
-use text_output::{ByteSink, OutputBuffer, put_number};
+use text_output::{ByteSink, OutputBuffer, Piece};
 use thiserror::Error;
 
 /// Why a routing could not be written.
@@ -30,28 +30,40 @@ pub enum WriteFault {
 }
 
 /// Prints the line with the size of the array.
+#[tactic(auto, unfolding(crate::specs::TextLine::bytes_on))]
 fn put_size<W: ByteSink>(out: &mut OutputBuffer, sink: &mut W, nx: u32, ny: u32)
     ensures { SendsTo W.taken W.failed sink.old sink.new out.old out.new (line_text (Size nx ny)) }
 {
-    out.push(sink, b"Array size: ");
-    put_number(out, sink, nx);
-    out.push(sink, b" x ");
-    put_number(out, sink, ny);
-    out.push(sink, b" logic blocks.");
-    out.push(sink, b"\n");
+    put_line(
+        out,
+        sink,
+        &[
+            Piece::Text(b"Array size: "),
+            Piece::Number(nx),
+            Piece::Text(b" x "),
+            Piece::Number(ny),
+            Piece::Text(b" logic blocks."),
+        ],
+    );
 }
 
 /// Prints the line that begins a routed net.
+#[tactic(auto, unfolding(crate::specs::TextLine::bytes_on))]
 fn put_net_heading<W: ByteSink>(out: &mut OutputBuffer, sink: &mut W, number: usize, name: &[u8])
     ensures { SendsTo W.taken W.failed sink.old sink.new out.old out.new
         (line_text (RoutedNet number name.now)) }
 {
-    out.push(sink, b"Net ");
-    put_number(out, sink, number);
-    out.push(sink, b" (");
-    out.push(sink, name);
-    out.push(sink, b")");
-    out.push(sink, b"\n");
+    put_line(
+        out,
+        sink,
+        &[
+            Piece::Text(b"Net "),
+            Piece::LongNumber(number as u64),
+            Piece::Text(b" ("),
+            Piece::Text(name),
+            Piece::Text(b")"),
+        ],
+    );
 }
 
 /// Prints the lines of a net that is routed by a list of pairs.

@@ -5,6 +5,7 @@ use Rattle.std.specs.List.{filter, list_any}
 use Rattle.std.specs.List.Retain.{DiffersFromLast, IsFiltered}
 use Rattle.std.specs.List.Sorted.{IsSorted, IsPermutation}
 use Rattle.std.specs.Ordering.{nat_cmp}
+use Rattle.std.proofs.Math.Bool.{and-or_distrib_left}
 use Rattle.std.proofs.lemmas.Bool.{cases_eq, eq-eqb, ne_eqb, lt-ltb, ltb-true}
 use Rattle.std.proofs.lemmas.List.Elements.{filter-append}
 use Rattle.std.proofs.lemmas.List.Folds.{list_any-append}
@@ -31,10 +32,6 @@ any_first : (q : ℕ → Bool) (x : ℕ) (xs : List ℕ) (b : Bool) → list_any
 any_first q x xs true = refl
 any_first q x xs false = refl
 
-both_of : (t u r : Bool) → ((t && u) || (t && r)) ≡ (t && (u || r))
-both_of true u r = refl
-both_of false u r = refl
-
 tests_alike : (count i x : ℕ) → (nat_lt x count && eqb i x) ≡ (nat_lt i count && x == i)
 tests_alike count i x = elim (cases_eq x i) [
   | inl same ↦ rw (same, eq-eqb i i refl) refl
@@ -57,7 +54,7 @@ among_kept count i (x ∷ xs) =
     any_first (eqb i) x (filter (λ a. nat_lt a count) xs) (nat_lt x count)
     ∙ ap (λ b. (nat_lt x count && eqb i x) || b) (among_kept count i xs)
     ∙ ap (λ b. b || (nat_lt i count && is_among xs i)) (tests_alike count i x)
-    ∙ both_of (nat_lt i count) (x == i) (is_among xs i)
+    ∙ sym (and-or_distrib_left (nat_lt i count) (x == i) (is_among xs i))
 
 kept_low : (count : ℕ) (xs : List ℕ) → All (λ a. a < count) (filter (λ a. nat_lt a count) xs)
 kept_low count xs = all_kept (λ a. nat_lt a count) (λ a. a < count) xs (λ k d l e. ltb-true (get_or xs k d) count e)

@@ -121,45 +121,6 @@ pub one_channel_more : (n places : ℕ) (now new : List (List ℕ)) (row : List 
 one_channel_more n places now new row so_far one more =
     more ∙ ap₂ (λ (xs : List (List ℕ)) (x : List ℕ). xs ++ x ∷ []) so_far one ∙ replicate_more n (replicate places 0)
 
--- ---- one channel more
-module _ (channels : List (List ℕ)) (s : Stretch) (by : ℕ) where
-  nothing_across : (c : ℕ) → c ≢ s.channel → (m : ℕ) → 0 ≡ across (Some s) by c m
-  nothing_across c apart m = ap (λ b. if b then along s by m else 0) (sym (ne_eqb s.channel c (λ e. apart (sym e))))
-
-  all_here : (m : ℕ) → along s by m ≡ across (Some s) by s.channel m
-  all_here m = ap (λ b. if b then along s by m else 0) (sym (eq-eqb s.channel s.channel refl))
-
-  adds_nothing : (places : List ℕ) → Adds places (λ m. 0) places
-  adds_nothing places = record { size = refl; each = λ m l. omega arith }
-
-  pub channel_adds : (row : List ℕ) → s.channel < length channels → Adds (get_or channels s.channel []) (along s by) row → AddsAll channels (across (Some s) by) (set channels s.channel row)
-  channel_adds row l adds = record {
-    size = length-set channels s.channel row;
-    each = λ c low. elim (cases_eq c s.channel) [
-      | inl same ↦ (
-          let here = adds_as (get_or channels s.channel []) row (along s by) (across (Some s) by s.channel) all_here adds in
-          subst (λ k. Adds (get_or channels k []) (across (Some s) by k) (get_or (set channels s.channel row) k [])) (sym same)
-          (subst (Adds (get_or channels s.channel []) (across (Some s) by s.channel)) (sym (get_or-set_same channels s.channel row [] l)) here))
-      | inr apart ↦ (
-          subst (Adds (get_or channels c []) (across (Some s) by c)) (sym (get_or-set_other channels s.channel c row [] apart))
-          (adds_as (get_or channels c []) (get_or channels c []) (λ m. 0) (across (Some s) by c) (nothing_across c apart) (adds_nothing (get_or channels c []))))
-    ];
-  }
-
-  pub channel_stays : length channels ≤ s.channel → AddsAll channels (across (Some s) by) channels
-  channel_stays past = record {
-    size = refl;
-    each = λ c low.
-        adds_as (get_or channels c []) (get_or channels c []) (λ m. 0) (across (Some s) by c) (nothing_across c (λ e. absurd (omega (arith, past, low, e))))
-        (adds_nothing (get_or channels c []));
-  }
-
-pub none_stays : (channels : List (List ℕ)) (by : ℕ) → AddsAll channels (across None by) channels
-none_stays channels by = record {
-  size = refl;
-  each = λ c low. record { size = refl; each = λ m l. omega arith };
-}
-
 -- ---- what a node occupies
 module _ (f : Fabric) (by c m : ℕ) where
   both : (a b : Bool) → (if a then (if b then by else 0) else 0) ≡ (if a && b then by else 0)

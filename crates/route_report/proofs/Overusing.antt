@@ -1,12 +1,12 @@
 -- The overused nodes, and the nets on them.
-use Rattle.std.proofs.Common.{◌≡◌, ◌≢◌, ℕ, ◌+◌, ◌-◌, ◌<◌, ◌≤◌, ◌==◌, zero, suc, Bool, true, false, inl, inr, List, [], ◌∷◌, ◌++◌, length, get_or, set, Option, Some, None, All, refl, sym, ap, ap₂, ◌∙◌, subst, arith, add-one, if◌then◌else◌, map, nat_lt, Result, Ok, Err}
+use Rattle.std.proofs.Common.{◌≡◌, ◌≢◌, ℕ, ◌+◌, ◌-◌, ◌<◌, ◌≤◌, ◌==◌, Bool, true, false, inl, inr, List, [], ◌∷◌, ◌++◌, length, get_or, set, Option, Some, None, All, refl, sym, ap, ap₂, ◌∙◌, subst, arith, if◌then◌else◌, map, nat_lt, Result, Ok, Err}
 use Rattle.std.specs.Prelude.{◌||◌, take}
 use Rattle.std.specs.List.{filter}
 use Rattle.std.specs.List.Sorted.{IsStrictlyIncreasing, IsBinarySearchResult}
 use Rattle.std.specs.Ordering.{nat_cmp}
 use Rattle.std.specs.Result.{MatchResult}
 use Rattle.std.proofs.lemmas.List.Sorted.{searched}
-use Rattle.std.proofs.lemmas.List.Kept.{IsStrictlyIncreasing-filter}
+use Rattle.std.proofs.lemmas.List.Kept.{AllPairs-from_increasing, IsStrictlyIncreasing-filter}
 use Rattle.std.proofs.lemmas.Simd.{map-map}
 use Rattle.std.specs.Option.{option_map}
 use Rattle.std.proofs.lemmas.Bool.{cases_eq, cases_lt, eq-eqb, ne_eqb, eqb-true, both_ways}
@@ -22,7 +22,7 @@ use Rattle.routing_problem.specs.Problems.{RoutingProblem, net_in}
 use Rattle.routing_problem.proofs.Ranges.{filter_next, get_below}
 use Rattle.routing_problem.proofs.Ascending.{below_ascend, all_kept, kept_below, passes_there}
 use Rattle.route_tree.specs.Legality.{is_among}
-use Rattle.route_tree.proofs.Members.{contains_among, among_contains}
+use Rattle.route_tree.proofs.Members.{contains_among, among_contains, rising}
 use Rattle.route_tree.specs.Usage.{use_of, overuse_of, covers_by, room_of, Lists, list_in}
 use Rattle.route_report.specs.Covered.{nodes_covered, uses_of}
 use Rattle.route_report.specs.Overused.{Overuse, is_over, is_overused}
@@ -41,27 +41,6 @@ no_room f (Some n) e = absurd (none-some (capacity_of f n) e)
 no_room f None e = refl
 
 -- ---- lists
-pub rises : (xs : List ℕ) → IsStrictlyIncreasing xs → (i j : ℕ) → i < j → j < length xs → get_or xs i 0 < get_or xs j 0
-rises xs up i zero low high = absurd (omega (arith, low))
-rises xs up i (suc j) low high = elim (cases_eq i j) [
-  | inl same ↦ (
-      let last : get_or xs j 0 < get_or xs (j + 1) 0 = up j (omega (arith, high)) in
-      let e : get_or xs (j + 1) 0 ≡ get_or xs (suc j) 0 = ap (λ k. get_or xs k 0) (add-one j) in
-      let f : get_or xs i 0 ≡ get_or xs j 0 = ap (λ k. get_or xs k 0) same in
-      omega (arith, last, e, f))
-  | inr apart ↦ (
-      let last : get_or xs j 0 < get_or xs (j + 1) 0 = up j (omega (arith, high)) in
-      let e : get_or xs (j + 1) 0 ≡ get_or xs (suc j) 0 = ap (λ k. get_or xs k 0) (add-one j) in
-      let before = rises xs up i j (omega (arith, low, apart)) (omega (arith, high)) in
-      omega (arith, last, e, before))
-]
-
-pub climbs : (xs : List ℕ) → IsStrictlyIncreasing xs → (i j : ℕ) → i ≤ j → j < length xs → get_or xs i 0 ≤ get_or xs j 0
-climbs xs up i j low high = elim (cases_eq i j) [
-  | inl same ↦ (let e : get_or xs i 0 ≡ get_or xs j 0 = ap (λ k. get_or xs k 0) same in omega (arith, e))
-  | inr apart ↦ (let l = rises xs up i j (omega (arith, low, apart)) high in omega (arith, l))
-]
-
 same_images : {X Y : Type 0} (f g : X → Y) (xs : List X) → All (λ x. f x ≡ g x) xs → map f xs ≡ map g xs
 same_images f g [] same = refl
 same_images f g (x ∷ xs) same =
@@ -78,12 +57,12 @@ kept_by test net o e =
 module _ (nodes : List ℕ) (node : ℕ) (up : IsStrictlyIncreasing nodes) where
   found : (i : ℕ) (r : Result ℕ ℕ) → r ≡ Ok i → IsBinarySearchResult (λ y. nat_cmp y node) nodes r → (i < length nodes) × (get_or nodes i 0 ≡ node)
   found i r e h = subst (λ r. MatchResult r (λ i. (i < length nodes) × (get_or nodes i 0 ≡ node)) (λ i. (i ≤ length nodes) × ((k : ℕ) → k < i → get_or nodes k 0 < node) × ((k : ℕ) → i ≤ k → k < length nodes → node < get_or nodes k 0))) e
-      (searched nodes node r h (climbs nodes up))
+      (searched nodes node r h (rising nodes up))
 
   missed : (i : ℕ) (r : Result ℕ ℕ) → r ≡ Err i → IsBinarySearchResult (λ y. nat_cmp y node) nodes r → (k : ℕ) → k < length nodes → get_or nodes k 0 ≢ node
   missed i r e h k l =
       let none = subst (λ r. MatchResult r (λ i. (i < length nodes) × (get_or nodes i 0 ≡ node)) (λ i. (i ≤ length nodes) × ((k : ℕ) → k < i → get_or nodes k 0 < node) × ((k : ℕ) → i ≤ k → k < length nodes → node < get_or nodes k 0))) e
-      (searched nodes node r h (climbs nodes up)) in
+      (searched nodes node r h (rising nodes up)) in
       λ same. elim (cases_lt k i) [
         | inl before ↦ (let low = none.1 k before in absurd (omega (arith, low, same)))
         | inr from ↦ (let high = none.2 k from l in absurd (omega (arith, high, same)))
@@ -125,8 +104,8 @@ module _ (nodes : List ℕ) (node : ℕ) (up : IsStrictlyIncreasing nodes) where
               ∙ sym (image k d low ∙ ap (λ j. with_net (λ a. node == a) net (get_or entries j d)) same ∙ ap (with_net (λ a. node == a) net) is ∙ here))
           | inr apart ↦ (
               let other : get_or nodes k 0 ≢ node = λ e. elim (cases_lt k i) [
-                | inl before ↦ (let less = rises nodes up k i before place.0 in absurd (omega (arith, less, e, place.1)))
-                | inr from ↦ (let less = rises nodes up i k (omega (arith, from, apart)) (omega (arith, low, size)) in absurd (omega (arith, less, e, place.1)))
+                | inl before ↦ (let less = AllPairs-from_increasing nodes up k i 0 before place.0 in absurd (omega (arith, less, e, place.1)))
+                | inr from ↦ (let less = AllPairs-from_increasing nodes up i k 0 (omega (arith, from, apart)) (omega (arith, low, size)) in absurd (omega (arith, less, e, place.1)))
               ] in
               let test : (node == (get_or entries k d).node) ≡ false = ne_eqb node _ (λ e. other (sym (node_at_place k d low) ∙ sym e)) in
               get_or-set_other entries i k new d apart ∙ sym (image k d low ∙ kept_by (λ a. node == a) net (get_or entries k d) test))
@@ -139,7 +118,7 @@ first_time covered up i l =
     (λ k d low.
     let size = length-take-le i covered (let m : i < length covered = l in omega (arith, m)) in
     let before : k < i = omega (arith, low, size) in
-    let less = rises covered up k i before l in
+    let less = AllPairs-from_increasing covered up k i 0 before l in
     let is : get_or (take i covered) k d ≡ get_or covered k 0 = get_or-take i covered k d before ∙ get_or_default covered k d 0 (omega (arith, before, l)) in
     ne_eqb _ (get_or covered i 0) (λ e. absurd (omega (arith, less, is, e))))
 

@@ -1,4 +1,5 @@
--- From the last pair of a tree to the first: what is marked are the sinks and the beginnings of the pairs after.
+-- From the last pair of a tree to the first: what is marked are the sinks and the beginnings of the
+-- pairs after.
 use Rattle.std.proofs.Common.{◌≡◌, ℕ, ◌+◌, ◌<◌, ◌==◌, zero, suc, inl, inr, Bool, true, false, not, ◌||◌, List, [], ◌∷◌, length, drop, get_or, set, sym, ap, ◌∙◌, subst}
 use Rattle.std.specs.List.{list_any}
 use Rattle.std.proofs.lemmas.Bool.{or_left, or_right, or_from, cases_Bool, false≢true, eq-eqb, eqb-true}

@@ -1,4 +1,5 @@
--- Each pair joins the source to a sink exactly where none has a dead end, where no node is reached twice.
+-- Each pair joins the source to a sink exactly where none has a dead end, where no node is reached
+-- twice.
 use Rattle.std.proofs.Common.{◌≡◌, ◌≢◌, ℕ, ◌<◌, ◌≤◌, ◌==◌, zero, suc, true, false, not, ◌||◌, List, [], ◌∷◌, length, get_or, All, inl, inr, refl, sym, ◌∙◌, subst, arith}
 use Rattle.std.specs.Prelude.{Contains}
 use Rattle.std.specs.List.{list_any}

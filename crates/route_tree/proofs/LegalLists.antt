@@ -1,22 +1,20 @@
 -- What a legal list of pairs says of the nodes that it covers.
-use Rattle.std.proofs.Common.{◌≡◌, ◌≢◌, ℕ, ◌+◌, ◌<◌, ◌⊎◌, ◌==◌, suc, Bool, true, false, ◌||◌, cond, List, [], ◌∷◌, length, get_or, inl, inr, refl, sym, ap, ap₂, ◌∙◌, subst, arith}
+use Rattle.std.proofs.Common.{◌≡◌, ◌≢◌, ℕ, ◌+◌, ◌<◌, ◌⊎◌, ◌==◌, Bool, true, false, ◌||◌, cond, List, [], ◌∷◌, length, get_or, inl, inr, refl, sym, ap, ap₂, ◌∙◌, subst, arith}
 use Rattle.std.specs.Prelude.{Contains, count_by, nat_lt}
 use Rattle.std.specs.List.{list_all, list_any}
-use Rattle.std.proofs.lemmas.Bool.{and_from, both_ways, cases_order, eqb-true, eq-eqb, lt-ltb, or_cases, or_left, or_parts, or_right, true_from_ne_false}
-use Rattle.std.proofs.lemmas.List.{length-map}
-use Rattle.std.proofs.lemmas.List.Elements.{All-get_or, at_from_Contains}
+use Rattle.std.proofs.lemmas.Bool.{and_from, both_ways, eqb-true, eq-eqb, lt-ltb, or_cases, or_left, or_parts, or_right, true_from_ne_false}
+use Rattle.std.proofs.lemmas.List.Elements.{All-get_or}
 use Rattle.std.proofs.lemmas.List.Sums.{list_all-from_AllPass, sum_by-cons}
 use Rattle.routing_problem.specs.Fabric.{Fabric}
 use Rattle.routing_problem.specs.Problems.{Net}
 use Rattle.route_tree.specs.Paths.{Pair, Path, ends_of}
-use Rattle.route_tree.specs.Paths.Path.{here, along}
+use Rattle.route_tree.specs.Paths.Path.{along}
 use Rattle.route_tree.specs.Legality.{is_among, has_twice, LeadsToSink, IsJoined, IsLegal}
 use Rattle.route_tree.specs.Usage.{covers}
 use Rattle.route_tree.specs.Fits.{is_below}
 use Rattle.routing_problem.specs.Nodes.{node_count_of}
 use Rattle.routing_problem.proofs.Graph.{edge_from_node, edge_to_node}
-use Rattle.route_tree.proofs.Members.{among_contains, among_ends, contains_among, end_among, end_at, end_of, once_each, pair_among, some_place}
-use Rattle.route_tree.proofs.Ways.{last_step}
+use Rattle.route_tree.proofs.Members.{among_contains, among_ends, contains_among, end_among, pair_among, some_place}
 
 -- ---- the nodes that pairs cover are the source and the ends
 pub covered_cases : (source : ℕ) (pairs : List Pair) (a : ℕ) → covers source pairs a ≡ true → (source ≡ a) ⊎ Contains (ends_of pairs) a
@@ -54,22 +52,11 @@ none_counted test (x ∷ xs) none =
 
 module _ (f : Fabric) (n : Net) (pairs : List Pair) (legal : IsLegal f n pairs) where
   -- ---- each node is reached once
-  pub ends_differ : (i j : ℕ) → i < j → j < length pairs → (get_or pairs i (0, 0)).1 ≢ (get_or pairs j (0, 0)).1
-  ends_differ i j low high = λ same.
-      once_each (n.source ∷ ends_of pairs) (suc i) (suc j) legal.once (omega arith) (omega (arith, length-map pairs (λ p. p.1)))
-      (end_at pairs i (omega arith) ∙ same ∙ sym (end_at pairs j high))
 
   pub source_apart : (a : ℕ) → Contains (ends_of pairs) a → n.source ≢ a
   source_apart a h = λ same.
       both_ways (is_among (ends_of pairs) n.source) (or_parts (is_among (ends_of pairs) n.source) (has_twice (ends_of pairs)) legal.once).0
       (contains_among (ends_of pairs) n.source (subst (Contains (ends_of pairs)) (sym same) h))
-
-  pub same_pair : (i j : ℕ) → i < length pairs → j < length pairs → (get_or pairs i (0, 0)).1 ≡ (get_or pairs j (0, 0)).1 → i ≡ j
-  same_pair i j l m same = elim (cases_order i j) [
-    | inl e ↦ e
-    | inr (inl low) ↦ absurd (ends_differ i j low m same)
-    | inr (inr low) ↦ absurd (ends_differ j i low l (sym same))
-  ]
 
   -- the source and the ends, each counted once
   pub counts_covered : (a : ℕ) → count_by (λ b. b == a) (n.source ∷ ends_of pairs) ≡ cond (covers n.source pairs a) 1 0
@@ -82,18 +69,6 @@ module _ (f : Fabric) (n : Net) (pairs : List Pair) (legal : IsLegal f n pairs) 
       let found = among_ends pairs a h in
       let joined = All-get_or (IsJoined n pairs) pairs found.0 (0, 0) found.1 legal.joined in
       (subst (Path pairs n.source) found.2 joined.from_source, subst (LeadsToSink n pairs) found.2 joined.to_sink)
-
-  pub reached_from_source : (a : ℕ) → covers n.source pairs a ≡ true → Path pairs n.source a
-  reached_from_source a e = elim (covered_cases n.source pairs a e) [
-    | inl same ↦ subst (Path pairs n.source) same (here n.source)
-    | inr h ↦ (end_joined a h).0
-  ]
-
-  pub covers_reached : (a : ℕ) → Path pairs n.source a → covers n.source pairs a ≡ true
-  covers_reached a way = elim (last_step pairs way) [
-    | inl same ↦ subst (λ b. covers n.source pairs b ≡ true) same (covers_source n.source pairs)
-    | inr last ↦ covers_end n.source pairs a (end_of pairs (last.begin, a) last.there)
-  ]
 
   some_leaves : list_any (λ p. p.0 == n.source) pairs ≡ true
   some_leaves =
@@ -120,20 +95,6 @@ module _ (f : Fabric) (n : Net) (pairs : List Pair) (legal : IsLegal f n pairs) 
 
   pub covers_sink : (s : ℕ) → Contains n.sinks s → covers n.source pairs s ≡ true
   covers_sink s h = covers_end n.source pairs s ((legal.sinks s).1 h).0
-
-  -- a pair begins at a covered node
-  pub covers_begin : (k : ℕ) → k < length pairs → covers n.source pairs (get_or pairs k (0, 0)).0 ≡ true
-  covers_begin k l =
-      let p = get_or pairs k (0, 0) in
-      elim (last_step pairs (end_joined p.1 (end_among pairs k l)).0) [
-        | inl same ↦ absurd (source_apart p.1 (end_among pairs k l) same)
-        | inr last ↦ (
-            let found = at_from_Contains pairs (last.begin, p.1) last.there in
-            let there = found.2 (0, 0) in
-            let place : found.0 ≡ k = same_pair found.0 k found.1 l (ap (λ (q : Pair). q.1) there) in
-            let begin : last.begin ≡ p.0 = sym (ap (λ (q : Pair). q.0) there) ∙ ap (λ j. (get_or pairs j (0, 0)).0) place in
-            subst (λ a. covers n.source pairs a ≡ true) begin (covers_reached last.begin last.before))
-      ]
 
   -- ---- the covered nodes are nodes of the device
   pub covers_nodes : (a : ℕ) → covers n.source pairs a ≡ true → a < node_count_of f

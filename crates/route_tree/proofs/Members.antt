@@ -1,11 +1,13 @@
 -- Which numbers stand among others, by the test and by the place; numbers that stand there once.
-use Rattle.std.proofs.Common.{◌≡◌, ◌≢◌, ℕ, ◌<◌, ◌==◌, zero, suc, Bool, true, false, List, [], ◌∷◌, length, get_or, inl, inr, refl, sym, ap, ◌∙◌, subst, arith}
+use Rattle.std.proofs.Common.{◌≡◌, ◌≢◌, ℕ, ◌<◌, ◌≤◌, ◌==◌, zero, suc, Bool, true, false, List, [], ◌∷◌, length, get_or, inl, inr, refl, sym, ap, ◌∙◌, subst, arith}
 use Rattle.std.specs.Prelude.{Contains, take}
 use Rattle.std.specs.List.{list_any}
-use Rattle.std.proofs.lemmas.Bool.{both_ways, eqb-true, eq-eqb, or_cases, or_parts, false_from_ne_true}
+use Rattle.std.specs.List.Sorted.{IsStrictlyIncreasing}
+use Rattle.std.proofs.lemmas.Bool.{both_ways, cases_order, eqb-true, eq-eqb, or_cases, or_parts, false_from_ne_true}
 use Rattle.std.proofs.lemmas.List.{length-map, length-take-le, get_or-map, get_or-take}
 use Rattle.std.proofs.lemmas.List.Elements.{Contains-append_right, Contains-get_or}
 use Rattle.std.proofs.lemmas.List.Folds.{list_any_at, list_any_none}
+use Rattle.std.proofs.lemmas.List.Kept.{AllPairs-from_increasing}
 use Rattle.route_tree.specs.Paths.{Pair, ends_of}
 use Rattle.route_tree.specs.Legality.{is_among, has_twice}
 
@@ -78,3 +80,11 @@ ends_before pairs k a l e =
     let found = among_ends (take k pairs) a (among_contains (ends_of (take k pairs)) a e) in
     let early : found.0 < k = let h = found.1 in omega (arith, h, length-take-le k pairs (let le : k < length pairs = l in omega arith)) in
     record { place = found.0; before = early; end = sym (ap (λ (p : Pair). p.1) (get_or-take k pairs found.0 (0, 0) early)) ∙ found.2 }
+
+-- ---- numbers that ascend
+pub rising : (xs : List ℕ) → IsStrictlyIncreasing xs → (i j : ℕ) → i ≤ j → j < length xs → get_or xs i 0 ≤ get_or xs j 0
+rising xs up i j le l = elim (cases_order i j) [
+  | inl e ↦ (let same = ap (λ k. get_or xs k 0) e in omega (arith, same))
+  | inr (inl low) ↦ (let below = AllPairs-from_increasing xs up i j 0 low l in omega (arith, below))
+  | inr (inr high) ↦ absurd (omega arith)
+]

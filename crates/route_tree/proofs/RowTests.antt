@@ -14,6 +14,7 @@ use Rattle.route_tree.specs.Legality.{is_among, has_twice}
 use Rattle.route_tree.specs.Rows.{no_row, node_in, pair_of, pairs_of, IsTree}
 use Rattle.route_tree.specs.Faults.{begins_elsewhere, has_foreign_sink, misses_sink}
 use Rattle.routing_problem.specs.Fabric.{Fabric}
+use Rattle.routing_problem.proofs.Joins.{any_same}
 use Rattle.routing_problem.specs.Problems.{is_sink}
 use Rattle.route_tree.specs.kept.Marked.{IsMarked, nodes_of}
 
@@ -38,10 +39,6 @@ begins (r ∷ s ∷ rs) source t =
     let first : s.parent ≡ 0 = omega (arith, early) in
     let few : nat_lt (length (r ∷ s ∷ rs)) 2 ≡ false = grind (arith, nat_tests) in
     ap (λ k. not (node_in (r ∷ s ∷ rs) k == source)) first ∙ ap (λ b. b || not (r.node == source)) (sym few)
-
-same_any : {X : Type 0} (p q : X → Bool) → ((x : X) → p x ≡ q x) → (xs : List X) → list_any p xs ≡ list_any q xs
-same_any p q same [] = refl
-same_any p q same (x ∷ xs) = ap₂ (λ a b. a || b) (same x) (same_any p q same xs)
 
 -- a list with a number twice has it twice also with more after
 more_twice : (xs ys : List ℕ) → has_twice xs ≡ true → has_twice (xs ++ ys) ≡ true
@@ -101,7 +98,7 @@ ends_are f test same (r ∷ rs) = ap₂ (λ a b. test a || b) (same r) (ends_are
 pub foreign : (f : Fabric) (rows : List Row) (sinks : List ℕ) (flags : List Bool) → IsMarked flags sinks → list_any (λ r. is_sink f r.node && not (get_or flags r.node false)) (drop 1 rows) ≡ has_foreign_sink f sinks (pairs_of rows)
 unfolding pairs_of
 foreign f rows sinks flags m =
-    same_any (λ r. is_sink f r.node && not (get_or flags r.node false)) (λ r. is_sink f r.node && not (is_among sinks r.node)) (λ r. ap (λ b. is_sink f r.node && not b) (m r.node)) (drop 1 rows)
+    any_same (λ r. is_sink f r.node && not (get_or flags r.node false)) (λ r. is_sink f r.node && not (is_among sinks r.node)) (λ r. ap (λ b. is_sink f r.node && not b) (m r.node)) (drop 1 rows)
     ∙ sym (ends_are (pair_of rows) (λ b. is_sink f b && not (is_among sinks b)) (λ r. refl) (drop 1 rows))
 
 pub count_next : (p : Pair → Bool) (pairs : List Pair) (i : ℕ) → i < length pairs → count_by p (take (i + 1) pairs) ≡ count_by p (take i pairs) + (if p (get_or pairs i (0, 0)) then 1 else 0)

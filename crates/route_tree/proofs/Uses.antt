@@ -1,5 +1,5 @@
 -- What becomes of the use of a node when one net's list changes.
-use Rattle.std.proofs.Common.{◌≡◌, ℕ, ◌+◌, ◌-◌, ◌<◌, ◌≤◌, zero, suc, Bool, true, false, if◌then◌else◌, List, [], ◌∷◌, length, get_or, set, replicate, Option, Some, None, refl, sym, ap, arith}
+use Rattle.std.proofs.Common.{◌≡◌, ℕ, ◌+◌, ◌-◌, ◌<◌, ◌≤◌, zero, suc, Bool, true, false, if◌then◌else◌, List, [], ◌∷◌, length, get_or, set, replicate, Option, None, refl, sym, ap, arith}
 use Rattle.std.proofs.lemmas.List.{set-set}
 use Rattle.routing_problem.specs.Nodes.{node_at}
 use Rattle.routing_problem.specs.Problems.{Net, RoutingProblem, net_in}
@@ -42,17 +42,6 @@ use_replaced (n ∷ ns) (x ∷ xs) (suc i) new a l m =
     omega (arith, rest)
 
 module _ (nets : List Net) (lists : List (Option (List Pair))) (i a : ℕ) (net : i < length nets) (entry : i < length lists) where
-  -- it gets one where there was none
-  pub use_put_in : (pairs : List Pair) → get_or lists i None ≡ None →
-      use_of nets (set lists i (Some pairs)) a ≡ use_of nets lists a + use_by (net_in nets i) (Some pairs) a
-  use_put_in pairs none =
-      let change = use_replaced nets lists i (Some pairs) a net entry in
-      let before : use_by (net_in nets i) (get_or lists i None) a ≡ 0 = ap (λ l. use_by (net_in nets i) l a) none in
-      omega (arith, change, before)
-
-  -- it is taken away, which leaves what the other nets use
-  pub use_taken : use_of nets (set lists i None) a ≡ use_of nets lists a - use_by (net_in nets i) (get_or lists i None) a
-  use_taken = let change = use_replaced nets lists i None a net entry in omega (arith, change)
 
   pub others_and_own : use_by_others nets lists i a + use_by (net_in nets i) (get_or lists i None) a ≡ use_of nets lists a
   others_and_own = let change = use_replaced nets lists i None a net entry in omega (arith, change)
@@ -78,18 +67,3 @@ module _ (p : RoutingProblem) (lists : List (Option (List Pair))) (i a : ℕ) (n
 
   abbrev room : ℕ
   room = room_of p.device (node_at p.device a)
-
-  pub overuse_replaced : (new : Option (List Pair)) →
-      overuse_of p (set lists i new) a ≡ ((use_of p.nets lists a + use_by (net_in p.nets i) new a) - own) - room
-  overuse_replaced new =
-      let change = use_replaced p.nets lists i new a net entry in
-      overuse_counted p (set lists i new) a ((use_of p.nets lists a + use_by (net_in p.nets i) new a) - own) (omega (arith, change))
-
-  pub overuse_put_in : (pairs : List Pair) → get_or lists i None ≡ None →
-      overuse_of p (set lists i (Some pairs)) a ≡ (use_of p.nets lists a + use_by (net_in p.nets i) (Some pairs) a) - room
-  overuse_put_in pairs none =
-      overuse_counted p (set lists i (Some pairs)) a (use_of p.nets lists a + use_by (net_in p.nets i) (Some pairs) a)
-      (sym (use_put_in p.nets lists i a net entry pairs none))
-
-  pub overuse_taken : overuse_of p (set lists i None) a ≡ (use_of p.nets lists a - own) - room
-  overuse_taken = overuse_counted p (set lists i None) a (use_of p.nets lists a - own) (sym (use_taken p.nets lists i a net entry))

@@ -1,5 +1,6 @@
--- When a list of pairs routes a net (Betz, Rose and Marquardt 1999; McMurchie and Ebeling 1995), and when it is in the order in which
--- routings are written (VPR and T-VPack manual 4.30, "Routing File Format").
+-- When a list of pairs routes a net (Betz, Rose and Marquardt 1999; McMurchie and Ebeling 1995),
+-- and when it is in the order in which routings are written (VPR and T-VPack manual 4.30, "Routing
+-- File Format").
 use Rattle.std.specs.Prelude.{◌≡◌, ℕ, ◌==◌, Bool, true, false, ◌&&◌, ◌||◌, List, [], ◌∷◌, ◌↔◌, Contains, All, count_by}
 use Rattle.std.specs.List.{list_any}
 use Rattle.routing_problem.specs.Fabric.{Fabric}
@@ -36,8 +37,9 @@ pub record IsLegal (f : Fabric) (n : Net) (pairs : List Pair) : Type 0 where
   pub sinks : (s : ℕ) → (Contains (ends_of pairs) s × (is_sink f s ≡ true)) ↔ Contains n.sinks s
   pub joined : All (IsJoined n pairs) pairs
 
--- a pair may begin at node a, after pairs with these ends, the last one first: the first pair at the source; each later one where the
--- pair before it ended, or, where that was a sink, at the source or at an earlier end
+-- a pair may begin at node a, after pairs with these ends, the last one first: the first pair at
+-- the source; each later one where the pair before it ended, or, where that was a sink, at the
+-- source or at an earlier end
 abbrev pub may_begin : Fabric → (source : ℕ) → (earlier : List ℕ) → ℕ → Bool
 may_begin f source [] a = a == source
 may_begin f source (e ∷ es) a = e == a || (is_sink f e && is_among (source ∷ e ∷ es) a)
@@ -46,8 +48,8 @@ abbrev pub is_listed_after : Fabric → (source : ℕ) → (earlier : List ℕ) 
 is_listed_after f source earlier [] = true
 is_listed_after f source earlier (p ∷ ps) = may_begin f source earlier p.0 && is_listed_after f source (p.1 ∷ earlier) ps
 
--- the pairs are in the order in which routings are written: path by path, each path from the source or from a node of the paths before it
--- on to a sink
+-- the pairs are in the order in which routings are written: path by path, each path from the source
+-- or from a node of the paths before it on to a sink
 unfoldable pub is_listed : Fabric → Net → List Pair → Bool
 is_listed f n pairs = is_listed_after f n.source [] pairs
 

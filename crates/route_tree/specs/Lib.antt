@@ -2,8 +2,8 @@ pub mod Paths
 pub mod Legality
 pub mod Faults
 pub mod Rows
-pub mod Same
-pub mod SameLaws
+pub mod Equality
+pub mod EqualityLaws
 pub mod Usage
 pub mod TreeLists
 pub mod Fits

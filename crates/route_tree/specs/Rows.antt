@@ -16,7 +16,8 @@ pair_of rows r = (node_in rows r.parent, r.node)
 unfoldable pub pairs_of : List Row → List Pair
 pairs_of rows = map (pair_of rows) (drop 1 rows)
 
--- nodes in a chain: the first hangs on row `parent`, each next one on the one before; `next` is the row of the first
+-- nodes in a chain: the first hangs on row `parent`, each next one on the one before; `next` is the
+-- row of the first
 abbrev pub chain : (next parent : ℕ) → List ℕ → List Row
 chain next parent [] = []
 chain next parent (n ∷ ns) = record { node = n; parent = parent } ∷ chain (next + 1) next ns
@@ -26,7 +27,8 @@ abbrev pub pairs_along : ℕ → List ℕ → List Pair
 pairs_along a [] = []
 pairs_along a (b ∷ bs) = (a, b) ∷ pairs_along b bs
 
--- what every tree keeps: it has a row, and each row's parent stands before it; the first row is its own
+-- what every tree keeps: it has a row, and each row's parent stands before it; the first row is its
+-- own
 pub record IsTree (rows : List Row) : Type 0 where
   pub some : 1 ≤ length rows
   pub root : (get_or rows 0 no_row).parent ≡ 0

@@ -18,7 +18,8 @@ use crate::stamps::Stamps;
 use crate::tree::{Row, Tree};
 use routing_problem::{Device, Problem};
 
-/// The first fault, of those for which the sinks are marked. Whether a sink is missed was found before.
+/// The first fault, of those for which the sinks are marked. Whether a sink is missed was found
+/// before.
 fn sink_fault(
     device: &Device,
     sinks: &[u32],
@@ -127,9 +128,10 @@ fn or_ok(fault: Option<TreeFault>) -> Result<(), TreeFault>
     }
 }
 
-/// Whether a tree routes a net: it joins the net's source to exactly its sinks, through switches of the device, and its pairs are in
-/// the order in which routings are written. Where not, the first fault is reported, in the order of `TreeFault`.
-/// It takes time of the order of the tree's rows. The marks fit afterwards, whatever the answer.
+/// Whether a tree routes a net: it joins the net's source to exactly its sinks, through switches of
+/// the device, and its pairs are in the order in which routings are written. Where not, the first
+/// fault is reported, in the order of `TreeFault`. It takes time of the order of the tree's rows.
+/// The marks fit afterwards, whatever the answer.
 pub fn check_tree(
     problem: &Problem,
     net: u32,

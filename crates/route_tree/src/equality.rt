@@ -1,12 +1,12 @@
 //! Whether two trees are one.
 
 ghost use Rattle.std.specs.Prelude.{◌≡◌, ◌↔◌, true};
-ghost use Rattle.route_tree.specs.Same.{is_same_tree};
-ghost use Rattle.route_tree.specs.SameLaws.{same_tree_symmetric, same_tree_equivalence};
+ghost use Rattle.route_tree.specs.Equality.{is_same_tree};
+ghost use Rattle.route_tree.specs.EqualityLaws.{same_tree_symmetric, same_tree_equivalence};
 
 use crate::tree::{Row, Tree};
 
-#[tactic(auto, unfolding(crate::specs::Same::is_same_tree))]
+#[tactic(auto, unfolding(crate::specs::Equality::is_same_tree))]
 fn are_same_rows(a: &[Row], b: &[Row]) -> bool
     ensures { result ≡ is_same_tree a.now b.now }
 {
@@ -19,7 +19,7 @@ impl PartialEq for Tree {
     ghost laws = { same_tree_symmetric };
 
     /// Whether the two have the same rows, in the same order.
-    #[tactic(auto, using(crate::specs::SameLaws::same_tree))]
+    #[tactic(auto, using(crate::specs::EqualityLaws::same_tree))]
     fn eq(&self, other: &Tree) -> bool
         ensures test { result ≡ is_same_tree self.now other.now }
         ensures same { (result ≡ true) ↔ (self.now ≡ other.now) }

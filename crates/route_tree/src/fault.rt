@@ -2,7 +2,8 @@
 
 use thiserror::Error;
 
-/// Why a tree does not route a net, in the order in which faults are looked for: where a tree has several, the first is named.
+/// Why a tree does not route a net, in the order in which faults are looked for: where a tree has
+/// several, the first is named.
 #[derive(Clone, Copy, Debug, PartialEq, Eq, Error)]
 pub enum TreeFault {
     #[error("there is no such net")]

@@ -1,4 +1,5 @@
-//! Trees of routed nets, and when they are legal (McMurchie and Ebeling 1995; VPR and T-VPack manual 4.30).
+//! Trees of routed nets, and when they are legal (McMurchie and Ebeling 1995; VPR and T-VPack
+//! manual 4.30).
 #![tactic(auto)]
 
 mod check;

@@ -8,8 +8,8 @@ use routing_problem::Problem;
 use std::alloc::{AllocError, Global};
 use std::marker::Model;
 
-/// What a check of a tree marks nodes with. Contracts see how many nodes it is for: what an earlier check left in it
-/// changes no answer.
+/// What a check of a tree marks nodes with. Contracts see how many nodes it is for: what an earlier
+/// check left in it changes no answer.
 #[derive(Debug, Drop)]
 pub struct Marks {
     pub(crate) stamps: Stamps,

@@ -39,7 +39,8 @@ pub(crate) fn lacks_switch(device: &Device, rows: &[Row]) -> bool
     false
 }
 
-/// Whether two rows have one node. All marks are taken off first; where no two rows do, their nodes are marked then.
+/// Whether two rows have one node. All marks are taken off first; where no two rows do, their nodes
+/// are marked then.
 #[tactic(auto, using(crate::proofs::RowTests::met_twice, crate::proofs::RowTests::met_once))]
 pub(crate) fn has_node_twice(rows: &[Row], stamps: &mut Stamps) -> bool
     requires { All (λ r. r.node < length stamps.old) rows.now }
@@ -126,8 +127,8 @@ pub(crate) fn has_foreign_sink(
     has_foreign_row(device, rows, stamps)
 }
 
-/// Whether a pair ends neither in one of the sinks nor where a later pair begins. The sinks are marked; where pairs begin is marked
-/// after them, from the last pair on.
+/// Whether a pair ends neither in one of the sinks nor where a later pair begins. The sinks are
+/// marked; where pairs begin is marked after them, from the last pair on.
 #[tactic(auto, using(crate::proofs::DeadEnds::dead, crate::proofs::DeadEnds::alive))]
 pub(crate) fn has_dead_end(rows: &[Row], sinks: &[u32], stamps: &mut Stamps) -> bool
     requires tree { IsTree rows.now }

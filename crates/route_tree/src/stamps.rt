@@ -1,4 +1,5 @@
-//! Marks on numbers that are all taken off at once: a number is marked where it has the stamp of now.
+//! Marks on numbers that are all taken off at once: a number is marked where it has the stamp of
+//! now.
 
 ghost use Rattle.std.specs.Prelude.{◌≡◌, ◌<◌, ◌≤◌, All, false, true, length, replicate, get_or, set, IfOk};
 ghost use Rattle.route_tree.specs.kept.Marked.{IsMarked};
@@ -56,7 +57,8 @@ impl Stamps {
         self.marks.len()
     }
 
-    /// Takes all marks off: what is marked has the stamp of now, so another stamp will do, until there is no other.
+    /// Takes all marks off: what is marked has the stamp of now, so another stamp will do, until
+    /// there is no other.
     #[tactic(auto, using(crate::proofs::Marking::cleared, crate::proofs::Marking::all_below))]
     pub(crate) fn clear(&mut self)
         ensures { self.new ≡ replicate (length self.old) false }

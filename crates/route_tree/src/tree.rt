@@ -17,7 +17,8 @@ pub struct Row {
     pub parent: usize,
 }
 
-/// A tree of nodes. Contracts see the list of its rows: each but the first is one pair, from its parent's node to its own.
+/// A tree of nodes. Contracts see the list of its rows: each but the first is one pair, from its
+/// parent's node to its own.
 #[derive(Debug, Drop)]
 pub struct Tree {
     pub(crate) rows: Vec<Row>,
@@ -104,8 +105,8 @@ impl Tree {
         covers_node(&self.rows, id)
     }
 
-    /// Hangs a chain of nodes on a row: the first node on the row, and each next one on the one before.
-    /// Where memory is refused the tree is as it was.
+    /// Hangs a chain of nodes on a row: the first node on the row, and each next one on the one
+    /// before. Where memory is refused the tree is as it was.
     pub fn attach(&mut self, row: usize, nodes: &[u32]) -> Result<(), AllocError>
         requires { row < length self.old }
         ensures rows { OnOk result (self.new ≡ self.old ++ chain (length self.old) row nodes.now) }

@@ -1,6 +1,6 @@
 pub mod Problems
-pub mod Same
-pub mod SameLaws
+pub mod Equality
+pub mod EqualityLaws
 pub mod kept
 pub use Rattle.channel_tables.specs.Fabric
 pub use Rattle.channel_tables.specs.Wires

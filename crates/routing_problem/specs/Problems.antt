@@ -1,5 +1,5 @@
--- Routing problems: what the nets of a placed design join on a device (Betz, Rose and Marquardt 1999; the numbers of nets are
--- those of the netlist, VPR and T-VPack manual 4.30).
+-- Routing problems: what the nets of a placed design join on a device (Betz, Rose and Marquardt
+-- 1999; the numbers of nets are those of the netlist, VPR and T-VPack manual 4.30).
 use Rattle.std.specs.Prelude.{◌≡◌, ℕ, ◌+◌, ◌-◌, ◌≤◌, Bool, true, not, ◌&&◌, nat_le, nat_lt, if◌then◌else◌, List, [], ◌∷◌, length, map, get_or, slice_index, Option, Some, None, Result, Ok, Err, All}
 use Rattle.std.specs.List.{list_all}
 use Rattle.std.specs.List.Sorted.{IsStrictlyIncreasing}

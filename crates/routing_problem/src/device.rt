@@ -17,8 +17,9 @@ use smallvec::SmallVec;
 use std::alloc::{AllocError, Global};
 use std::marker::Model;
 
-/// A device: the nodes of its routing-resource graph by number, and the edges among them.
-/// Contracts see it as the record of its architecture, the size of its array, its channels' width and its mode.
+/// A device: the nodes of its routing-resource graph by number, and the edges among them. Contracts
+/// see it as the record of its architecture, the size of its array, its channels' width and its
+/// mode.
 #[derive(Drop)]
 pub struct Device {
     pub(crate) graph: DeviceGraph,
@@ -45,7 +46,8 @@ fn check_width(width: u32) -> Result<(), DeviceFault>
 }
 
 impl Device {
-    /// A device in which each track has wires of its own. `Width` is answered for a width outside 1 to 256.
+    /// A device in which each track has wires of its own. `Width` is answered for a width outside 1
+    /// to 256.
     pub fn new(
         alloc: Global,
         arch: &Arch,
@@ -229,8 +231,8 @@ impl Device {
         self.graph.nodes().span(id)
     }
 
-    /// The kind of a wire, the places that it passes, and how many the wires of its track pass at most, from one look-up;
-    /// None for what is no wire.
+    /// The kind of a wire, the places that it passes, and how many the wires of its track pass at
+    /// most, from one look-up; None for what is no wire.
     pub fn wire(&self, id: u32) -> Option<(Kind, Span, u32)>
         ensures wire { result ≡ wire_in self.now (node_at self.now id) }
         ensures limits { IsFabric self.now }
@@ -269,8 +271,8 @@ impl Device {
         self.graph.most_successors()
     }
 
-    /// The numbers of the nodes to which an edge leads from node `id`, ascending; none for what is no node.
-    /// The list is cleared first; where memory is refused it is left empty.
+    /// The numbers of the nodes to which an edge leads from node `id`, ascending; none for what is
+    /// no node. The list is cleared first; where memory is refused it is left empty.
     pub fn successors(&self, id: u32, list: &mut SmallVec<u32, 8>) -> Result<(), AllocError>
         ensures listed { OnOk result (list.new.items ≡ successors_of self.now id) }
         ensures all { OnOk result
@@ -290,7 +292,8 @@ impl Device {
         self.graph.input_pins()
     }
 
-    /// The numbers of the input pins that stand where a sink does: all that lead to it are among them.
+    /// The numbers of the input pins that stand where a sink does: all that lead to it are among
+    /// them.
     pub fn pins_beside(&self, sink: u32) -> NodeRange
         ensures { (pin : ℕ) → IsPinOf self.now sink pin → IsInRange result pin }
     {

@@ -2,8 +2,8 @@
 
 ghost use Rattle.std.specs.Prelude.{◌≡◌, ◌↔◌, true};
 ghost use Rattle.std.specs.Cmp.Lexicographic.{pointwise};
-ghost use Rattle.routing_problem.specs.Same.{same_mode, same_number, is_same_device, is_same_net, is_same_problem};
-ghost use Rattle.routing_problem.specs.SameLaws.{same_device_symmetric, same_device_equivalence, same_net_symmetric, same_net_equivalence, same_problem_symmetric, same_problem_equivalence};
+ghost use Rattle.routing_problem.specs.Equality.{same_mode, same_number, is_same_device, is_same_net, is_same_problem};
+ghost use Rattle.routing_problem.specs.EqualityLaws.{same_device_symmetric, same_device_equivalence, same_net_symmetric, same_net_equivalence, same_problem_symmetric, same_problem_equivalence};
 
 use crate::device::Device;
 use crate::nets::Terminals;
@@ -18,7 +18,7 @@ fn are_same_modes(a: Mode, b: Mode) -> bool
 
 impl Device {
     /// Whether this device is made of what another one is made of.
-    #[tactic(auto, unfolding(crate::specs::Same::is_same_device))]
+    #[tactic(auto, unfolding(crate::specs::Equality::is_same_device))]
     fn has_fabric_of(&self, other: &Device) -> bool
         ensures { result ≡ is_same_device self.now other.now }
     {
@@ -36,7 +36,7 @@ impl PartialEq for Device {
     ghost laws = { same_device_symmetric };
 
     /// Whether the two have the same architecture, array, width and mode.
-    #[tactic(auto, using(crate::specs::SameLaws::same_device))]
+    #[tactic(auto, using(crate::specs::EqualityLaws::same_device))]
     fn eq(&self, other: &Device) -> bool
         ensures test { result ≡ is_same_device self.now other.now }
         ensures same { (result ≡ true) ↔ (self.now ≡ other.now) }
@@ -57,7 +57,7 @@ fn are_same_numbers(a: &[u32], b: &[u32]) -> bool
 
 impl Terminals {
     /// Whether this net has the entries of another one.
-    #[tactic(auto, unfolding(crate::specs::Same::is_same_net))]
+    #[tactic(auto, unfolding(crate::specs::Equality::is_same_net))]
     fn has_entries_of(&self, other: &Terminals) -> bool
         ensures { result ≡ is_same_net self.now other.now }
     {
@@ -73,7 +73,7 @@ impl PartialEq for Terminals {
     ghost laws = { same_net_symmetric };
 
     /// Whether the two have the same number, source and sinks.
-    #[tactic(auto, using(crate::specs::SameLaws::same_net))]
+    #[tactic(auto, using(crate::specs::EqualityLaws::same_net))]
     fn eq(&self, other: &Terminals) -> bool
         ensures test { result ≡ is_same_net self.now other.now }
         ensures same { (result ≡ true) ↔ (self.now ≡ other.now) }
@@ -94,7 +94,7 @@ fn are_same_nets(a: &[Terminals], b: &[Terminals]) -> bool
 
 impl Problem {
     /// Whether this problem has the device and the nets of another one.
-    #[tactic(auto, unfolding(crate::specs::Same::is_same_problem))]
+    #[tactic(auto, unfolding(crate::specs::Equality::is_same_problem))]
     fn has_parts_of(&self, other: &Problem) -> bool
         ensures { result ≡ is_same_problem self.now other.now }
     {
@@ -108,7 +108,7 @@ impl PartialEq for Problem {
     ghost laws = { same_problem_symmetric };
 
     /// Whether the two have the same device and the same nets.
-    #[tactic(auto, using(crate::specs::SameLaws::same_problem))]
+    #[tactic(auto, using(crate::specs::EqualityLaws::same_problem))]
     fn eq(&self, other: &Problem) -> bool
         ensures test { result ≡ is_same_problem self.now other.now }
         ensures same { (result ≡ true) ↔ (self.now ≡ other.now) }

@@ -9,7 +9,8 @@ use rr_edges::FoundNode;
 use std::marker::Model;
 
 impl Device {
-    /// Whether one of the pairs is no edge. It is quicker than `edge` for each where pairs begin in the node in which the one before ended.
+    /// Whether one of the pairs is no edge. It is quicker than `edge` for each where pairs begin in
+    /// the node in which the one before ended.
     pub fn lacks_edge(&self, pairs: &[(u32, u32)]) -> bool
         ensures { result ≡ list_any (λ p. not (edge_between self.now p.0 p.1)) pairs.now }
     {
@@ -37,7 +38,7 @@ impl<'a> Model for EdgeFinder<'a> {
 
     ghost Value = { Fabric };
 
-    ghost use Rattle.rr_edges.specs.Found.{MayBeFound};
+    ghost use Rattle.rr_edges.specs.FoundNodes.{MayBeFound};
 
     ghost view = { λ e. e.device.now };
 

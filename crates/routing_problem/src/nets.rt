@@ -6,7 +6,8 @@ ghost use Rattle.routing_problem.specs.Problems.{net_in};
 use std::alloc::{AllocError, Global};
 use std::marker::Model;
 
-/// What a routed net joins: a source and one or more sinks, by the numbers of their nodes. Contracts see it as these.
+/// What a routed net joins: a source and one or more sinks, by the numbers of their nodes.
+/// Contracts see it as these.
 #[derive(Debug, Drop)]
 pub struct Terminals {
     /// The number of the net in its netlist.

@@ -124,8 +124,8 @@ fn parts_fault(device: &Device, nets: &[Terminals]) -> Option<PartsFault>
 }
 
 impl Problem {
-    /// The problem of a device and of the nets that are to be routed on it.
-    /// Where they are no problem, the fault named is that of the first faulty net, and the first of its faults.
+    /// The problem of a device and of the nets that are to be routed on it. Where they are no
+    /// problem, the fault named is that of the first faulty net, and the first of its faults.
     #[tactic(auto, using(crate::proofs::Problems::faultless))]
     pub fn from_parts(device: Device, nets: Vec<Terminals>) -> Result<Problem, PartsFault>
         ensures { result ≡ problem_of device nets.items }
@@ -136,7 +136,8 @@ impl Problem {
         }
     }
 
-    /// The problem of a device and of nets that are known to be routable on it, as `from_parts` would make it.
+    /// The problem of a device and of nets that are known to be routable on it, as `from_parts`
+    /// would make it.
     pub fn of_nets(device: Device, nets: Vec<Terminals>) -> Problem
         requires { IsProblem (record { device = device; nets = nets.items }) }
         ensures { result ≡ record { device = device; nets = nets.items } }

@@ -36,7 +36,8 @@ pub one_and_two : (type_of (half 1 ∷ half 2 ∷ []) 3 0 ≡ 0) × (type_of (ha
 unfolding type_of weight_of_first
 one_and_two = (refl, refl, refl)
 
--- wires two places long in a channel of three: of track 0 they are 1 to 2 and 3, of track 1 they are 1 and 2 to 3
+-- wires two places long in a channel of three: of track 0 they are 1 to 2 and 3, of track 1 they
+-- are 1 and 2 to 3
 pub pairs_of_places : (places_of (row_of (half 2 ∷ []) 2 Detailed) 3 0 1 ≡ 1 ∷ 2 ∷ []) × (places_of (row_of (half 2 ∷ []) 2 Detailed) 3 0 3 ≡ 3 ∷ []) × (places_of (row_of (half 2 ∷ []) 2 Detailed) 3 1 1 ≡ 1 ∷ []) × (places_of (row_of (half 2 ∷ []) 2 Detailed) 3 1 2 ≡ 2 ∷ 3 ∷ [])
 unfolding steps_of begins rank_of length_of type_of weight_of_first
 pairs_of_places = (refl, refl, refl, refl)
@@ -46,7 +47,8 @@ pub one_place : places_of (row_of (half 2 ∷ []) 2 Global) 3 0 1 ≡ 1 ∷ []
 unfolding steps_of begins rank_of length_of type_of weight_of_first
 one_place = refl
 
--- a quarter of two tracks is half a track, which rounds up to one; of one track to none, and then one is tapped all the same
+-- a quarter of two tracks is half a track, which rounds up to one; of one track to none, and then
+-- one is tapped all the same
 pub half_a_track : (tap_count Fractional 250000000 2 ≡ 1) × (tap_count Fractional 250000000 1 ≡ 1) × (tap_count Absolute 2500000000 8 ≡ 3) × (tap_count Absolute 9000000000 8 ≡ 8)
 half_a_track = (refl, refl, refl, refl)
 

@@ -2,6 +2,7 @@
 use Rattle.std.proofs.Common.{◌≡◌, ℕ, ◌+◌, ◌-◌, ◌≤◌, zero, suc, inl, inr, Bool, true, false, List, [], ◌∷◌, refl, sym, ap, ◌∙◌, subst, arith}
 use Rattle.std.specs.Prelude.{◌||◌, ◌&&◌, ◌==◌, not, nat_le}
 use Rattle.std.specs.List.{range_with_len, list_any, flat_map}
+use Rattle.std.proofs.Math.Bool.{and-or_distrib_left}
 use Rattle.std.proofs.lemmas.Bool.{cases_eq, eq-eqb, ne_eqb, false≢true}
 use Rattle.std.proofs.lemmas.Bool.Decides.{nat_tests}
 use Rattle.channel_tables.specs.declared.node.Kind.{Kind}
@@ -13,13 +14,9 @@ use Rattle.rr_edges.specs.Edges.{Corner, corners_of, touches, joins, is_edge}
 use Rattle.rr_edges.proofs.Corners.{any_ends, any_end, above_touches, right_touches}
 
 -- ---- tests over the places of a wire
-any_same : {X : Type 0} (p q : X → Bool) → ((x : X) → p x ≡ q x) → (xs : List X) → list_any p xs ≡ list_any q xs
+pub any_same : {X : Type 0} (p q : X → Bool) → ((x : X) → p x ≡ q x) → (xs : List X) → list_any p xs ≡ list_any q xs
 any_same p q h [] = refl
 any_same p q h (x ∷ xs) = ap (λ b. b || list_any p xs) (h x) ∙ ap (λ b. q x || b) (any_same p q h xs)
-
-or_of_and : (c a b : Bool) → ((c && a) || (c && b)) ≡ (c && (a || b))
-or_of_and true a b = refl
-or_of_and false a b = refl
 
 any_both : {X : Type 0} (c : Bool) (p : X → Bool) (xs : List X) → list_any (λ x. c && p x) xs ≡ (c && list_any p xs)
 any_both true p xs = refl
@@ -50,7 +47,7 @@ on_line g at x k c e h =
     let either = λ (q : ℕ). e (q - 1) || e q in
     any_ends g (λ q. at (q - 1)) at (range_with_len x (k + 1))
     ∙ any_same (λ q. g (at (q - 1)) || g (at q)) (λ q. c && either q)
-    (λ q. ap (λ b. b || g (at q)) (h (q - 1)) ∙ ap (λ b. (c && e (q - 1)) || b) (h q) ∙ or_of_and c (e (q - 1)) (e q)) (range_with_len x (k + 1))
+    (λ q. ap (λ b. b || g (at q)) (h (q - 1)) ∙ ap (λ b. (c && e (q - 1)) || b) (h q) ∙ sym (and-or_distrib_left c (e (q - 1)) (e q))) (range_with_len x (k + 1))
     ∙ any_both c either (range_with_len x (k + 1)) ∙ ap (λ n. c && list_any either (range_with_len x n)) more
 
 -- ---- two wires of one track

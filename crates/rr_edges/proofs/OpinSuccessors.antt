@@ -32,8 +32,8 @@ within : (w : Bool) (first place last : ℕ) → first ≤ place → ((nat_le fi
 within w first place last l = grind (arith, nat_tests)
 
 module _ (f : Fabric) (a : Node) (fc pin : ℕ) where
-  -- the edges to the wires that begin at (p, r): where s says that their channel is beside the pin, they lead to those
-  -- that run through a place, on tracks that are tapped
+  -- the edges to the wires that begin at (p, r): where s says that their channel is beside the pin,
+  -- they lead to those that run through a place, on tracks that are tapped
   abbrev AreTapped : Kind → (p r : ℕ) (s : Bool) (first place : ℕ) (last : ℕ → ℕ) → Type 0
   AreTapped k p r s first place last =
       (t : ℕ) → is_edge f a (node_of k p r t) ≡ ((s && (nat_le first place && nat_le place (last t))) && taps_track f fc pin t)

@@ -38,7 +38,8 @@ picks_by_number p q s (suc m) =
 runs_on : (w b i l t u : Bool) → w ≡ true → i ≡ true → u ≡ ((w && b) && (i && l)) → (b && (l && t)) ≡ (u && t)
 runs_on w b i l t u h k e = grind arith
 
--- a wire by the place where it begins, or by the place where the one of its track through another place does
+-- a wire by the place where it begins, or by the place where the one of its track through another
+-- place does
 moved : (g : ℕ → ℕ) (q a : ℕ) (t : Bool) → when (q == a && t) (g q) ≡ cond (a == q) (when t (g a)) []
 moved g q a t = elim (cases_eq q a) [
   | inl same ↦ rw (eq-eqb q a same, eq-eqb a q (sym same)) (ap (λ k. when t (g k)) same)

@@ -1,4 +1,5 @@
--- The successors of a wire at one place, and lists joined over places of which only some give any elements.
+-- The successors of a wire at one place, and lists joined over places of which only some give any
+-- elements.
 use Rattle.std.proofs.Common.{◌≡◌, ℕ, ◌+◌, ◌-◌, ◌<◌, ◌≤◌, ◌≢◌, Bool, true, false, cond, List, [], ◌∷◌, ◌++◌, refl, ap, ◌∙◌, arith}
 use Rattle.std.specs.Prelude.{◌==◌, ◌&&◌, nat_le, nat_lt}
 use Rattle.std.specs.List.{range_with_len, flat_map}
@@ -87,7 +88,8 @@ across : (a b r below c : Bool) (zs : List ℕ) → below ≡ true → cond (r &
 across a b r below c zs h = grind arith
 
 module _ (f : Fabric) (a : Node) (t p r : ℕ) (c : Bool) (below : t < tracks_in f.mode f.width) where
-  -- a wire begins there if its channel is of the device, and if the track has a beginning at the place
+  -- a wire begins there if its channel is of the device, and if the track has a beginning at the
+  -- place
   pub row_piece :
       ((s : ℕ) → is_edge f a (node_of Chanx p r s) ≡ ((s == t) && c))
       → pieces_at f a Chanx p r ≡ cond (((is_between 1 f.nx p && begins f f.nx t p) && nat_le r f.ny) && c) (wire_id f Chanx p r t ∷ []) []

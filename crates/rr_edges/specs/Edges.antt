@@ -1,5 +1,5 @@
--- The edges of a device (Betz, Rose and Marquardt 1999, "routing-resource graph"; VPR and T-VPack manual 4.30,
--- "switch_block_type subset").
+-- The edges of a device (Betz, Rose and Marquardt 1999, "routing-resource graph"; VPR and T-VPack
+-- manual 4.30, "switch_block_type subset").
 use Rattle.std.specs.Prelude.{ℕ, ◌-◌, ◌==◌, Bool, ◌&&◌, not, false, List, [], ◌∷◌, length, Option, Some}
 use Rattle.std.specs.List.{flat_map, filter, list_any, sum_by}
 use Rattle.channel_tables.specs.declared.node.Kind.{Kind}

@@ -1,4 +1,4 @@
 pub mod Edges
-pub mod Found
+pub mod FoundNodes
 pub mod InputPins
 pub mod kept

@@ -198,8 +198,8 @@ impl DeviceGraph {
         most as usize
     }
 
-    /// The numbers of the nodes to which an edge leads from node `id`, ascending; none for what is no node.
-    /// The list is cleared first; where memory is refused it is left empty.
+    /// The numbers of the nodes to which an edge leads from node `id`, ascending; none for what is
+    /// no node. The list is cleared first; where memory is refused it is left empty.
     #[tactic(auto, using(crate::proofs::NodeSuccessors::no_successors, crate::proofs::NodeSuccessors::node_listed, crate::proofs::NodeSuccessors::node_placed, crate::proofs::Graph::successors_contain, crate::proofs::Graph::successors_ascend))]
     pub fn successors(&self, id: u32, list: &mut SmallVec<u32, 8>) -> Result<(), AllocError>
         ensures listed { OnOk result (list.new.items ≡ successors_of self.now id) }

@@ -38,7 +38,8 @@ pub(crate) struct Meeting {
 pub(crate) struct Taps<'a> {
     /// Which of the pins at a place.
     pub(crate) places: &'a [u8],
-    /// The number of the first pin at the wire's first place, and by how much it grows from one place to the next.
+    /// The number of the first pin at the wire's first place, and by how much it grows from one
+    /// place to the next.
     pub(crate) start: u32,
     pub(crate) step: u32,
 }

@@ -1,9 +1,10 @@
-//! Nodes that were found by their numbers: of pairs that go on from each other each node is found once. What is called once a pair is
-//! inlined, since a node passes through memory at a call, and is waited for there.
+//! Nodes that were found by their numbers: of pairs that go on from each other each node is found
+//! once. What is called once a pair is inlined, since a node passes through memory at a call, and
+//! is waited for there.
 
 ghost use Rattle.std.specs.Prelude.{◌≡◌};
 ghost use Rattle.rr_edges.specs.Edges.{edge_between};
-ghost use Rattle.rr_edges.specs.Found.{IsFound, MayBeFound, TellsEdge};
+ghost use Rattle.rr_edges.specs.FoundNodes.{IsFound, MayBeFound, TellsEdge};
 ghost use Rattle.rr_edges.specs.kept.Finding.{IsFoundAt};
 
 use crate::device_graph::DeviceGraph;

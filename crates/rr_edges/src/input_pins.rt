@@ -47,7 +47,8 @@ impl DeviceGraph {
         }
     }
 
-    /// The numbers of the input pins that stand where a sink does: all that lead to it are among them.
+    /// The numbers of the input pins that stand where a sink does: all that lead to it are among
+    /// them.
     pub fn pins_beside(&self, sink: u32) -> NodeRange
         ensures { (pin : ℕ) → IsPinOf self.now sink pin → IsInRange result pin }
     {

@@ -78,7 +78,8 @@ impl DeviceGraph {
         }
     }
 
-    /// Those that touch a corner, where a channel across lies: one before the first place, and one behind each.
+    /// Those that touch a corner, where a channel across lies: one before the first place, and one
+    /// behind each.
     #[inline(always)]
     #[tactic(auto, unfolding(crate::specs::kept::Channels::meeting_of))]
     fn meeting(&self, axis: Axis, track: u32, corner: u32, channel: u32) -> Meeting
@@ -110,8 +111,8 @@ impl DeviceGraph {
         }
     }
 
-    /// The wire that ends just before the wire of a track that passes the places from `first` to `last`, and the one that
-    /// begins just behind.
+    /// The wire that ends just before the wire of a track that passes the places from `first` to
+    /// `last`, and the one that begins just behind.
     #[inline(always)]
     #[tactic(auto, using(crate::proofs::WireFanouts::behind_first), unfolding(crate::specs::kept::Channels::beside_of))]
     fn beside(&self, axis: Axis, track: u32, first: u32, last: u32, channel: u32) -> Pair
@@ -217,7 +218,8 @@ impl DeviceGraph {
         }
     }
 
-    /// Those of the input pins of a column of blocks that stand at `places`, from the one of number `start` on.
+    /// Those of the input pins of a column of blocks that stand at `places`, from the one of number
+    /// `start` on.
     #[inline(always)]
     fn taps_in_column<'a>(&self, places: &'a [u8], start: u32) -> Taps<'a>
         requires few { length places.now ≤ most_pins }
@@ -234,7 +236,8 @@ impl DeviceGraph {
         }
     }
 
-    /// Those of the input pads of a column beside the blocks that stand at `places`, from the one of number `start` on.
+    /// Those of the input pads of a column beside the blocks that stand at `places`, from the one
+    /// of number `start` on.
     #[inline(always)]
     fn taps_beside<'a>(&self, places: &'a [u8], start: u32) -> Taps<'a>
         requires few { length places.now ≤ most_pins }

@@ -164,7 +164,8 @@ impl DeviceGraph {
         }
     }
 
-    /// What the sink of an input pin is numbered by: the pin's class at a block, its position at a pad.
+    /// What the sink of an input pin is numbered by: the pin's class at a block, its position at a
+    /// pad.
     fn sink_label(&self, pin: Node) -> Option<u32>
         ensures { result ≡ sink_label self.now pin }
     {

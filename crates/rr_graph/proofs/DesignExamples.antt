@@ -1,4 +1,5 @@
--- A worked example that computes: two pads left of one logic block, each the driver of a net that an input pin of the block takes.
+-- A worked example that computes: two pads left of one logic block, each the driver of a net that
+-- an input pin of the block takes.
 use Rattle.std.proofs.Common.{◌≡◌, ℕ, true, false, List, [], ◌∷◌, Some, None, refl}
 use Rattle.arch_file.specs.Architecture.{Architecture}
 use Rattle.arch_file.specs.declared.entries.Direction.{Direction}

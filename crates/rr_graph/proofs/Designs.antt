@@ -1,4 +1,5 @@
--- Placed designs: which nodes terminals have, in which order sinks come, and that a design that suits a device is a routing problem.
+-- Placed designs: which nodes terminals have, in which order sinks come, and that a design that
+-- suits a device is a routing problem.
 use Rattle.std.proofs.Common.{◌≡◌, ℕ, ◌+◌, ◌<◌, ◌≤◌, Bool, true, false, eqb, ◌||◌, not, List, [], ◌∷◌, ◌++◌, length, map, filter, get_or, All, Option, Some, None, refl, sym, ap, subst, ◌∙◌, arith, zero-add}
 use Rattle.std.specs.Prelude.{nat_eq, nat_lt, is_some, unwrap_or, option_and_then, slice_get, slice_index_or}
 use Rattle.std.specs.List.{list_any, list_all, filter_map, cons_option}

@@ -31,7 +31,8 @@ use Rattle.node_numbers.proofs.NumbersAtPlaces.{number_at_place, block_within, p
 
 -- ---- sites on a device
 
--- what drives a net stands at a source, of a class of output pins; what takes its signal at a sink, of a class of input pins
+-- what drives a net stands at a source, of a class of output pins; what takes its signal at a sink,
+-- of a class of input pins
 abbrev kind_for : Bool → Kind
 kind_for true = Source
 kind_for false = Sink

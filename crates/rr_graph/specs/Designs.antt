@@ -1,5 +1,5 @@
--- Placed designs on a device: the nodes at which the nets of a netlist begin and end, and the routing problem that they make
--- (VPR and T-VPack manual 4.30; Betz, Rose and Marquardt 1999).
+-- Placed designs on a device: the nodes at which the nets of a netlist begin and end, and the
+-- routing problem that they make (VPR and T-VPack manual 4.30; Betz, Rose and Marquardt 1999).
 use Rattle.std.specs.Prelude.{ℕ, nat_eq, ◌==◌, Bool, true, false, not, ◌&&◌, ◌||◌, List, length, map, filter, Option, Some, None, is_some, unwrap_or, option_and_then, slice_get, slice_index_or}
 use Rattle.std.specs.List.{list_any, list_all}
 use Rattle.std.specs.Option.{option_eq}
@@ -16,7 +16,8 @@ use Rattle.channel_tables.specs.Fabric.{Fabric, fabric_with, numbers_below, is_b
 use Rattle.node_numbers.specs.Nodes.{node_of, node_count_of, number_of}
 use Rattle.routing_problem.specs.Problems.{Net, RoutingProblem}
 
--- what a terminal's node is numbered by: at a logic block the class of its pin, at pads, where it has none, the position of its site
+-- what a terminal's node is numbered by: at a logic block the class of its pin, at pads, where it
+-- has none, the position of its site
 abbrev pub label_on : Bool → Option ℕ → Site → Option ℕ
 label_on true (Some class) site = Some class
 label_on true None site = None
@@ -28,7 +29,8 @@ abbrev pub node_on : Fabric → Kind → Option ℕ → Site → Option ℕ
 node_on f kind class site =
     option_and_then (λ number. number_of f (node_of kind site.x site.y number)) (label_on (is_block f site.x site.y) class site)
 
--- the node of a terminal, on the site of its block: of kind Source for one that drives a net, Sink for one that takes its signal
+-- the node of a terminal, on the site of its block: of kind Source for one that drives a net, Sink
+-- for one that takes its signal
 unfoldable pub terminal_node : Fabric → Kind → Placement → Terminal → Option ℕ
 terminal_node f kind placement terminal = option_and_then (node_on f kind terminal.class) (slice_get placement.sites terminal.block)
 
@@ -48,7 +50,8 @@ has_size_of f placement = f.nx == placement.nx && f.ny == placement.ny
 abbrev pub are_on_sites : Placement → ℕ → Bool
 are_on_sites placement blocks = list_all (λ b. is_some (slice_get placement.sites b)) (numbers_below blocks)
 
--- the placed design fits the device: the arrays agree, all blocks have sites, and all terminals of routed nets have nodes
+-- the placed design fits the device: the arrays agree, all blocks have sites, and all terminals of
+-- routed nets have nodes
 unfoldable pub suits_design : Fabric → netlist.Netlist → Placement → Bool
 suits_design f netlist placement =
     has_size_of f placement

@@ -9,6 +9,6 @@ pub use Rattle.rr_edges.specs.Edges
 pub use Rattle.rr_edges.specs.InputPins
 pub use Rattle.routing_problem.specs.declared.fault
 pub use Rattle.routing_problem.specs.Problems
-pub use Rattle.routing_problem.specs.Same
-pub use Rattle.routing_problem.specs.SameLaws
+pub use Rattle.routing_problem.specs.Equality
+pub use Rattle.routing_problem.specs.EqualityLaws
 pub use Rattle.routing_problem.specs.declared.parts_fault

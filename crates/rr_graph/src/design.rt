@@ -44,7 +44,8 @@ fn is_block(device: &Device, x: u32, y: u32) -> bool
     (1 <= x && x <= device.nx()) && (1 <= y && y <= device.ny())
 }
 
-/// What a terminal's node is numbered by: at a logic block the class of its pin, at pads the position of its site.
+/// What a terminal's node is numbered by: at a logic block the class of its pin, at pads the
+/// position of its site.
 fn label_on(device: &Device, class: Option<u32>, site: Site) -> Option<u32>
     ensures { result ≡ label_on (is_block device.now site.x site.y) class site }
 {
@@ -68,8 +69,8 @@ fn node_on(device: &Device, kind: Kind, class: Option<u32>, site: Site) -> Optio
     })
 }
 
-/// The node of a terminal on the site of its block: a source for what drives a net, a sink for what takes its signal.
-/// None where its block has no site, or no such node stands there.
+/// The node of a terminal on the site of its block: a source for what drives a net, a sink for what
+/// takes its signal. None where its block has no site, or no such node stands there.
 #[tactic(auto, unfolding(crate::specs::Designs::terminal_node))]
 fn node_of_terminal(
     device: &Device,
@@ -200,17 +201,18 @@ pub(crate) fn nets_of_design(
 
 /// What is asked of devices about placed designs.
 pub trait SuitsDesigns {
-    /// Whether the placed design fits the device: the arrays agree in size, all blocks have sites, and all terminals of
-    /// routed nets have nodes.
+    /// Whether the placed design fits the device: the arrays agree in size, all blocks have sites,
+    /// and all terminals of routed nets have nodes.
     fn suits(&self, netlist: &Netlist, placement: &Placement) -> bool;
 }
 
 impl SuitsDesigns for Device {
-    /// Whether the placed design fits the device: the arrays agree in size, all blocks have sites, and all terminals of
-    /// routed nets have nodes.
+    /// Whether the placed design fits the device: the arrays agree in size, all blocks have sites,
+    /// and all terminals of routed nets have nodes.
     fn suits(&self, netlist: &Netlist, placement: &Placement) -> bool
         ensures exact { result ≡ suits_design self.now netlist.now placement.now }
-        // A netlist that was read for the device's architecture, and a placement of its blocks on an array of the device's size.
+        // A netlist that was read for the device's architecture, and a placement of its blocks on
+        // an array of the device's size.
         ensures read { (bytes : List ℕ) → ReadsBytes self.now.architecture.pins bytes netlist.now
             → IsPlaced self.now.architecture.io_rat netlist.now.blocks placement.now
             → self.now.nx ≡ placement.now.nx → self.now.ny ≡ placement.now.ny → result ≡ true }

@@ -17,7 +17,8 @@ use std::alloc::{AllocError, Global};
 
 /// The routing problems of placed designs.
 pub trait MadeOfDesigns {
-    /// The routing problem of a placed design that suits the device: its routed nets, by their numbers in the netlist.
+    /// The routing problem of a placed design that suits the device: its routed nets, by their
+    /// numbers in the netlist.
     fn new(
         alloc: Global,
         device: Device,
@@ -30,8 +31,8 @@ pub trait MadeOfDesigns {
         ensures numbers { IfOk result (λ p. map (λ n. n.number) p.nets
             ≡ routed_numbers netlist.now) };
 
-    /// The routing problem of a netlist and a placement that were read, on the device of the placement's array:
-    /// its routed nets, by their numbers in the netlist.
+    /// The routing problem of a netlist and a placement that were read, on the device of the
+    /// placement's array: its routed nets, by their numbers in the netlist.
     fn from_design(
         alloc: Global,
         arch: &Arch,
@@ -51,7 +52,8 @@ pub trait MadeOfDesigns {
 }
 
 impl MadeOfDesigns for Problem {
-    /// The routing problem of a placed design that suits the device: its routed nets, by their numbers in the netlist.
+    /// The routing problem of a placed design that suits the device: its routed nets, by their
+    /// numbers in the netlist.
     #[tactic(auto, using(crate::proofs::Designs::is_problem, crate::proofs::Designs::numbers_kept), unfolding(crate::specs::Designs::problem_from))]
     fn new(
         alloc: Global,
@@ -63,8 +65,8 @@ impl MadeOfDesigns for Problem {
         Ok(Problem::of_nets(device, nets))
     }
 
-    /// The routing problem of a netlist and a placement that were read, on the device of the placement's array:
-    /// its routed nets, by their numbers in the netlist.
+    /// The routing problem of a netlist and a placement that were read, on the device of the
+    /// placement's array: its routed nets, by their numbers in the netlist.
     fn from_design(
         alloc: Global,
         arch: &Arch,

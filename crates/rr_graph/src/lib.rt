@@ -1,5 +1,6 @@
-//! The routing-resource graph of a device, its nodes by number and the edges among them, and the routing problems of
-//! placed designs on it (Betz, Rose and Marquardt 1999; VPR and T-VPack manual 4.30).
+//! The routing-resource graph of a device, its nodes by number and the edges among them, and the
+//! routing problems of placed designs on it (Betz, Rose and Marquardt 1999; VPR and T-VPack manual
+//! 4.30).
 #![tactic(auto)]
 
 mod design;

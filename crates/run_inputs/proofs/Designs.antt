@@ -8,7 +8,7 @@ use Rattle.rr_graph.specs.Designs.{problem_from, problem_with, suits_design}
 use Rattle.rr_graph.specs.Fabric.{fabric_with}
 use Rattle.rr_graph.specs.Problems.{RoutingProblem}
 use Rattle.route_file.specs.Design.{IsDesign}
-use Rattle.route_file.proofs.Making.{design_made}
+use Rattle.route_file.proofs.DesignProblems.{design_made}
 use Rattle.run_inputs.specs.declared.fault.InputFile.TheVariants as file
 use Rattle.run_inputs.specs.declared.fault.AppFault.{AppFault}
 use Rattle.run_inputs.specs.Runs.{DesignFiles, Input, bytes_in}

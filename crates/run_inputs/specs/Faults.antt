@@ -72,7 +72,8 @@ fault_of_work work.NoThread = NoThread
 fault_of_work work.Memory = Memory
 fault_of_work work.Astray = Astray
 
--- the faults that no clause rules out: want of memory, a thread that can't be started, and a worker that went astray
+-- the faults that no clause rules out: want of memory, a thread that can't be started, and a worker
+-- that went astray
 abbrev pub is_free : AppFault → Bool
 is_free (Arch f) = false
 is_free (Net f) = false

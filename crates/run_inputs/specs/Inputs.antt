@@ -1,4 +1,5 @@
--- What the input files of a run say, each read after the one before it: a value, or the first fault by the order of reading (ours).
+-- What the input files of a run say, each read after the one before it: a value, or the first fault
+-- by the order of reading (ours).
 use Rattle.std.specs.Prelude.{ℕ, Bool, false, nat_lt, List, Option, None, Some, Result, Ok, Err}
 use Rattle.std.specs.Option.{option_map_or}
 use Rattle.arch_file.specs.Architecture.{Architecture}

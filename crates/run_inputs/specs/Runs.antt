@@ -7,7 +7,8 @@ use Rattle.run_inputs.specs.declared.fault.AppFault.TheVariants.{Unread, Unwritt
 
 -- ---- what is read
 
--- the reading of a source: the bytes that it had before, where they are known, and whether it failed
+-- the reading of a source: the bytes that it had before, where they are known, and whether it
+-- failed
 pub record Reading : Type 0 where
   pub had : Option (List ℕ)
   pub failed : Bool
@@ -51,8 +52,8 @@ bytes_in file input = if input.failed then Err (Unread file) else Ok input.bytes
 
 -- ---- what is printed
 
--- the writing of a sink: the bytes that it had taken before, and those that it has taken after, where they are known, and whether it
--- has failed
+-- the writing of a sink: the bytes that it had taken before, and those that it has taken after,
+-- where they are known, and whether it has failed
 pub record Writing : Type 0 where
   pub before : Option (List ℕ)
   pub after : Option (List ℕ)
@@ -77,13 +78,14 @@ TakesAll w text = Appends w.before w.after text
 abbrev pub TakesFront : Writing → List ℕ → Type 0
 TakesFront w text = (front : List ℕ) × (rest : List ℕ) × (text ≡ front ++ rest) × Appends w.before w.after front
 
--- What comes of printing a text, and then answering a value: Unwritten exactly where the sink failed, which then took a front
--- of the text; else all of it was taken.
+-- What comes of printing a text, and then answering a value: Unwritten exactly where the sink
+-- failed, which then took a front of the text; else all of it was taken.
 abbrev pub PrintsText : {R : Type 0} → Writing → List ℕ → R → Result R AppFault → Type 0
 PrintsText w text value result =
     MatchBool w.failed ((result ≡ Err Unwritten) × TakesFront w text) ((result ≡ Ok value) × TakesAll w text)
 
--- a run ends with the fault of its inputs, and its sinks are untouched; or it goes on with what they say
+-- a run ends with the fault of its inputs, and its sinks are untouched; or it goes on with what
+-- they say
 abbrev pub StopsOrGoesOn : {X R : Type 0} → (untouched : Type 0) → (goes_on : X → Result R AppFault → Type 0) → Result X AppFault → Result R AppFault → Type 0
 StopsOrGoesOn untouched goes_on (Err f) result = (result ≡ Err f) × untouched
 StopsOrGoesOn untouched goes_on (Ok x) result = goes_on x result

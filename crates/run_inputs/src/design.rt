@@ -46,8 +46,8 @@ impl<'a> Model for Design<'a> {
 }
 
 impl<'a> Design<'a> {
-    /// The design of a netlist's text, whose placement is read: its netlist, its placement, and its problem on the device of
-    /// the placement's array.
+    /// The design of a netlist's text, whose placement is read: its netlist, its placement, and its
+    /// problem on the device of the placement's array.
     pub fn read<P: ByteSource>(
         alloc: Global,
         text: &'a NetlistText,

@@ -13,7 +13,7 @@ use net_workers::WorkFault;
 use place_file::PlaceFault;
 use route_file::RouteFileFault;
 use std::alloc::AllocError;
-use text_output::{ByteSink, OutputBuffer, put_number};
+use text_output::{ByteSink, OutputBuffer, Piece, put_pieces};
 use thiserror::Error;
 use vpr_text::Broken;
 
@@ -126,8 +126,8 @@ impl From<WorkFault> for AppFault {
     }
 }
 
-/// The exit status that a fault gives: 4 for bad input, 5 for reading or writing that failed, 6 for memory, a thread, or a
-/// worker that went astray.
+/// The exit status that a fault gives: 4 for bad input, 5 for reading or writing that failed, 6 for
+/// memory, a thread, or a worker that went astray.
 pub fn status(fault: &AppFault) -> u8
     ensures { result ≡ status_of fault.now }
 {
@@ -151,6 +151,7 @@ fn input_name(file: InputFile) -> &'static [u8]
 }
 
 /// Prints the line of a fault in an input file.
+#[tactic(auto, unfolding(crate::specs::Faults::line_fault_text))]
 fn put_line_fault<W: ByteSink>(
     out: &mut OutputBuffer,
     sink: &mut W,
@@ -161,23 +162,36 @@ fn put_line_fault<W: ByteSink>(
     ensures { SendsTo W.taken W.failed sink.old sink.new out.old out.new
         (line_fault_text (input_text file) line name.now) }
 {
-    out.push(sink, b"error: ");
-    out.push(sink, input_name(file));
-    out.push(sink, b" line ");
-    put_number(out, sink, line);
-    out.push(sink, b": ");
-    out.push(sink, name);
-    out.push(sink, b"\n");
+    put_pieces(
+        out,
+        sink,
+        &[
+            Piece::Text(b"error: "),
+            Piece::Text(input_name(file)),
+            Piece::Text(b" line "),
+            Piece::Number(line),
+            Piece::Text(b": "),
+            Piece::Text(name),
+            Piece::Text(b"\n"),
+        ],
+    );
 }
 
 /// Prints the line of an input file that cannot be read.
+#[tactic(auto, unfolding(crate::specs::Faults::unread_text))]
 fn put_unread<W: ByteSink>(out: &mut OutputBuffer, sink: &mut W, file: InputFile)
     ensures { SendsTo W.taken W.failed sink.old sink.new out.old out.new
         (unread_text (input_text file)) }
 {
-    out.push(sink, b"error: ");
-    out.push(sink, input_name(file));
-    out.push(sink, b" cannot be read\n");
+    put_pieces(
+        out,
+        sink,
+        &[
+            Piece::Text(b"error: "),
+            Piece::Text(input_name(file)),
+            Piece::Text(b" cannot be read\n"),
+        ],
+    );
 }
 
 /// Prints a fault's line through a buffer.

@@ -1,4 +1,5 @@
-//! What a run reads, file by file: the stages in which a design is read, and what can go wrong in a run.
+//! What a run reads, file by file: the stages in which a design is read, and what can go wrong in a
+//! run.
 #![tactic(auto)]
 
 mod design;

@@ -24,7 +24,8 @@ use std::alloc::{AllocError, Global};
 use std::marker::Model;
 use vpr_text::ByteSource;
 
-/// The problem of a design that was read and placed, on the device of its array, which the design fits.
+/// The problem of a design that was read and placed, on the device of its array, which the design
+/// fits.
 fn problem_of(
     alloc: Global,
     arch: &Arch,

@@ -11,18 +11,25 @@ use itoa::{Buffer, Integer};
 use node_cost::Settings;
 use rr_graph::{Mode, Problem};
 use run_inputs::AppFault;
-use text_output::{ByteSink, OutputBuffer, put_number};
+use text_output::{ByteSink, OutputBuffer, Piece, put_number, put_pieces};
 
 /// Prints a name and what it has.
-fn put_entry<W: ByteSink>(out: &mut OutputBuffer, sink: &mut W, name: &[u8], value: &[u8])
+#[tactic(auto, unfolding(crate::specs::kept::LogTexts::entry_text))]
+fn put_entry<'a, W: ByteSink>(out: &mut OutputBuffer, sink: &mut W, name: &'a [u8], value: &'a [u8])
     ensures { SendsTo W.taken W.failed sink.old sink.new out.old out.new
         (entry_text name.now value.now) }
 {
-    out.push(sink, b"# ");
-    out.push(sink, name);
-    out.push(sink, b" ");
-    out.push(sink, value);
-    out.push(sink, b"\n");
+    put_pieces(
+        out,
+        sink,
+        &[
+            Piece::Text(b"# "),
+            Piece::Text(name),
+            Piece::Text(b" "),
+            Piece::Text(value),
+            Piece::Text(b"\n"),
+        ],
+    );
 }
 
 /// Prints a name, a number and its unit.
@@ -45,14 +52,21 @@ fn put_amount<W: ByteSink, I: Integer>(
 }
 
 /// Prints the size of an array.
+#[tactic(auto, unfolding(crate::specs::kept::LogTexts::array_text))]
 fn put_array<W: ByteSink>(out: &mut OutputBuffer, sink: &mut W, nx: u32, ny: u32)
     ensures { SendsTo W.taken W.failed sink.old sink.new out.old out.new (array_text nx ny) }
 {
-    out.push(sink, b"# array ");
-    put_number(out, sink, nx);
-    out.push(sink, b" x ");
-    put_number(out, sink, ny);
-    out.push(sink, b" blocks\n");
+    put_pieces(
+        out,
+        sink,
+        &[
+            Piece::Text(b"# array "),
+            Piece::Number(nx),
+            Piece::Text(b" x "),
+            Piece::Number(ny),
+            Piece::Text(b" blocks\n"),
+        ],
+    );
 }
 
 /// How nets are routed.

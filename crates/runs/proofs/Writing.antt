@@ -1,13 +1,10 @@
 -- What comes of writing a routing and printing the line of an outcome.
 use Rattle.std.proofs.Common.{◌≡◌, ◌≢◌, ℕ, ◌<◌, Bool, true, false, MatchBool, List, length, Option, Result, Ok, Err, refl, sym, ap, ◌∙◌, arith, length-append}
 use Rattle.std.proofs.lemmas.Bool.{false≢true}
-use Rattle.route_file.specs.declared.writing.WriteFault.TheVariants.{Failed}
 use Rattle.route_file.specs.Text.{text_of}
-use Rattle.route_file.specs.Writes.{Writes}
 use Rattle.route_tree.specs.Usage.{Lists}
 use Rattle.rr_graph.specs.Problems.{RoutingProblem}
 use Rattle.node_cost.specs.Options.{RouterOptions}
-use Rattle.net_workers.specs.declared.fault.WorkFault.{WorkFault}
 use Rattle.net_workers.specs.declared.fault.WorkFault.TheVariants as work
 use Rattle.iteration.specs.declared.outcome.Outcome.{Outcome}
 use Rattle.iteration.specs.declared.outcome.Outcome.TheVariants.{Success, NotRouted}
@@ -15,21 +12,11 @@ use Rattle.iteration.specs.Outcomes.{IsOutcome}
 use Rattle.run_inputs.specs.declared.fault.InputFile.TheVariants as file
 use Rattle.run_inputs.specs.declared.fault.AppFault.{AppFault}
 use Rattle.run_inputs.specs.declared.fault.AppFault.TheVariants.{Arch, Net, Place, Route, Unread, Unwritten, Memory, NoThread, Astray}
-use Rattle.run_inputs.specs.Faults.{ends_free, fault_of_work, is_free}
+use Rattle.run_inputs.specs.Faults.{ends_free, is_free}
 use Rattle.run_inputs.specs.Inputs.{PlacedDesign, ends_before}
 use Rattle.run_inputs.specs.Runs.{PrintsText, TakesAll, TakesFront, TakesNothing, Writing, writing}
 use Rattle.runs.specs.RouteRun.{WritesOutcome, WritesSuccess, left_text, routed_text}
 use Rattle.runs.specs.kept.Routing.{RoutesProblem, outcome_text}
-
-module _ (before after : Option (List ℕ)) (text : List ℕ) where
-  -- a routing was written, or wasn't
-  pub is_written : (failed : Bool) → Writes failed before after text (Ok (tt {0})) → PrintsText (writing before after failed) text (tt {0}) (Ok (tt {0}))
-  is_written true w = let clash = w.0 in absurd cc
-  is_written false w = (refl, w.1)
-
-  pub is_unwritten : (failed : Bool) → Writes failed before after text (Err Failed) → PrintsText (writing before after failed) text (tt {0}) (Err Unwritten)
-  is_unwritten true w = (refl, w.1)
-  is_unwritten false w = let clash = w.0 in absurd cc
 
 -- a line isn't empty
 pub outcome_filled : (o : Outcome) → 0 < length (outcome_text o)
@@ -101,12 +88,6 @@ routes_problem p options (Success lists iterations) is = is.0
 routes_problem p options (NotRouted unrouted overused iterations) is = tt
 
 -- ---- free faults
-
--- the fault of a negotiation is free
-pub free_work : (f : WorkFault) → is_free (fault_of_work f) ≡ true
-free_work work.NoThread = refl
-free_work work.Memory = refl
-free_work work.Astray = refl
 
 -- a free fault is in no file
 pub free_late : (f : AppFault) → is_free f ≡ true → ends_before {R = Outcome} file.Route (Err f) ≡ false

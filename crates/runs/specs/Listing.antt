@@ -1,5 +1,5 @@
--- The listing of a device: how many nodes and edges there are, a line for each node by number, and a line for each edge in
--- ascending order (ours).
+-- The listing of a device: how many nodes and edges there are, a line for each node by number, and
+-- a line for each edge in ascending order (ours).
 use Rattle.std.specs.Prelude.{ℕ, List, [], ◌++◌, Option, Some, None}
 use Rattle.std.specs.List.{flat_map}
 use Rattle.rr_graph.specs.node.Node.{Node}

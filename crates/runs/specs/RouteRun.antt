@@ -30,8 +30,8 @@ status_of_outcome (NotRouted unrouted overused iterations) = 3
 
 -- ---- what is written
 
--- What comes of a success: its text is written to `route`, and Unwritten is answered where that failed, `out` having taken nothing; else
--- the line is printed to `out`.
+-- What comes of a success: its text is written to `route`, and Unwritten is answered where that
+-- failed, `out` having taken nothing; else the line is printed to `out`.
 abbrev pub WritesSuccess : (route out : Writing) → PlacedDesign → Lists → (iterations : ℕ) → Result Outcome AppFault → Type 0
 WritesSuccess route out d lists iterations result =
     let text = text_of d.netlist d.placement d.problem lists in
@@ -39,13 +39,15 @@ WritesSuccess route out d lists iterations result =
     ((result ≡ Err Unwritten) × TakesFront route text × TakesNothing out)
     (TakesAll route text × PrintsText out (routed_text iterations) (Success lists iterations) result)
 
--- What comes of an outcome: that of a success, else its line is printed to `out`, and `route` took nothing.
+-- What comes of an outcome: that of a success, else its line is printed to `out`, and `route` took
+-- nothing.
 abbrev pub WritesOutcome : (route out : Writing) → PlacedDesign → Outcome → Result Outcome AppFault → Type 0
 WritesOutcome route out d (Success lists iterations) result = WritesSuccess route out d lists iterations result
 WritesOutcome route out d (NotRouted unrouted overused iterations) result =
     TakesNothing route × PrintsText out (left_text unrouted overused iterations) (NotRouted unrouted overused iterations) result
 
--- A design's problem is negotiated: the outcome is one of the negotiation, and a success is a routing of the problem; and it is written.
+-- A design's problem is negotiated: the outcome is one of the negotiation, and a success is a
+-- routing of the problem; and it is written.
 abbrev pub RoutesDesign : RouterOptions → (workers : ℕ) → (route out : Writing) → PlacedDesign → Result Outcome AppFault → Type 0
 RoutesDesign o workers route out d result =
     (outcome : Outcome)
@@ -53,7 +55,7 @@ RoutesDesign o workers route out d result =
     × negotiation.EndsNegotiation d.problem o workers outcome
     × WritesOutcome route out d outcome result
 
--- A run of `route`, free faults aside: with a fault of its files neither sink takes anything; where they say a design, its problem is
--- negotiated, and the outcome is written.
+-- A run of `route`, free faults aside: with a fault of its files neither sink takes anything; where
+-- they say a design, its problem is negotiated, and the outcome is written.
 abbrev pub RunsRoute : RouterOptions → (workers : ℕ) → (route out : Writing) → Result PlacedDesign AppFault → Result Outcome AppFault → Type 0
 RunsRoute o workers route out = StopsOrGoesOn (TakesNothing route × TakesNothing out) (RoutesDesign o workers route out)

@@ -43,32 +43,35 @@ status_of_report r = status_of_least r.least
 
 -- ---- what is written
 
--- The lines are printed to `out`, and then the text is written to `route`; Unwritten is answered where either failed, and where that was
--- `out`, `route` took nothing.
+-- The lines are printed to `out`, and then the text is written to `route`; Unwritten is answered
+-- where either failed, and where that was `out`, `route` took nothing.
 abbrev pub WritesFound : {R : Type 0} → (route out : Writing) → (lines text : List ℕ) → R → Result R AppFault → Type 0
 WritesFound route out lines text value result =
     MatchBool out.failed
     ((result ≡ Err Unwritten) × TakesFront out lines × TakesNothing route)
     (TakesAll out lines × PrintsText route text value result)
 
--- What comes of the least width: its routing's text is written after the lines; where there is none, `route` took nothing.
+-- What comes of the least width: its routing's text is written after the lines; where there is
+-- none, `route` took nothing.
 abbrev pub WritesLeast : {R : Type 0} → (route out : Writing) → Mode → PlacedNetlist → (lines : List ℕ) → Option LeastWidth → R → Result R AppFault → Type 0
 WritesLeast route out mode p lines (Some least) value result =
     WritesFound route out lines (text_of p.netlist p.placement (placed_problem mode p least.width) least.routing) value result
 WritesLeast route out mode p lines None value result = PrintsText out lines value result × TakesNothing route
 
--- What comes of a report: its lines are printed to `out`, and then the routing of the least width is written to `route`.
+-- What comes of a report: its lines are printed to `out`, and then the routing of the least width
+-- is written to `route`.
 abbrev pub WritesReport : {R : Type 0} → (route out : Writing) → Mode → PlacedNetlist → Report → R → Result R AppFault → Type 0
 WritesReport route out mode p r value result = WritesLeast route out mode p (report_text r) r.least value result
 
--- Widths are tried for a placed netlist, from a start on: the report is that of the search, and it is written.
+-- Widths are tried for a placed netlist, from a start on: the report is that of the search, and it
+-- is written.
 abbrev pub SearchesWidths : RouterOptions → (workers start : ℕ) → Mode → (route out : Writing) → PlacedNetlist → Result Report AppFault → Type 0
 SearchesWidths o workers start mode route out p result =
     (r : Report)
     × IsWidthReport (Negotiates (placed_problem mode p) o workers) start r
     × WritesReport route out mode p r r result
 
--- A run of `width`, free faults aside: with a fault of its files neither sink takes anything; where they say a placed netlist, widths are
--- tried for it, and the report is written.
+-- A run of `width`, free faults aside: with a fault of its files neither sink takes anything; where
+-- they say a placed netlist, widths are tried for it, and the report is written.
 abbrev pub RunsWidth : RouterOptions → (workers start : ℕ) → Mode → (route out : Writing) → Result PlacedNetlist AppFault → Result Report AppFault → Type 0
 RunsWidth o workers start mode route out = StopsOrGoesOn (TakesNothing route × TakesNothing out) (SearchesWidths o workers start mode route out)

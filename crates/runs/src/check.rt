@@ -81,12 +81,14 @@ fn check_design<R: ByteSource, W: ByteSink>(
     judge(rt, design, &routing, out)
 }
 
-/// Reads an architecture, a netlist, its placement and its routing, in this order and each only where those before it are
-/// without fault; judges the routing on the device of the placement's size, and prints the verdict.
+/// Reads an architecture, a netlist, its placement and its routing, in this order and each only
+/// where those before it are without fault; judges the routing on the device of the placement's
+/// size, and prints the verdict.
 ///
 /// # Errors
-/// Memory aside, exactly the first fault of the files by the order of reading, and then nothing was printed; else Unwritten
-/// exactly where the sink failed, which received a front of the verdict's line.
+/// Memory aside, exactly the first fault of the files by the order of reading, and then nothing was
+/// printed; else Unwritten exactly where the sink failed, which received a front of the verdict's
+/// line.
 pub fn check_run<N: ByteSource, A: ByteSource, P: ByteSource, R: ByteSource, W: ByteSink>(
     rt: &(impl Threads + Sync + AllocGlobal),
     net: &mut N,
@@ -98,7 +100,8 @@ pub fn check_run<N: ByteSource, A: ByteSource, P: ByteSource, R: ByteSource, W: 
     mode: Mode,
 ) -> Result<Option<RouteFault>, AppFault>
     requires tracks { (1 ≤ width) × (width ≤ most_tracks) }
-    // What the files say decides, and where they say a routing of a problem, the line of the verdict on it is printed.
+    // What the files say decides, and where they say a routing of a problem, the line of the
+    // verdict on it is printed.
     ensures runs { result ≢ Err AppFault.Memory
         → MeetsDesign (reading (A.remaining arch.old) (A.failed arch.new))
         (reading (N.remaining net.old) (N.failed net.new))

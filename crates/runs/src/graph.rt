@@ -37,8 +37,9 @@ fn print_listing<W: ByteSink>(alloc: Global, device: &Device, out: &mut W) -> Re
 /// Reads an architecture, and prints the nodes and edges of a device of it.
 ///
 /// # Errors
-/// Memory aside, Unread exactly where the source failed, else Arch with exactly the fault of its bytes, else Unwritten exactly
-/// where the sink failed, which then received a front of the listing. After any other fault it received nothing.
+/// Memory aside, Unread exactly where the source failed, else Arch with exactly the fault of its
+/// bytes, else Unwritten exactly where the sink failed, which then received a front of the listing.
+/// After any other fault it received nothing.
 pub fn graph_run<S: ByteSource, W: ByteSink>(
     alloc: Global,
     arch: &mut S,
@@ -51,7 +52,8 @@ pub fn graph_run<S: ByteSource, W: ByteSink>(
     requires columns { (1 ≤ nx) × (nx ≤ longest_side) }
     requires rows { (1 ≤ ny) × (ny ≤ longest_side) }
     requires tracks { (1 ≤ width) × (width ≤ most_tracks) }
-    // What the file says decides, and where it says an architecture, the listing of its device is printed.
+    // What the file says decides, and where it says an architecture, the listing of its device is
+    // printed.
     ensures runs { result ≢ Err AppFault.Memory
         → Meets (reading (S.remaining arch.old) (S.failed arch.new))
         (λ a. RunsGraph (writing_to W.taken W.failed out.old out.new)

@@ -21,7 +21,7 @@ use rr_graph::{Device, Problem};
 use run_inputs::{AppFault, Design, net_name, number_of_net};
 use std::alloc::Global;
 use std::sync::{Mutex, Wait};
-use text_output::{ByteSink, OutputBuffer, put_node_of};
+use text_output::{ByteSink, OutputBuffer, Piece, put_pieces};
 
 /// Writes the text of trees of a placed netlist, of which some nets may have none.
 #[inline(never)]
@@ -75,21 +75,28 @@ fn is_written<W: ByteSink>(alloc: Global, design: &Design<'_>, book: &Book, file
 }
 
 /// Prints that no way leads to a sink of the net of this name.
-fn put_stuck_line<W: ByteSink>(
+#[tactic(auto, unfolding(crate::specs::kept::Left::stuck_line))]
+fn put_stuck_line<'a, W: ByteSink>(
     out: &mut OutputBuffer,
     words: &mut W,
-    device: &Device,
-    name: &[u8],
+    device: &'a Device,
+    name: &'a [u8],
     sink: u32,
 )
     ensures { SendsTo W.taken W.failed words.old words.new out.old out.new
         (stuck_line device.now name.now sink) }
 {
-    out.push(words, b"net ");
-    out.push(words, name);
-    out.push(words, b": stuck at ");
-    put_node_of(out, words, device, sink);
-    out.push(words, b"\n");
+    put_pieces(
+        out,
+        words,
+        &[
+            Piece::Text(b"net "),
+            Piece::Text(name),
+            Piece::Text(b": stuck at "),
+            Piece::Node(device, sink),
+            Piece::Text(b"\n"),
+        ],
+    );
 }
 
 /// Prints that no way leads to a sink of a net of the problem, of these two.

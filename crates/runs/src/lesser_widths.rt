@@ -16,7 +16,7 @@ use run_inputs::{AppFault, print_fault};
 use std::alloc::AllocGlobal;
 use std::sync::Wait;
 use std::thread::Threads;
-use text_output::{ByteSink, OutputBuffer, put_number};
+use text_output::{ByteSink, OutputBuffer, Piece, put_number, put_pieces};
 use width_search::{WidthReport, negotiate_at};
 
 /// Prints what the negotiation of a width came to.
@@ -31,12 +31,19 @@ fn put_line<W: ByteSink>(out: &mut OutputBuffer, words: &mut W, width: u32, outc
 }
 
 /// Prints that a width was routed.
+#[tactic(auto, unfolding(crate::specs::kept::Lesser::lesser_routed))]
 fn put_routed<W: ByteSink>(out: &mut OutputBuffer, words: &mut W, width: u32)
     ensures { SendsTo W.taken W.failed words.old words.new out.old out.new (lesser_routed width) }
 {
-    out.push(words, b"lesser routed width: ");
-    put_number(out, words, width);
-    out.push(words, b"\n");
+    put_pieces(
+        out,
+        words,
+        &[
+            Piece::Text(b"lesser routed width: "),
+            Piece::Number(width),
+            Piece::Text(b"\n"),
+        ],
+    );
 }
 
 /// Prints which lesser width was routed, the least of several, or that none was.

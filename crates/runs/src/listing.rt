@@ -12,16 +12,23 @@ ghost use Rattle.runs.specs.Listing.{line_at, edge_lines_at, listing_of};
 use rr_graph::{Device, Node};
 use smallvec::SmallVec;
 use std::alloc::AllocError;
-use text_output::{ByteSink, OutputBuffer, put_node, put_number};
+use text_output::{ByteSink, OutputBuffer, Piece, put_node, put_number, put_pieces};
 
 /// Prints the first line: how many nodes and edges there are.
+#[tactic(auto, unfolding(crate::specs::Texts::counts_line))]
 fn put_counts<W: ByteSink>(out: &mut OutputBuffer, sink: &mut W, nodes: u32, edges: u64)
     ensures { SendsTo W.taken W.failed sink.old sink.new out.old out.new (counts_line nodes edges) }
 {
-    put_number(out, sink, nodes);
-    out.push(sink, b" nodes, ");
-    put_number(out, sink, edges);
-    out.push(sink, b" edges\n");
+    put_pieces(
+        out,
+        sink,
+        &[
+            Piece::Number(nodes),
+            Piece::Text(b" nodes, "),
+            Piece::LongNumber(edges),
+            Piece::Text(b" edges\n"),
+        ],
+    );
 }
 
 /// Prints the line of the node of a number, nothing for what is no node.
@@ -129,7 +136,8 @@ fn put_edges<W: ByteSink>(
     }
 }
 
-/// Prints the listing of a device, or until the sink breaks. The list has room for the successors of any node.
+/// Prints the listing of a device, or until the sink breaks. The list has room for the successors
+/// of any node.
 pub(crate) fn put_listing<W: ByteSink>(
     out: &mut OutputBuffer,
     sink: &mut W,

@@ -6,18 +6,26 @@ ghost use Rattle.runs.specs.RouteRun.{left_text, routed_text, status_of_outcome}
 ghost use Rattle.runs.specs.kept.Routing.{outcome_text};
 
 use iteration::Outcome;
-use text_output::{ByteSink, OutputBuffer, put_number};
+use text_output::{ByteSink, OutputBuffer, Piece, put_pieces};
 
 /// Prints the line of a success.
+#[tactic(auto, unfolding(crate::specs::RouteRun::routed_text))]
 fn put_routed<W: ByteSink>(out: &mut OutputBuffer, sink: &mut W, iterations: u32)
     ensures { SendsTo W.taken W.failed sink.old sink.new out.old out.new (routed_text iterations) }
 {
-    out.push(sink, b"routed, iterations ");
-    put_number(out, sink, iterations);
-    out.push(sink, b"\n");
+    put_pieces(
+        out,
+        sink,
+        &[
+            Piece::Text(b"routed, iterations "),
+            Piece::Number(iterations),
+            Piece::Text(b"\n"),
+        ],
+    );
 }
 
 /// Prints the line of what is left without success.
+#[tactic(auto, unfolding(crate::specs::RouteRun::left_text))]
 fn put_left<W: ByteSink>(
     out: &mut OutputBuffer,
     sink: &mut W,
@@ -28,13 +36,19 @@ fn put_left<W: ByteSink>(
     ensures { SendsTo W.taken W.failed sink.old sink.new out.old out.new
         (left_text unrouted overused iterations) }
 {
-    out.push(sink, b"not routed: unrouted ");
-    put_number(out, sink, unrouted);
-    out.push(sink, b", overused ");
-    put_number(out, sink, overused);
-    out.push(sink, b", iterations ");
-    put_number(out, sink, iterations);
-    out.push(sink, b"\n");
+    put_pieces(
+        out,
+        sink,
+        &[
+            Piece::Text(b"not routed: unrouted "),
+            Piece::Number(unrouted),
+            Piece::Text(b", overused "),
+            Piece::Number(overused),
+            Piece::Text(b", iterations "),
+            Piece::Number(iterations),
+            Piece::Text(b"\n"),
+        ],
+    );
 }
 
 /// Prints the line of an outcome.

@@ -144,27 +144,20 @@ fn route_design<
     write_outcome(design, outcome, route, out)
 }
 
-/// Reads an architecture, a netlist and its placement, in this order and each only where those before it are without fault;
-/// negotiates a routing on the device of the placement's size; writes the routing to `route`, where there is one, and then
-/// prints the line of the outcome. Where no routing was found, the trees that the last iteration left are written to the file of
-/// `rest`, and the nets without one are told there. The call waits for the workers.
+/// Reads an architecture, a netlist and its placement, in this order and each only where those
+/// before it are without fault; negotiates a routing on the device of the placement's size; writes
+/// the routing to `route`, where there is one, and then prints the line of the outcome. Where no
+/// routing was found, the trees that the last iteration left are written to the file of `rest`, and
+/// the nets without one are told there. The call waits for the workers.
 ///
 /// # Errors
-/// NoThread, Memory and Astray as `negotiate` answers them, and Memory wherever it ran out: then neither sink took anything.
-/// These aside, exactly the first fault of the files by the order of reading, and neither sink took anything; else Unwritten
-/// exactly where writing failed: of `route`, which then took a front of the routing's text, and `out` took nothing; or of
-/// `out`, which took a front of the line.
-pub fn route_run<
-    T: Threads + Wait + Sync + AllocGlobal,
-    N: ByteSource,
-    A: ByteSource,
-    P: ByteSource,
-    R: ByteSink,
-    W: ByteSink,
-    G: Gate + Sync,
-    S: SideFiles + Sync,
->(
-    rt: &T,
+/// NoThread, Memory and Astray as `negotiate` answers them, and Memory wherever it ran out: then
+/// neither sink took anything. These aside, exactly the first fault of the files by the order of
+/// reading, and neither sink took anything; else Unwritten exactly where writing failed: of
+/// `route`, which then took a front of the routing's text, and `out` took nothing; or of `out`,
+/// which took a front of the line.
+pub fn route_run<N: ByteSource, A: ByteSource, P: ByteSource, R: ByteSink, W: ByteSink>(
+    rt: &(impl Threads + Wait + Sync + AllocGlobal),
     net: &mut N,
     arch: &mut A,
     place: &mut P,
@@ -174,13 +167,13 @@ pub fn route_run<
     mode: Mode,
     settings: &Settings,
     workers: u32,
-    gate: &G,
-    rest: &S,
+    gate: &(impl Gate + Sync),
+    rest: &(impl SideFiles + Sync),
 ) -> Result<Outcome, AppFault>
     requires tracks { (1 ≤ width) × (width ≤ most_tracks) }
     requires workers { (1 ≤ workers) × (workers ≤ most_workers) }
-    // What the files say decides; where they say a design, its problem is negotiated, and a success is a routing of it, whose
-    // text is written.
+    // What the files say decides; where they say a design, its problem is negotiated, and a success
+    // is a routing of it, whose text is written.
     ensures runs { ends_free result ≡ false
         → MeetsDesign (reading (A.remaining arch.old) (A.failed arch.new))
         (reading (N.remaining net.old) (N.failed net.new))

@@ -5,7 +5,7 @@ ghost use Rattle.std.specs.List.{flat_map};
 ghost use Rattle.vpr_text.specs.Output.{SendsTo};
 ghost use Rattle.runs.specs.WidthRun.{found_line, least_line, report_text, status_of_report, trial_end, trial_line};
 
-use text_output::{ByteSink, OutputBuffer, put_number};
+use text_output::{ByteSink, OutputBuffer, Piece, put_pieces};
 use width_search::{LeastWidth, Trial, WidthReport};
 
 /// What a trial came to, after its width.
@@ -20,12 +20,19 @@ fn trial_end(routed: bool) -> &'static [u8]
 }
 
 /// Prints the line of a trial.
+#[tactic(auto, unfolding(crate::specs::WidthRun::trial_line))]
 fn put_trial<W: ByteSink>(out: &mut OutputBuffer, sink: &mut W, trial: Trial)
     ensures { SendsTo W.taken W.failed sink.old sink.new out.old out.new (trial_line trial) }
 {
-    out.push(sink, b"width ");
-    put_number(out, sink, trial.width);
-    out.push(sink, trial_end(trial.routed));
+    put_pieces(
+        out,
+        sink,
+        &[
+            Piece::Text(b"width "),
+            Piece::Number(trial.width),
+            Piece::Text(trial_end(trial.routed)),
+        ],
+    );
 }
 
 /// Prints the lines of the trials.
@@ -39,12 +46,19 @@ fn put_trials<W: ByteSink>(out: &mut OutputBuffer, sink: &mut W, trials: &[Trial
 }
 
 /// Prints the line of the least width that was routed.
+#[tactic(auto, unfolding(crate::specs::WidthRun::found_line))]
 fn put_found<W: ByteSink>(out: &mut OutputBuffer, sink: &mut W, width: u32)
     ensures { SendsTo W.taken W.failed sink.old sink.new out.old out.new (found_line width) }
 {
-    out.push(sink, b"least routed width: ");
-    put_number(out, sink, width);
-    out.push(sink, b"\n");
+    put_pieces(
+        out,
+        sink,
+        &[
+            Piece::Text(b"least routed width: "),
+            Piece::Number(width),
+            Piece::Text(b"\n"),
+        ],
+    );
 }
 
 /// Prints the last line, which names the least width that was routed.

@@ -11,7 +11,7 @@ use route_check::RouteFault;
 use route_tree::TreeFault;
 use rr_graph::{Device, Problem};
 use run_inputs::{net_name, number_of_net};
-use text_output::{ByteSink, OutputBuffer, put_node_of, put_number};
+use text_output::{ByteSink, OutputBuffer, Piece, put_pieces};
 
 /// The name of a fault of a net's list.
 pub fn tree_fault_name(fault: TreeFault) -> &'static [u8]
@@ -31,23 +31,30 @@ pub fn tree_fault_name(fault: TreeFault) -> &'static [u8]
 }
 
 /// Prints the line of a net that is not routed.
-fn put_net_line<W: ByteSink>(
+#[tactic(auto, unfolding(crate::specs::Verdict::net_fault_text))]
+fn put_net_line<'a, W: ByteSink>(
     out: &mut OutputBuffer,
     sink: &mut W,
     number: u32,
-    name: &[u8],
-    fault: &[u8],
+    name: &'a [u8],
+    fault: &'a [u8],
 )
     ensures { SendsTo W.taken W.failed sink.old sink.new out.old out.new
         (net_fault_text number name.now fault.now) }
 {
-    out.push(sink, b"not legal: net ");
-    put_number(out, sink, number);
-    out.push(sink, b" (");
-    out.push(sink, name);
-    out.push(sink, b"): ");
-    out.push(sink, fault);
-    out.push(sink, b"\n");
+    put_pieces(
+        out,
+        sink,
+        &[
+            Piece::Text(b"not legal: net "),
+            Piece::Number(number),
+            Piece::Text(b" ("),
+            Piece::Text(name),
+            Piece::Text(b"): "),
+            Piece::Text(fault),
+            Piece::Text(b"\n"),
+        ],
+    );
 }
 
 /// Prints the line of a net of the problem that is not routed.
@@ -67,17 +74,24 @@ fn put_net_fault<W: ByteSink>(
 }
 
 /// Prints the line of a node that too many nets use.
+#[tactic(auto, unfolding(crate::specs::Verdict::overuse_text))]
 fn put_overuse<W: ByteSink>(out: &mut OutputBuffer, sink: &mut W, device: &Device, id: u32, by: u32)
     ensures { SendsTo W.taken W.failed sink.old sink.new out.old out.new
         (overuse_text device.now id by) }
 {
-    out.push(sink, b"not legal: node ");
-    put_number(out, sink, id);
-    out.push(sink, b" ");
-    put_node_of(out, sink, device, id);
-    out.push(sink, b" overused by ");
-    put_number(out, sink, by);
-    out.push(sink, b"\n");
+    put_pieces(
+        out,
+        sink,
+        &[
+            Piece::Text(b"not legal: node "),
+            Piece::Number(id),
+            Piece::Text(b" "),
+            Piece::Node(device, id),
+            Piece::Text(b" overused by "),
+            Piece::Number(by),
+            Piece::Text(b"\n"),
+        ],
+    );
 }
 
 /// Prints the line of a verdict.

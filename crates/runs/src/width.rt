@@ -69,8 +69,9 @@ fn write_found<R: ByteSink, W: ByteSink>(
     )
 }
 
-/// Prints the lines of a search, and then writes the routing of the least width, where one was routed. The problem of that width is
-/// made before anything is printed, so that a run that is out of memory has written nothing.
+/// Prints the lines of a search, and then writes the routing of the least width, where one was
+/// routed. The problem of that width is made before anything is printed, so that a run that is out
+/// of memory has written nothing.
 fn write_report<R: ByteSink, W: ByteSink>(
     alloc: Global,
     placed: &PlacedNetlist<'_>,
@@ -135,7 +136,8 @@ fn search_widths<T: Threads + Wait + Sync + AllocGlobal, G: Gate + Sync, S: Side
     Ok(report)
 }
 
-/// Searches for the least width of a placed netlist, prints the lines of the search, and writes the routing of that width.
+/// Searches for the least width of a placed netlist, prints the lines of the search, and writes the
+/// routing of that width.
 fn width_placed<
     T: Threads + Wait + Sync + AllocGlobal,
     R: ByteSink,
@@ -170,28 +172,21 @@ fn width_placed<
     Ok(report)
 }
 
-/// Reads an architecture, a netlist and its placement, in this order and each only where those before it are without fault;
-/// searches for the least channel width from `start` on, on devices of the placement's size; prints a line for each trial, and one for
-/// the least width that was routed; and then writes the routing of that width to `route`, where there is one. The routing of each trial is written
-/// to its file of `kept` as soon as it is found. In the end so many widths below the least are tried too, and what they come to
-/// is told there. The call waits for the workers.
+/// Reads an architecture, a netlist and its placement, in this order and each only where those
+/// before it are without fault; searches for the least channel width from `start` on, on devices of
+/// the placement's size; prints a line for each trial, and one for the least width that was routed;
+/// and then writes the routing of that width to `route`, where there is one. The routing of each
+/// trial is written to its file of `kept` as soon as it is found. In the end so many widths below
+/// the least are tried too, and what they come to is told there. The call waits for the workers.
 ///
 /// # Errors
-/// NoThread, Memory and Astray as `least_width` answers them, and Memory wherever it ran out: then neither sink took anything.
-/// These aside, exactly the first fault of the files by the order of reading, and neither sink took anything; else Unwritten
-/// exactly where writing failed: of `out`, which then took a front of the lines, and `route` took nothing; or of `route`,
-/// which took a front of the routing's text.
-pub fn width_run<
-    T: Threads + Wait + Sync + AllocGlobal,
-    N: ByteSource,
-    A: ByteSource,
-    P: ByteSource,
-    R: ByteSink,
-    W: ByteSink,
-    G: Gate + Sync,
-    S: SideFiles + Sync,
->(
-    rt: &T,
+/// NoThread, Memory and Astray as `least_width` answers them, and Memory wherever it ran out: then
+/// neither sink took anything. These aside, exactly the first fault of the files by the order of
+/// reading, and neither sink took anything; else Unwritten exactly where writing failed: of `out`,
+/// which then took a front of the lines, and `route` took nothing; or of `route`, which took a
+/// front of the routing's text.
+pub fn width_run<N: ByteSource, A: ByteSource, P: ByteSource, R: ByteSink, W: ByteSink>(
+    rt: &(impl Threads + Wait + Sync + AllocGlobal),
     net: &mut N,
     arch: &mut A,
     place: &mut P,
@@ -201,14 +196,15 @@ pub fn width_run<
     mode: Mode,
     settings: &Settings,
     workers: u32,
-    gate: &G,
-    kept: &S,
+    gate: &(impl Gate + Sync),
+    kept: &(impl SideFiles + Sync),
     below: u32,
 ) -> Result<WidthReport, AppFault>
     requires start { (1 ≤ start) × (start ≤ most_tracks) }
     requires workers { (1 ≤ workers) × (workers ≤ most_workers) }
-    // What the files say decides; where they say a placed netlist, the widths are those of a search for it, their lines are
-    // printed, and the text of a routing of it at the least width is written.
+    // What the files say decides; where they say a placed netlist, the widths are those of a search
+    // for it, their lines are printed, and the text of a routing of it at the least width is
+    // written.
     ensures runs { ends_free result ≡ false
         → MeetsDesign (reading (A.remaining arch.old) (A.failed arch.new))
         (reading (N.remaining net.old) (N.failed net.new))

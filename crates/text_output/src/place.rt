@@ -25,7 +25,8 @@ fn is_one_place(span: Span) -> bool
     span.x1 == span.x2 && span.y1 == span.y2
 }
 
-/// Prints where a node stands: its place, or the two ends of a wire of several places, as `(1,2) to (4,2)`.
+/// Prints where a node stands: its place, or the two ends of a wire of several places, as `(1,2) to
+/// (4,2)`.
 pub fn put_span<W: ByteSink>(out: &mut OutputBuffer, sink: &mut W, span: Span)
     ensures { SendsTo W.taken W.failed sink.old sink.new out.old out.new (span_text span) }
 {

@@ -1,6 +1,6 @@
-//! What no clause of `vpr_text` says: known texts and numbers, memory that runs out, and readers and
-//! writers that fail. They stand here, where they are proved beside other crates: in `vpr_text` all
-//! others would wait for them.
+//! What no clause of `vpr_text` says: known texts and numbers, memory that runs out, and readers
+//! and writers that fail. They stand here, where they are proved beside other crates: in `vpr_text`
+//! all others would wait for them.
 
 ghost use Rattle.std.specs.Prelude.{◌≡◌, Some};
 

@@ -1,5 +1,5 @@
 -- From the tests of each wire and each track to what holds of all.
-use Rattle.std.proofs.Common.{◌≡◌, ℕ, ◌+◌, ◌<◌, ◌≤◌, true, false, inl, inr, sym, ap, ◌∙◌, subst, arith}
+use Rattle.std.proofs.Common.{◌≡◌, ℕ, ◌<◌, ◌≤◌, true, false, inl, inr, sym, ap, ◌∙◌, arith}
 use Rattle.std.specs.Prelude.{nat_le}
 use Rattle.std.specs.Option.{option_map, option_map_or}
 use Rattle.std.proofs.lemmas.Bool.{cases_lt, false≢true}
@@ -7,9 +7,7 @@ use Rattle.std.proofs.lemmas.Bool.Decides.{nat_tests}
 use Rattle.std.proofs.lemmas.Option.{slice_get_past}
 use Rattle.routing_problem.specs.Fabric.{Fabric}
 use Rattle.routing_problem.specs.Nodes.{nodes_of, node_count_of, is_wire, is_wire_at}
-use Rattle.track_groups.specs.declared.group.GroupTrack.{GroupTrack}
-use Rattle.track_groups.specs.Groups.{Grouping, on_track, IsOn, IsTrack, HasPlace}
-use Rattle.track_groups.specs.kept.Parts.{HaveTracks}
+use Rattle.track_groups.specs.Groups.{Grouping, HasPlace}
 
 -- ---- wires
 no_wire_past : (f : Fabric) (w : ℕ) → node_count_of f ≤ w → is_wire_at f w ≡ false
@@ -23,15 +21,4 @@ all_listed f t wires each w wire = elim (cases_lt w (node_count_of f)) [
       let from : t.first_wire ≤ w = grind (arith, nat_tests) in
       each w from below)
   | inr past ↦ absurd (false≢true (sym (no_wire_past f w past) ∙ wire))
-]
-
--- ---- groups
-pub group_more : (f : Fabric) (t : Grouping) (g : ℕ) → ((p : GroupTrack) → p.group < g → IsOn t.groups p → IsTrack f t p) → HaveTracks f t g
-    → (p : GroupTrack) → p.group < g + 1 → IsOn t.groups p → IsTrack f t p
-group_more f t g before here p below on = elim (cases_lt p.group g) [
-  | inl l ↦ before p l on
-  | inr past ↦ (
-      let e : p.group ≡ g = omega arith in
-      let P : ℕ → Type 0 = λ n. IsOn t.groups (on_track n p.track) → IsTrack f t (on_track n p.track) in
-      subst P (sym e) (here p.track) on)
 ]

@@ -48,7 +48,8 @@ pub edge_from_wire : (f : Fabric) (w v : ℕ) → is_wire_at f w ≡ true → ed
 unfolding edge_between
 edge_from_wire f w v wire e = edge_of_nodes f (node_at f w) (node_at f v) wire e
 
--- an edge from a track of a group leads to the same track of a neighbour, or to an input pin that taps it
+-- an edge from a track of a group leads to the same track of a neighbour, or to an input pin that
+-- taps it
 pub edge_told : (f : Fabric) (t : Tables) → IsTabled f t → (p : GroupTrack) → IsOn t.wires.groups p → (v : ℕ) → edge_between f (wire_on t.wires.groups p) v ≡ true
     → Contains (map (wire_beside t.wires.groups p.track) (neighbours_of t p.group)) v ⊎ ((kind_of_node f v ≡ Some Ipin) × (tap_on (taps_of t p.group) v p.track ≡ true))
 edge_told f t h p on v e =

@@ -18,7 +18,8 @@ use Rattle.track_groups.specs.declared.group.GroupTrack.{GroupTrack}
 use Rattle.track_groups.specs.Groups.{Grouping, on_track, IsOn, wire_on, place_of, HasPlace, IsGrouped}
 use Rattle.track_groups.specs.Drives.{drives, drive_track, AreDrivenBy}
 use Rattle.track_groups.specs.kept.Merging.{SetsBit, is_one, DrivesMore, PutsNode, is_wire_of, AreMerged}
-use Rattle.track_groups.proofs.Tests.{or_last, any_set}
+use Rattle.arch_file.proofs.Lists.{any_set}
+use Rattle.track_groups.proofs.Tests.{or_last}
 use Rattle.track_groups.proofs.WiresTold.{track_is_wire}
 
 -- ---- bits

@@ -4,8 +4,8 @@ use Rattle.std.specs.Prelude.{All, slice_range}
 use Rattle.std.specs.List.{AllByRecursion}
 use Rattle.std.proofs.lemmas.List.{length-append, map-append, take-append-le}
 use Rattle.std.proofs.lemmas.List.Elements.{recursion_from_All}
-use Rattle.track_groups.specs.declared.rows.Part.{Part}
-use Rattle.track_groups.specs.kept.Parts.{IsPart, part_of}
+use Rattle.track_groups.specs.declared.rows.ListPart.{ListPart}
+use Rattle.track_groups.specs.kept.ListParts.{IsListPart, part_of}
 
 -- ---- parts of lists that grow
 module _ {X : Type 0} where
@@ -28,16 +28,16 @@ module _ {X : Type 0} where
       ap (λ n. take n (drop (length xs) (xs ++ ys))) e ∙ part-back xs ys
 
   -- ---- rows one behind the other
-  each_part_kept : (ds es : List X) (ps : List Part) → AllByRecursion (IsPart (length ds)) ps → map (part_of (ds ++ es)) ps ≡ map (part_of ds) ps
+  each_part_kept : (ds es : List X) (ps : List ListPart) → AllByRecursion (IsListPart (length ds)) ps → map (part_of (ds ++ es)) ps ≡ map (part_of ds) ps
   each_part_kept ds es [] h = refl
   each_part_kept ds es (p ∷ ps) h =
       ap (λ r. r ∷ map (part_of (ds ++ es)) ps) (range-front ds es p.start p.end h.0.ordered h.0.within) ∙ ap (λ rs. part_of ds p ∷ rs) (each_part_kept ds es ps h.1)
 
-  pub row_pushed : (ds row : List X) (ps : List Part) (p : Part) → All (IsPart (length ds)) ps → p.start ≡ length ds → p.end ≡ length (ds ++ row)
+  pub row_pushed : (ds row : List X) (ps : List ListPart) (p : ListPart) → All (IsListPart (length ds)) ps → p.start ≡ length ds → p.end ≡ length (ds ++ row)
       → map (part_of (ds ++ row)) (ps ++ p ∷ []) ≡ map (part_of ds) ps ++ row ∷ []
   row_pushed ds row ps p h first last =
       let here : part_of (ds ++ row) p ≡ row =
       ap (λ i. slice_range (ds ++ row) i p.end) first ∙ ap (slice_range (ds ++ row) (length ds)) last ∙ range-back ds row in
       map-append (part_of (ds ++ row)) ps (p ∷ [])
       ∙ ap (λ r. map (part_of (ds ++ row)) ps ++ r ∷ []) here
-      ∙ ap (λ rs. rs ++ row ∷ []) (each_part_kept ds row ps (recursion_from_All (IsPart (length ds)) ps h))
+      ∙ ap (λ rs. rs ++ row ∷ []) (each_part_kept ds row ps (recursion_from_All (IsListPart (length ds)) ps h))

@@ -19,7 +19,8 @@ use Rattle.track_groups.specs.declared.group.Tap.{Tap}
 use Rattle.track_groups.specs.Joints.{taps_track, tap_on}
 use Rattle.track_groups.specs.kept.Merging.{SetsBit}
 use Rattle.track_groups.specs.kept.Joining.{TapsMore, AddsTap, AddTaps}
-use Rattle.track_groups.proofs.Tests.{any_set, or_last}
+use Rattle.arch_file.proofs.Lists.{any_set}
+use Rattle.track_groups.proofs.Tests.{or_last}
 use Rattle.track_groups.proofs.WiresTold.{no_pin_and_wire}
 
 -- from the first wire on no input pin stands

@@ -1,4 +1,5 @@
--- Groups of wires: which wires a device has, by groups and tracks (ours; the device is that of `routing_problem`).
+-- Groups of wires: which wires a device has, by groups and tracks (ours; the device is that of
+-- `routing_problem`).
 use Rattle.std.specs.Prelude.{◌≡◌, ℕ, ◌+◌, ◌-◌, ◌*◌, ◌<◌, ◌≤◌, true, List, length, get_or, Option, Some}
 use Rattle.routing_problem.specs.node.Kind.{Kind}
 use Rattle.routing_problem.specs.node.Kind.TheVariants.{Chanx}

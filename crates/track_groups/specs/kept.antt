@@ -1,4 +1,4 @@
-pub mod Parts
+pub mod ListParts
 pub mod Packed
 pub mod Fields
 pub mod Lone

@@ -1,4 +1,5 @@
-//! Classes of tracks: tracks whose wires begin at the same places, at equal distances from each other.
+//! Classes of tracks: tracks whose wires begin at the same places, at equal distances from each
+//! other.
 
 ghost use Rattle.std.specs.Prelude.{◌≡◌, ◌<◌, ◌≤◌, length, IfOk};
 

@@ -32,8 +32,9 @@ impl TrackGroups {
         }
     }
 
-    /// The groups of a device's wires: of the greatest classes of tracks, at most 64, whose wires begin at the same places; where the
-    /// wires of such a class don't stand evenly apart, each wire is a group of its own.
+    /// The groups of a device's wires: of the greatest classes of tracks, at most 64, whose wires
+    /// begin at the same places; where the wires of such a class don't stand evenly apart, each
+    /// wire is a group of its own.
     pub fn new(alloc: Global, device: &Device) -> Result<TrackGroups, AllocError>
         ensures { IfOk result (IsTabled device.now) }
     {

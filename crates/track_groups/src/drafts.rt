@@ -16,7 +16,8 @@ const UNKNOWN: GroupTrack = GroupTrack { group: 0, track: 0 };
 /// The most groups: a device has fewer nodes.
 const MOST_GROUPS: usize = 1 << 23;
 
-/// How much further each track's wire is than the one before, where the first wire of a class is at this node.
+/// How much further each track's wire is than the one before, where the first wire of a class is at
+/// this node.
 fn stride_of(device: &Device, wire: u32, node: Node, class: Class) -> u32
     ensures { result ≤ 2 ^ 23 }
 {

@@ -14,7 +14,8 @@ use smallvec::SmallVec;
 use std::alloc::{AllocError, Global};
 use std::marker::Model;
 
-/// The groups that output pins drive, each with the tracks driven. Contracts see a list of these for each node before the first wire.
+/// The groups that output pins drive, each with the tracks driven. Contracts see a list of these
+/// for each node before the first wire.
 #[derive(Debug, Drop)]
 pub struct PinDrives {
     rows: Rows<Drive>,

@@ -2,7 +2,8 @@
 
 use routing_problem::{Kind, Span};
 
-/// The wires of a class of tracks over one span, one of each track. Track `j` of the class, counted from 0, is node `base + j * stride`.
+/// The wires of a class of tracks over one span, one of each track. Track `j` of the class, counted
+/// from 0, is node `base + j * stride`.
 #[derive(Clone, Copy, Debug, PartialEq, Eq)]
 pub struct Group {
     pub kind: Kind,
@@ -22,7 +23,8 @@ pub struct GroupTrack {
     pub track: u32,
 }
 
-/// An input pin, the sink to which it leads, and which tracks of a group it taps: track `j` where bit `j` is 1.
+/// An input pin, the sink to which it leads, and which tracks of a group it taps: track `j` where
+/// bit `j` is 1.
 #[derive(Clone, Copy, Debug, PartialEq, Eq)]
 pub struct Tap {
     pub pin: u32,

@@ -9,8 +9,8 @@ use crate::rows::Rows;
 use crate::wires::WireGroups;
 use std::marker::Model;
 
-/// The groups of a device's wires, their neighbours, and the input pins that tap them; and of each wire its group and track.
-/// Contracts see the lists of these.
+/// The groups of a device's wires, their neighbours, and the input pins that tap them; and of each
+/// wire its group and track. Contracts see the lists of these.
 #[derive(Debug, Drop)]
 pub struct TrackGroups {
     pub(crate) wires: WireGroups,
@@ -52,14 +52,16 @@ impl TrackGroups {
         self.wires.group(group)
     }
 
-    /// The neighbours of a group: the groups to whose wires edges lead from its own, track for track.
+    /// The neighbours of a group: the groups to whose wires edges lead from its own, track for
+    /// track.
     pub fn neighbours(&self, group: u32) -> &[u32]
         ensures { result.now ≡ neighbours_of self.now group }
     {
         self.neighbours.row(group)
     }
 
-    /// The input pins to which edges lead from wires of a group, each with its sink and the tracks that it taps.
+    /// The input pins to which edges lead from wires of a group, each with its sink and the tracks
+    /// that it taps.
     pub fn taps(&self, group: u32) -> &[Tap]
         ensures { result.now ≡ taps_of self.now group }
     {

@@ -1,11 +1,11 @@
-//! Whether tables of groups are those of a device. They are made in one way and tested in another: what is promised of them is what the
-//! test finds.
+//! Whether tables of groups are those of a device. They are made in one way and tested in another:
+//! what is promised of them is what the test finds.
 
 ghost use Rattle.std.specs.Prelude.{◌≡◌, ℕ, ◌+◌, ◌<◌, ◌≤◌, true, length, IsTrue};
 ghost use Rattle.routing_problem.specs.Nodes.{node_at, is_wire_at, wire_in};
 ghost use Rattle.track_groups.specs.declared.group.GroupTrack.{GroupTrack};
 ghost use Rattle.track_groups.specs.Groups.{group_at, wire_on, wire_told, place_of, IsOn, IsTrack, HasPlace, IsGrouped};
-ghost use Rattle.track_groups.specs.kept.Parts.{HaveTracks};
+ghost use Rattle.track_groups.specs.kept.ListParts.{HaveTracks};
 
 use crate::group::GroupTrack;
 use crate::wires::WireGroups;

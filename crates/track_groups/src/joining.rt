@@ -142,7 +142,8 @@ impl WireGroups {
         Ok(true)
     }
 
-    /// Lists the groups of the wires among these nodes; whether all these wires are of first tracks.
+    /// Lists the groups of the wires among these nodes; whether all these wires are of first
+    /// tracks.
     #[tactic(auto, using(crate::proofs::Matched::matches_none))]
     fn list_neighbours(&self, ids: &[u32], neighbours: &mut Vec<u32>) -> Result<bool, AllocError>
         ensures listed { IfOk result (λ first. IsTrue first
@@ -158,7 +159,8 @@ impl WireGroups {
         Ok(true)
     }
 
-    /// How many of the neighbours were met with this node too; None where it is no pin, and not that track of the next neighbour.
+    /// How many of the neighbours were met with this node too; None where it is no pin, and not
+    /// that track of the next neighbour.
     fn step(&self, id: u32, neighbours: &[u32], count: usize, track: u32) -> Option<usize>
         ensures { IfSome result (StepsTo self.now id neighbours.now track count) }
     {
@@ -194,7 +196,8 @@ impl WireGroups {
         count == neighbours.len()
     }
 
-    /// Lists the neighbours by the nodes that the first track leads to, and compares them with those of each other track.
+    /// Lists the neighbours by the nodes that the first track leads to, and compares them with
+    /// those of each other track.
     fn join_wires(
         &self,
         place: GroupTrack,
@@ -214,7 +217,8 @@ impl WireGroups {
         Ok(self.matches(ids, neighbours, place.track))
     }
 
-    /// Joins one track of a group, behind those before it; whether it has the neighbours of the first one.
+    /// Joins one track of a group, behind those before it; whether it has the neighbours of the
+    /// first one.
     fn join_track(
         &self,
         device: &Device,

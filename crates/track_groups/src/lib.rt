@@ -1,5 +1,6 @@
-//! The wires of a device in groups: what follows from the device alone, made once for all searches. Wires of tracks that begin at the
-//! same places have the same neighbours, each in its own track, so that a search can look at all of them at once.
+//! The wires of a device in groups: what follows from the device alone, made once for all searches.
+//! Wires of tracks that begin at the same places have the same neighbours, each in its own track,
+//! so that a search can look at all of them at once.
 #![tactic(auto)]
 
 mod classes;

@@ -7,7 +7,7 @@ use std::marker::Model;
 
 /// From one place of a list to the one before another.
 #[derive(Clone, Copy, Debug)]
-pub(crate) struct Part {
+pub(crate) struct ListPart {
     pub(crate) start: u32,
     pub(crate) end: u32,
 }
@@ -25,19 +25,19 @@ fn place(count: usize) -> Result<u32, AllocError>
 /// A list of lists. Contracts see it so.
 #[derive(Debug, Drop)]
 pub(crate) struct Rows<T> {
-    parts: Vec<Part>,
+    parts: Vec<ListPart>,
     items: Vec<T>,
 }
 
 impl<T> Model for Rows<T> {
     ghost use Rattle.std.specs.Prelude.{List, map, length, All};
-    ghost use Rattle.track_groups.specs.kept.Parts.{part_of, IsPart};
+    ghost use Rattle.track_groups.specs.kept.ListParts.{part_of, IsListPart};
 
     ghost Value = { List (List T) };
 
     ghost view = { λ r. map (part_of r.items.items) r.parts.items };
 
-    ghost invariant = { λ r. All (IsPart (length r.items.items)) r.parts.items };
+    ghost invariant = { λ r. All (IsListPart (length r.items.items)) r.parts.items };
 }
 
 impl<T: Copy> Rows<T> {
@@ -62,7 +62,7 @@ impl<T: Copy> Rows<T> {
         let start = place(self.items.len())?;
         self.items.extend_from_slice(row)?;
         let end = place(self.items.len())?;
-        self.parts.push(Part { start, end })?;
+        self.parts.push(ListPart { start, end })?;
         Ok(())
     }
 

@@ -58,7 +58,8 @@ fn list_pins_of_sink(device: &Device, id: u32, pins: &mut Vec<u32>) -> Result<()
     Ok(())
 }
 
-/// The input pins that lead to each sink. Contracts see a list of these for each node before the first wire.
+/// The input pins that lead to each sink. Contracts see a list of these for each node before the
+/// first wire.
 #[derive(Debug, Drop)]
 pub struct SinkPins {
     rows: Rows<u32>,

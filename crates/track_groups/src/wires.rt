@@ -7,8 +7,8 @@ use crate::group::{Group, GroupTrack};
 use crate::packed::PackedGroup;
 use std::marker::Model;
 
-/// The groups of a device's wires; and of each wire its group and track. Contracts see the list of the groups, and the list of the
-/// wires' places.
+/// The groups of a device's wires; and of each wire its group and track. Contracts see the list of
+/// the groups, and the list of the wires' places.
 #[derive(Debug, Drop)]
 pub(crate) struct WireGroups {
     pub(crate) first_wire: u32,

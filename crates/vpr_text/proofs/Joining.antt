@@ -11,7 +11,7 @@ use Rattle.vpr_text.specs.declared.line.ByteRange.{ByteRange}
 use Rattle.vpr_text.specs.declared.line.LineEntry.{LineEntry}
 use Rattle.vpr_text.specs.Words.{Line, is_line_feed, is_separator, is_comment_sign, is_filled, has_words, words_on, goes_on, given_up, continued, lines_from, words_of}
 use Rattle.vpr_text.specs.kept.Split.{word_in, words_in, line_in, lines_in, IsRange, IsEntry, AreEntriesOf, entry_if, AddsLine}
-use Rattle.vpr_text.proofs.Parts.{length-part}
+use Rattle.vpr_text.proofs.ByteParts.{length-part}
 
 -- ---- physical lines
 
@@ -140,7 +140,8 @@ length-words_on line =
 
 -- ---- the lines up to a place
 
--- the entries are the closed lines, and the ranges from `first` on the words of the line that began on line `opened`
+-- the entries are the closed lines, and the ranges from `first` on the words of the line that began
+-- on line `opened`
 pub record IsJoined (source : List ℕ) (ranges : List ByteRange) (entries : List LineEntry) (first opened number at : ℕ) : Type 0 where
   pub ranges_fit : All (IsRange (length source)) ranges
   pub entries_fit : All (IsEntry first) entries

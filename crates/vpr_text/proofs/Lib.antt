@@ -1,6 +1,6 @@
 pub mod Examples
 pub mod Printing
-pub mod Parts
+pub mod ByteParts
 pub mod BadLines
 pub mod Splitting
 pub mod Joining

@@ -10,7 +10,7 @@ use Rattle.std.proofs.lemmas.List.Sums.{prefix_len-le-length}
 use Rattle.vpr_text.specs.declared.line.ByteRange.{ByteRange}
 use Rattle.vpr_text.specs.Words.{is_separator, is_comment_sign, is_filled, words_between, words_on, ends_in_backslash, goes_on, shortened, given_up}
 use Rattle.vpr_text.specs.kept.Split.{word_in, words_in, IsRange, range_if, Adds, words_left, GivesUp, AddsLine}
-use Rattle.vpr_text.proofs.Parts.{NonePass, NonePass-more, length-part, get_or-part, part_at, part_fails}
+use Rattle.vpr_text.proofs.ByteParts.{NonePass, NonePass-more, length-part, get_or-part, part_at, part_fails}
 
 -- ---- one word
 
@@ -62,18 +62,12 @@ Splits-more source old now new rs rest total fits e s = record {
   words = ap (λ (l : List (List ℕ)). l ++ rest) (map-append (word_in source) s.added rs) ∙ append_assoc (words_in source s.added) (words_in source rs) rest ∙ s.words;
 }
 
--- where the words of the part from `start` on are still to come, and no separator stands from there up to i
+-- where the words of the part from `start` on are still to come, and no separator stands from there
+-- up to i
 pub record IsSplitting (source : List ℕ) (old now : List ByteRange) (start i to : ℕ) (total : List (List ℕ)) : Type 0 where
   pub begun : start ≤ i
   pub clear : NonePass is_separator source start i
   pub splits : Splits source old now (words_between (slice_range source start to)) total
-
-pub IsSplitting-begin : (source : List ℕ) (old : List ByteRange) (from to : ℕ) → IsSplitting source old old from from to (words_between (slice_range source from to))
-IsSplitting-begin source old from to = record {
-  begun = omega arith;
-  clear = λ k le lt. absurd (omega arith);
-  splits = record { added = []; whole = sym (append-nil old); fits = All-nil (IsRange (length source)); words = refl };
-}
 
 pub IsSplitting-passes : (source : List ℕ) (old now : List ByteRange) (start i to : ℕ) (total : List (List ℕ)) → is_separator (get_or source i 0) ≡ false
     → IsSplitting source old now start i to total → IsSplitting source old now start (i + 1) to total

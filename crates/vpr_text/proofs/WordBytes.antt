@@ -21,9 +21,9 @@ weaker : {X : Type 0} (P Q : X → Type 0) (xs : List X) → ((x : X) → P x �
 weaker P Q [] f h = tt
 weaker P Q (x ∷ xs) f h = (f x h.0, weaker P Q xs f h.1)
 
-joined : {X : Type 0} (P : X → Type 0) (xs ys : List X) → AllByRecursion P xs → AllByRecursion P ys → AllByRecursion P (xs ++ ys)
-joined P [] ys h k = k
-joined P (x ∷ xs) ys h k = (h.0, joined P xs ys h.1 k)
+pub each_joined : {X : Type 0} (P : X → Type 0) (xs ys : List X) → AllByRecursion P xs → AllByRecursion P ys → AllByRecursion P (xs ++ ys)
+each_joined P [] ys h k = k
+each_joined P (x ∷ xs) ys h k = (h.0, each_joined P xs ys h.1 k)
 
 taken : {X : Type 0} (P : X → Type 0) (n : ℕ) (xs : List X) → AllByRecursion P xs → AllByRecursion P (take n xs)
 taken P n xs h = recursion_from_All P (take n xs) (All-take P n xs (All-from_recursion P xs h))
@@ -98,7 +98,7 @@ AreSpelled ls = AllByRecursion (λ l. AllByRecursion Spells l.words) ls
 
 spelled_continued : (n : ℕ) (ws : List (List ℕ)) (ls : List Line) → AllByRecursion Spells ws → AreSpelled ls → AreSpelled (continued n ws ls)
 spelled_continued n ws [] h k = (h, tt)
-spelled_continued n ws (l ∷ ls) h k = (joined Spells ws l.words h k.0, k.1)
+spelled_continued n ws (l ∷ ls) h k = (each_joined Spells ws l.words h k.0, k.1)
 
 spelled_next : (n : ℕ) (ws : List (List ℕ)) (ls : List Line) (b : Bool) → AllByRecursion Spells ws → AreSpelled ls → AreSpelled (cond b (continued n (given_up ws) ls) (record { number = n; words = ws } ∷ ls))
 spelled_next n ws ls true h k = spelled_continued n (given_up ws) ls (spelled_given_up ws h) k

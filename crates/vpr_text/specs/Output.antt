@@ -17,8 +17,8 @@ pub record Stream : Type 0 where
   pub failed : Bool
   pub buffer : Buffer
 
--- the text was printed: the sink took a front of what was held and of the text, and the rest is held; if the sink took
--- anything, it hasn't failed
+-- the text was printed: the sink took a front of what was held and of the text, and the rest is
+-- held; if the sink took anything, it hasn't failed
 pub record Prints (old new : Stream) (text : List ℕ) : Type 0 where
   pub front : List ℕ
   pub whole : old.buffer.held ++ text ≡ front ++ new.buffer.held
@@ -33,7 +33,8 @@ pub record Breaks (old new : Stream) (text : List ℕ) : Type 0 where
   pub taken : Appends old.taken new.taken front
   pub failed : new.failed ≡ true
 
--- The text was sent: it was printed, or it broke off and the buffer is broken. Nothing is sent through a broken buffer.
+-- The text was sent: it was printed, or it broke off and the buffer is broken. Nothing is sent
+-- through a broken buffer.
 pub record Sends (old new : Stream) (text : List ℕ) : Type 0 where
   pub prints : new.buffer.broken ≡ false → Prints old new text
   pub breaks : old.buffer.broken ≡ false → new.buffer.broken ≡ true → Breaks old new text
@@ -42,7 +43,8 @@ pub record Sends (old new : Stream) (text : List ℕ) : Type 0 where
 abbrev pub stream : Option (List ℕ) → Bool → Buffer → Stream
 stream taken failed buffer = record { taken = taken; failed = failed; buffer = buffer }
 
--- the text was sent through a buffer to a sink, of which these tell what it took and whether it has failed
+-- the text was sent through a buffer to a sink, of which these tell what it took and whether it has
+-- failed
 abbrev pub SendsTo : {S : Type 0} → (taken : S → Option (List ℕ)) → (failed : S → Bool) → (sink new_sink : S) → (buffer new_buffer : Buffer) → List ℕ → Type 0
 SendsTo taken failed sink new_sink buffer new_buffer text =
     Sends (stream (taken sink) (failed sink) buffer) (stream (taken new_sink) (failed new_sink) new_buffer) text

@@ -17,7 +17,8 @@ abbrev pub with_fault : {X F G : Type 0} → (F → G) → Result X F → Result
 with_fault wrap (Ok x) = Ok x
 with_fault wrap (Err fault) = Err (wrap fault)
 
--- what a call returned, seen by view, is what is given, unless memory ran out, for which one of the faults stands
+-- what a call returned, seen by view, is what is given, unless memory ran out, for which one of the
+-- faults stands
 abbrev pub Gives : {X Y F : Type 0} → (memory : F) → (view : X → Y) → Result X F → Result Y F → Type 0
 Gives memory view (Ok x) given = given ≡ Ok (view x)
 Gives memory view (Err fault) given = fault ≢ memory → given ≡ Err fault

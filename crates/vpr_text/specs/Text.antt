@@ -9,7 +9,8 @@ use Rattle.vpr_text.specs.Words.{Line, is_line_feed, is_comment_sign, is_separat
 abbrev pub is_bad : ℕ → Bool
 is_bad b = (nat_lt b 32 && not (nat_le 9 b && nat_le b 13)) || (b == 127)
 
--- a byte that a word may have: one that neither separates words nor ends a line nor begins a comment, and isn't bad
+-- a byte that a word may have: one that neither separates words nor ends a line nor begins a
+-- comment, and isn't bad
 abbrev pub is_word_byte : ℕ → Bool
 is_word_byte b = not (is_separator b || is_line_feed b || is_comment_sign b || is_bad b)
 

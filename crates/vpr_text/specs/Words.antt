@@ -1,6 +1,6 @@
--- The logical lines of a text and their words.
--- Comments and continuations are those of the VPR and T-VPack manual 4.30; the separators, the numbers of lines and the
--- dropped lines are this project's profile.
+-- The logical lines of a text and their words. Comments and continuations are those of the VPR and
+-- T-VPack manual 4.30; the separators, the numbers of lines and the dropped lines are this
+-- project's profile.
 use Rattle.std.specs.Prelude.{ℕ, ◌+◌, ◌-◌, Bool, true, false, ◌||◌, ◌==◌, if◌then◌else◌, List, [], ◌∷◌, ◌++◌, length, take, filter, slice_index_or}
 use Rattle.std.specs.List.{slice_split, before_first}
 
@@ -54,9 +54,9 @@ given_up [] = []
 given_up (w ∷ []) = shortened w
 given_up (w ∷ v ∷ ws) = w ∷ given_up (v ∷ ws)
 
--- The words that line number n begins with, and then the lines after it: the first of them goes on with its words.
--- The manual turns the backslash into a space and joins the next physical line, which gives the same words: none of
--- them reaches over the space.
+-- The words that line number n begins with, and then the lines after it: the first of them goes on
+-- with its words. The manual turns the backslash into a space and joins the next physical line,
+-- which gives the same words: none of them reaches over the space.
 abbrev pub continued : ℕ → List (List ℕ) → List Line → List Line
 continued n ws [] = record { number = n; words = ws } ∷ []
 continued n ws (l ∷ ls) = record { number = n; words = ws ++ l.words } ∷ ls

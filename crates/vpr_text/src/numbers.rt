@@ -100,8 +100,8 @@ pub fn number(word: &[u8]) -> Option<u32>
     Some(value as u32)
 }
 
-/// The number of a word of digits with at most one point, at least one digit and at most nine decimals, in units of
-/// 10^-9, if it is at most 2^64 - 1.
+/// The number of a word of digits with at most one point, at least one digit and at most nine
+/// decimals, in units of 10^-9, if it is at most 2^64 - 1.
 pub fn fixed(word: &[u8]) -> Option<u64>
     ensures { result ≡ fixed_of word.now }
 {
@@ -135,8 +135,8 @@ fn is_unsigned(word: &[u8]) -> bool
     }
 }
 
-/// Whether a word is a decimal: an optional sign, digits with at most one point and at least one digit, and then
-/// optionally `e` or `E`, an optional sign and one or more digits.
+/// Whether a word is a decimal: an optional sign, digits with at most one point and at least one
+/// digit, and then optionally `e` or `E`, an optional sign and one or more digits.
 pub fn is_decimal(word: &[u8]) -> bool
     ensures { result ≡ is_decimal word.now }
 {

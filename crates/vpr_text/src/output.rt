@@ -26,8 +26,9 @@ fn put_all<W: ByteSink>(sink: &mut W, bytes: &[u8]) -> Result<(), Broken>
 
 const ROOM: usize = 8_192;
 
-/// Holds printed bytes until a sink takes them in one piece. It takes no memory. A sink that breaks is remembered:
-/// nothing is sent through the buffer any more, and `finish` says so. What it holds when it is dropped is lost.
+/// Holds printed bytes until a sink takes them in one piece. It takes no memory. A sink that breaks
+/// is remembered: nothing is sent through the buffer any more, and `finish` says so. What it holds
+/// when it is dropped is lost.
 #[derive(Debug, Drop)]
 pub struct OutputBuffer {
     bytes: [u8; 8_192],

@@ -18,8 +18,8 @@ pub trait ByteSource {
     /// Whether a call was `Broken`.
     ghost failed: { Self → Bool };
 
-    /// Reads some bytes into the front of the buffer, and returns how many: 0 at the end, and only there. After
-    /// `Broken` the buffer may hold anything.
+    /// Reads some bytes into the front of the buffer, and returns how many: 0 at the end, and only
+    /// there. After `Broken` the buffer may hold anything.
     fn take(&mut self, buffer: &mut [u8]) -> Result<usize, Broken>
         requires { 0 < length buffer.old }
         ensures count { IfOk result (λ n. n ≤ length buffer.new) }

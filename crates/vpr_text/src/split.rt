@@ -193,10 +193,12 @@ fn split(alloc: Global, source: &[u8]) -> Result<Lines<'_>, AllocError>
     Ok(Lines::from_parts(source, ranges, entries))
 }
 
-/// The logical lines of a text, by the rules of VPR and T-VPack 4.30 for comments and continuations. A physical line
-/// ends at a line feed; tabs, vertical tabs, form feeds, carriage returns and spaces separate words.
+/// The logical lines of a text, by the rules of VPR and T-VPack 4.30 for comments and
+/// continuations. A physical line ends at a line feed; tabs, vertical tabs, form feeds, carriage
+/// returns and spaces separate words.
 ///
-/// A text of more than 2^24 bytes is `TooLong`; the first physical line with another control byte is `BadByte`.
+/// A text of more than 2^24 bytes is `TooLong`; the first physical line with another control byte
+/// is `BadByte`.
 pub fn lines(alloc: Global, source: &[u8]) -> Result<Lines<'_>, TextFault>
     ensures { Gives Memory (λ l. l) result (lines_of source.now) }
 {

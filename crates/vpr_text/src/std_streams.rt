@@ -9,8 +9,8 @@ use crate::source::{Broken, ByteSource};
 use std::io::{Read, Write};
 
 /// A reader of std as a source of bytes, or a writer as a sink. Each error is `Broken`, that of an
-/// interrupted call too, and so is a writer's 0. A `Broken` call took no byte, and after it the reader
-/// or writer isn't called again.
+/// interrupted call too, and so is a writer's 0. A `Broken` call took no byte, and after it the
+/// reader or writer isn't called again.
 #[derive(Debug, Drop)]
 pub struct Adapted<T> {
     inner: T,

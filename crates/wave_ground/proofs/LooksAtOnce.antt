@@ -5,7 +5,7 @@ use Rattle.std.proofs.lemmas.Nat.{mul-le}
 use Rattle.std.proofs.Math.Nat.{le-div_iff_mul-le, div-mul-le_self, mul-le-mul_left, mul-le-mul_right}
 use Rattle.routing_problem.specs.node.Kind.TheVariants.{Chanx, Chany}
 use Rattle.wavefront.specs.Boxes.{BoundingBox}
-use Rattle.wavefront.specs.kept.Bounds.{Wire, gap, wires_for, wires_over, wires_to}
+use Rattle.wavefront.specs.kept.Bounds.{WireShape, gap, wires_for, wires_over, wires_to}
 use Rattle.wavefront.proofs.WiresOver.{for_more}
 use Rattle.wave_ground.specs.declared.eight_boxes.EightBoxes.{EightBoxes}
 use Rattle.wave_ground.specs.declared.eight_boxes.Outlook.{Outlook}
@@ -38,7 +38,7 @@ seen_at lows highs lane low high first last keptFirst keptLast l h f e = omega (
 seen_beside : (lows highs : List ℕ) (lane low high first last keptFirst keptLast : ℕ) → slice_index lows lane ≡ cut low → slice_index highs lane ≡ cut high → keptFirst ≡ cut first → keptLast ≡ cut last → gap (slice_index lows lane - 1) (slice_index highs lane) keptFirst keptLast ≤ gap (low - 1) high first last
 seen_beside lows highs lane low high first last keptFirst keptLast l h f e = omega (arith, l, h, f, e)
 
-module _ (o : Outlook) (boxes : EightBoxes) (wire : Wire) (lane : ℕ) (place : BoundingBox) (wires : ℕ) (is : IsOutlook o wire) (keeps : KeepsBox boxes lane place) where
+module _ (o : Outlook) (boxes : EightBoxes) (wire : WireShape) (lane : ℕ) (place : BoundingBox) (wires : ℕ) (is : IsOutlook o wire) (keeps : KeepsBox boxes lane place) where
   -- what a wire of a column sees, and one of a row
   pub column_seen : o.is_column ≡ true → wires ≤ wires_for o.steps (gap (slice_index boxes.bottom lane) (slice_index boxes.top lane) o.y1 o.y2) (gap (slice_index boxes.left lane - 1) (slice_index boxes.right lane) o.x1 o.x2) → wires ≤ wires_to place wire
   column_seen column low =

@@ -1,5 +1,5 @@
 -- Words of the crates below, opened.
-use Rattle.std.proofs.Common.{◌≡◌, ℕ, ◌+◌, ◌-◌, ◌*◌, ◌<◌, ◌≤◌, ◌/◌, arith, true, false, Option, Some, None, inl, inr, refl, sym, ap, ◌∙◌}
+use Rattle.std.proofs.Common.{◌≡◌, ℕ, ◌+◌, ◌-◌, ◌*◌, ◌<◌, ◌≤◌, arith, true, false, Option, Some, None, inl, inr, refl, sym, ap, ◌∙◌}
 use Rattle.std.proofs.lemmas.Bool.{cases_lt, false≢true}
 use Rattle.std.proofs.lemmas.Option.{none-some, same_Some, slice_get_past}
 use Rattle.std.proofs.Math.Nat.{mul-zero, zero-mul}
@@ -16,7 +16,7 @@ use Rattle.node_cost.specs.Views.{history_in, others_in}
 use Rattle.route_tree.specs.Usage.{room_of}
 use Rattle.wavefront.specs.Boxes.{box_of_net, box_of_node, box_with, is_in_box, touches}
 use Rattle.wavefront.specs.Space.{Space, base_cost, entry_cost}
-use Rattle.wavefront.specs.kept.Bounds.{least_wire_cost, wires_over}
+use Rattle.wavefront.specs.kept.Bounds.{least_wire_cost}
 
 pub net_box : (f : Fabric) (n : Net) → box_of_net f n ≡ box_with f (box_of_node f n.source) n.sinks
 unfolding box_of_net
@@ -101,7 +101,3 @@ wire_node f v is = elim (cases_lt v (node_count_of f)) [
   | inl within ↦ within
   | inr past ↦ absurd (false≢true (sym (ap (λ o. option_map_or is_wire (option_map (λ (n : Node). n.kind) o) false) (slice_get_past (nodes_of f) v past)) ∙ is))
 ]
-
-pub over_is : (steps places : ℕ) → wires_over steps places ≡ (places + steps) / (steps + 1)
-unfolding wires_over
-over_is steps places = refl

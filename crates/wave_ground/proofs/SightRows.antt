@@ -1,10 +1,9 @@
 -- What is known of groups, by stamps, and boxes that come and go.
-use Rattle.std.proofs.Common.{◌≡◌, ℕ, ◌+◌, ◌<◌, ◌≤◌, ◌++◌, inl, inr, get_or, get_or-set_same, get_or-set_other, List, [], ◌∷◌, All, map, replicate, length, refl, sym, ap, subst, ◌∙◌, arith, slice_set, eq-eqb, false, ◌==◌, Option, Some, None}
+use Rattle.std.proofs.Common.{◌≡◌, ℕ, ◌<◌, ◌≤◌, ◌++◌, get_or, List, [], ◌∷◌, All, map, replicate, length, refl, sym, ap, subst, ◌∙◌, arith, slice_set, eq-eqb, false, ◌==◌, Option, Some, None}
 use Rattle.std.specs.List.{AllByRecursion, swap_remove}
 use Rattle.std.specs.List.Sorted.{IsPermutation}
-use Rattle.std.proofs.lemmas.Bool.{cases_eq}
 use Rattle.std.proofs.lemmas.Bool.Decides.{nat_tests}
-use Rattle.std.proofs.lemmas.List.{length-set, length-map, map-set, map-append, get_or-map}
+use Rattle.std.proofs.lemmas.List.{length-map, map-set, map-append, get_or-map}
 use Rattle.std.proofs.lemmas.List.Elements.{recursion_from_All, All-weaker}
 use Rattle.std.proofs.lemmas.List.Sorted.{IsPermutation-map, IsPermutation-swap_remove}
 use Rattle.wave_ground.specs.declared.nearest.Known.{Known}
@@ -17,20 +16,11 @@ use Rattle.wave_ground.specs.kept.Nearest.{known_of, sink_box}
 abbrev pub AreOff : List Known → ℕ → Type 0
 AreOff ks i = (at : ℕ) (d : Known) → at < i → at < length ks → (get_or ks at d).stamp ≡ 0
 
-pub off_more : (ks : List Known) (k : Known) (i : ℕ) → AreOff ks i → k.stamp ≡ 0 → AreOff (slice_set ks i k) (i + 1)
-off_more ks k i off e at d lt within = elim (cases_eq at i) [
-  | inl same ↦ rw same (ap (λ x. x.stamp) (get_or-set_same ks i k d (let size = length-set ks i k in omega (arith, same, within, size))) ∙ e)
-  | inr ne ↦ ap (λ x. x.stamp) (get_or-set_other ks i at k d ne) ∙ off at d (omega (arith, lt, ne)) (let size = length-set ks i k in omega (arith, within, size))
-]
-
 pub all_off : (ks : List Known) (i : ℕ) → length ks ≤ i → AreOff ks i → All (λ k. k.stamp ≡ 0) ks
 all_off ks i all off at d lt = off at d (omega (arith, lt, all)) lt
 
 pub off_old : (now : ℕ) (ks : List Known) → All (λ k. k.stamp ≡ 0) ks → All (λ k. k.stamp ≤ now) ks
 off_old now ks off = All-weaker (λ (k : Known). k.stamp ≡ 0) (λ (k : Known). k.stamp ≤ now) (λ k e. omega (arith, e)) ks off
-
-pub old_older : (now later : ℕ) (ks : List Known) → now ≤ later → All (λ k. k.stamp ≤ now) ks → All (λ k. k.stamp ≤ later) ks
-old_older now later ks up old = All-weaker (λ (k : Known). k.stamp ≤ now) (λ (k : Known). k.stamp ≤ later) (λ k e. omega (arith, e, up)) ks old
 
 unknown : (now later : ℕ) (k : Known) → now < later → k.stamp ≤ now → known_of later k ≡ None
 unknown now later k up old = let other : (k.stamp == later) ≡ false = grind (arith, nat_tests) in rw other refl

@@ -2,7 +2,7 @@
 
 ghost use Rattle.std.specs.Prelude.{◌≡◌, ◌<◌, ◌≤◌, ◌+◌, ◌*◌, ◌/◌, ℕ, IfSome, OnOk, length};
 ghost use Rattle.wavefront.specs.Boxes as plain;
-ghost use Rattle.wavefront.specs.kept.Bounds.{Wire, gap, wires_for, wires_over, wires_to};
+ghost use Rattle.wavefront.specs.kept.Bounds.{WireShape, gap, wires_for, wires_over, wires_to};
 ghost use Rattle.wave_ground.specs.kept.Boxes.{boxed, wire_of};
 ghost use Rattle.wave_ground.specs.kept.EightBoxes.{IsOutlook, IsShare, KeepsBox, StandsAt, cut, gap_at, gap_beside};
 
@@ -97,14 +97,14 @@ fn numbered(wires: u16, number: u16) -> u16
 
 /// The sides of eight boxes in one direction, and the first and last place of a wire there.
 #[derive(Clone, Copy, Drop)]
-struct Sides {
+struct BoxSides {
     lows: [u16; 8],
     highs: [u16; 8],
     first: u16,
     last: u16,
 }
 
-impl Sides {
+impl BoxSides {
     /// How far off the wire lies from one of the boxes.
     #[inline(always)]
     fn gap_at(&self, lane: usize) -> u16
@@ -128,7 +128,7 @@ impl Sides {
 /// The fewest wires of one place that lead on from one, and the last six bits of the number of the
 /// box to which they do.
 #[inline(always)]
-fn fewest_short(along: &Sides, across: &Sides, numbers: &[u16; 8]) -> u16
+fn fewest_short(along: &BoxSides, across: &BoxSides, numbers: &[u16; 8]) -> u16
     ensures { (lane : ℕ) → lane < 8
         → result / 64 ≤ wires_for 0 (gap_at along.now lane) (gap_beside across.now lane) }
 {
@@ -142,7 +142,7 @@ fn fewest_short(along: &Sides, across: &Sides, numbers: &[u16; 8]) -> u16
 
 /// The same of wires that go on over so many steps.
 #[inline(always)]
-fn fewest_long(along: &Sides, across: &Sides, numbers: &[u16; 8], steps: u16) -> u16
+fn fewest_long(along: &BoxSides, across: &BoxSides, numbers: &[u16; 8], steps: u16) -> u16
     requires some { 0 < steps }
     requires few { steps < 128 }
     ensures { (lane : ℕ) → lane < 8
@@ -159,7 +159,7 @@ fn fewest_long(along: &Sides, across: &Sides, numbers: &[u16; 8], steps: u16) ->
 
 /// The same of all wires.
 #[inline(always)]
-fn fewest_from(along: &Sides, across: &Sides, numbers: &[u16; 8], steps: u16) -> u16
+fn fewest_from(along: &BoxSides, across: &BoxSides, numbers: &[u16; 8], steps: u16) -> u16
     requires few { steps < 128 }
     ensures { (lane : ℕ) → lane < 8
         → result / 64 ≤ wires_for steps (gap_at along.now lane) (gap_beside across.now lane) }
@@ -248,16 +248,16 @@ impl Outlook {
     #[inline(always)]
     pub(crate) fn fewest(self, boxes: &EightBoxes) -> u16
         requires few { self.steps < 128 }
-        ensures { (wire : Wire) (lane : ℕ) (place : plain.BoundingBox) → IsOutlook self wire
+        ensures { (wire : WireShape) (lane : ℕ) (place : plain.BoundingBox) → IsOutlook self wire
             → lane < 8 → KeepsBox boxes.now lane place → result / 64 ≤ wires_to place wire }
     {
-        let columns = Sides {
+        let columns = BoxSides {
             lows: boxes.left,
             highs: boxes.right,
             first: self.x1,
             last: self.x2,
         };
-        let rows = Sides {
+        let rows = BoxSides {
             lows: boxes.bottom,
             highs: boxes.top,
             first: self.y1,

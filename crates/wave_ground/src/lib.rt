@@ -1,4 +1,5 @@
-//! The ground of a search: what nodes cost there, where it may go, and how far it is to the nearest sink.
+//! The ground of a search: what nodes cost there, where it may go, and how far it is to the nearest
+//! sink.
 #![tactic(auto)]
 
 mod boxes;

@@ -191,8 +191,8 @@ impl Nearest {
         self.boxes[at]
     }
 
-    /// Puts a box in the place of one that has all of it. What was found for groups stays, and is no
-    /// more than the boxes now tell.
+    /// Puts a box in the place of one that has all of it. What was found for groups stays, and is
+    /// no more than the boxes now tell.
     pub fn put(&mut self, at: usize, around: SinkBox, place: BoundingBox)
         requires { at < length self.old.boxes }
         ensures boxes { self.new.boxes ≡ slice_set self.old.boxes at

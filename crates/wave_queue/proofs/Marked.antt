@@ -1,8 +1,8 @@
 -- Marks of places, and which rows they tell of.
-use Rattle.std.proofs.Common.{◌≡◌, ◌≢◌, ℕ, ◌+◌, ◌*◌, ◌-◌, ◌/◌, ◌%◌, ◌^◌, ◌<◌, ◌≤◌, List, [], ◌∷◌, ◌++◌, length, get_or, set, replicate, refl, sym, ap, subst, ◌∙◌, inl, inr, arith}
+use Rattle.std.proofs.Common.{◌≡◌, ◌≢◌, ℕ, ◌+◌, ◌*◌, ◌-◌, ◌/◌, ◌%◌, ◌^◌, ◌<◌, ◌≤◌, List, [], length, get_or, set, replicate, refl, sym, ap, subst, ◌∙◌, inl, inr, arith}
 use Rattle.std.specs.Int.{bit_at}
 use Rattle.std.proofs.lemmas.Bool.{cases_eq, cases_lt}
-use Rattle.std.proofs.lemmas.List.{get_or-replicate, get_or_past, get_or-set_same, get_or-set_other, length-set, length-replicate, length_push}
+use Rattle.std.proofs.lemmas.List.{get_or-replicate, get_or_past, get_or-set_same, get_or-set_other, length-set, length-replicate}
 use Rattle.std.proofs.lemmas.Nat.{shr-shr}
 use Rattle.std.proofs.lemmas.Nat.Bits.{bit_at-zero, bit_at_above}
 use Rattle.wave_queue.specs.kept.Bits.{PutsBit, DropsBit, NoneBelow}
@@ -72,81 +72,6 @@ none_before words at bits first marks one below i from until =
     let within = below_word words at bits first marks one in
     let e : at + (i - at) ≡ i = omega (arith, from) in
     ap (mark_at words) (sym e) ∙ (sym (marks.within (i - at) (omega (arith, within, from, until))) ∙ below (i - at) (omega (arith, from, until)))
-
--- ---- which rows have something
-module _ {X : Type 0} where
-  some_pushed : (row : List X) (x : X) → 0 < length (row ++ x ∷ [])
-  some_pushed row x = omega (arith, length_push row x)
-
-  pub used_more : (rows : List (List X)) (words now : List ℕ) (at : ℕ) (x : X) → at < length rows → AreUsed rows words → Marks words now at → AreUsed (set rows at (get_or rows at [] ++ x ∷ [])) now
-  used_more rows words now at x within used marks = record {
-    each = marks.count ∙ used.each;
-    few = let size = length-set rows at (get_or rows at [] ++ x ∷ []) in let few = used.few in omega (arith, size, few);
-    off = λ i none. elim (cases_eq i at) [
-      | inl same ↦ absurd (let one = ap (mark_at now) same ∙ marks.here in omega (arith, none, one))
-      | inr apart ↦ get_or-set_other rows at i (get_or rows at [] ++ x ∷ []) [] apart ∙ used.off i (sym (marks.others i apart) ∙ none)
-    ];
-    on = λ i one. elim (cases_eq i at) [
-      | inl same ↦ subst (λ (row : List X). 0 < length row) (sym (ap (λ k. get_or (set rows at (get_or rows at [] ++ x ∷ [])) k []) same ∙ get_or-set_same rows at (get_or rows at [] ++ x ∷ []) [] within)) (some_pushed (get_or rows at []) x)
-      | inr apart ↦ subst (λ (row : List X). 0 < length row) (sym (get_or-set_other rows at i (get_or rows at [] ++ x ∷ []) [] apart)) (used.on i (sym (marks.others i apart) ∙ one))
-    ];
-  }
-
-  pub used_emptied : (rows : List (List X)) (words now : List ℕ) (at : ℕ) → at < length rows → AreUsed rows words → Unmarks words now at → AreUsed (set rows at []) now
-  used_emptied rows words now at within used gone = record {
-    each = gone.count ∙ used.each;
-    few = let size = length-set rows at [] in let few = used.few in omega (arith, size, few);
-    off = λ i none. elim (cases_eq i at) [
-      | inl same ↦ ap (λ k. get_or (set rows at []) k []) same ∙ get_or-set_same rows at [] [] within
-      | inr apart ↦ get_or-set_other rows at i [] [] apart ∙ used.off i (sym (gone.others i apart) ∙ none)
-    ];
-    on = λ i one. elim (cases_eq i at) [
-      | inl same ↦ absurd (let none = ap (mark_at now) same ∙ gone.here in omega (arith, none, one))
-      | inr apart ↦ subst (λ (row : List X). 0 < length row) (sym (get_or-set_other rows at i [] [] apart)) (used.on i (sym (gone.others i apart) ∙ one))
-    ];
-  }
-
-  -- a row of which an element is taken has some left, or is marked no more
-  pub used_less : (rows now : List (List X)) (words : List ℕ) (at : ℕ) (x : X) → at < length now → length now ≡ length rows → rows ≡ set now at (get_or now at [] ++ x ∷ []) → 0 < length (get_or now at []) → AreUsed rows words → AreUsed now words
-  used_less rows now words at x within long is left used = record {
-    each = used.each;
-    few = let few = used.few in omega (arith, long, few);
-    off = λ i none. elim (cases_eq i at) [
-      | inl same ↦ absurd (let here = row_at same in let gone = used.off i none in some_not_none (get_or now at []) x (sym here ∙ gone))
-      | inr apart ↦ sym (row_else i apart) ∙ used.off i none
-    ];
-    on = λ i one. elim (cases_eq i at) [
-      | inl same ↦ subst (λ k. 0 < length (get_or now k [])) (sym same) left
-      | inr apart ↦ subst (λ (row : List X). 0 < length row) (row_else i apart) (used.on i one)
-    ];
-  }
-    where
-      row_at : {i : ℕ} → i ≡ at → get_or rows i [] ≡ get_or now at [] ++ x ∷ []
-      row_at {i} same = ap (λ k. get_or rows k []) same ∙ (ap (λ (rs : List (List X)). get_or rs at []) is ∙ get_or-set_same now at (get_or now at [] ++ x ∷ []) [] within)
-
-      row_else : (i : ℕ) → i ≢ at → get_or rows i [] ≡ get_or now i []
-      row_else i apart = ap (λ (rs : List (List X)). get_or rs i []) is ∙ get_or-set_other now at i (get_or now at [] ++ x ∷ []) [] apart
-
-      some_not_none : (row : List X) (x : X) → row ++ x ∷ [] ≡ [] → ⊥
-      some_not_none row x e = let some = some_pushed row x in let none = ap length e in omega (arith, some, none)
-
-  -- where none is left the mark is taken off
-  pub used_last : (rows now : List (List X)) (words marks : List ℕ) (at : ℕ) (x : X) → at < length now → length now ≡ length rows → rows ≡ set now at (get_or now at [] ++ x ∷ []) → get_or now at [] ≡ [] → AreUsed rows words → Unmarks words marks at → AreUsed now marks
-  used_last rows now words marks at x within long is none used gone = record {
-    each = gone.count ∙ used.each;
-    few = let few = used.few in omega (arith, long, few);
-    off = λ i off. elim (cases_eq i at) [
-      | inl same ↦ ap (λ k. get_or now k []) same ∙ none
-      | inr apart ↦ sym (row_else i apart) ∙ used.off i (sym (gone.others i apart) ∙ off)
-    ];
-    on = λ i one. elim (cases_eq i at) [
-      | inl same ↦ absurd (let off = ap (mark_at marks) same ∙ gone.here in omega (arith, off, one))
-      | inr apart ↦ subst (λ (row : List X). 0 < length row) (row_else i apart) (used.on i (sym (gone.others i apart) ∙ one))
-    ];
-  }
-    where
-      row_else : (i : ℕ) → i ≢ at → get_or rows i [] ≡ get_or now i []
-      row_else i apart = ap (λ (rs : List (List X)). get_or rs i []) is ∙ get_or-set_other now at i (get_or now at [] ++ x ∷ []) [] apart
 
 -- ---- none has any
 abbrev nought : ℕ

@@ -1,8 +1,7 @@
 -- Lists in a list, of which one is changed.
-use Rattle.std.proofs.Common.{◌≡◌, inl, inr, ℕ, zero, suc, ◌+◌, ◌<◌, ◌≤◌, List, [], ◌∷◌, ◌++◌, length, get_or, set, refl, sym, ap, ◌∙◌, arith}
+use Rattle.std.proofs.Common.{◌≡◌, ℕ, zero, suc, ◌+◌, ◌<◌, ◌≤◌, List, [], ◌∷◌, ◌++◌, length, get_or, set, refl, sym, ap, ◌∙◌, arith}
 use Rattle.std.specs.List.{All}
 use Rattle.std.specs.List.Sorted.{IsPermutation}
-use Rattle.std.proofs.lemmas.Bool.{cases_eq}
 use Rattle.std.proofs.lemmas.List.{get_or-set_same, set-set, set-get_or, length_push}
 use Rattle.std.proofs.lemmas.List.Elements.{All-nil, All-append}
 use Rattle.std.proofs.lemmas.List.Sorted.{IsPermutation-append_left, IsPermutation-append_right, IsPermutation-sym, IsPermutation-trans, IsPermutation-to_front, IsPermutation-middle}
@@ -17,13 +16,6 @@ module _ {X : Type 0} where
   all_more (row ∷ rows) (suc at) x within =
       let front = IsPermutation-sym _ _ (IsPermutation-middle row x (all_of rows)) in
       IsPermutation-trans _ _ _ front (IsPermutation-append_right row _ _ (all_more rows at x (omega arith)))
-
-  -- a row more without any, at the end
-  pub grown_at : (rows : List (List X)) (i : ℕ) → get_or (rows ++ [] ∷ []) i [] ≡ get_or rows i []
-  grown_at [] zero = refl
-  grown_at [] (suc i) = refl
-  grown_at (row ∷ rows) zero = refl
-  grown_at (row ∷ rows) (suc i) = grown_at rows i
 
   -- where no row has any, there is none
   pub none_in : (rows : List (List X)) → ((i : ℕ) → get_or rows i [] ≡ []) → all_of rows ≡ []
@@ -60,32 +52,9 @@ module _ {X : Type 0} where
       ∙ set-get_or rows at row)
 
   -- ---- rows that are made empty, one by one
-  pub emptied : (rows : List (List X)) (at : ℕ) → get_or (set rows at []) at [] ≡ []
-  emptied [] at = refl
-  emptied (row ∷ rows) zero = refl
-  emptied (row ∷ rows) (suc at) = emptied rows at
-
-  pub still_empty : (rows : List (List X)) (at i : ℕ) → get_or rows i [] ≡ [] → get_or (set rows at []) i [] ≡ []
-  still_empty [] at i none = none
-  still_empty (row ∷ rows) zero zero none = refl
-  still_empty (row ∷ rows) zero (suc i) none = none
-  still_empty (row ∷ rows) (suc at) zero none = none
-  still_empty (row ∷ rows) (suc at) (suc i) none = still_empty rows at i none
 
   abbrev pub AreEmpty : (rows : List (List X)) → (low end : ℕ) → Type 0
   AreEmpty rows low end = (i : ℕ) → low ≤ i → i < end → get_or rows i [] ≡ []
-
-  pub one_emptied : (rows : List (List X)) (low at : ℕ) → AreEmpty rows low at → AreEmpty (set rows at []) low (at + 1)
-  one_emptied rows low at before i from until = elim (cases_eq i at) [
-    | inl same ↦ ap (λ n. get_or (set rows at []) n []) same ∙ emptied rows at
-    | inr other ↦ still_empty rows at i (before i from (omega (arith, until, other)))
-  ]
-
-  pub one_empty : (rows : List (List X)) (low at : ℕ) → AreEmpty rows low at → get_or rows at [] ≡ [] → AreEmpty rows low (at + 1)
-  one_empty rows low at before here i from until = elim (cases_eq i at) [
-    | inl same ↦ ap (λ n. get_or rows n []) same ∙ here
-    | inr other ↦ before i from (omega (arith, until, other))
-  ]
 
   -- an empty one more at the end
   push_default : (rows : List (List X)) (i : ℕ) → get_or rows i [] ≡ [] → get_or (rows ++ [] ∷ []) i [] ≡ []

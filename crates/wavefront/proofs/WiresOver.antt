@@ -1,6 +1,6 @@
 -- How many wires lead over so many places at least.
-use Rattle.std.proofs.Common.{◌≡◌, ℕ, ◌+◌, ◌-◌, ◌*◌, ◌/◌, ◌<◌, ◌≤◌, min, max, arith}
-use Rattle.std.proofs.Math.Nat.{add-div_left, div-eq_of_lt, div-lt_iff_lt-mul, div-mul-le_self, le-div_iff_mul-le}
+use Rattle.std.proofs.Common.{◌≡◌, ℕ, ◌+◌, ◌-◌, ◌/◌, ◌≤◌, min, max, arith}
+use Rattle.std.proofs.Math.Nat.{add-div_left, div-eq_of_lt, div-mul-le_self, le-div_iff_mul-le}
 use Rattle.wavefront.specs.kept.Bounds.{wires_for, wires_over}
 
 pub divided : (k a b : ℕ) → a ≤ b → a / (k + 1) ≤ b / (k + 1)
@@ -22,12 +22,6 @@ over_next steps a b up =
 over_none : (steps : ℕ) → wires_over steps 0 ≡ 0
 unfolding wires_over
 over_none steps = div-eq_of_lt (omega arith)
-
-pub over_few : (steps places : ℕ) → (places + steps) / (steps + 1) ≤ places
-over_few steps places = let low : (places + steps) / (steps + 1) < places + 1 = (div-lt_iff_lt-mul {k = steps + 1} {x = places + steps} {y = places + 1} (omega arith)).1 (few places) in omega (arith, low)
-  where
-    few : (n : ℕ) → n + steps < (n + 1) * (steps + 1)
-    few n = omega arith
 
 -- wires of one place lead over one each
 pub over_one : (places : ℕ) → (places + 0) / (0 + 1) ≡ places

@@ -1,4 +1,5 @@
--- The box of a net: the bounding box of its terminals, widened (VPR and T-VPack manual 4.30, "bb_factor").
+-- The box of a net: the bounding box of its terminals, widened (VPR and T-VPack manual 4.30,
+-- "bb_factor").
 use Rattle.std.specs.Prelude.{ℕ, ◌+◌, Bool, false, ◌&&◌, nat_le, min, max, List, [], ◌∷◌}
 use Rattle.std.specs.Option.{option_map, option_map_or}
 use Rattle.routing_problem.specs.node.Span.{Span}

@@ -27,7 +27,8 @@ pub record IsTarget (s : Space) (tree : List Pair) (v : ℕ) : Type 0 where
   pub sink : IsWanted s v
   pub apart : Covers s tree v → ⊥
 
--- a way by which the tree may grow: from the tree to a sink that it lacks, through nodes that it lacks
+-- a way by which the tree may grow: from the tree to a sink that it lacks, through nodes that it
+-- lacks
 pub record IsExtension (s : Space) (tree : List Pair) (a : ℕ) (way : List ℕ) (b : ℕ) : Type 0 where
   pub start : IsStart s tree a
   pub walk : IsWay s a way b
@@ -55,7 +56,8 @@ pub record IsRouteSoFar (s : Space) (pairs : List Pair) : Type 0 where
   pub legal : IsLegal s.device (net_reached s.net pairs) pairs
   pub listed : IsListed s.device (net_reached s.net pairs) pairs
 
--- a part of a tree for the net: the source alone, or pairs that route it as far as they reach, all inside the box
+-- a part of a tree for the net: the source alone, or pairs that route it as far as they reach, all
+-- inside the box
 pub record IsPart (s : Space) (pairs : List Pair) : Type 0 where
   pub inside : (v : ℕ) → Covers s pairs v → IsInside s v
   pub route : (pairs ≡ []) ⊎ IsRouteSoFar s pairs
@@ -64,7 +66,8 @@ pub record IsPart (s : Space) (pairs : List Pair) : Type 0 where
 abbrev pub IsShut : Space → List Pair → Type 0
 IsShut s tree = (a b : ℕ) (way : List ℕ) → IsStart s tree a → IsTarget s tree b → IsWay s a way b → ⊥
 
--- this part is grown of least ways, v is the least sink that it lacks, and no way leads on to any that it lacks
+-- this part is grown of least ways, v is the least sink that it lacks, and no way leads on to any
+-- that it lacks
 pub record IsStuckAt (s : Space) (tree : List Pair) (v : ℕ) : Type 0 where
   pub part : IsPart s tree
   pub grown : IsGrown s tree
@@ -76,7 +79,8 @@ pub record IsStuckAt (s : Space) (tree : List Pair) (v : ℕ) : Type 0 where
 abbrev pub IsStuck : Space → ℕ → Type 0
 IsStuck s v = (tree : List Pair) × IsStuckAt s tree v
 
--- a net of a problem, what it sees of the others, the present-congestion factor, and the margin of its box
+-- a net of a problem, what it sees of the others, the present-congestion factor, and the margin of
+-- its box
 abbrev pub space_of : RoutingProblem → ℕ → NetView → (present bb : ℕ) → Space
 space_of p i view present bb = record { device = p.device; net = net_in p.nets i; view = view; present = present; bb = bb }
 

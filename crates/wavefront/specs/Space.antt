@@ -12,7 +12,8 @@ use Rattle.node_cost.specs.Costs.{cost_of}
 use Rattle.node_cost.specs.Views.{others_in, history_in, NetView}
 use Rattle.wavefront.specs.Boxes.{is_in_box}
 
--- a device, a net of it, what the net sees of the others, the present-congestion factor, and by how much the net's box is widened
+-- a device, a net of it, what the net sees of the others, the present-congestion factor, and by how
+-- much the net's box is widened
 pub record Space : Type 0 where
   pub device : Fabric
   pub net : Net

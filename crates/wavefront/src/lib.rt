@@ -1,5 +1,5 @@
-//! What the search of one net answers: a tree from its source to all of its sinks, each way added to it one of least cost
-//! (McMurchie and Ebeling 1995; Dijkstra 1959).
+//! What the search of one net answers: a tree from its source to all of its sinks, each way added
+//! to it one of least cost (McMurchie and Ebeling 1995; Dijkstra 1959).
 #![tactic(auto)]
 
 mod search_outcome;

@@ -1,10 +1,6 @@
 -- What a search of widths comes to (ours).
 use Rattle.std.specs.Prelude.{◌≡◌, ℕ, Bool, true, false, List, Option, None, Some}
 use Rattle.std.specs.List.{All}
-use Rattle.arch_file.specs.Architecture.{Architecture}
-use Rattle.net_file.specs.Netlist.{Netlist}
-use Rattle.place_file.specs.Placement.{Placement}
-use Rattle.rr_graph.specs.node.Mode.{Mode}
 use Rattle.rr_graph.specs.Problems.{RoutingProblem}
 use Rattle.node_cost.specs.Options.{RouterOptions}
 use Rattle.iteration.specs.declared.outcome.Outcome.{Outcome}
@@ -15,7 +11,8 @@ use Rattle.width_search.specs.declared.report.LeastWidth.{LeastWidth}
 use Rattle.width_search.specs.declared.trial.Trial.{Trial}
 use Rattle.width_search.specs.Widths.{IsSequence, least_routed, next_width}
 
--- the widths that were tried, in their order, and the least that was routed, if one was, with its routing
+-- the widths that were tried, in their order, and the least that was routed, if one was, with its
+-- routing
 pub record Report : Type 0 where
   pub trials : List Trial
   pub least : Option LeastWidth
@@ -36,7 +33,8 @@ Negotiates problem o workers width outcome = IsOutcome (problem width) o outcome
 abbrev pub IsReported : (comes_to : ℕ → Outcome → Type 0) → Trial → Type 0
 IsReported comes_to t = (outcome : Outcome) × comes_to t.width outcome × (t.routed ≡ is_success outcome)
 
--- the routing is that of a success at the least width that was routed; there is none where no width was
+-- the routing is that of a success at the least width that was routed; there is none where no width
+-- was
 abbrev pub IsOfLeastWidth : (comes_to : ℕ → Outcome → Type 0) → List Trial → Option LeastWidth → Type 0
 IsOfLeastWidth comes_to trials None = least_routed trials ≡ None
 IsOfLeastWidth comes_to trials (Some least) =

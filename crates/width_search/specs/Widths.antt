@@ -1,5 +1,6 @@
--- Which channel widths are tried, one after another (ours): from a start on they double until one is routed; from then on they halve the
--- gap between the greatest that was not and the least that was.
+-- Which channel widths are tried, one after another (ours): from a start on they double until one
+-- is routed; from then on they halve the gap between the greatest that was not and the least that
+-- was.
 use Rattle.std.specs.Prelude.{◌≡◌, ℕ, ◌+◌, ◌-◌, ◌*◌, ◌/◌, min, max, nat_lt, if◌then◌else◌, List, length, take, slice_get, Option, None, Some, unwrap_or}
 use Rattle.std.specs.List.{fold}
 use Rattle.rr_graph.specs.Fabric.{most_tracks}
@@ -25,11 +26,13 @@ greatest_unrouted = fold with_unrouted 0
 abbrev pub doubled : (last : ℕ) → Option ℕ
 doubled last = if nat_lt last most_tracks then Some (min (2 * last) most_tracks) else None
 
--- half way between the greatest width that was not routed and the least that was, where a width lies between them
+-- half way between the greatest width that was not routed and the least that was, where a width
+-- lies between them
 abbrev pub halved : (unrouted routed : ℕ) → Option ℕ
 halved unrouted routed = if nat_lt 1 (routed - unrouted) then Some ((unrouted + routed) / 2) else None
 
--- after some trials, by the last of them, the least width that was routed, and the greatest that was not
+-- after some trials, by the last of them, the least width that was routed, and the greatest that
+-- was not
 abbrev pub width_after : (start : ℕ) → (last : Option Trial) → (routed : Option ℕ) → (unrouted : ℕ) → Option ℕ
 width_after start None routed unrouted = Some start
 width_after start (Some last) None unrouted = doubled last.width

@@ -1,4 +1,5 @@
-//! The search for the least channel width: trials of widths, one after another, each a negotiation of its own.
+//! The search for the least channel width: trials of widths, one after another, each a negotiation
+//! of its own.
 #![tactic(auto)]
 
 mod report;

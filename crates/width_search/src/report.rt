@@ -18,8 +18,8 @@ pub struct LeastWidth {
     pub routing: Routing,
 }
 
-/// What a search of widths comes to: the trials in their order, and the least width that was routed, if one was. Contracts see a
-/// record of both, the trials as a list.
+/// What a search of widths comes to: the trials in their order, and the least width that was
+/// routed, if one was. Contracts see a record of both, the trials as a list.
 #[derive(Debug, Drop)]
 pub struct WidthReport {
     trials: Vec<Trial>,
@@ -72,7 +72,8 @@ impl WidthReport {
         self.least.as_ref()
     }
 
-    /// Adds the trial of a width, whose negotiation came to this outcome. A routing takes the place of the one before.
+    /// Adds the trial of a width, whose negotiation came to this outcome. A routing takes the place
+    /// of the one before.
     pub(crate) fn add(&mut self, width: u32, outcome: Outcome) -> Result<(), AllocError>
         requires { (1 ≤ width) × (width ≤ most_tracks) }
         ensures { OnOk result (self.new ≡ with_trial self.old width outcome) }

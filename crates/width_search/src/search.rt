@@ -42,8 +42,8 @@ fn end_of(outcome: &Outcome) -> TrialEnd
     }
 }
 
-/// Negotiates a routing of a placed netlist on a device of this width. The gate is told of the width
-/// before.
+/// Negotiates a routing of a placed netlist on a device of this width. The gate is told of the
+/// width before.
 ///
 /// # Errors
 /// As of `least_width`.
@@ -72,16 +72,17 @@ pub fn negotiate_at<R: Threads + Wait + Sync, G: Gate + Sync>(
     Ok(outcome)
 }
 
-/// Searches for the least channel width at which a netlist, read and placed for this architecture, is routed. The widths from `start`
-/// on double up to 256, until one is routed; from then on the gap between the greatest width that was not routed and the least that
-/// was is halved. Each trial is a negotiation on a new book, on a device of its own. The gate is reported of each trial.
+/// Searches for the least channel width at which a netlist, read and placed for this architecture,
+/// is routed. The widths from `start` on double up to 256, until one is routed; from then on the
+/// gap between the greatest width that was not routed and the least that was is halved. Each trial
+/// is a negotiation on a new book, on a device of its own. The gate is reported of each trial.
 ///
-/// The least width found is not the least possible: the search tries some widths alone, and a greater width may fail where a lesser
-/// one does not.
+/// The least width found is not the least possible: the search tries some widths alone, and a
+/// greater width may fail where a lesser one does not.
 ///
 /// # Errors
-/// `NoThread`, `Memory` and `Astray` as `negotiate` answers them; `Memory` also where a device, a problem or the list of trials found
-/// none. The call waits for the workers.
+/// `NoThread`, `Memory` and `Astray` as `negotiate` answers them; `Memory` also where a device, a
+/// problem or the list of trials found none. The call waits for the workers.
 pub fn least_width<R: Threads + Wait + Sync, G: Gate + Sync>(
     rt: &R,
     alloc: Global,
@@ -98,7 +99,8 @@ pub fn least_width<R: Threads + Wait + Sync, G: Gate + Sync>(
     requires workers { (1 ≤ workers) × (workers ≤ most_workers) }
     requires read { (bytes : List ℕ) × ReadsBytes arch.now.pins bytes netlist.now }
     requires placed { IsPlaced arch.now.io_rat netlist.now.blocks placement.now }
-    // The trials are those that the search makes, and the routing is that of the least width that was routed.
+    // The trials are those that the search makes, and the routing is that of the least width that
+    // was routed.
     ensures { IfOk result (IsWidthReport (Negotiates
         (problem_with mode arch.now netlist.now placement.now) settings.now workers) start) }
 {

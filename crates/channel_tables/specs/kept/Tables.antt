@@ -1,4 +1,5 @@
--- What the tables of a device hold: the wires of its channels, counted and found by track and place.
+-- What the tables of a device hold: the wires of its channels, counted and found by track and
+-- place.
 use Rattle.std.specs.Prelude.{◌≡◌, ℕ, ◌+◌, List, map}
 use Rattle.std.specs.List.{flat_map}
 use Rattle.channel_tables.specs.declared.channel.Stagger.{Stagger}

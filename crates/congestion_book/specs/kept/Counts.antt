@@ -1,4 +1,5 @@
--- What is kept of the recorded trees: how many nets use each node, how many nodes are overused, and how many nets have no tree.
+-- What is kept of the recorded trees: how many nets use each node, how many nodes are overused, and
+-- how many nets have no tree.
 use Rattle.std.specs.Prelude.{◌≡◌, ℕ, List, [], length, get_or, Option, Some, None}
 use Rattle.routing_problem.specs.Nodes.{node_count_of}
 use Rattle.routing_problem.specs.Problems.{RoutingProblem, IsProblem}
@@ -25,8 +26,8 @@ abbrev pub rows_of : Option (List Row) → List Row
 rows_of (Some rows) = rows
 rows_of None = []
 
--- The problem is one, and what is kept is exact: of the lists, which route their nets, how many nets use each node, how many nodes are
--- overused, and how many nets have no list.
+-- The problem is one, and what is kept is exact: of the lists, which route their nets, how many
+-- nets use each node, how many nodes are overused, and how many nets have no list.
 pub record AreRecorded (p : RoutingProblem) (lists : Lists) (counts : List ℕ) (overused unrouted : ℕ) : Type 0 where
   pub problem : IsProblem p
   pub one_each : length lists ≡ length p.nets

@@ -35,6 +35,7 @@ others_by own counts a = get_or counts a 0 - one_if (stands_in own a)
 abbrev pub is_newly_full : (room others before : ℕ) → Bool
 is_newly_full room others before = nat_le room others && not (nat_le room before)
 
--- by these counts, without the net whose tree has these rows, the node is full, and it was not by the view
+-- by these counts, without the net whose tree has these rows, the node is full, and it was not by
+-- the view
 unfoldable pub filled_by : Fabric → (own : List Row) → (counts : List ℕ) → NetView → ℕ → Bool
 filled_by f own counts view a = is_newly_full (room_of f (node_at f a)) (others_by own counts a) (others_in view a)

@@ -2,17 +2,17 @@
 use Rattle.std.specs.Prelude.{◌≡◌, ℕ, ◌<◌, ◌≤◌, ◌⊎◌, nat_le, List, [], ◌∷◌, ◌++◌, All, map, length, get_or, Contains, cond}
 use Rattle.group_wave.specs.declared.labels.LabelRow.{LabelRow}
 use Rattle.group_wave.specs.declared.labels.Labels.TheInside.{Inside}
-use Rattle.group_wave.specs.kept.WaveState.{FAR, Label}
+use Rattle.group_wave.specs.kept.WaveState.{FAR, NodeLabel}
 use Rattle.group_wave.specs.kept.Wave.{unreached}
 
 -- a cost as it is kept; the greatest is that of a node that is not reached
 abbrev pub widened : (greatest cost : ℕ) → ℕ
 widened greatest cost = cond (nat_le greatest cost) FAR cost
 
-abbrev pub label_of : {K : Type 0} → (value : K → ℕ) → (greatest : ℕ) → LabelRow K → Label
+abbrev pub label_of : {K : Type 0} → (value : K → ℕ) → (greatest : ℕ) → LabelRow K → NodeLabel
 label_of value greatest row = record { cost = widened greatest (value row.cost); parent = row.parent }
 
-abbrev pub labels_of : {K : Type 0} → (value : K → ℕ) → (greatest : ℕ) → Inside K → List Label
+abbrev pub labels_of : {K : Type 0} → (value : K → ℕ) → (greatest : ℕ) → Inside K → List NodeLabel
 labels_of value greatest l = map (label_of value greatest) l.rows.items
 
 -- each row is that of a node that is not reached, or its node is noted

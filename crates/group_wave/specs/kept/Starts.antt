@@ -43,7 +43,8 @@ pub record IsWithout (old new : Wave) (box : SinkBox) : Type 0 where
   pub known : new.known ≡ old.known
   pub boxes : IsPermutation old.boxes (box ∷ new.boxes)
 
--- a box is around those sinks from one place of the net's list to the one before another that the wave has yet to take
+-- a box is around those sinks from one place of the net's list to the one before another that the
+-- wave has yet to take
 abbrev pub IsAroundLeft : Ground → Wave → (from until : ℕ) → BoundingBox → Type 0
 IsAroundLeft g w from until box =
     (p : ℕ) → from ≤ p → p < until → p < length g.space.net.sinks → IsOpen g w (slice_index g.space.net.sinks p) → IsInsideBox (box_of_node g.space.device (slice_index g.space.net.sinks p)) box
@@ -63,7 +64,8 @@ pub record IsBoxPut (old new : Wave) (at : ℕ) (box : SinkBox) : Type 0 where
   pub known : new.known ≡ old.known
   pub boxes : new.boxes ≡ slice_set old.boxes at box
 
--- boxes are taken away or made narrower, and each sink that the wave has yet to take has its own still
+-- boxes are taken away or made narrower, and each sink that the wave has yet to take has its own
+-- still
 pub record IsNarrowed (g : Ground) (old new : Wave) : Type 0 where
   pub labels : new.labels ≡ old.labels
   pub queue : new.queue ≡ old.queue

@@ -8,7 +8,7 @@ use Rattle.track_groups.specs.declared.group.Group.{Group}
 use Rattle.track_groups.specs.declared.group.Tap.{Tap}
 use Rattle.track_groups.specs.Groups.{IsOn, group_at, node_on, on_track, wire_on}
 use Rattle.track_groups.specs.Joints.{taps_of, wire_beside}
-use Rattle.group_wave.specs.kept.WaveState.{FAR, Label, Wave}
+use Rattle.group_wave.specs.kept.WaveState.{FAR, NodeLabel, Wave}
 use Rattle.wavefront.specs.Space.{HasEdge, IsInside, IsWanted, entry_cost}
 use Rattle.wavefront.specs.kept.Bounds.{left_over}
 use Rattle.wave_ground.specs.kept.Boxes.{IsLow, wire_of}
@@ -19,7 +19,7 @@ use Rattle.wave_queue.specs.kept.Queues.{Waiting}
 use Rattle.group_wave.specs.kept.Wave.{AreTracks, IsBest, IsComplete, IsOf, IsOpen, IsOrigin, IsSettled, IsWave, WentOn, cost_at, label_at, weight_of, work_of}
 
 -- t is w with the label of a node set
-pub record IsLabelled (w t : Wave) (node : ℕ) (label : Label) : Type 0 where
+pub record IsLabelled (w t : Wave) (node : ℕ) (label : NodeLabel) : Type 0 where
   pub labels : t.labels ≡ slice_set w.labels node label
   pub queue : t.queue ≡ w.queue
   pub limit : t.limit ≡ w.limit
@@ -86,7 +86,8 @@ pub record Spreads (g : Ground) (old new : Wave) : Type 0 where
   pub work : work_of new ≤ work_of old
   pub best : IsBest g old → IsBest g new
 
--- nodes of a label, for track j the node first + j * step, from each of which an edge leads to its track of a group inside the box
+-- nodes of a label, for track j the node first + j * step, from each of which an edge leads to its
+-- track of a group inside the box
 pub record IsOffer (g : Ground) (w : Wave) (label first step group tracks : ℕ) : Type 0 where
   pub on : (j : ℕ) → bit_at tracks j ≡ 1 → IsOn (groups_of g) (on_track group j)
   pub edge : (j : ℕ) → bit_at tracks j ≡ 1 → HasEdge g.space (first + j * step) (wire_on (groups_of g) (on_track group j))
@@ -107,7 +108,8 @@ pub record IsTarget (g : Ground) (group track wire : ℕ) : Type 0 where
   pub on : IsOn (groups_of g) (on_track group track)
   pub is : wire_on (groups_of g) (on_track group track) ≡ wire
 
--- a wire is offered a way from nodes of a label; it waits where its label went down, unless it has the least label there can be
+-- a wire is offered a way from nodes of a label; it waits where its label went down, unless it has
+-- the least label there can be
 pub record RelaxesTrack (g : Ground) (old new : Wave) (label least wire : ℕ) (is_fresh : Bool) : Type 0 where
   pub wave : IsWave g new
   pub lowers : Lowers g old new (λ v. (is_fresh ≡ true) × (v ≡ wire))
@@ -135,7 +137,8 @@ pub record WaitsFresh (g : Ground) (old new : Wave) (e : Waiting) : Type 0 where
   pub tracks : entry.tracks ≡ e.tracks
   pub first : entry.begun ≡ false
 
--- the tracks of a group that aren't left are offered a way; those that have the least label there can be are yet to wait
+-- the tracks of a group that aren't left are offered a way; those that have the least label there
+-- can be are yet to wait
 pub record RelaxesSome (g : Ground) (old new : Wave) (label least group tracks left fresh : ℕ) : Type 0 where
   pub wave : IsWave g new
   pub lowers : Lowers g old new (IsOf g new (fresh_entry least group fresh))
@@ -199,11 +202,12 @@ pub record IsWayBack (w : Wave) (a : ℕ) (way : List ℕ) (sink : ℕ) : Type 0
   pub on : (g : Ground) → HasReached g w sink → IsTraced g w a way sink
 
 -- t is w with a sink's label set, and its cost the best if none is less
-pub record LowersSink (w t : Wave) (sink : ℕ) (label : Label) : Type 0 where
+pub record LowersSink (w t : Wave) (sink : ℕ) (label : NodeLabel) : Type 0 where
   pub set : IsLabelled w t sink label
   pub best : t.best ≡ min w.best label.cost
 
--- a node's label is as it was where that costs no more; or the node before it is another, at the same cost; or it doesn't fit
+-- a node's label is as it was where that costs no more; or the node before it is another, at the
+-- same cost; or it doesn't fit
 abbrev pub KeepsLabel : (w t : Wave) → (node cost parent greatest : ℕ) → Type 0
 KeepsLabel w t node cost parent greatest =
     ((t ≡ w) × (cost_at w node ≤ cost))
@@ -214,7 +218,8 @@ pub record Enters (g : Ground) (old new : Wave) (label node : ℕ) : Type 0 wher
   pub spreads : Spreads g old new
   pub went : IsInside g.space node → WentOn g new label node
 
--- a node of at most a label, from which an edge leads to another, which is entered at a cost above 0
+-- a node of at most a label, from which an edge leads to another, which is entered at a cost above
+-- 0
 pub record IsFrom (g : Ground) (w : Wave) (label parent node : ℕ) : Type 0 where
   pub edge : HasEdge g.space parent node
   pub from : cost_at w parent ≤ label
@@ -249,7 +254,8 @@ pub record IsLive (g : Ground) (w : Wave) (e : Waiting) : Type 0 where
   pub labels : (j : ℕ) → bit_at e.tracks j ≡ 1 → cost_at w (wire_on (groups_of g) (on_track e.group j)) ≤ e.label
   pub some : (j : ℕ) × (bit_at e.tracks j ≡ 1)
 
--- an entry is out of the queue, to go on from its tracks: they are of this group, and its label fits
+-- an entry is out of the queue, to go on from its tracks: they are of this group, and its label
+-- fits
 pub record IsOut (g : Ground) (w : Wave) (e : Waiting) (greatest : ℕ) (is : Group) : Type 0 where
   pub ground : IsGround g
   pub wave : IsWave g w

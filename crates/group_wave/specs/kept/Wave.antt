@@ -4,7 +4,7 @@ use Rattle.std.specs.Int.{bit_at}
 use Rattle.std.specs.List.{sum_by}
 use Rattle.track_groups.specs.Groups.{group_at, on_track, IsOn, wire_on}
 use Rattle.wavefront.specs.kept.Bounds.{Surrounds}
-use Rattle.group_wave.specs.kept.WaveState.{FAR, Label, Wave}
+use Rattle.group_wave.specs.kept.WaveState.{FAR, NodeLabel, Wave}
 use Rattle.wavefront.specs.Space.{HasEdge, IsInside, IsWanted, entry_cost}
 use Rattle.wavefront.specs.kept.Spaces.{node_count}
 use Rattle.wavefront.specs.Ways.{IsWay, way_cost}
@@ -13,11 +13,11 @@ use Rattle.wave_ground.specs.kept.Grounds.{Ground, groups_of}
 use Rattle.wave_queue.specs.kept.Queues.{Waiting}
 
 -- the label of a node that the wave has not reached
-abbrev pub unreached : Label
+abbrev pub unreached : NodeLabel
 unreached = record { cost = FAR; parent = 0 }
 
 -- a node's label; a number that is no node is never reached
-abbrev pub label_at : Wave → ℕ → Label
+abbrev pub label_at : Wave → ℕ → NodeLabel
 label_at w v = slice_index_or w.labels v unreached
 
 abbrev pub cost_at : Wave → ℕ → ℕ
@@ -102,7 +102,8 @@ WentAlong g w v label = (b : ℕ) → HasEdge g.space v b → IsInside g.space b
 abbrev pub IsSettled : Ground → Wave → ℕ → Type 0
 IsSettled g w v = (b : ℕ) → HasEdge g.space v b → IsInside g.space b → WentOn g w (cost_at w v) b ⊎ IsEdgeCovered g w v b
 
--- each node that is reached goes on, edge by edge: its label went on, or an entry covers the edge; but for those that are still owed
+-- each node that is reached goes on, edge by edge: its label went on, or an entry covers the edge;
+-- but for those that are still owed
 pub record IsCompleteBut (g : Ground) (w : Wave) (Owed : ℕ → Type 0) : Type 0 where
   pub each : (v : ℕ) → cost_at w v < FAR → (b : ℕ) → HasEdge g.space v b → IsInside g.space b → WentOn g w (cost_at w v) b ⊎ (IsEdgeCovered g w v b ⊎ Owed v)
 

@@ -1,5 +1,6 @@
--- What a wave over groups is: labels of nodes, entries that wait, from what cost on ways may have been left out, the least cost of a way
--- that was found to a sink, boxes around the sinks that it has yet to take, and what is known of how many wires lead on from a group.
+-- What a wave over groups is: labels of nodes, entries that wait, from what cost on ways may have
+-- been left out, the least cost of a way that was found to a sink, boxes around the sinks that it
+-- has yet to take, and what is known of how many wires lead on from a group.
 use Rattle.std.specs.Prelude.{ℕ, List, Option}
 use Rattle.wave_ground.specs.kept.Boxes.{SinkBox}
 use Rattle.wave_queue.specs.kept.Queues.{Waiting}
@@ -8,13 +9,14 @@ use Rattle.wave_queue.specs.kept.Queues.{Waiting}
 abbrev pub FAR : ℕ
 FAR = 340282366920938463463374607431768211455
 
--- the cost of a way to a node, and the node before it; at a start the cost is 0, and it is itself that node
-pub record Label : Type 0 where
+-- the cost of a way to a node, and the node before it; at a start the cost is 0, and it is itself
+-- that node
+pub record NodeLabel : Type 0 where
   pub cost : ℕ
   pub parent : ℕ
 
 pub record Wave : Type 0 where
-  pub labels : List Label
+  pub labels : List NodeLabel
   pub queue : List Waiting
   pub limit : ℕ
   pub best : ℕ

@@ -63,7 +63,8 @@ impl<K: Key> Wave<K> {
         self.set(sink, cost, pin)
     }
 
-    /// Offers an open sink the way over an input pin of a label. A sink of the net is inside its box.
+    /// Offers an open sink the way over an input pin of a label. A sink of the net is inside its
+    /// box.
     fn enter_sink(
         &mut self,
         ground: &Ground<'_>,
@@ -108,8 +109,8 @@ impl<K: Key> Wave<K> {
         self.enter_sink(ground, cost, tap.pin, tap.sink)
     }
 
-    /// Offers an input pin of an open sink the way from a wire. It stands where its sink does: inside
-    /// the net's box.
+    /// Offers an input pin of an open sink the way from a wire. It stands where its sink does:
+    /// inside the net's box.
     fn enter_pin(
         &mut self,
         ground: &Ground<'_>,

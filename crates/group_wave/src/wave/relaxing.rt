@@ -288,8 +288,8 @@ impl<K: Key> Wave<K> {
         Ok(())
     }
 
-    /// Whether the wire of a neighbour has a label that the way from the one track of an entry can't
-    /// lower.
+    /// Whether the wire of a neighbour has a label that the way from the one track of an entry
+    /// can't lower.
     #[inline(always)]
     pub(super) fn is_settled(
         &self,

@@ -77,8 +77,8 @@ impl<K: Key> Wave<K> {
         self.wait_again(entry, wires)
     }
 
-    /// Goes on from tracks of a group. From one track alone to all neighbours at once: to find which
-    /// are nearer takes as long as to offer them all the way.
+    /// Goes on from tracks of a group. From one track alone to all neighbours at once: to find
+    /// which are nearer takes as long as to offer them all the way.
     fn expand(
         &mut self,
         ground: &Ground<'_>,

@@ -8,16 +8,17 @@ use Rattle.node_cost.specs.Views.{NetView}
 use Rattle.wavefront.specs.Growth.{space_of}
 use Rattle.congestion_book.specs.Contents.{Content}
 use Rattle.net_workers.specs.declared.report.ReportEntry.{ReportEntry}
-use Rattle.net_workers.specs.Parts.{Part, one_more}
+use Rattle.net_workers.specs.WorkerParts.{Part, one_more}
 use Rattle.net_workers.specs.Searches.{IsSeenIn, IsFoundIn}
 
--- how many times a worker may look again at a net that it holds, in iteration k: not in the first, and four times in the others
+-- how many times a worker may look again at a net that it holds, in iteration k: not in the first,
+-- and four times in the others
 abbrev pub most_looks : (k : ℕ) → ℕ
 most_looks k = if k == 1 then 0 else 4
 
 -- a tree and its copy, or none
-abbrev pub Found : Type 0
-Found = Option (List Row) × Option (List Row)
+abbrev pub FoundTrees : Type 0
+FoundTrees = Option (List Row) × Option (List Row)
 
 abbrev pub entry_with : (net : ℕ) → Option (List Row) → ReportEntry
 entry_with net tree = record { net = net; tree = tree }
@@ -28,20 +29,20 @@ RoutesNet p net (Some rows) = IsRoute p net (pairs_of rows)
 RoutesNet p net None = Unit {0}
 
 -- what a search found with this view, which is one that the net may see, and a copy of it
-pub record IsFoundAgain (c : Content) (present bb net : ℕ) (found : Found) (view : NetView) : Type 0 where
+pub record IsFoundAgain (c : Content) (present bb net : ℕ) (found : FoundTrees) (view : NetView) : Type 0 where
   pub seen : IsSeenIn c net view
   pub here : IsFoundIn (space_of c.problem net view present bb) found.0
   pub routes : RoutesNet c.problem net found.0
   pub copy : found.1 ≡ found.0
 
 -- where no turn was made, another search found this
-abbrev pub GoesOn : {E : Type 0} → Content → (present bb net : ℕ) → Result (Option Found) E → NetView → Type 0
+abbrev pub GoesOn : {E : Type 0} → Content → (present bb net : ℕ) → Result (Option FoundTrees) E → NetView → Type 0
 GoesOn c present bb net (Ok None) view = Unit {0}
 GoesOn c present bb net (Ok (Some found)) view = IsFoundAgain c present bb net found view
 GoesOn c present bb net (Err fault) view = Unit {0}
 
 -- the worker's part afterwards: one turn more where it made one
-abbrev pub part_going_on : {E : Type 0} → Result (Option Found) E → Part → Part
+abbrev pub part_going_on : {E : Type 0} → Result (Option FoundTrees) E → Part → Part
 part_going_on (Ok None) p = one_more p
 part_going_on (Ok (Some found)) p = p
 part_going_on (Err fault) p = p

@@ -1,4 +1,5 @@
--- How many nets use each node, packed: four bits a node in words of 16 nodes, and a wide table that has the numbers that don't fit.
+-- How many nets use each node, packed: four bits a node in words of 16 nodes, and a wide table that
+-- has the numbers that don't fit.
 use Rattle.std.specs.Prelude.{◌≡◌, ◌≢◌, ℕ, ◌+◌, ◌/◌, ◌%◌, ◌<◌, ◌≤◌, Bool, true, false, eqb, if◌then◌else◌, List, length, get_or, map, All}
 use Rattle.std.specs.List.{range_with_len}
 use Rattle.node_cost.specs.kept.Words.{number_at}
@@ -35,12 +36,14 @@ pub record PutsNarrow (id number : ℕ) (old new : List ℕ) : Type 0 where
 abbrev pub AgreesBelow : (end : ℕ) → (marks : List Bool) → (from wide : List ℕ) → Type 0
 AgreesBelow end marks from wide = (id : ℕ) → id < end → get_or marks (id / 1024) false ≡ true → get_or wide id 0 ≡ get_or from id 0
 
--- the other one's numbers from the first place on, up to the end, are copied, and those before them stay
+-- the other one's numbers from the first place on, up to the end, are copied, and those before them
+-- stay
 pub record CopiesPart (first end : ℕ) (from old new : List ℕ) : Type 0 where
   pub within : (id : ℕ) → first ≤ id → id < end → get_or new id 0 ≡ get_or from id 0
   pub before : (id : ℕ) → id < first → get_or new id 0 ≡ get_or old id 0
 
--- the table gets the other one's numbers of a block, if it is marked, and keeps those of the nodes before it
+-- the table gets the other one's numbers of a block, if it is marked, and keeps those of the nodes
+-- before it
 pub record CopiesBlock (block : ℕ) (is_marked : Bool) (from old new : List ℕ) : Type 0 where
   pub here : is_marked ≡ true → (id : ℕ) → id / 1024 ≡ block → get_or new id 0 ≡ get_or from id 0
   pub before : (id : ℕ) → id / 1024 < block → get_or new id 0 ≡ get_or old id 0

@@ -1,4 +1,5 @@
--- How many nodes of a kind of terminals or pins stand before a place, by arithmetic, where a block has so many of them.
+-- How many nodes of a kind of terminals or pins stand before a place, by arithmetic, where a block
+-- has so many of them.
 use Rattle.std.specs.Prelude.{ℕ, ◌+◌, ◌-◌, ◌*◌, ◌==◌, if◌then◌else◌}
 use Rattle.channel_tables.specs.Fabric.{Fabric, is_between}
 

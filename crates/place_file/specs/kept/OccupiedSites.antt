@@ -19,7 +19,8 @@ pub record SitesOn : Type 0 where
   pub array : Array
   pub sites : List (Option Site)
 
--- a column beside the array on both sides; the highest has places 0 to 101, with at most 16 pads each
+-- a column beside the array on both sides; the highest has places 0 to 101, with at most 16 pads
+-- each
 abbrev pub is_in_table : Array → Site → Bool
 is_in_table a s = nat_lt s.x (a.nx + 2) && nat_lt s.y 102 && nat_lt s.subblk 16
 

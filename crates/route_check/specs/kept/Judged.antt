@@ -36,7 +36,8 @@ early_fault_of f source sinks pairs =
     else (if leaves_twice source pairs then Some SecondOutput
     else (if has_foreign_sink f sinks pairs then Some ForeignSink else None))))
 
--- the first fault of the others, where it is known whether a pair dangles, and whether the pairs are in order
+-- the first fault of the others, where it is known whether a pair dangles, and whether the pairs
+-- are in order
 unfoldable pub late_fault_of : (dangles listed : Bool) → (sinks : List ℕ) → List Pair → Option TreeFault
 late_fault_of dangles listed sinks pairs =
     if dangles then Some Dangling

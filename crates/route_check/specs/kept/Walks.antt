@@ -1,4 +1,5 @@
--- Walks from the sinks of a net up to its source. Each pair has the number of the walk that met it first, or 0.
+-- Walks from the sinks of a net up to its source. Each pair has the number of the walk that met it
+-- first, or 0.
 use Rattle.std.specs.Prelude.{◌≡◌, ◌≢◌, ℕ, ◌+◌, ◌<◌, ◌⊎◌, List, length, get_or, Contains}
 use Rattle.route_tree.specs.Paths.{Pair, Path}
 use Rattle.route_tree.specs.Legality.{LeadsToSink}

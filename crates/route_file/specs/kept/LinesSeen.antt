@@ -38,7 +38,8 @@ pub record IsSeen (netlist : Netlist) (f : Fabric) (before : List Line) (seen : 
   pub had : (n : ℕ) → n < length netlist.nets → slice_index_or seen.had.items n false ≡ had_line netlist before n
   pub lists_count : length seen.lists.items ≡ length netlist.nets
   pub lists : (n : ℕ) → n < length netlist.nets → slice_index_or seen.lists.items n None ≡ routed_list netlist f before n
-  -- a node that net n owns stands in its section; and if the next line is in that section, net n owns all nodes that stand in it
+  -- a node that net n owns stands in its section; and if the next line is in that section, net n
+  -- owns all nodes that stand in it
   pub owners_count : length seen.owners.items ≡ node_count_of f
   pub owned : (n a : ℕ) → n < length netlist.nets → is_routed_at netlist n ≡ true → slice_index_or seen.owners.items a no_owner ≡ n → is_among (nodes_in netlist f before n) a ≡ true
   pub owns : (n a : ℕ) → latest netlist before ≡ Some n → is_routed_at netlist n ≡ true → is_among (nodes_in netlist f before n) a ≡ true → slice_index_or seen.owners.items a no_owner ≡ n
@@ -61,7 +62,8 @@ entry_after netlist f seen line words =
     if is_net_words words then net_entry netlist (had_net seen) line words
     else section_entry netlist f (is_off f seen) line words seen.net
 
--- the pair that node a makes with the one before it in its section, if there is one and it is no sink
+-- the pair that node a makes with the one before it in its section, if there is one and it is no
+-- sink
 abbrev pub pair_after : Fabric → Option ℕ → ℕ → Option Pair
 pair_after f None a = None
 pair_after f (Some b) a = if is_sink f b then None else Some (b, a)

@@ -1,4 +1,5 @@
--- How the words of a node's line are cut, how the node that a line tells is found, and what is kept of the lines so far.
+-- How the words of a node's line are cut, how the node that a line tells is found, and what is kept
+-- of the lines so far.
 use Rattle.std.specs.Prelude.{◌≡◌, ℕ, ◌<◌, min, Bool, true, false, ◌&&◌, List, [], ◌∷◌, ◌++◌, length, Option, Some, None}
 use Rattle.std.specs.Option.{option_map_or}
 use Rattle.rr_graph.specs.node.Node.{Node}
@@ -9,7 +10,8 @@ use Rattle.route_file.specs.NodeLine.{are_ends, same_label}
 use Rattle.route_file.specs.NodeWords.{pieces_of}
 use denote.Ref.{Bor}
 
--- the word has no piece, or it is cut into its first piece and what stands after it, which is shorter
+-- the word has no piece, or it is cut into its first piece and what stands after it, which is
+-- shorter
 pub record IsCut (word piece rest : List ℕ) : Type 0 where
   pub pieces : pieces_of word ≡ piece ∷ pieces_of rest
   pub shorter : length rest < length word

@@ -68,7 +68,8 @@ abbrev pub fanout_list : Fanout → List ℕ
 fanout_list x = list_along x.axis x
 
 -- ---- wires and pins of a device as numbers at even distances
--- by how much the number of a wire that begins at a place grows from one channel along an axis to the next
+-- by how much the number of a wire that begins at a place grows from one channel along an axis to
+-- the next
 abbrev pub step_along : Axis → Fabric → (place : ℕ) → ℕ
 step_along Row f place = length (starting_at f f.nx place)
 step_along Column f place = wires_before f f.ny (f.ny + 1)

@@ -16,11 +16,13 @@ use Rattle.node_numbers.specs.Starts.{place_start}
 unfoldable pub pins_of_source : Fabric → (x y class : ℕ) → List ℕ
 pins_of_source f x y class = picks (λ p. has_class (slice_get f.architecture.pins p) class) (place_start f Opin x y) (pins_of f.architecture Output)
 
--- of a source, a node of kind Source: the pins of its class at a block, the pin of its position at a pad
+-- of a source, a node of kind Source: the pins of its class at a block, the pin of its position at
+-- a pad
 unfoldable pub source_successors : Fabric → Node → List ℕ
 source_successors f a = if is_block f a.x a.y then pins_of_source f a.x a.y a.number else (place_start f Opin a.x a.y + a.number) ∷ []
 
--- the sink of a pin's class at the block at (x, y), which stands behind those of the input classes below
+-- the sink of a pin's class at the block at (x, y), which stands behind those of the input classes
+-- below
 unfoldable pub sink_of_pin : Fabric → Option Pin → (x y : ℕ) → List ℕ
 sink_of_pin f (Some p) x y =
     when (has_direction Input (class_direction f.architecture p.class) && nat_lt p.class (class_count f.architecture))
@@ -37,12 +39,14 @@ ipin_successors f a =
 abbrev pub taps_track : Fabric → (fc pin track : ℕ) → Bool
 taps_track f fc pin track = list_any (λ t. t == track) (tapped_tracks f fc pin)
 
--- the wires above a row that begin at column first and run through a column, on tracks that the pin taps
+-- the wires above a row that begin at column first and run through a column, on tracks that the pin
+-- taps
 unfoldable pub tapped_chanx : Fabric → (fc pin column row first : ℕ) → List ℕ
 tapped_chanx f fc pin column row first =
     picks (λ t. nat_le column (last_of f f.nx t first) && taps_track f fc pin t) (place_start f Chanx first row) (beginnings_at f f.nx first)
 
--- the wires right of a column that begin at row first and run through a row, on tracks that the pin taps
+-- the wires right of a column that begin at row first and run through a row, on tracks that the pin
+-- taps
 unfoldable pub tapped_chany : Fabric → (fc pin column row first : ℕ) → List ℕ
 tapped_chany f fc pin column row first =
     picks (λ t. nat_le row (last_of f f.ny t first) && taps_track f fc pin t) (place_start f Chany column first) (beginnings_at f f.ny first)
@@ -55,7 +59,8 @@ tapped_row f fc pin column row = flat_map (tapped_chanx f fc pin column row) (ra
 unfoldable pub tapped_column : Fabric → (fc pin column row : ℕ) → List ℕ
 tapped_column f fc pin column row = flat_map (tapped_chany f fc pin column row) (range_with_len 1 row)
 
--- all that run through a column, above the row before and above a row, in turn for each column where they begin
+-- all that run through a column, above the row before and above a row, in turn for each column
+-- where they begin
 unfoldable pub tapped_rows : Fabric → (fc pin column row : ℕ) → (bottom top : Bool) → List ℕ
 tapped_rows f fc pin column row bottom top =
     flat_map (λ first. (if bottom then tapped_chanx f fc pin column (row - 1) first else [])

@@ -25,7 +25,8 @@ pub record IsTerminal (f : Fabric) (x y number : ℕ) : Type 0 where
   pub small : number < 256
   pub around : is_block f x y ≡ false → is_pad f x y ≡ true
 
--- what the sink of an input pin, a node of kind Ipin, is numbered by: the pin's class at a block, its position at a pad
+-- what the sink of an input pin, a node of kind Ipin, is numbered by: the pin's class at a block,
+-- its position at a pad
 abbrev pub sink_label : Fabric → Node → Option ℕ
 sink_label f pin = if is_block f pin.x pin.y then option_map (λ p. p.class) (slice_get f.architecture.pins pin.number) else Some pin.number
 

@@ -1,4 +1,5 @@
--- The text of a log (ours): lines with `#` tell of the run, and behind titles a line tells of each iteration.
+-- The text of a log (ours): lines with `#` tell of the run, and behind titles a line tells of each
+-- iteration.
 use Rattle.std.specs.Prelude.{ℕ, ◌-◌, ◌*◌, ◌/◌, ◌%◌, List, [], ◌++◌, codes, decimal, length, take}
 use Rattle.rr_graph.specs.node.Mode.{Mode}
 use Rattle.rr_graph.specs.node.Mode.TheVariants.{Detailed, Global}
@@ -100,7 +101,8 @@ figures_text overused excess unrouted wirelength =
 unfoldable pub time_text : (milliseconds : ℕ) → List ℕ
 time_text milliseconds = codes " " ++ (seconds_text milliseconds ++ codes "\n")
 
--- the line of an iteration by these options, of the book that it left, so many milliseconds after the beginning
+-- the line of an iteration by these options, of the book that it left, so many milliseconds after
+-- the beginning
 unfoldable pub row_text : RouterOptions → (iteration : ℕ) → Content → (milliseconds : ℕ) → List ℕ
 row_text o iteration c milliseconds =
     iteration_text c.problem.device.width iteration (present_of o iteration)

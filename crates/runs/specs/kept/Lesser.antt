@@ -3,7 +3,8 @@ use Rattle.std.specs.Prelude.{ℕ, List, ◌++◌, codes, decimal, Option, None,
 use Rattle.iteration.specs.declared.outcome.Outcome.{Outcome}
 use Rattle.runs.specs.kept.Routing.{outcome_text}
 
--- what a negotiation at a width came to, as `width 3: not routed: unrouted 0, overused 36, iterations 30`
+-- what a negotiation at a width came to, as `width 3: not routed: unrouted 0, overused 36,
+-- iterations 30`
 unfoldable pub lesser_line : (width : ℕ) → Outcome → List ℕ
 lesser_line width outcome = codes "width " ++ (decimal width ++ (codes ": " ++ outcome_text outcome))
 

@@ -1,4 +1,5 @@
--- How lines are kept: ranges of the source, and for each line its number and its part of the ranges.
+-- How lines are kept: ranges of the source, and for each line its number and its part of the
+-- ranges.
 use Rattle.std.specs.Prelude.{◌≡◌, ℕ, ◌+◌, ◌-◌, ◌<◌, ◌≤◌, nat_lt, Bool, if◌then◌else◌, List, [], ◌∷◌, ◌++◌, length, take, drop, map, slice_range, All}
 use Rattle.vpr_text.specs.declared.line.ByteRange.{ByteRange}
 use Rattle.vpr_text.specs.declared.line.LineEntry.{LineEntry}

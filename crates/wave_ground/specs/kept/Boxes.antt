@@ -3,7 +3,7 @@ use Rattle.std.specs.Prelude.{◌≡◌, ℕ, ◌+◌, ◌-◌, ◌<◌, ◌≤�
 use Rattle.routing_problem.specs.Fabric.{Fabric}
 use Rattle.track_groups.specs.declared.group.Group.{Group}
 use Rattle.wavefront.specs.Boxes as plain
-use Rattle.wavefront.specs.kept.Bounds.{Wire}
+use Rattle.wavefront.specs.kept.Bounds.{WireShape}
 use Rattle.wavefront.specs.kept.Bounds.{wires_to}
 use Rattle.wave_ground.specs.declared.boxes.BoundingBox.{BoundingBox}
 
@@ -25,16 +25,17 @@ pub record IsWidened (bb : ℕ) (b wide : plain.BoundingBox) : Type 0 where
 abbrev pub box_shared : (a b : plain.BoundingBox) → plain.BoundingBox
 box_shared a b = record { left = max a.left b.left; right = min a.right b.right; bottom = max a.bottom b.bottom; top = min a.top b.top }
 
--- a box around those of a net's sinks that stand from one place of their list to the one before another
+-- a box around those of a net's sinks that stand from one place of their list to the one before
+-- another
 pub record SinkBox : Type 0 where
   pub place : plain.BoundingBox
   pub from : ℕ
   pub until : ℕ
 
 -- none of the boxes tells of fewer wires that lead on from a wire
-abbrev pub IsLow : List SinkBox → Wire → ℕ → Type 0
+abbrev pub IsLow : List SinkBox → WireShape → ℕ → Type 0
 IsLow boxes wire wires = (box : SinkBox) → Contains boxes box → wires ≤ wires_to box.place wire
 
 -- a group's wire: what tells how many wires lead on from it
-abbrev pub wire_of : Group → Wire
+abbrev pub wire_of : Group → WireShape
 wire_of group = record { kind = group.kind; span = group.span; steps = group.reach - 1 }

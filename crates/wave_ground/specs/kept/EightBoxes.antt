@@ -2,10 +2,10 @@
 use Rattle.std.specs.Prelude.{◌≡◌, ℕ, ◌+◌, ◌-◌, ◌*◌, ◌/◌, ◌%◌, ◌<◌, ◌≤◌, List, cond, get_or, min, slice_index}
 use Rattle.routing_problem.specs.node.Kind.TheVariants.{Chanx, Chany}
 use Rattle.wavefront.specs.Boxes.{BoundingBox}
-use Rattle.wavefront.specs.kept.Bounds.{Wire, gap}
+use Rattle.wavefront.specs.kept.Bounds.{WireShape, gap}
 use Rattle.wave_ground.specs.declared.eight_boxes.EightBoxes.{EightBoxes}
 use Rattle.wave_ground.specs.declared.eight_boxes.Outlook.{Outlook}
-use Rattle.wave_ground.specs.declared.eight_boxes.Sides.{Sides}
+use Rattle.wave_ground.specs.declared.eight_boxes.BoxSides.{BoxSides}
 
 -- what is kept of a coordinate
 abbrev pub cut : ℕ → ℕ
@@ -22,11 +22,12 @@ pub record KeepsBox (boxes : EightBoxes) (lane : ℕ) (place : BoundingBox) : Ty
 abbrev pub StandsAt : List EightBoxes → (at : ℕ) (place : BoundingBox) → Type 0
 StandsAt eights at place = (e : EightBoxes) → KeepsBox (get_or eights (at / 8) e) (at % 8) place
 
--- how far the wire lies from one of the boxes along the sides, and how far from what lies before the box too
-abbrev pub gap_at : Sides → (lane : ℕ) → ℕ
+-- how far the wire lies from one of the boxes along the sides, and how far from what lies before
+-- the box too
+abbrev pub gap_at : BoxSides → (lane : ℕ) → ℕ
 gap_at s lane = gap (slice_index s.lows lane) (slice_index s.highs lane) s.first s.last
 
-abbrev pub gap_beside : Sides → (lane : ℕ) → ℕ
+abbrev pub gap_beside : BoxSides → (lane : ℕ) → ℕ
 gap_beside s lane = gap (slice_index s.lows lane - 1) (slice_index s.highs lane) s.first s.last
 
 -- one by which a product is divided in place of steps + 1, and is no more often
@@ -35,7 +36,7 @@ pub record IsShare (steps share : ℕ) : Type 0 where
   pub fits : share * (steps + 1) ≤ 65536 + (steps + 1)
 
 -- what is kept of a wire from which boxes are looked at
-pub record IsOutlook (o : Outlook) (wire : Wire) : Type 0 where
+pub record IsOutlook (o : Outlook) (wire : WireShape) : Type 0 where
   pub kind : wire.kind ≡ cond o.is_column Chany Chanx
   pub steps : o.steps ≡ wire.steps
   pub few : o.steps < 128

@@ -1,4 +1,5 @@
--- What all searches over a device share (ours; the device is that of `routing_problem`, its groups those of `track_groups`).
+-- What all searches over a device share (ours; the device is that of `routing_problem`, its groups
+-- those of `track_groups`).
 use Rattle.std.specs.Prelude.{List}
 use Rattle.routing_problem.specs.Fabric.{Fabric}
 use Rattle.track_groups.specs.declared.group.Drive.{Drive}
@@ -7,7 +8,8 @@ use Rattle.track_groups.specs.Joints.{Tables, IsTabled}
 use Rattle.wave_ground.specs.declared.boxes.BoundingBox.{BoundingBox}
 use Rattle.wave_ground.specs.kept.Boxes.{AreFirstBoxes}
 
--- the groups of a device's wires with their edges, what output pins drive, and boxes of its first nodes
+-- the groups of a device's wires with their edges, what output pins drive, and boxes of its first
+-- nodes
 pub record DeviceTables : Type 0 where
   pub groups : Tables
   pub drives : List (List Drive)

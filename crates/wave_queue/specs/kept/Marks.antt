@@ -19,7 +19,8 @@ pub record Unmarks (old new : List ℕ) (place : ℕ) : Type 0 where
   pub here : mark_at new place ≡ 0
   pub others : (i : ℕ) → i ≢ place → mark_at new i ≡ mark_at old i
 
--- bit j is the mark of the j-th place from one on, as far as they stand in the same word, and 0 past them
+-- bit j is the mark of the j-th place from one on, as far as they stand in the same word, and 0
+-- past them
 pub record AreMarksFrom (words : List ℕ) (place bits : ℕ) : Type 0 where
   pub within : (j : ℕ) → place % 64 + j < 64 → bit_at bits j ≡ mark_at words (place + j)
   pub past : (j : ℕ) → 64 ≤ place % 64 + j → bit_at bits j ≡ 0

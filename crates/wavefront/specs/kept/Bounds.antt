@@ -11,9 +11,9 @@ use Rattle.node_cost.specs.Costs.{unit_factor}
 use Rattle.wavefront.specs.Boxes.{BoundingBox}
 use Rattle.wavefront.specs.Space.{wire_base, input_pin_base}
 
--- a wire's kind, the places that it passes, and over how many steps the wires of its track go on at most after the places where
--- they begin
-pub record Wire : Type 0 where
+-- a wire's kind, the places that it passes, and over how many steps the wires of its track go on at
+-- most after the places where they begin
+pub record WireShape : Type 0 where
   pub kind : Kind
   pub span : Span
   pub steps : ℕ
@@ -30,8 +30,9 @@ wires_over steps places = (places + steps) / (steps + 1)
 abbrev pub wires_from : (steps along across : ℕ) → ℕ
 wires_from steps along across = wires_over steps along + wires_over steps across
 
--- how many wires lead on, where the wire lies so far off along its channel, and so far across. The last one lies along the channel,
--- which is there where others lead across, or it lies across, and the corner where it is entered is a place nearer
+-- how many wires lead on, where the wire lies so far off along its channel, and so far across. The
+-- last one lies along the channel, which is there where others lead across, or it lies across, and
+-- the corner where it is entered is a place nearer
 abbrev pub wires_for : (steps along across : ℕ) → ℕ
 wires_for steps along across = min (wires_from steps (max along (min 1 across)) across) (wires_from steps (along - 1) (across + 1))
 
@@ -45,7 +46,7 @@ wires_by_kind steps Chanx box s = wires_for steps (gap box.left box.right s.x1 s
 wires_by_kind steps Chany box s = wires_for steps (gap box.bottom box.top s.y1 s.y2) (gap (box.left - 1) box.right s.x1 s.x2)
 
 -- the fewest that lead from a wire to one beside the box's blocks
-abbrev pub wires_to : BoundingBox → Wire → ℕ
+abbrev pub wires_to : BoundingBox → WireShape → ℕ
 wires_to box wire = wires_by_kind wire.steps wire.kind box wire.span
 
 -- what it costs at least to enter a wire, and an input pin
@@ -68,7 +69,7 @@ abbrev pub steps_within : Fabric → (track : ℕ) → ℕ
 steps_within f track = reach_of f track - 1
 
 -- node v is a wire of this kind and span, in a track whose wires go on over so many steps at most
-pub record IsWireAt (f : Fabric) (v : ℕ) (wire : Wire) : Type 0 where
+pub record IsWireAt (f : Fabric) (v : ℕ) (wire : WireShape) : Type 0 where
   pub node : Node
   pub there : node_at f v ≡ Some node
   pub is : is_wire node.kind ≡ true

@@ -1,7 +1,6 @@
 use Rattle.std.proofs.Common.{◌≡◌, ◌<◌, [], ◌∷◌, ◌++◌, true, false, length, Ok, Err, sym, ap, ◌∙◌, arith}
-use Rattle.vpr_text.specs.Words.{number_at, words_at}
+use Rattle.vpr_text.specs.Words.{words_at}
 use Rattle.arch_file.specs.Judge.{is_passed, judge}
-use Rattle.arch_file.specs.Reading.{entries_from}
 use Rattle.arch_file.proofs.Lines.{passes, takes, refuses, ends}
 use Rattle.arch_file.proofs.reading.entries.Goals as goal
 use Rattle.arch_file.proofs.reading.entries.Goals.{then-not-is_passed+in-Ok+in_ok-push-in-Ok, else-not-is_passed}

@@ -1,7 +1,7 @@
 use Rattle.std.proofs.Common.{rules, arith, [], ◌∷◌, length}
 use Rattle.std.proofs.lemmas.List.Elements.{All-push}
 use Rattle.std.proofs.lemmas.List.Sums.{sum_by-append}
-use Rattle.net_workers.specs.Parts.{Part}
+use Rattle.net_workers.specs.WorkerParts.{Part}
 use Rattle.net_workers.specs.Searches.{AreFound}
 use Rattle.net_workers.proofs.iteration.take_apart.Goals as goal
 

@@ -1,5 +1,5 @@
 use Rattle.std.proofs.Common.{arith, ap}
-use Rattle.net_workers.specs.Parts.{Part}
+use Rattle.net_workers.specs.WorkerParts.{Part}
 use Rattle.net_workers.proofs.iteration.work_at.Goals as goal
 
 pub run_all-requires-clause-fresh : goal.run_all-requires-clause-fresh

@@ -5,7 +5,8 @@ use Rattle.route_file.proofs.Sending.{Lacks}
 use Rattle.route_file.proofs.NetTexts.{nets_text}
 use Rattle.route_file.proofs.writing.put_nets.Given as goal
 
--- what is lacking are the lines of the nets to come, and the list of the next routed net is next in the routing
+-- what is lacking are the lines of the nets to come, and the list of the next routed net is next in
+-- the routing
 abbrev pub invariant-loop-number : goal.invariant-loop-number
 invariant-loop-number g l =
     let sink = g.W.ByteSink in

@@ -1,10 +1,7 @@
 use Rattle.std.proofs.Common.{sym, ◌∙◌}
 use Rattle.std.proofs.lemmas.Bool.{false≢true}
-use Rattle.route_file.specs.Text.{text_of}
-use Rattle.run_inputs.specs.Runs.{TakesAll, TakesFront, TakesNothing, writing}
-use Rattle.runs.specs.WidthRun.{report_text}
-use Rattle.runs.proofs.Widths.{report_written}
-use Rattle.runs.proofs.Writing.{success_bound, success_late}
+use Rattle.run_inputs.specs.Runs.{writing}
+use Rattle.runs.proofs.Widths.{found_bound, found_late, report_written}
 use Rattle.runs.proofs.width.write_report.Goals as goal
 
 pub returns-in_ok-problem-in-Some-clause-writes : goal.returns-in_ok-problem-in-Some-clause-writes
@@ -15,28 +12,10 @@ returns-in_ok-problem-in-Some-clause-writes g c =
     c.in-Some.ensures.least c.in_ok-problem-in-Some.ensures.made c.write_found.ensures
 
 pub returns-in_ok-problem-in-Some-clause-route : goal.returns-in_ok-problem-in-Some-clause-route
-returns-in_ok-problem-in-Some-clause-route g c =
-    let p = c.args.placed.now in
-    let route = writing (g.R.ByteSink.taken c.args.route.now) (g.R.ByteSink.taken c.write_found.new.route) (g.R.ByteSink.failed c.write_found.new.route) in
-    let out = writing (g.W.ByteSink.taken c.args.out.now) (g.W.ByteSink.taken c.write_found.new.out) (g.W.ByteSink.failed c.write_found.new.out) in
-    let lines = report_text c.args.report.now in
-    let text = text_of p.netlist p.placement c.in_ok-problem-in-Some.problem c.in-Some.least.now.routing in
-    λ free. absurd (false≢true (sym (success_bound (TakesFront out lines) (TakesNothing route) (TakesAll out lines) route text (tt {0}) c.write_found.result out.failed c.write_found.ensures) ∙ free))
+returns-in_ok-problem-in-Some-clause-route g c = λ free. absurd (false≢true (sym (found_bound _ _ _ _ _ _ c.write_found.ensures) ∙ free))
 
 pub returns-in_ok-problem-in-Some-clause-out : goal.returns-in_ok-problem-in-Some-clause-out
-returns-in_ok-problem-in-Some-clause-out g c =
-    let p = c.args.placed.now in
-    let route = writing (g.R.ByteSink.taken c.args.route.now) (g.R.ByteSink.taken c.write_found.new.route) (g.R.ByteSink.failed c.write_found.new.route) in
-    let out = writing (g.W.ByteSink.taken c.args.out.now) (g.W.ByteSink.taken c.write_found.new.out) (g.W.ByteSink.failed c.write_found.new.out) in
-    let lines = report_text c.args.report.now in
-    let text = text_of p.netlist p.placement c.in_ok-problem-in-Some.problem c.in-Some.least.now.routing in
-    λ free. absurd (false≢true (sym (success_bound (TakesFront out lines) (TakesNothing route) (TakesAll out lines) route text (tt {0}) c.write_found.result out.failed c.write_found.ensures) ∙ free))
+returns-in_ok-problem-in-Some-clause-out g c = λ free. absurd (false≢true (sym (found_bound _ _ _ _ _ _ c.write_found.ensures) ∙ free))
 
 pub returns-in_ok-problem-in-Some-clause-late : goal.returns-in_ok-problem-in-Some-clause-late
-returns-in_ok-problem-in-Some-clause-late g c =
-    let p = c.args.placed.now in
-    let route = writing (g.R.ByteSink.taken c.args.route.now) (g.R.ByteSink.taken c.write_found.new.route) (g.R.ByteSink.failed c.write_found.new.route) in
-    let out = writing (g.W.ByteSink.taken c.args.out.now) (g.W.ByteSink.taken c.write_found.new.out) (g.W.ByteSink.failed c.write_found.new.out) in
-    let lines = report_text c.args.report.now in
-    let text = text_of p.netlist p.placement c.in_ok-problem-in-Some.problem c.in-Some.least.now.routing in
-    success_late (TakesFront out lines) (TakesNothing route) (TakesAll out lines) route text (tt {0}) c.write_found.result out.failed c.write_found.ensures
+returns-in_ok-problem-in-Some-clause-late g c = found_late _ _ _ _ _ _ c.write_found.ensures

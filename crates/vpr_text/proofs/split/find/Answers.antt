@@ -1,6 +1,6 @@
 use Rattle.std.proofs.Common.{eqb, arith}
 use Rattle.std.proofs.lemmas.Bool.{eq-eqb, ne_eqb}
-use Rattle.vpr_text.proofs.Parts.{NonePass-more, found_at}
+use Rattle.vpr_text.proofs.ByteParts.{NonePass-more, found_at}
 use Rattle.vpr_text.proofs.split.find.Goals as goal
 
 pub returns-then-source-i-clause-found : goal.returns-then-source-i-clause-found

@@ -1,5 +1,5 @@
 use Rattle.std.proofs.Common.{eqb}
-use Rattle.vpr_text.proofs.Parts.{NonePass}
+use Rattle.vpr_text.proofs.ByteParts.{NonePass}
 use Rattle.vpr_text.proofs.split.find.Given as goal
 
 abbrev pub invariant-loop-i : goal.invariant-loop-i

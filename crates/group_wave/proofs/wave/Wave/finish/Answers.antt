@@ -5,7 +5,7 @@ use Rattle.wave_queue.specs.kept.Queues.{entry_of}
 use Rattle.group_wave.proofs.Beside.{pins_then}
 use Rattle.group_wave.proofs.Entered.{spreads_then, still_out}
 use Rattle.group_wave.proofs.Expanded.{rest_goes_on, rest_went}
-use Rattle.group_wave.proofs.Waited.{on_ok_both}
+use Rattle.group_wave.proofs.Starts.{on_ok_two}
 use Rattle.group_wave.proofs.wave.Wave.finish.Goals as goal
 
 pub relax_each-requires : goal.relax_each-requires
@@ -19,7 +19,7 @@ returns g c =
     let reached = c.reach_if_beside.new.self in
     let now = c.relax_each.new.self in
     let first = c.in_ok-reach_if_beside.ensures.spreads in
-    on_ok_both c.relax_each.result (λ second took.
+    on_ok_two c.relax_each.result (λ second took.
     let spreads = spreads_then ground was reached now first second in
     let low : IsLow now.boxes (wire_of (group_at (groups_of ground) e.group)) c.args.wires = rw spreads.lowers.boxes (rw c.requires.out.group at c.requires.low) in
     rest_goes_on ground was now e c.requires.but spreads

@@ -1,5 +1,5 @@
 use Rattle.std.proofs.Common.{rules}
-use Rattle.net_workers.proofs.Parts.{parts_more}
+use Rattle.net_workers.proofs.WorkerParts.{parts_more}
 use Rattle.net_workers.proofs.desk.Desk.new.Goals as goal
 
 pub loop-worker-preserved : goal.loop-worker-preserved

@@ -1,5 +1,5 @@
 use Rattle.std.specs.Prelude.{◌≡◌, ◌+◌, ◌≤◌, vec_capacity}
-use Rattle.net_workers.specs.Parts.{AreParts}
+use Rattle.net_workers.specs.WorkerParts.{AreParts}
 use Rattle.net_workers.proofs.desk.Desk.new.Given as goal
 
 abbrev pub invariant-loop-worker : goal.invariant-loop-worker

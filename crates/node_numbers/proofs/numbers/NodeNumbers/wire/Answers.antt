@@ -1,7 +1,6 @@
 use Rattle.std.proofs.Common.{◌≡◌, ◌<◌, subst, sym, ◌∙◌, arith}
 use Rattle.channel_tables.specs.Fabric.{Fabric}
 use Rattle.channel_tables.specs.Wires.{tracks_in, reach_of}
-use Rattle.node_numbers.specs.Nodes.{span_of}
 use Rattle.node_numbers.proofs.FirstWire.{wire_from, wire_reported}
 use Rattle.node_numbers.proofs.NumbersAtPlaces.{track_of_wire}
 use Rattle.node_numbers.proofs.numbers.NodeNumbers.wire.Goals as goal

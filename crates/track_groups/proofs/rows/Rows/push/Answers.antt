@@ -1,5 +1,5 @@
 use Rattle.std.proofs.Common.{◌++◌, ◌∷◌, [], List, length, map, ap, ◌∙◌}
-use Rattle.track_groups.specs.kept.Parts.{part_of}
+use Rattle.track_groups.specs.kept.ListParts.{part_of}
 use Rattle.track_groups.proofs.PushedRows.{row_pushed}
 use Rattle.track_groups.proofs.rows.Rows.push.Goals as goal
 

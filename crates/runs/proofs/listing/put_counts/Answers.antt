@@ -1,7 +1,0 @@
-use Rattle.vpr_text.proofs.Printing.{sends_then}
-use Rattle.runs.specs.Texts.{counts_line}
-use Rattle.runs.proofs.listing.put_counts.Goals as goal
-
-pub returns : goal.returns
-unfolding counts_line
-returns g c = sends_then c.put_number.ensures (sends_then c.push.ensures (sends_then c.put_number-2.ensures c.push-2.ensures))
