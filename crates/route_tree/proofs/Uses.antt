@@ -42,7 +42,6 @@ use_replaced (n ∷ ns) (x ∷ xs) (suc i) new a l m =
     omega (arith, rest)
 
 module _ (nets : List Net) (lists : List (Option (List Pair))) (i a : ℕ) (net : i < length nets) (entry : i < length lists) where
-
   pub others_and_own : use_by_others nets lists i a + use_by (net_in nets i) (get_or lists i None) a ≡ use_of nets lists a
   others_and_own = let change = use_replaced nets lists i None a net entry in omega (arith, change)
 
