@@ -6,7 +6,6 @@ use Rattle.node_cost.specs.Options.{RouterOptions}
 use Rattle.iteration.specs.declared.outcome.Outcome.{Outcome}
 use Rattle.iteration.specs.declared.outcome.Outcome.TheVariants.{Success, NotRouted}
 use Rattle.iteration.specs.Outcomes.{EndsNegotiation, IsOutcome}
-use Rattle.gates.specs.declared.trial.TrialEnd.TheVariants as ended
 use Rattle.width_search.specs.declared.report.LeastWidth.{LeastWidth}
 use Rattle.width_search.specs.declared.trial.Trial.{Trial}
 use Rattle.width_search.specs.Widths.{IsSequence, least_routed, next_width}
