@@ -93,17 +93,17 @@ class Device:
         for x, y in pads:
             yield from (Node(kind, x, y, at) for kind in (SOURCE, SINK, OPIN, IPIN) for at in range(self.arch.pads))
 
-    def track_type(self, track):
-        """The type of a track, and how many tracks of that type are before it."""
+    def type_number(self, track):
+        """The place of a track's type among those of the architecture."""
         often = [segment.frequency for segment in self.arch.segments]
         if not any(often):
             often = [1] * len(often)
+        return next(s for s in range(len(often)) if (2 * track + 1) * sum(often) < 2 * self.width * sum(often[: s + 1]))
 
-        def type_of(t):
-            return next(s for s in range(len(often)) if (2 * t + 1) * sum(often) < 2 * self.width * sum(often[: s + 1]))
-
-        kind = type_of(track)
-        return self.arch.segments[kind], sum(type_of(t) == kind for t in range(track))
+    def track_type(self, track):
+        """The type of a track, and how many tracks of that type are before it."""
+        kind = self.type_number(track)
+        return self.arch.segments[kind], sum(self.type_number(t) == kind for t in range(track))
 
     def runs(self, track, length):
         """The wires of a track in a channel of so many places: their first and last ones."""

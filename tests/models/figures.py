@@ -68,7 +68,7 @@ class Routing:
     def types(self):
         segments = self.device.arch.segments
         width = 1 if self.device.is_global else self.device.width
-        tracks = [next(at for at, one in enumerate(segments) if one is self.device.track_type(track)[0]) for track in range(width)]
+        tracks = [self.device.type_number(track) for track in range(width)]
         for kind in range(len(segments)):
             wires, places = self.is_used_of([wire for wire in self.device.spans if tracks[wire.number] == kind])
             yield f"type {kind} tracks {tracks.count(kind)} wires {wires} places {places}"

@@ -38,6 +38,10 @@ reaches segments width track s =
 unfoldable pub type_of : List Segment → (width track : ℕ) → ℕ
 type_of segments width track = position_or_len (reaches segments width track) (numbers_below (length segments))
 
+-- that of a track of a device
+abbrev pub track_type : Fabric → (track : ℕ) → ℕ
+track_type f track = type_of f.architecture.segments f.width track
+
 -- a track's rank among the tracks of its type, which lie side by side
 unfoldable pub rank_of : List Segment → (width track : ℕ) → ℕ
 rank_of segments width track =

@@ -5,7 +5,7 @@ ghost use Rattle.std.specs.Prelude.{◌≡◌, ℕ, All, ◌+◌, ◌-◌, ◌*�
 ghost use Rattle.std.specs.List.{flat_map};
 ghost use Rattle.arch_file.specs.Architecture.{longest_side};
 ghost use Rattle.channel_tables.specs.Fabric.{IsFabric, numbers_below, most_tracks};
-ghost use Rattle.channel_tables.specs.Wires.{tracks_in, type_of, rank_of, begins, steps_of};
+ghost use Rattle.channel_tables.specs.Wires.{tracks_in, track_type, rank_of, begins, steps_of};
 ghost use Rattle.channel_tables.specs.kept.Tables.{stagger_of, wires_at, IsChannel};
 ghost use Rattle.channel_tables.specs.Channels.{starting_at, wires_before, wire_number, wire_at, beginning_of, beginnings_of};
 
@@ -68,25 +68,10 @@ pub(crate) struct Channel {
 }
 
 impl Layout {
-    /// The types of the tracks.
-    #[tactic(auto, using(crate::proofs::Ranges::mapped_next))]
-    fn types(&self, alloc: Global) -> Result<Vec<usize>, AllocError>
-        ensures { IfOk result
-            (λ v. v.items ≡ map (type_of self.now.architecture.segments self.now.width)
-            (numbers_below self.now.width)) }
-    {
-        let mut types = Vec::with_capacity(alloc, self.width() as usize)?;
-        for track in 0..self.width() {
-            types.push(self.type_of(track))?;
-        }
-        Ok(types)
-    }
-
     /// A track's rank among the tracks of its type.
     #[tactic(auto, using(crate::proofs::Ranges::length_below, crate::proofs::Ranges::get_below), unfolding(crate::specs::Wires::rank_of))]
     fn rank_of(&self, types: &[usize], track: u32) -> u32
-        requires types { types.now ≡ map (type_of self.now.architecture.segments self.now.width)
-            (numbers_below self.now.width) }
+        requires types { types.now ≡ map (track_type self.now) (numbers_below self.now.width) }
         requires within { track < self.now.width }
         ensures { result ≡ rank_of self.now.architecture.segments self.now.width track }
     {
@@ -102,8 +87,7 @@ impl Layout {
     /// How the wires of a track are shifted, in a channel of `places` places.
     fn stagger_by(&self, types: &[usize], places: u32, track: u32) -> Stagger
         requires some { 1 ≤ places }
-        requires types { types.now ≡ map (type_of self.now.architecture.segments self.now.width)
-            (numbers_below self.now.width) }
+        requires types { types.now ≡ map (track_type self.now) (numbers_below self.now.width) }
         requires within { track < self.now.width }
         ensures { result ≡ stagger_of self.now places track }
     {
@@ -120,7 +104,7 @@ impl Layout {
         ensures layout { IfOk result (λ s. s.layout.now ≡ self.now) }
         ensures places { IfOk result (λ s. s.places ≡ places) }
     {
-        let types = self.types(alloc)?;
+        let types = self.track_types(alloc)?;
         let mut list = Vec::with_capacity(alloc, self.tracks() as usize)?;
         for track in 0..self.tracks() {
             list.push(self.stagger_by(&types, places, track))?;

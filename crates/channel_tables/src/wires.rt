@@ -1,15 +1,17 @@
 //! The tracks of a channel, and the wires in them.
 
-ghost use Rattle.std.specs.Prelude.{◌≡◌, ℕ, ◌+◌, ◌-◌, ◌*◌, ◌^◌, ◌≤◌, ◌<◌, length, if◌then◌else◌};
+ghost use Rattle.std.specs.Prelude.{◌≡◌, ℕ, ◌+◌, ◌-◌, ◌*◌, ◌^◌, ◌≤◌, ◌<◌, IfOk, length, map, if◌then◌else◌};
 ghost use Rattle.arch_file.specs.Architecture.{most_segments};
-ghost use Rattle.channel_tables.specs.Wires.{tracks_in, total_frequency, weight_of_first, type_of, length_of, runs_through};
+ghost use Rattle.channel_tables.specs.Wires.{tracks_in, total_frequency, weight_of_first, type_of, track_type, length_of, runs_through};
 ghost use Rattle.channel_tables.specs.LastPlaces.{last_by};
-ghost use Rattle.channel_tables.specs.Fabric.{IsFabric, most_tracks};
+ghost use Rattle.channel_tables.specs.Fabric.{IsFabric, most_tracks, numbers_below};
 
 use crate::layout::Layout;
 use crate::node::{Kind, Mode, Node};
 use arch_file::{Segment, SegmentLength};
+use std::alloc::{AllocError, Global};
 
+/// The frequencies of all types together.
 fn total_frequency(segments: &[Segment]) -> u128
     requires { length segments.now ≤ most_segments }
     ensures { result ≡ total_frequency segments.now }
@@ -44,7 +46,7 @@ fn weight_of_first(segments: &[Segment], count: usize) -> u128
     weight
 }
 
-/// The type of a track.
+/// The type of a track in a channel of this width.
 #[tactic(auto, using(crate::proofs::Ranges::first_below), unfolding(crate::specs::Wires::type_of))]
 fn type_of(segments: &[Segment], width: u32, track: u32) -> usize
     requires few { length segments.now ≤ most_segments }
@@ -61,11 +63,24 @@ fn type_of(segments: &[Segment], width: u32, track: u32) -> usize
 }
 
 impl Layout {
-    /// The type of a track.
-    pub(crate) fn type_of(&self, track: u32) -> usize
-        ensures { result ≡ type_of self.now.architecture.segments self.now.width track }
+    /// The type of a track: which of the architecture's types its wires are of.
+    pub fn track_type(&self, track: u32) -> usize
+        ensures { result ≡ track_type self.now track }
     {
         type_of(self.segments(), self.width(), track)
+    }
+
+    /// The types of the tracks.
+    #[tactic(auto, using(crate::proofs::Ranges::mapped_next))]
+    pub fn track_types(&self, alloc: Global) -> Result<Vec<usize>, AllocError>
+        ensures { IfOk result
+            (λ v. v.items ≡ map (track_type self.now) (numbers_below self.now.width)) }
+    {
+        let mut types = Vec::with_capacity(alloc, self.width() as usize)?;
+        for track in 0..self.width() {
+            types.push(self.track_type(track))?;
+        }
+        Ok(types)
     }
 
     /// How many wires run through a place of a channel.

@@ -30,7 +30,8 @@ pub fn call(
         | "sink_of"
         | "is_source"
         | "is_sink"
-        | "pins_beside" => {
+        | "pins_beside"
+        | "track_type" => {
             let [id] = numbers::<1>(call.given)?;
             match device {
                 Some(device) => look_up(alloc, device, call.name, id, out),
@@ -42,6 +43,8 @@ pub fn call(
         | "first_wire"
         | "most_successors"
         | "input_pins"
+        | "tracks"
+        | "track_types"
         | "parts"
         | "dump_device"
         | "copy_device" => {
@@ -72,7 +75,7 @@ fn look_for(
     }
 }
 
-/// Makes a look-up of the node of a number.
+/// Makes a look-up of the node, or the track, of a number.
 fn look_up(
     alloc: Global,
     device: &Device,
@@ -91,6 +94,7 @@ fn look_up(
         "sink_of" => put_maybe(out, device.sink_of(id)),
         "is_source" => put(out, device.is_source(id)),
         "is_sink" => put(out, device.is_sink(id)),
+        "track_type" => put(out, device.track_type(id)),
         _ => put_pins(device.pins_beside(id), out),
     }
 }
@@ -108,6 +112,8 @@ fn look_at_all(
         "first_wire" => put(out, device.first_wire()),
         "most_successors" => put(out, device.most_successors()),
         "input_pins" => put_pins(device.input_pins(), out),
+        "tracks" => put(out, device.tracks()),
+        "track_types" => put_types(alloc, device, out),
         "parts" => put_parts(device, out),
         "dump_device" => dump(alloc, device, out),
         _ => copy(alloc, device, out),
@@ -149,6 +155,19 @@ fn put_wire(device: &Device, id: u32, out: &mut String) -> Result<(), Unanswered
 
 fn put_pins(range: NodeRange, out: &mut String) -> Result<(), Unanswered> {
     added(writeln!(out, "{} {}", range.first, range.end))
+}
+
+/// Adds the type of each track.
+fn put_types(alloc: Global, device: &Device, out: &mut String) -> Result<(), Unanswered> {
+    let types = device.track_types(alloc)?;
+    put_each(types.as_slice(), out)
+}
+
+fn put_each(numbers: &[usize], out: &mut String) -> Result<(), Unanswered> {
+    for number in numbers {
+        put(out, *number)?;
+    }
+    Ok(())
 }
 
 /// Adds the array, the width and the mode.

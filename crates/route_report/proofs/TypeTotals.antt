@@ -14,14 +14,14 @@ use Rattle.routing_problem.specs.node.Kind.{Kind}
 use Rattle.routing_problem.specs.node.Kind.TheVariants.{Source, Sink, Opin, Ipin, Chanx, Chany}
 use Rattle.routing_problem.specs.node.Node.{Node}
 use Rattle.routing_problem.specs.Fabric.{Fabric, IsFabric, numbers_below}
-use Rattle.routing_problem.specs.Wires.{reach_of, total_frequency, weight_in, weight_of_first, reaches, type_of}
+use Rattle.routing_problem.specs.Wires.{reach_of, total_frequency, weight_in, weight_of_first, reaches, track_type, type_of}
 use Rattle.routing_problem.specs.Nodes.{node_at, node_count_of, is_wire, is_wire_at, span_of, wire_in}
 use Rattle.routing_problem.proofs.TrackCounts.{tracks_within}
 use Rattle.routing_problem.proofs.WiresAtPlaces.{row_wire_at, column_wire_at}
 use Rattle.route_report.specs.Covered.{is_used}
 use Rattle.route_report.specs.Figures.{wires_used, places_used}
 use Rattle.route_report.specs.Wirelength.{places_of_wire, places_at}
-use Rattle.route_report.specs.WireTypes.{track_type, has_type, has_type_used, wire_type_of, wire_types_of}
+use Rattle.route_report.specs.WireTypes.{has_type, has_type_used, wire_type_of, wire_types_of}
 use Rattle.route_report.proofs.Totals.{sums_alike}
 use Rattle.route_report.proofs.ChannelTotals.{sums_zero, swapped, one_picked, sum_of_images}
 

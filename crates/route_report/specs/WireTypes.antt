@@ -3,15 +3,11 @@ use Rattle.std.specs.Prelude.{ℕ, ◌==◌, Bool, false, ◌&&◌, if◌then◌
 use Rattle.std.specs.List.{sum_by}
 use Rattle.std.specs.Option.{option_map_or}
 use Rattle.routing_problem.specs.Fabric.{Fabric, numbers_below}
-use Rattle.routing_problem.specs.Wires.{tracks_in, type_of}
+use Rattle.routing_problem.specs.Wires.{tracks_in, track_type}
 use Rattle.routing_problem.specs.Nodes.{node_at, node_count_of, is_wire}
 use Rattle.route_report.specs.declared.wire_types.WireTypeUse.{WireTypeUse}
 use Rattle.route_report.specs.Covered.{is_used}
 use Rattle.route_report.specs.Wirelength.{places_at}
-
--- the type of a track of the device
-abbrev pub track_type : Fabric → (track : ℕ) → ℕ
-track_type f track = type_of f.architecture.segments f.width track
 
 -- node a is a wire of type s, which is that of its track
 abbrev pub has_type : Fabric → (s a : ℕ) → Bool

@@ -8,7 +8,6 @@ mod figures;
 pub mod laws;
 mod occupancy;
 mod overused;
-mod track_types;
 mod uses;
 mod wire_types;
 mod wirelength;

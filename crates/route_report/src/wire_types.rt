@@ -2,13 +2,13 @@
 
 ghost use Rattle.std.specs.Prelude.{◌≡◌, ◌==◌, ◌≤◌, ◌&&◌, ℕ, IfOk, if◌then◌else◌, length, map};
 ghost use Rattle.routing_problem.specs.Fabric.{numbers_below};
+ghost use Rattle.routing_problem.specs.Wires.{track_type};
 ghost use Rattle.route_report.specs.Covered.{is_used};
 ghost use Rattle.route_report.specs.Wirelength.{places_at};
-ghost use Rattle.route_report.specs.WireTypes.{track_type, has_type, wire_type_of, wire_types_of};
+ghost use Rattle.route_report.specs.WireTypes.{has_type, wire_type_of, wire_types_of};
 ghost use Rattle.route_report.specs.kept.WireTypes.{tracks_with};
 
 use crate::figures::{is_wire_kind, one_if};
-use crate::track_types::{track_types, tracks, type_at};
 use crate::uses::is_used;
 use crate::wirelength::places_at;
 use routing_problem::Device;
@@ -26,6 +26,18 @@ pub struct WireTypeUse {
     pub wires_used: u32,
     /// The places of those.
     pub places_used: u64,
+}
+
+/// The type of a track, from a table of their types.
+#[tactic(auto, using(crate::proofs::TypesOfTracks::type_found))]
+fn type_at(device: &Device, types: &[usize], track: u32) -> usize
+    requires { types.now ≡ map (track_type device.now) (numbers_below device.now.width) }
+    ensures { result ≡ track_type device.now track }
+{
+    match types.get(track as usize) {
+        Some(kind) => *kind,
+        None => device.track_type(track),
+    }
 }
 
 /// Whether a node is a wire of this type; `types` are those of the tracks.
@@ -61,7 +73,7 @@ fn count_tracks(device: &Device, types: &[usize], kind: usize) -> u32
     ensures { result ≡ tracks_with device.now kind }
 {
     let mut count = 0;
-    for track in 0..tracks(device) {
+    for track in 0..device.tracks() {
         count += one_if(type_at(device, types, track) == kind);
     }
     count
@@ -103,7 +115,7 @@ pub fn wire_type_uses(
 ) -> Result<Vec<WireTypeUse>, AllocError>
     ensures { IfOk result (λ v. v.items ≡ wire_types_of device.now uses.now) }
 {
-    let types = track_types(alloc, device)?;
+    let types = device.track_types(alloc)?;
     let kinds = device.architecture().segments().len();
     let mut list = Vec::with_capacity(alloc, kinds)?;
     for kind in 0..kinds {

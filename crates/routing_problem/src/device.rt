@@ -1,10 +1,11 @@
 //! The device and its look-ups.
 
-ghost use Rattle.std.specs.Prelude.{◌≡◌, ℕ, ◌^◌, ◌<◌, ◌≤◌, ◌↔◌, ◌⊎◌, [], ◌∷◌, length, nat_le, Contains, true, IfOk, IfErr, IfSome, IsSome, Some, OnOk, OnErr, IsOk};
+ghost use Rattle.std.specs.Prelude.{◌≡◌, ℕ, ◌^◌, ◌<◌, ◌≤◌, ◌↔◌, ◌⊎◌, [], ◌∷◌, length, map, nat_le, Contains, true, IfOk, IfErr, IfSome, IsSome, Some, OnOk, OnErr, IsOk};
 ghost use Rattle.std.specs.List.Sorted.{IsStrictlyIncreasing};
 ghost use Rattle.std.specs.Option.{option_map};
 ghost use Rattle.arch_file.specs.Architecture.{longest_side};
-ghost use Rattle.channel_tables.specs.Fabric.{IsFabric, fabric_with, most_tracks};
+ghost use Rattle.channel_tables.specs.Fabric.{IsFabric, fabric_with, most_tracks, numbers_below};
+ghost use Rattle.channel_tables.specs.Wires.{tracks_in, track_type};
 ghost use Rattle.node_numbers.specs.Nodes.{node_count_of, node_at, kind_of_node, is_source, is_sink, is_wire_at, number_of, label_of, capacity_of, span_of, wire_in};
 ghost use Rattle.rr_edges.specs.Edges.{edge_between, successors_of, edge_count_of};
 ghost use Rattle.rr_edges.specs.InputPins.{IsInRange, IsPinOf};
@@ -139,6 +140,30 @@ impl Device {
         ensures { result ≡ self.now.mode }
     {
         self.graph.layout().mode()
+    }
+
+    /// How many wires run through a place of a channel: a global device's is one, which stands for
+    /// all tracks.
+    pub fn tracks(&self) -> u32
+        ensures tracks { result ≡ tracks_in self.now.mode self.now.width }
+        ensures few { result ≤ most_tracks }
+    {
+        self.graph.layout().tracks()
+    }
+
+    /// The type of a track: which of the architecture's types its wires are of.
+    pub fn track_type(&self, track: u32) -> usize
+        ensures { result ≡ track_type self.now track }
+    {
+        self.graph.layout().track_type(track)
+    }
+
+    /// The types of the tracks.
+    pub fn track_types(&self, alloc: Global) -> Result<Vec<usize>, AllocError>
+        ensures { IfOk result
+            (λ v. v.items ≡ map (track_type self.now) (numbers_below self.now.width)) }
+    {
+        self.graph.layout().track_types(alloc)
     }
 
     /// The architecture.

@@ -1,7 +1,7 @@
 use Rattle.std.proofs.Common.{◌≡◌, ◌==◌, ◌≤◌}
 use Rattle.std.specs.Prelude.{count_by}
 use Rattle.routing_problem.specs.Fabric.{numbers_below}
-use Rattle.route_report.specs.WireTypes.{track_type}
+use Rattle.routing_problem.specs.Wires.{track_type}
 use Rattle.route_report.proofs.wire_types.count_tracks.Given as goal
 
 abbrev pub invariant-loop-track : goal.invariant-loop-track

@@ -1,6 +1,0 @@
-use Rattle.std.proofs.Common.{◌≡◌, ℕ, ◌<◌, false}
-use Rattle.routing_problem.specs.Wires.{reaches}
-use Rattle.route_report.proofs.track_types.type_of.Given as goal
-
-abbrev pub invariant-loop-kind : goal.invariant-loop-kind
-invariant-loop-kind l = (k : ℕ) → k < l.kind → reaches l.segments l.width l.track k ≡ false
