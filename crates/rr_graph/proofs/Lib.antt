@@ -4,17 +4,5 @@ pub mod DevicesMade
 pub mod DesignExamples
 pub use Rattle.channel_tables.proofs.Ranges
 pub use Rattle.channel_tables.proofs.WireTables
-pub use Rattle.channel_tables.proofs.WiresWithin
-pub use Rattle.channel_tables.proofs.TrackCounts
 pub use Rattle.node_numbers.proofs.Order
-pub use Rattle.node_numbers.proofs.NodesByPlace
-pub use Rattle.node_numbers.proofs.WiresAtPlaces
-pub use Rattle.node_numbers.proofs.Capacities
-pub use Rattle.node_numbers.proofs.Ascending
-pub use Rattle.rr_edges.proofs.Graph
 pub use Rattle.rr_edges.proofs.EdgeEnds
-pub use Rattle.rr_edges.proofs.TerminalPlaces
-pub use Rattle.rr_edges.proofs.Joins
-pub use Rattle.rr_edges.proofs.InputPins
-pub use Rattle.routing_problem.proofs.Problems
-pub use Rattle.routing_problem.proofs.FirstFaults
