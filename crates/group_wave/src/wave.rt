@@ -3,6 +3,7 @@
 ghost use Rattle.std.specs.Prelude.{◌≡◌, ◌<◌, ◌≤◌};
 ghost use Rattle.wavefront.specs.kept.Bounds.{left_over};
 
+mod boxes;
 mod expanding;
 mod reaching;
 mod relaxing;
