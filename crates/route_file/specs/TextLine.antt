@@ -36,13 +36,17 @@ abbrev pub class_text : Option ℕ → List ℕ
 class_text (Some class) = decimal class
 class_text None = codes "-1"
 
+-- what begins a net: its number and its name, and what stands behind that
+abbrev pub net_heading : (number : ℕ) → (name rest : List ℕ) → List ℕ
+net_heading number name rest = codes "Net " ++ (decimal number ++ (codes " (" ++ (name ++ rest)))
+
 -- what stands on a line
 unfoldable pub bytes_on : TextLine → List ℕ
 bytes_on (Size nx ny) = codes "Array size: " ++ (decimal nx ++ (codes " x " ++ (decimal ny ++ codes " logic blocks.")))
 bytes_on Blank = codes ""
 bytes_on Heading = codes "Routing:"
-bytes_on (RoutedNet number name) = codes "Net " ++ (decimal number ++ (codes " (" ++ (name ++ codes ")")))
-bytes_on (GlobalNet number name) = codes "Net " ++ (decimal number ++ (codes " (" ++ (name ++ codes "): global net connecting:")))
+bytes_on (RoutedNet number name) = net_heading number name (codes ")")
+bytes_on (GlobalNet number name) = net_heading number name (codes "): global net connecting:")
 bytes_on (Block name number x y class) =
     codes "Block " ++ (name ++ (codes " (#" ++ (decimal number ++ (codes ") at " ++ (place_text x y ++ (codes ", pinclass " ++ (class_text class ++ codes ".")))))))
 bytes_on (NodeLine kind span label number) =

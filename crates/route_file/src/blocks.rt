@@ -7,10 +7,10 @@ ghost use Rattle.net_file.specs.Connections.{no_block};
 ghost use Rattle.route_file.specs.TextLine.{Block, GlobalNet, line_text};
 ghost use Rattle.route_file.specs.Text.{no_site, block_line, global_net_lines};
 
-use crate::text::{put_blank, put_class, put_line};
+use crate::text::{put_blank, put_class, put_heading};
 use net_file::{Net, Netlist, Terminal};
 use place_file::{Placement, Site};
-use text_output::{ByteSink, OutputBuffer, Piece, put_number, put_place};
+use text_output::{ByteSink, OutputBuffer, put_number, put_place};
 
 /// The name of a block; none past the last one.
 fn block_name<'a>(netlist: &Netlist<'a>, number: usize) -> &'a [u8]
@@ -97,17 +97,7 @@ fn put_global_heading<W: ByteSink>(out: &mut OutputBuffer, sink: &mut W, number:
     ensures { SendsTo W.taken W.failed sink.old sink.new out.old out.new
         (line_text (GlobalNet number name.now)) }
 {
-    put_line(
-        out,
-        sink,
-        &[
-            Piece::Text(b"Net "),
-            Piece::LongNumber(number as u64),
-            Piece::Text(b" ("),
-            Piece::Text(name),
-            Piece::Text(b"): global net connecting:"),
-        ],
-    );
+    put_heading(out, sink, number, name, b"): global net connecting:");
 }
 
 /// Prints the lines of a global net: what drives it, and what takes its signal.

@@ -3,7 +3,7 @@
 ghost use Rattle.std.specs.Prelude.{◌≡◌, ◌++◌, codes};
 ghost use Rattle.vpr_text.specs.Output.{SendsTo};
 ghost use Rattle.text_output.specs.Pieces.{pieces_text};
-ghost use Rattle.route_file.specs.TextLine.{Blank, line_text, class_text, kind_field};
+ghost use Rattle.route_file.specs.TextLine.{Blank, line_text, class_text, kind_field, net_heading};
 
 use rr_graph::Kind;
 use text_output::{ByteSink, OutputBuffer, Piece, put_number, put_pieces};
@@ -29,6 +29,30 @@ pub(crate) fn put_line<W: ByteSink>(out: &mut OutputBuffer, sink: &mut W, pieces
 {
     put_pieces(out, sink, pieces);
     out.push(sink, b"\n");
+}
+
+/// Prints the line that begins a net: its number, its name, and what stands behind that.
+pub(crate) fn put_heading<'a, W: ByteSink>(
+    out: &mut OutputBuffer,
+    sink: &mut W,
+    number: usize,
+    name: &'a [u8],
+    rest: &'a [u8],
+)
+    ensures { SendsTo W.taken W.failed sink.old sink.new out.old out.new
+        (net_heading number name.now rest.now ++ codes "\n") }
+{
+    put_line(
+        out,
+        sink,
+        &[
+            Piece::Text(b"Net "),
+            Piece::LongNumber(number as u64),
+            Piece::Text(b" ("),
+            Piece::Text(name),
+            Piece::Text(rest),
+        ],
+    );
 }
 
 /// Prints an empty line.

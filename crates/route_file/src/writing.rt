@@ -13,7 +13,7 @@ ghost use Rattle.route_file.specs.Writes.{Writes};
 
 use crate::blocks::put_global_net;
 use crate::nodes::put_pairs;
-use crate::text::{put_blank, put_line};
+use crate::text::{put_blank, put_heading, put_line};
 use net_file::{Net, Netlist};
 use place_file::Placement;
 use route_tree::{Pairs, Routing};
@@ -53,17 +53,7 @@ fn put_net_heading<W: ByteSink>(out: &mut OutputBuffer, sink: &mut W, number: us
     ensures { SendsTo W.taken W.failed sink.old sink.new out.old out.new
         (line_text (RoutedNet number name.now)) }
 {
-    put_line(
-        out,
-        sink,
-        &[
-            Piece::Text(b"Net "),
-            Piece::LongNumber(number as u64),
-            Piece::Text(b" ("),
-            Piece::Text(name),
-            Piece::Text(b")"),
-        ],
-    );
+    put_heading(out, sink, number, name, b")");
 }
 
 /// Prints the lines of a net that is routed by a list of pairs.
