@@ -5,7 +5,6 @@ use Rattle.vpr_text.specs.Text.{lines_of}
 use Rattle.vpr_text.specs.Words.{Line}
 use Rattle.vpr_text.specs.declared.fault.TextFault.{TextFault}
 use Rattle.net_file.specs.Netlist.{Netlist}
-use Rattle.rr_graph.specs.node.Mode.{Mode}
 use Rattle.rr_graph.specs.Problems.{RoutingProblem}
 use Rattle.route_tree.specs.Usage.{Lists}
 use Rattle.route_file.specs.declared.fault.RouteFileFault.{RouteFileFault}
@@ -15,9 +14,9 @@ use Rattle.vpr_text.specs.Readings.{◌>>=◌, with_fault}
 use Rattle.run_inputs.specs.declared.fault.AppFault.TheVariants.{Route}
 use Rattle.run_inputs.specs.declared.fault.AppFault.{AppFault}
 use Rattle.run_inputs.specs.declared.fault.InputFile.TheVariants as file
-use Rattle.run_inputs.specs.Inputs.{PlacedDesign, design_in, routing_from}
-use Rattle.run_inputs.specs.Runs.{DesignFiles, Input, bytes_in}
-use Rattle.report_run.specs.ReportRun.{reported_in, reported_of, reported_on, reported_with}
+use Rattle.run_inputs.specs.Inputs.{PlacedDesign, routing_from}
+use Rattle.run_inputs.specs.Runs.{Input, bytes_in}
+use Rattle.report_run.specs.ReportRun.{reported_of, reported_on, reported_with}
 
 module _ (d : PlacedDesign) (bytes : List ℕ) where
   pub bytes_fail : (e : AppFault) → routing_from d.netlist d.problem bytes ≡ Err e → reported_of d bytes ≡ Err e
@@ -36,15 +35,6 @@ module _ (d : PlacedDesign) (route : Input) where
   pub file_goes : (bytes : List ℕ) → bytes_in file.Route route ≡ Ok bytes → reported_on d route ≡ reported_of d bytes
   unfolding reported_on
   file_goes bytes h = rw h refl
-
-module _ (width : ℕ) (mode : Mode) (files : DesignFiles) (route : Input) where
-  pub design_fails : (e : AppFault) → design_in width mode files ≡ Err e → reported_in width mode files route ≡ Err e
-  unfolding reported_in
-  design_fails e h = rw h refl
-
-  pub design_goes : (d : PlacedDesign) → design_in width mode files ≡ Ok d → reported_in width mode files route ≡ reported_on d route
-  unfolding reported_in
-  design_goes d h = rw h refl
 
 -- ---- the lines of a routing file
 

@@ -7,7 +7,7 @@ use Rattle.rr_graph.specs.node.Mode.{Mode}
 use Rattle.route_tree.specs.Usage.{Lists}
 use Rattle.run_inputs.specs.declared.fault.AppFault.{AppFault}
 use Rattle.run_inputs.specs.declared.fault.InputFile.TheVariants as file
-use Rattle.run_inputs.specs.Inputs.{PlacedDesign, design_in, routing_from}
+use Rattle.run_inputs.specs.Inputs.{PlacedDesign, after_design, routing_from}
 use Rattle.run_inputs.specs.Runs.{DesignFiles, Input, PrintsText, StopsOrGoesOn, TakesNothing, Writing, bytes_in}
 use Rattle.vpr_text.specs.Readings.{◌>>=◌}
 use Rattle.report_run.specs.Report.{route_report_on, route_report_text}
@@ -33,8 +33,8 @@ unfoldable pub reported_on : PlacedDesign → (route : Input) → Result Reporte
 reported_on d route = bytes_in file.Route route >>= reported_of d
 
 -- what the files of a design and a routing file say, for a device of this width and mode
-unfoldable pub reported_in : (width : ℕ) → Mode → DesignFiles → (route : Input) → Result Reported AppFault
-reported_in width mode files route = design_in width mode files >>= λ d. reported_on d route
+abbrev pub reported_in : (width : ℕ) → Mode → DesignFiles → (route : Input) → Result Reported AppFault
+reported_in = after_design reported_on
 
 -- the report of the routing is printed
 abbrev pub PrintsReport : (is_map : Bool) → (out : Writing) → Reported → Result (Unit {0}) AppFault → Type 0

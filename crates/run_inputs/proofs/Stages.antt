@@ -17,20 +17,20 @@ met : (had : Option (List ℕ)) (failed : Bool) → (input : Input) × IsMet (re
 met None failed = (record { failed = failed; bytes = [] }, record { fails = refl; read = tt })
 met (Some all) failed = (record { failed = failed; bytes = take (2 ^ 24 + 1) all }, record { fails = refl; read = refl })
 
-pub meets_any : {P : Input → Type 0} (r : Reading) → ((input : Input) → P input) → Meets r P
-meets_any r always = let some = met r.had r.failed in (some.0, some.1, always some.0)
+pub meets_any : {r : Reading} {P : Input → Type 0} → ((input : Input) → P input) → Meets r P
+meets_any {r} always = let some = met r.had r.failed in (some.0, some.1, always some.0)
 
-pub meets_some : (r : Reading) → Meets r (λ _. Unit {0})
-meets_some r = meets_any r (λ input. tt)
+pub meets_some : {r : Reading} → Meets r (λ _. Unit {0})
+meets_some = meets_any (λ input. tt)
 
-pub meets_so : {P Q : Input → Type 0} (r : Reading) → Meets r P → ((input : Input) → P input → Q input) → Meets r Q
-meets_so r m so = (m.0, m.1, so m.0 m.2)
+pub meets_so : {r : Reading} {P Q : Input → Type 0} → Meets r P → ((input : Input) → P input → Q input) → Meets r Q
+meets_so m so = (m.0, m.1, so m.0 m.2)
 
 -- the files of a design, of which the first two and the third were met so
-pub meets_files : {P : Input → Input → Type 0} {Q : Input → Type 0} {R : DesignFiles → Type 0} (arch net place : Reading)
+pub meets_files : {arch net place : Reading} {P : Input → Input → Type 0} {Q : Input → Type 0} {R : DesignFiles → Type 0}
     → Meets arch (λ a. Meets net (P a)) → Meets place Q
     → ((files : DesignFiles) → P files.arch files.net → Q files.place → R files) → MeetsDesign arch net place R
-meets_files arch net place two third so =
+meets_files two third so =
     let files : DesignFiles = record { arch = two.0; net = two.2.0; place = third.0 } in
     (files, two.1, two.2.1, third.1, so files two.2.2 third.2)
 
@@ -64,9 +64,14 @@ pub given_by : {A B : Type 0} (f : A → Result B AppFault) (given : Result A Ap
 given_by f given x result h read = subst (Gives Memory (λ y. y) result) (sym (gives_by f given x h)) read
 
 -- a run whose inputs have a fault ends with it
-pub stops : {X R : Type 0} (untouched : Type 0) (goes_on : X → Result R AppFault → Type 0) (given : Result X AppFault) (e : AppFault) → untouched → given ≡ Err e
+pub stops : {X R untouched : Type 0} {given : Result X AppFault} {e : AppFault} (goes_on : X → Result R AppFault → Type 0) → untouched → given ≡ Err e
     → StopsOrGoesOn untouched goes_on given (Err e)
-stops untouched goes_on given e was h = subst (λ g. StopsOrGoesOn untouched goes_on g (Err e)) (sym h) (refl, was)
+stops {untouched} {e} goes_on was h = subst (λ g. StopsOrGoesOn untouched goes_on g (Err e)) (sym h) (refl, was)
+
+-- a run goes on with what its inputs come to
+pub goes_on_by : {X R : Type 0} {given known : Result X AppFault} (untouched : Type 0) (goes_on : X → Result R AppFault → Type 0) (result : Result R AppFault)
+    → given ≡ known → StopsOrGoesOn untouched goes_on known result → StopsOrGoesOn untouched goes_on given result
+goes_on_by untouched goes_on result same runs = subst (λ g. StopsOrGoesOn untouched goes_on g result) (sym same) runs
 
 -- ---- at which file a run ended
 

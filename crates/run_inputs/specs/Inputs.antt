@@ -81,6 +81,10 @@ design_on width mode p = record { netlist = p.netlist; placement = p.placement; 
 unfoldable pub design_in : (width : ℕ) → Mode → DesignFiles → Result PlacedDesign AppFault
 design_in width mode files = placed_in files >>= λ p. Ok (design_on width mode p)
 
+-- what these files say, and then what a routing file says for their design, which `said` tells
+unfoldable pub after_design : {X : Type 0} → (said : PlacedDesign → Input → Result X AppFault) → (width : ℕ) → Mode → DesignFiles → (route : Input) → Result X AppFault
+after_design said width mode files route = design_in width mode files >>= λ d. said d route
+
 -- ---- which file a run ended at
 
 -- the place of a file in the order of reading

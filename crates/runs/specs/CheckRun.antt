@@ -4,7 +4,7 @@ use Rattle.rr_graph.specs.node.Mode.{Mode}
 use Rattle.route_tree.specs.Paths.{Pair}
 use Rattle.route_check.specs.declared.fault.RouteFault.{RouteFault}
 use Rattle.run_inputs.specs.declared.fault.AppFault.{AppFault}
-use Rattle.run_inputs.specs.Inputs.{PlacedDesign, design_in, routing_in}
+use Rattle.run_inputs.specs.Inputs.{PlacedDesign, after_design, routing_in}
 use Rattle.run_inputs.specs.Runs.{DesignFiles, StopsOrGoesOn, Input, PrintsText, TakesNothing, Writing}
 use Rattle.vpr_text.specs.Readings.{◌>>=◌}
 use Rattle.runs.specs.Verdict.{IsVerdict, verdict_text}
@@ -18,8 +18,8 @@ unfoldable pub judged_on : PlacedDesign → (route : Input) → Result Judged Ap
 judged_on d route = routing_in d.netlist d.problem route >>= λ routing. Ok (record { design = d; routing = routing })
 
 -- what the files of a design and a routing file say, for a device of this width and mode
-unfoldable pub judged_in : (width : ℕ) → Mode → DesignFiles → (route : Input) → Result Judged AppFault
-judged_in width mode files route = design_in width mode files >>= λ d. judged_on d route
+abbrev pub judged_in : (width : ℕ) → Mode → DesignFiles → (route : Input) → Result Judged AppFault
+judged_in = after_design judged_on
 
 -- the line of the verdict is printed, and the verdict is the answer
 abbrev pub PrintsVerdict : Writing → Judged → Result (Option RouteFault) AppFault → Type 0

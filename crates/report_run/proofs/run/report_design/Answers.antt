@@ -1,29 +1,16 @@
-use Rattle.std.proofs.Common.{Err, ap, subst, sym}
+use Rattle.std.proofs.Common.{Err, ap}
 use Rattle.std.proofs.lemmas.Result.{err_from_is_err_and}
-use Rattle.run_inputs.specs.Runs.{TakesNothing, reading, writing}
 use Rattle.run_inputs.proofs.Ending.{Keeps-same}
-use Rattle.run_inputs.proofs.Stages.{meets_so, stops}
-use Rattle.report_run.specs.ReportRun.{PrintsReport, RunsReport, reported_on}
+use Rattle.run_inputs.proofs.Stages.{goes_on_by, meets_so, stops}
 use Rattle.report_run.proofs.Reading.{file_fails, file_goes}
 use Rattle.report_run.proofs.run.report_design.Goals as goal
 
 pub returns-in_err-bytes-clause-runs : goal.returns-in_err-bytes-clause-runs
 returns-in_err-bytes-clause-runs g c =
-    let source = g.R.ByteSource in
-    let sink = g.W.ByteSink in
-    let taken = sink.taken c.args.out.now in
-    let out = writing taken taken (sink.failed c.args.out.now) in
-    let d = c.args.design.now in
-    let e = c.in_err-bytes.field-0.0 in
     let p = err_from_is_err_and c.from_residual.result c.from_residual.ensures.1 in
-    rw (p.1, p.2) (λ ne. meets_so (reading (source.remaining c.args.route.now) (source.failed c.read_input.new.source)) c.in_err-bytes.ensures.read
-    (λ r h. stops (TakesNothing out) (PrintsReport c.args.is_map out) (reported_on d r) e (Keeps-same taken) (file_fails d r e (h (λ same. ne (ap Err same))))))
+    rw (p.1, p.2) (λ ne. meets_so c.in_err-bytes.ensures.read (λ r h. stops _ (Keeps-same _) (file_fails _ r _ (h (λ same. ne (ap Err same))))))
 
 pub returns-clause-runs : goal.returns-clause-runs
 returns-clause-runs g c =
-    let source = g.R.ByteSource in
-    let sink = g.W.ByteSink in
-    let out = writing (sink.taken c.args.out.now) (sink.taken c.report_bytes.new.out) (sink.failed c.report_bytes.new.out) in
-    let d = c.args.design.now in
-    λ ne. meets_so (reading (source.remaining c.args.route.now) (source.failed c.read_input.new.source)) c.in_ok-bytes.ensures.read
-    (λ r h. subst (λ given. RunsReport c.args.is_map out given c.report_bytes.result) (sym (file_goes d r c.deref.result.now (rw c.deref.ensures.value h))) (c.report_bytes.ensures.runs ne))
+    λ ne. meets_so c.in_ok-bytes.ensures.read (λ r h.
+    goes_on_by _ _ _ (file_goes _ r c.deref.result.now (rw c.deref.ensures.value h)) (c.report_bytes.ensures.runs ne))

@@ -1,74 +1,23 @@
-use Rattle.std.proofs.Common.{Err, ap, subst, sym, ◌∙◌}
+use Rattle.std.proofs.Common.{Err, ap}
 use Rattle.std.proofs.lemmas.Result.{err_from_is_err_and}
 use Rattle.run_inputs.specs.declared.fault.InputFile.TheVariants as file
-use Rattle.run_inputs.specs.Runs.{reading, writing}
-use Rattle.run_inputs.proofs.Designs.{text_fails, text_goes}
+use Rattle.run_inputs.proofs.AfterDesigns.{ends_at_design, ends_at_text, goes_on_after}
 use Rattle.run_inputs.proofs.Ending.{Keeps-same}
-use Rattle.run_inputs.proofs.Stages.{meets_any, meets_files, meets_so, meets_some, ends_not, stops}
-use Rattle.report_run.specs.ReportRun.{reported_in}
-use Rattle.report_run.proofs.Reading.{design_fails, design_goes}
-use Rattle.route_explain.specs.ExplainRun.{PrintsBoth, RunsExplain, TakeNothing}
+use Rattle.run_inputs.proofs.Stages.{ends_not}
 use Rattle.route_explain.proofs.run.explain_run.Goals as goal
 
 pub returns-in_err-text-clause-runs : goal.returns-in_err-text-clause-runs
 returns-in_err-text-clause-runs g c =
-    let arch = g.A.ByteSource in
-    let net = g.N.ByteSource in
-    let place = g.P.ByteSource in
-    let route = g.R.ByteSource in
-    let sink = g.W.ByteSink in
-    let taken = sink.taken c.args.out.now in
-    let told = g.X.ByteSink.taken c.args.words.now in
-    let out = writing taken taken (sink.failed c.args.out.now) in
-    let words = writing told told (g.X.ByteSink.failed c.args.words.now) in
-    let e = c.in_err-text.field-0.0 in
-    let reading_place = reading (place.remaining c.args.place.now) (place.failed c.args.place.now) in
     let p = err_from_is_err_and c.from_residual.result c.from_residual.ensures.1 in
-    rw (p.1, p.2) (λ ne. meets_files (reading (arch.remaining c.args.arch.now) (arch.failed c.read.new.arch)) (reading (net.remaining c.args.net.now) (net.failed c.read.new.net))
-    reading_place c.in_err-text.ensures.given (meets_some reading_place)
-    (λ files h _. meets_any (reading (route.remaining c.args.route.now) (route.failed c.args.route.now))
-    (λ r. stops (TakeNothing out words) (PrintsBoth out words c.args.path.now) (reported_in c.args.width c.args.mode files r) e (Keeps-same taken, Keeps-same told)
-    (design_fails c.args.width c.args.mode files r e (text_fails c.args.width c.args.mode files e (h (λ same. ne (ap Err same))))))))
+    rw (p.1, p.2) (λ ne. ends_at_text _ _ _ _ (Keeps-same _, Keeps-same _) (λ same. ne (ap Err same)) c.in_err-text.ensures.given)
 
 pub returns-in_err-design-clause-runs : goal.returns-in_err-design-clause-runs
 returns-in_err-design-clause-runs g c =
-    let arch = g.A.ByteSource in
-    let net = g.N.ByteSource in
-    let place = g.P.ByteSource in
-    let route = g.R.ByteSource in
-    let sink = g.W.ByteSink in
-    let taken = sink.taken c.args.out.now in
-    let told = g.X.ByteSink.taken c.args.words.now in
-    let out = writing taken taken (sink.failed c.args.out.now) in
-    let words = writing told told (g.X.ByteSink.failed c.args.words.now) in
-    let e = c.in_err-design.field-0.0 in
-    let width = c.args.width in
-    let mode = c.args.mode in
     let p = err_from_is_err_and c.from_residual-in_err-design.result c.from_residual-in_err-design.ensures.1 in
-    rw (p.1, p.2) (λ ne. meets_files (reading (arch.remaining c.args.arch.now) (arch.failed c.read.new.arch)) (reading (net.remaining c.args.net.now) (net.failed c.read.new.net))
-    (reading (place.remaining c.args.place.now) (place.failed c.read-2.new.place)) c.in_ok-text.ensures.given c.in_err-design.ensures.given
-    (λ files h k. meets_any (reading (route.remaining c.args.route.now) (route.failed c.args.route.now))
-    (λ r. stops (TakeNothing out words) (PrintsBoth out words c.args.path.now) (reported_in width mode files r) e (Keeps-same taken, Keeps-same told)
-    (design_fails width mode files r e (text_goes width mode files c.in_ok-text.text h ∙ k (λ same. ne (ap Err same)))))))
+    rw (p.1, p.2) (λ ne. ends_at_design _ _ _ _ (Keeps-same _, Keeps-same _) (λ same. ne (ap Err same)) c.in_ok-text.ensures.given c.in_err-design.ensures.given)
 
 pub returns-clause-runs : goal.returns-clause-runs
-returns-clause-runs g c =
-    let arch = g.A.ByteSource in
-    let net = g.N.ByteSource in
-    let place = g.P.ByteSource in
-    let route = g.R.ByteSource in
-    let sink = g.W.ByteSink in
-    let other = g.X.ByteSink in
-    let out = writing (sink.taken c.args.out.now) (sink.taken c.explain_design.new.out) (sink.failed c.explain_design.new.out) in
-    let words = writing (other.taken c.args.words.now) (other.taken c.explain_design.new.words) (other.failed c.explain_design.new.words) in
-    let width = c.args.width in
-    let mode = c.args.mode in
-    let d = c.in_ok-design.design in
-    λ ne. meets_files (reading (arch.remaining c.args.arch.now) (arch.failed c.read.new.arch)) (reading (net.remaining c.args.net.now) (net.failed c.read.new.net))
-    (reading (place.remaining c.args.place.now) (place.failed c.read-2.new.place)) c.in_ok-text.ensures.given c.in_ok-design.ensures.given
-    (λ files h k. meets_so (reading (route.remaining c.args.route.now) (route.failed c.explain_design.new.route)) (c.explain_design.ensures.runs ne)
-    (λ r runs. subst (λ given. RunsExplain out words c.args.path.now given c.explain_design.result)
-    (sym (design_goes width mode files r d (text_goes width mode files c.in_ok-text.text h ∙ k))) runs))
+returns-clause-runs g c = λ ne. goes_on_after _ _ _ _ _ _ c.in_ok-text.ensures.given c.in_ok-design.ensures.given (c.explain_design.ensures.runs ne)
 
 pub returns-clause-net : goal.returns-clause-net
 returns-clause-net g c = ends_not file.Net c.explain_design.result c.explain_design.ensures.late

@@ -1,5 +1,4 @@
 use Rattle.std.proofs.Common.{Err, ap, refl}
-use Rattle.run_inputs.specs.Runs.{reading}
 use Rattle.run_inputs.proofs.Stages.{meets_any, meets_so, not_failed, unread, was_read}
 use Rattle.run_inputs.proofs.inputs.read_input.Goals as goal
 
@@ -12,11 +11,8 @@ returns-in-Ok-clause-read g c =
 pub returns-in-Err-Failed-clause-read : goal.returns-in-Err-Failed-clause-read
 returns-in-Err-Failed-clause-read g c =
     let source = g.S.ByteSource in
-    let had = source.remaining c.args.source.now in
     let failed = source.failed c.read_all.new.source in
-    meets_so (reading had failed) (unread c.args.file had failed (c.in-Err-Failed.ensures.failed.0 (ap Err c.in-Err-Failed.field-0-is))) (λ input h _. h)
+    meets_so (unread c.args.file (source.remaining c.args.source.now) failed (c.in-Err-Failed.ensures.failed.0 (ap Err c.in-Err-Failed.field-0-is))) (λ input h _. h)
 
 pub returns-in-Err-Memory-clause-read : goal.returns-in-Err-Memory-clause-read
-returns-in-Err-Memory-clause-read g c =
-    let source = g.S.ByteSource in
-    meets_any (reading (source.remaining c.args.source.now) (source.failed c.read_all.new.source)) (λ input ne. absurd (ne refl))
+returns-in-Err-Memory-clause-read g c = meets_any (λ input ne. absurd (ne refl))

@@ -1,6 +1,6 @@
 use Rattle.std.proofs.lemmas.Result.{err_from_is_err_and}
 use Rattle.run_inputs.specs.declared.fault.InputFile.TheVariants as file
-use Rattle.run_inputs.specs.Runs.{bytes_in, reading}
+use Rattle.run_inputs.specs.Runs.{bytes_in}
 use Rattle.run_inputs.specs.Inputs.{routing_from, routing_in}
 use Rattle.run_inputs.proofs.Stages.{fails_by, given_by, meets_so}
 use Rattle.run_inputs.proofs.inputs.read_routing.Goals as goal
@@ -8,14 +8,11 @@ use Rattle.run_inputs.proofs.inputs.read_routing.Goals as goal
 pub returns-in_err-bytes-clause-given : goal.returns-in_err-bytes-clause-given
 unfolding routing_in
 returns-in_err-bytes-clause-given g c =
-    let source = g.S.ByteSource in
     let p = err_from_is_err_and c.from_residual.result c.from_residual.ensures.1 in
-    rw (p.1, p.2) (meets_so (reading (source.remaining c.args.source.now) (source.failed c.read_input.new.source)) c.in_err-bytes.ensures.read
-    (λ input h ne. fails_by (routing_from c.args.netlist.now c.args.problem.now) (bytes_in file.Route input) c.in_err-bytes.field-0.0 (h ne)))
+    rw (p.1, p.2) (meets_so c.in_err-bytes.ensures.read (λ input h ne. fails_by (routing_from c.args.netlist.now c.args.problem.now) (bytes_in file.Route input) c.in_err-bytes.field-0.0 (h ne)))
 
 pub returns-clause-given : goal.returns-clause-given
 unfolding routing_in
 returns-clause-given g c =
-    let source = g.S.ByteSource in
-    meets_so (reading (source.remaining c.args.source.now) (source.failed c.read_input.new.source)) c.in_ok-bytes.ensures.read
-    (λ input h. given_by (routing_from c.args.netlist.now c.args.problem.now) (bytes_in file.Route input) c.deref.result.now c.parse_routing.result (rw c.deref.ensures.value h) c.parse_routing.ensures.given)
+    meets_so c.in_ok-bytes.ensures.read (λ input h.
+    given_by (routing_from c.args.netlist.now c.args.problem.now) (bytes_in file.Route input) c.deref.result.now c.parse_routing.result (rw c.deref.ensures.value h) c.parse_routing.ensures.given)
