@@ -2,6 +2,7 @@
 #![tactic(auto)]
 
 mod files;
+mod opened;
 mod side;
 mod terminal;
 mod warning;
@@ -12,28 +13,29 @@ ghost use Rattle.node_cost.specs.Options.{most_workers};
 
 use clap::error::ErrorKind;
 use clap::{ArgMatches, Error as ClapError};
+use command_line::command;
 use command_line::command::{CheckWords, GraphWords, ReportWords, RouteWords, WidthWords};
-use command_line::{command, help};
 use files::{BehindProgress, SharedOutputs, Writer};
 use iteration::Outcome;
 use net_workers::BothGates;
+use opened::{open, open_design};
 use refusals::{Paths, tell_refusal};
 use report_run::report_run;
 use route_check::RouteFault;
 use route_explain::explain_run;
 use rr_graph::Mode;
 use run_inputs::{AppFault, InputFile, print_fault, status};
-use run_log::{Log, Progress};
+use run_log::Progress;
 use runs::{
     check_run, graph_run, outcome_status, report_status, route_run, verdict_status, width_run,
 };
-use side::{RestFile, TrialFiles, log_sink, others_of, rest_name};
+use side::{RestFile, TrialFiles, log_of, others_of, rest_name};
 use std::io::{IsTerminal, Write};
 use std::process::ExitCode;
 use std::rt::Runtime;
 use std::sync::Wait;
 use std::thread::Threads;
-use std::{env, fs, io};
+use std::{env, io};
 use terminal::{columns, takes_lines_back};
 use vpr_text::Adapted;
 use warning::doubt_of;
@@ -252,14 +254,6 @@ fn mode_of(global: bool) -> Mode {
     if global { Mode::Global } else { Mode::Detailed }
 }
 
-/// Opens an input file.
-fn open<R: Runtime>(rt: &R, name: &str, file: InputFile) -> Result<Adapted<R::File>, AppFault> {
-    match fs::open(rt, name) {
-        Ok(opened) => Ok(Adapted::new(opened)),
-        Err(_) => Err(AppFault::Unread(file)),
-    }
-}
-
 /// The `route` command. The inputs are opened, in the order in which they are read, before one is
 /// read, and stay open to the end: so the routing file never gets the descriptor of a standard
 /// stream that was closed.
@@ -271,22 +265,13 @@ fn route<'a, R: Runtime + SharedOutputs + Threads + Wait + Sync + AllocGlobal>(
     requires tracks { (1 ≤ given.width) × (given.width ≤ most_tracks) }
     requires workers { (1 ≤ given.workers) × (given.workers ≤ most_workers) }
 {
-    let mut arch = open(rt, given.arch, InputFile::Arch)?;
-    let mut net = open(rt, given.net, InputFile::Net)?;
-    let mut place = open(rt, given.place, InputFile::Place)?;
+    let mut design = open_design(rt, given.arch, given.net, given.place)?;
     warn(rt, given.route, [given.arch, given.net, given.place]);
     let mut route = Adapted::new(Writer::to_new(rt, progress, given.route));
     let mut out = Adapted::new(BehindProgress::new(io::writer(rt), progress));
     let files = [given.net, given.arch, given.place, given.route];
-    let log = Log::new(
-        rt,
-        given.log.unwrap_or(""),
-        help::VERSION,
-        files,
-        given.workers,
-        given.settings,
-        log_sink(rt, given.log, files, progress),
-    );
+    let (workers, settings) = (given.workers, given.settings);
+    let log = log_of(rt, given.log, files, workers, settings, progress);
     let rest = RestFile {
         rt,
         name: rest_name(rt, given.rest, others_of(files, given.log)),
@@ -296,18 +281,18 @@ fn route<'a, R: Runtime + SharedOutputs + Threads + Wait + Sync + AllocGlobal>(
         first: progress,
         second: &log,
     };
-    let (width, mode, settings) = (given.width, mode_of(given.global), given.settings);
+    let (width, mode) = (given.width, mode_of(given.global));
     route_run(
         rt,
-        &mut net,
-        &mut arch,
-        &mut place,
+        &mut design.net,
+        &mut design.arch,
+        &mut design.place,
         &mut route,
         &mut out,
         width,
         mode,
         &settings,
-        given.workers,
+        workers,
         &gate,
         &rest,
     )
@@ -322,22 +307,13 @@ fn width<'a, R: Runtime + SharedOutputs + Threads + Wait + Sync + AllocGlobal>(
     requires start { (1 ≤ given.start) × (given.start ≤ most_tracks) }
     requires workers { (1 ≤ given.workers) × (given.workers ≤ most_workers) }
 {
-    let mut arch = open(rt, given.arch, InputFile::Arch)?;
-    let mut net = open(rt, given.net, InputFile::Net)?;
-    let mut place = open(rt, given.place, InputFile::Place)?;
+    let mut design = open_design(rt, given.arch, given.net, given.place)?;
     warn(rt, given.route, [given.arch, given.net, given.place]);
     let mut route = Adapted::new(Writer::to_new(rt, progress, given.route));
     let mut out = Adapted::new(BehindProgress::new(io::writer(rt), progress));
     let files = [given.net, given.arch, given.place, given.route];
-    let log = Log::new(
-        rt,
-        given.log.unwrap_or(""),
-        help::VERSION,
-        files,
-        given.workers,
-        given.settings,
-        log_sink(rt, given.log, files, progress),
-    );
+    let (workers, settings) = (given.workers, given.settings);
+    let log = log_of(rt, given.log, files, workers, settings, progress);
     let kept = TrialFiles {
         rt,
         prefix: given.keep,
@@ -348,18 +324,18 @@ fn width<'a, R: Runtime + SharedOutputs + Threads + Wait + Sync + AllocGlobal>(
         first: progress,
         second: &log,
     };
-    let (start, mode, settings) = (given.start, mode_of(given.global), given.settings);
+    let (start, mode) = (given.start, mode_of(given.global));
     width_run(
         rt,
-        &mut net,
-        &mut arch,
-        &mut place,
+        &mut design.net,
+        &mut design.arch,
+        &mut design.place,
         &mut route,
         &mut out,
         start,
         mode,
         &settings,
-        given.workers,
+        workers,
         &gate,
         &kept,
         given.verify,
@@ -375,9 +351,7 @@ fn check(
 ) -> Result<Option<RouteFault>, AppFault>
     requires { (1 ≤ given.width) × (given.width ≤ most_tracks) }
 {
-    let mut arch = open(rt, given.arch, InputFile::Arch)?;
-    let mut net = open(rt, given.net, InputFile::Net)?;
-    let mut place = open(rt, given.place, InputFile::Place)?;
+    let mut design = open_design(rt, given.arch, given.net, given.place)?;
     let mut route = open(rt, given.route, InputFile::Route)?;
     let mut out = Adapted::new(io::writer(rt));
     let (width, mode) = (given.width, mode_of(given.global));
@@ -386,9 +360,9 @@ fn check(
         return explain_run(
             rt,
             given.route.as_bytes(),
-            &mut net,
-            &mut arch,
-            &mut place,
+            &mut design.net,
+            &mut design.arch,
+            &mut design.place,
             &mut route,
             &mut out,
             &mut words,
@@ -397,7 +371,14 @@ fn check(
         );
     }
     check_run(
-        rt, &mut net, &mut arch, &mut place, &mut route, &mut out, width, mode,
+        rt,
+        &mut design.net,
+        &mut design.arch,
+        &mut design.place,
+        &mut route,
+        &mut out,
+        width,
+        mode,
     )
 }
 
@@ -405,17 +386,15 @@ fn check(
 fn report(rt: &(impl Runtime + AllocGlobal), given: ReportWords<'_>) -> Result<(), AppFault>
     requires { (1 ≤ given.width) × (given.width ≤ most_tracks) }
 {
-    let mut arch = open(rt, given.arch, InputFile::Arch)?;
-    let mut net = open(rt, given.net, InputFile::Net)?;
-    let mut place = open(rt, given.place, InputFile::Place)?;
+    let mut design = open_design(rt, given.arch, given.net, given.place)?;
     let mut route = open(rt, given.route, InputFile::Route)?;
     let mut out = Adapted::new(io::writer(rt));
     let (width, mode) = (given.width, mode_of(given.global));
     report_run(
         rt.alloc(),
-        &mut net,
-        &mut arch,
-        &mut place,
+        &mut design.net,
+        &mut design.arch,
+        &mut design.place,
         &mut route,
         &mut out,
         width,

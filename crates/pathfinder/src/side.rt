@@ -2,10 +2,13 @@
 
 use crate::files::{SharedOutputs, Writer};
 use crate::warning::is_free;
-use run_log::Progress;
+use command_line::help::VERSION;
+use node_cost::Settings;
+use run_log::{Log, Progress};
 use runs::SideFiles;
 use std::io::Eprint;
 use std::rt::Runtime;
+use std::sync::Wait;
 use std::time::Clock;
 use vpr_text::Adapted;
 
@@ -24,7 +27,7 @@ pub fn others_of<'a>(files: [&'a str; 4], log: Option<&'a str>) -> [&'a str; 5] 
 
 /// Where a log of this name is written: nowhere where none is wanted, or where it can't be or
 /// shouldn't be written, of which a warning tells.
-pub fn log_sink<'a, R: Runtime + SharedOutputs>(
+fn log_sink<'a, R: Runtime + SharedOutputs>(
     rt: &'a R,
     log: Option<&'a str>,
     files: [&'a str; 4],
@@ -40,6 +43,20 @@ pub fn log_sink<'a, R: Runtime + SharedOutputs>(
         name: (name != "-").then_some(name),
         file: None,
     }))
+}
+
+/// The log of a run that begins now, by so many workers; it is written where one is wanted.
+pub fn log_of<'a, R: Runtime + SharedOutputs + Wait>(
+    rt: &'a R,
+    name: Option<&'a str>,
+    files: [&'a str; 4],
+    workers: u32,
+    settings: Settings,
+    progress: &'a Progress<'a, R>,
+) -> Log<'a, R, Side<'a, R>> {
+    let sink = log_sink(rt, name, files, progress);
+    let name = name.unwrap_or("");
+    Log::new(rt, name, VERSION, files, workers, settings, sink)
 }
 
 /// The name of the file of trees that were left, where it can be and should be written in a run
