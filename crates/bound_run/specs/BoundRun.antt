@@ -1,0 +1,30 @@
+-- What a run of `bound` answers, prints and writes (ours).
+use Rattle.std.specs.Prelude.{◌≡◌, ℕ, Bool, true, false, List, Result, Err, MatchBool}
+use Rattle.width_bound.specs.Cuts.{Cut}
+use Rattle.run_inputs.specs.declared.fault.AppFault.{AppFault}
+use Rattle.run_inputs.specs.declared.fault.AppFault.TheVariants.{Unwritten}
+use Rattle.run_inputs.specs.Inputs.{PlacedNetlist}
+use Rattle.run_inputs.specs.Runs.{StopsOrGoesOn, PrintsText, TakesAll, TakesFront, TakesNothing, Writing}
+use Rattle.bound_run.specs.Bounds.{IsTrueOf, bound_lines, figures_of}
+use Rattle.bound_run.specs.CutTexts.{cut_text}
+
+-- The lines are printed to `out`, and then, where it is wanted, the text is written to `cut`;
+-- Unwritten is answered where either failed, and where that was `out`, `cut` took nothing.
+abbrev pub WritesBound : (is_wanted : Bool) → (cut out : Writing) → (lines text : List ℕ) → Result (Unit {0}) AppFault → Type 0
+WritesBound true cut out lines text result =
+    MatchBool out.failed
+    ((result ≡ Err Unwritten) × TakesFront out lines × TakesNothing cut)
+    (TakesAll out lines × PrintsText cut text tt result)
+WritesBound false cut out lines text result = PrintsText out lines tt result × TakesNothing cut
+
+-- what some cut says of a placed netlist is told, and it is true
+abbrev pub TellsBound : (is_wanted : Bool) → (cut out : Writing) → PlacedNetlist → Result (Unit {0}) AppFault → Type 0
+TellsBound is_wanted cut out p result =
+    (found : Cut)
+    × WritesBound is_wanted cut out (bound_lines (figures_of p found)) (cut_text p found) result
+    × IsTrueOf p (figures_of p found)
+
+-- A run of `bound`, memory aside: with a fault of its files neither sink takes anything; where they
+-- say a placed netlist, a bound is told.
+abbrev pub RunsBound : (is_wanted : Bool) → (cut out : Writing) → Result PlacedNetlist AppFault → Result (Unit {0}) AppFault → Type 0
+RunsBound is_wanted cut out = StopsOrGoesOn (TakesNothing cut × TakesNothing out) (TellsBound is_wanted cut out)

@@ -1,0 +1,76 @@
+//! The lines that tell what a cut says.
+
+ghost use Rattle.std.specs.Prelude.{◌≡◌};
+ghost use Rattle.vpr_text.specs.Output.{SendsTo};
+ghost use Rattle.bound_run.specs.Bounds.{below_line, bound_lines, count_line, has_no_way, width_line, width_told};
+
+use text_output::{ByteSink, OutputBuffer, Piece, put_pieces};
+use width_bound::CutFigures;
+
+/// Whether more nets are cut than pins are given up, with no place for the others.
+pub(crate) fn has_no_way(figures: CutFigures) -> bool
+    ensures { result ≡ has_no_way figures }
+{
+    figures.places == 0 && figures.pins < figures.nets
+}
+
+/// The width below which there is no routing.
+pub(crate) fn width_told(figures: CutFigures) -> usize
+    ensures { result ≡ width_told figures }
+{
+    figures.width.max(1)
+}
+
+/// Prints below which width there is no routing.
+#[tactic(auto, unfolding(crate::specs::Bounds::below_line))]
+fn put_below<W: ByteSink>(out: &mut OutputBuffer, sink: &mut W, width: usize)
+    ensures { SendsTo W.taken W.failed sink.old sink.new out.old out.new (below_line width) }
+{
+    put_pieces(
+        out,
+        sink,
+        &[
+            Piece::Text(b"no routing below width "),
+            Piece::LongNumber(width as u64),
+            Piece::Text(b"\n"),
+        ],
+    );
+}
+
+/// Prints at which widths there is no routing.
+fn put_width<W: ByteSink>(out: &mut OutputBuffer, sink: &mut W, figures: CutFigures)
+    ensures { SendsTo W.taken W.failed sink.old sink.new out.old out.new (width_line figures) }
+{
+    if has_no_way(figures) {
+        out.push(sink, b"no routing at any width\n");
+    } else {
+        put_below(out, sink, width_told(figures));
+    }
+}
+
+/// Prints how many nets are cut, and by what.
+#[tactic(auto, unfolding(crate::specs::Bounds::count_line))]
+fn put_counts<W: ByteSink>(out: &mut OutputBuffer, sink: &mut W, figures: CutFigures)
+    ensures { SendsTo W.taken W.failed sink.old sink.new out.old out.new (count_line figures) }
+{
+    put_pieces(
+        out,
+        sink,
+        &[
+            Piece::LongNumber(figures.nets as u64),
+            Piece::Text(b" nets are cut by "),
+            Piece::LongNumber(figures.places as u64),
+            Piece::Text(b" places of channels and "),
+            Piece::LongNumber(figures.pins as u64),
+            Piece::Text(b" pins\n"),
+        ],
+    );
+}
+
+/// Prints the lines on a cut.
+pub(crate) fn put_bound<W: ByteSink>(out: &mut OutputBuffer, sink: &mut W, figures: CutFigures)
+    ensures { SendsTo W.taken W.failed sink.old sink.new out.old out.new (bound_lines figures) }
+{
+    put_width(out, sink, figures);
+    put_counts(out, sink, figures);
+}

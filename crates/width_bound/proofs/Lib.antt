@@ -1,0 +1,15 @@
+pub mod Lists
+pub mod WireSides
+pub mod Edges
+pub mod Room
+pub mod Ways
+pub mod Counting
+pub mod Bound
+pub mod SameNets
+pub mod SameCount
+pub mod Rounding
+pub mod DesignBound
+pub mod Examples
+pub mod Marking
+pub mod PinsLeft
+pub mod BorderCount

@@ -1,0 +1,3 @@
+pub mod Marks
+pub mod Terminals
+pub mod Fields
