@@ -19,17 +19,21 @@ _pathfinder() {
       values='--width'
       words="$values --global --map --explain -h --help"
       ;;
+    bound)
+      values='--cut'
+      words="$values --explain -h --help"
+      ;;
     graph)
       values=''
       words="$values --global --explain -h --help"
       ;;
     help)
       values=''
-      words="$values route width check report graph"
+      words="$values route width check report bound graph"
       ;;
   esac
   if [ "$COMP_CWORD" -eq 1 ]; then
-    words='route width check report graph help -h --help -V --version'
+    words='route width check report bound graph help -h --help -V --version'
   elif [[ " $values " == *" $before "* ]]; then
     compopt +o default 2>/dev/null
     words=''

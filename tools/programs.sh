@@ -1,5 +1,11 @@
 # Which file is a program of this repository. Sourced, with `top` set to the repository's folder.
 
+# Nothing that is set here comes from the environment, and none of it goes there. What changes how commands read their words
+# goes away too.
+unset IFS CDPATH ENV BASH_ENV GREP_OPTIONS GREP_COLOR POSIXLY_CORRECT
+unset program programs loader most_bytes bytes caches cache file
+unset first dist_file dist_sources processor glibc kit built_file built_sources
+
 # The programs that users run: each is a crate, and stands in dist/.
 programs='pathfinder lab'
 
@@ -14,17 +20,66 @@ trial_word() {
 # The loader that the programs in dist/ name: it goes with the C library, so that another machine is noticed.
 loader=/lib64/ld-linux-x86-64.so.2
 
-# The sizes of the files and folders that are named in a file, and when they were changed last, a line each. It ends the shell
-# that calls it, one of a pipe or of $(..).
+# The sizes of the files and folders that standard input names, a line each, and when they were changed last; so many bytes of
+# names are handed on at once. It ends the shell that calls it, one of a pipe or of $(..).
 list_files() {
-  cd "$top" && set -f && exec stat -L -c '%n %s %.9Z' $(cat "$1") 2>/dev/null
+  export LC_ALL=C
+  cd "$top" && exec xargs -d '\n' -s "$1" stat -L -c '%n %s %.9Z' -- 2>/dev/null
 }
 
-# Sets `program` to the file of the program NAME. What was found is kept beside the build's output, and holds until one of the
-# files or folders by which it was decided is changed: then tools/program looks at what they have, and builds where it must.
+# How many bytes of names fit at once: on a small stack few.
+most_bytes=1000000
+bytes_at_once() {
+  case $(ulimit -s) in
+    ? | ?? | ???) echo 16384 ;;
+    *) echo "$most_bytes" ;;
+  esac
+}
+
+# Whether the files that a folder names are as it says, with so many bytes of names at once.
+are_as_kept() {
+  { echo "$program" && list_files "$2" <"$1/program.names"; } 2>/dev/null | cmp -s - "$1/program"
+}
+
+# Whether what a folder keeps of the program NAME still holds. Then `program` is its file, as named from `top`, and never any
+# other file than these two. What the stack has room for is only asked where it may be too small: that takes a process more.
+is_kept() {
+  read -r program 2>/dev/null <"$1/program" || return 1
+  case $program in
+    "dist/$2" | "crates/$2/out/$2") ;;
+    *) return 1 ;;
+  esac
+  are_as_kept "$1" "$most_bytes" || { bytes=$(bytes_at_once) && [ "$bytes" != "$most_bytes" ] && are_as_kept "$1" "$bytes"; }
+}
+
+# Sets `cache` to the folder in which the caller keeps what was found of the program NAME of this clone, and `caches` to the one
+# that has the folders of all clones. Fails where the caller has no cache folder.
+name_cache() {
+  case ${XDG_CACHE_HOME-} in
+    /*) caches=$XDG_CACHE_HOME/pathfinder ;;
+    *) caches=${HOME-}/.cache/pathfinder ;;
+  esac
+  case ${XDG_CACHE_HOME-},${HOME-} in
+    /* | *,/*) cache=$caches/clones$(cd -P "$top" && pwd)/$1 ;;
+    *) return 1 ;;
+  esac
+}
+
+# Whether these files are the caller's own, and nobody else may write them.
+are_own() {
+  for file; do
+    [ -O "$file" ] || return 1
+  done
+  [ -z "$(find "$@" -prune \( -perm -020 -o -perm -002 \) 2>&1)" ]
+}
+
+# Sets `program` to the file of the program NAME. What was found is kept beside the build's output, or where the caller can't
+# write there, in the caller's cache folder. It holds until one of the files or folders by which it was decided is changed: then
+# tools/program looks at what they have, and builds where it must.
 find_program() {
-  kept=crates/$1/out/program
-  if read -r program 2>/dev/null <"$top/$kept" && { echo "$program" && list_files "$kept.names"; } | cmp -s - "$top/$kept"; then
+  if is_kept "$top/crates/$1/out" "$1" || {
+    name_cache "$1" && are_own "$caches" "$cache/program" "$cache/program.names" && is_kept "$cache" "$1"
+  }; then
     program=$top/$program
   else
     program=$("$top/tools/program" "$1") || exit 1

@@ -195,6 +195,15 @@ fn report_command<'a>(alloc: Global) -> Result<Command<'a>, AllocError> {
         .arg(explain_flag(alloc, help::EXPLAIN))
 }
 
+fn bound_command<'a>(alloc: Global) -> Result<Command<'a>, AllocError> {
+    let command = Command::new(alloc, "bound")
+        .about("Print below which channel width a placed netlist has no routing")
+        .after_help(help::BOUND);
+    with_design(alloc, command)?
+        .arg(side_file(alloc, "cut", "FILE", help::CUT))?
+        .arg(explain_flag(alloc, help::EXPLAIN))
+}
+
 fn graph_command<'a>(alloc: Global) -> Result<Command<'a>, AllocError> {
     Command::new(alloc, "graph")
         .about("Print the nodes and edges of a device's routing-resource graph")
@@ -234,6 +243,7 @@ pub fn command<'a>(alloc: Global) -> Result<Command<'a>, AllocError> {
         .subcommand(width_command(alloc)?)?
         .subcommand(check_command(alloc)?)?
         .subcommand(report_command(alloc)?)?
+        .subcommand(bound_command(alloc)?)?
         .subcommand(graph_command(alloc)?)
 }
 
@@ -298,6 +308,17 @@ pub struct ReportWords<'a> {
     pub global: bool,
     pub explain: bool,
     pub map: bool,
+}
+
+/// What the `bound` command was given.
+#[derive(Clone, Copy)]
+pub struct BoundWords<'a> {
+    pub net: &'a str,
+    pub arch: &'a str,
+    pub place: &'a str,
+    /// The file of the certificate, where one is wanted.
+    pub cut: Option<&'a str>,
+    pub explain: bool,
 }
 
 /// What the `graph` command was given.
@@ -403,6 +424,17 @@ pub fn report_words<'a>(matches: &ArgMatches<'a>) -> Option<ReportWords<'a>>
         global: matches.get_flag("global"),
         explain: matches.get_flag("explain"),
         map: matches.get_flag("map"),
+    })
+}
+
+/// The words of the `bound` command; None where one of its files is not named.
+pub fn bound_words<'a>(matches: &ArgMatches<'a>) -> Option<BoundWords<'a>> {
+    Some(BoundWords {
+        net: matches.get_str("NET")?,
+        arch: matches.get_str("ARCH")?,
+        place: matches.get_str("PLACE")?,
+        cut: matches.get_str("cut"),
+        explain: matches.get_flag("explain"),
     })
 }
 

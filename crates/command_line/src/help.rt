@@ -19,9 +19,9 @@ Exit status, of all commands:
   5  reading or writing failed
   6  memory ran out, or a thread could not be started
 
-All answers and errors are printed on standard output. On standard error stand warnings of files
-that can't be written or are inputs too; what is asked for there, as with `--explain` what is wrong
-with a file or a routing; and, on a terminal, how far the routing is.";
+All answers and errors are printed on standard output. Standard error has warnings of files that
+can't be written or would be written over another one; what is asked for there, as with `--explain`
+what is wrong with a file or a routing; and, on a terminal, how far the routing is.";
 
 /// The end of the help of `route`.
 pub const ROUTE: &str = "\
@@ -41,7 +41,7 @@ Exit status:
   2  words that the command line may not have
   3  not routed; ROUTE is left alone
   4  bad input, as `error: arch line 10: Unsupported`
-  5  reading or writing failed
+  5  reading or writing failed, or ROUTE is an input
   6  memory ran out, or a thread could not be started";
 
 /// The end of the help of `width`.
@@ -64,7 +64,7 @@ Exit status:
   2  words that the command line may not have
   3  no width was routed; ROUTE is left alone
   4  bad input, as `error: arch line 10: Unsupported`
-  5  reading or writing failed
+  5  reading or writing failed, or ROUTE is an input
   6  memory ran out, or a thread could not be started";
 
 /// The end of the help of `check`.
@@ -117,6 +117,25 @@ Exit status:
   5  reading or writing failed
   6  memory ran out";
 
+/// The end of the help of `bound`.
+pub const BOUND: &str = "\
+It prints a width below which the placed design has no routing, by this or any other router, and
+the reason: how many nets are cut, and by how many places of channels and pins. The bound is proved.
+The least width that is routed may be greater. `--cut` writes a certificate of the bound, which
+tools/recount counts again.
+
+Example, in examples/uart:
+  $ pathfinder bound uart.net k4n1.arch uart.place
+  no routing below width 3
+  3 nets are cut by 1 places of channels and 0 pins
+
+Exit status:
+  0  printed
+  2  words that the command line may not have
+  4  bad input, as `error: net line 10: BadLine`
+  5  reading or writing failed, or FILE is an input
+  6  memory ran out";
+
 /// The end of the help of `graph`.
 pub const GRAPH: &str = "\
 It prints how many nodes and edges there are, a line for each node, and a line for each edge.
@@ -166,13 +185,17 @@ net too many: 20 is what one wire costs at first; 0 to 65535";
 
 /// The help of `--log`.
 pub const LOG: &str = "\
-Also a line for each iteration, as it ends, to this file; - is standard
-error";
+Also a line for each iteration and each width tried, as it ends, to
+this file; - is standard error";
 
 /// The help of `--rest`.
 pub const REST: &str = "\
 Where no routing is found, the trees that the last iteration left, as a
 routing file";
+
+/// The help of `--cut`.
+pub const CUT: &str = "\
+Also the certificate of the bound, to this file";
 
 /// The help of `--keep`.
 pub const KEEP: &str = "\

@@ -4,22 +4,33 @@
 
 mod calls;
 mod runner;
+mod shown;
+mod usage;
 
 use lab_session::session::Session;
 use runner::run_script;
+use shown::Shown;
+use std::io::{ErrorKind, IsTerminal};
 use std::process::ExitCode;
 use std::rt::Runtime;
 use std::sync::Wait;
 use std::thread::Threads;
 use std::{env, fs, io};
+use usage::USAGE;
 
 /// The status where an answer was not the one that was wanted, or a script could not be read.
 const NOT_AS_WANTED: u8 = 1;
 
+/// The status of words that the command line may not have.
+const BAD_WORDS: u8 = 2;
+
+/// How the script of standard input is named.
+const STDIN: &str = "stdin";
+
 fn main(rt: HostRuntime) -> ExitCode {
-    match run(&rt) {
-        Ok(true) => ExitCode::from(0),
-        Ok(false) => ExitCode::from(NOT_AS_WANTED),
+    let is_watched = rt.stdout().is_terminal();
+    match run(&rt, is_watched) {
+        Ok(status) => ExitCode::from(status),
         Err(error) => {
             let _ = eprintln!(rt; "lab: {error}");
             ExitCode::from(NOT_AS_WANTED)
@@ -27,25 +38,83 @@ fn main(rt: HostRuntime) -> ExitCode {
     }
 }
 
-/// Runs the scripts that the command line names, or that of standard input; whether all answers
-/// were as wanted.
-fn run(rt: &(impl Runtime + Threads + Wait + Sync + AllocGlobal)) -> io::Result<bool> {
-    let words: Vec<String> = env::args(rt)?.collect(rt.alloc())?;
-    match words.as_slice() {
-        [] | [_] => run_script(rt, "standard input", rt.reader(), Session::new()),
-        [_, names @ ..] => run_files(rt, names),
+/// Does what the command line asks for, and answers the exit status. Standard output is watched
+/// where it is a terminal.
+fn run(
+    rt: &(impl Runtime + Threads + Wait + Sync + AllocGlobal),
+    is_watched: bool,
+) -> io::Result<u8> {
+    match words(rt) {
+        Ok(words) => run_words(rt, words.get(1..).unwrap_or(&[]), is_watched),
+        Err(error) if error.kind() == ErrorKind::OutOfMemory => Err(error),
+        Err(_) => {
+            let _ = eprintln!(rt; "lab: a word of the command line is no text");
+            Ok(BAD_WORDS)
+        }
     }
 }
 
-/// Runs the scripts of these files, each from nothing.
-fn run_files(
+/// The words of the command line.
+fn words(rt: &(impl Runtime + AllocGlobal)) -> io::Result<Vec<String>> {
+    Ok(env::args(rt)?.collect(rt.alloc())?)
+}
+
+/// Does what the words behind the program's name ask for, and answers the exit status.
+fn run_words(
+    rt: &(impl Runtime + Threads + Wait + Sync + AllocGlobal),
+    words: &[String],
+    is_watched: bool,
+) -> io::Result<u8> {
+    match words.iter().find(|word| word.starts_with('-')) {
+        Some(option) => answer_option(rt, option.as_str()),
+        None => Ok(status_of(run_scripts(rt, words, is_watched)?)),
+    }
+}
+
+/// The exit status, by whether all answers were as wanted.
+fn status_of(is_good: bool) -> u8 {
+    if is_good { 0 } else { NOT_AS_WANTED }
+}
+
+/// Prints the usage, or says that the option is unknown; answers the exit status.
+fn answer_option(rt: &impl Runtime, option: &str) -> io::Result<u8> {
+    if option == "--help" {
+        print!(rt; "{USAGE}")?;
+        return Ok(0);
+    }
+    let option = Shown::within_line(option);
+    let _ = eprintln!(rt; "lab: unknown option {option}; see lab --help");
+    Ok(BAD_WORDS)
+}
+
+/// Runs the scripts of these files, each from nothing, or that of standard input where there are
+/// none; whether all answers were as wanted.
+fn run_scripts(
     rt: &(impl Runtime + Threads + Wait + Sync + AllocGlobal),
     names: &[String],
+    is_watched: bool,
 ) -> io::Result<bool> {
-    let mut good = true;
-    for name in names {
-        let file = fs::open(rt, name.as_str())?;
-        good &= run_script(rt, name.as_str(), file, Session::new())?;
+    if names.is_empty() {
+        return run_script(rt, STDIN, rt.reader(), Session::new(), is_watched);
     }
-    Ok(good)
+    let mut is_good = true;
+    for name in names {
+        is_good &= run_file(rt, name.as_str(), is_watched)?;
+    }
+    Ok(is_good)
+}
+
+/// Runs the script of a file; false where it can't be opened, which is said.
+fn run_file(
+    rt: &(impl Runtime + Threads + Wait + Sync + AllocGlobal),
+    name: &str,
+    is_watched: bool,
+) -> io::Result<bool> {
+    match fs::open(rt, name) {
+        Ok(file) => run_script(rt, name, file, Session::new(), is_watched),
+        Err(error) => {
+            let _ = eprintln!(rt; "lab: {}: {error}", Shown::within_line(name));
+            Ok(false)
+        }
+    }
 }

@@ -1,11 +1,13 @@
 //! Runs a script: reads its lines, makes its calls, prints their answers and compares them.
 
 use crate::calls::make_call;
+use crate::shown::Shown;
 use lab_session::answer::added;
 use lab_session::session::Session;
 use lab_session::unanswered::Unanswered;
 use lab_session::words::{Call, code_of, has_text, words};
 use std::alloc::Global;
+use std::fmt::Display;
 use std::io::{BufRead, BufReader, Read, Result as IoResult};
 use std::rt::Runtime;
 use std::sync::Wait;
@@ -16,6 +18,12 @@ const ROOM: usize = 65_536;
 
 /// The line that ends a text below a call.
 const END_OF_TEXT: &[u8] = b">>";
+
+/// The line that has calls made again, and stands before all calls.
+const AGAIN: &str = "again";
+
+/// Where that line doesn't stand before all calls.
+const LATE_AGAIN: Unanswered = Unanswered::Misread("again as the first line");
 
 /// The lines of a script.
 #[derive(Drop)]
@@ -30,21 +38,24 @@ impl<I: BufRead> Script<'_, I> {
     /// Reads a line; false at the end.
     fn read(&mut self, line: &mut Vec<u8>) -> IoResult<bool> {
         line.clear();
-        let count = self.input.read_until(b'\n', line)?;
         self.line = self.line.saturating_add(1);
+        let count = self.input.read_until(b'\n', line)?;
         Ok(count > 0)
     }
 
-    /// Reads the text up to the line that ends it.
-    fn read_text(&mut self, below: &mut Below) -> IoResult<()> {
+    /// Reads the text up to the line that ends it; false where the script ends before.
+    fn read_text(&mut self, below: &mut Below) -> IoResult<bool> {
         below.text.clear();
         for _ in 0..u64::MAX {
-            if !self.read(&mut below.line)? || below.line.as_slice().trim_ascii() == END_OF_TEXT {
+            if !self.read(&mut below.line)? {
                 break;
+            }
+            if below.line.as_slice().trim_ascii() == END_OF_TEXT {
+                return Ok(true);
             }
             below.text.extend_from_slice(below.line.as_slice())?;
         }
-        Ok(())
+        Ok(false)
     }
 }
 
@@ -114,7 +125,7 @@ impl Answer {
 
     /// Tells why there is none.
     fn refuse(&mut self, why: &Unanswered) -> Result<(), Unanswered> {
-        self.text.clear();
+        self.begin();
         added(writeln!(self.text, "{why}"))
     }
 }
@@ -126,8 +137,12 @@ struct ScriptRun<'a, R, I> {
     script: Script<'a, I>,
     session: Session,
     answer: Answer,
+    /// The line of the last call; 0 before the first one.
+    call_line: u64,
     /// Whether a call that lacked memory is made again.
     repeats: bool,
+    /// Whether standard output is a terminal.
+    is_watched: bool,
     /// Whether all answers were as wanted.
     is_good: bool,
 }
@@ -137,8 +152,10 @@ impl<R: Runtime + Threads + Wait + Sync + AllocGlobal, I: BufRead> ScriptRun<'_,
     fn run(&mut self) -> IoResult<bool> {
         let mut line = Vec::with_capacity(self.rt.alloc(), ROOM)?;
         let mut below = Below::new(self.rt.alloc())?;
-        self.run_lines(&mut line, &mut below)?;
-        self.settle();
+        match self.run_lines(&mut line, &mut below) {
+            Ok(()) => self.settle(),
+            Err(error) => self.complain(error),
+        }
         Ok(self.is_good)
     }
 
@@ -153,18 +170,25 @@ impl<R: Runtime + Threads + Wait + Sync + AllocGlobal, I: BufRead> ScriptRun<'_,
         Ok(())
     }
 
-    /// Says that something is not as wanted.
-    fn complain(&mut self, what: &str) {
+    /// Says that something is not as wanted, in the line that was read last.
+    fn complain(&mut self, what: impl Display + Drop) {
+        let line = self.script.line;
+        self.complain_at(line, what);
+    }
+
+    /// Says that something is not as wanted in a line.
+    fn complain_at(&mut self, line: u64, what: impl Display + Drop) {
         self.is_good = false;
-        let (name, line) = (self.script.name, self.script.line);
+        let name = Shown::within_line(self.script.name);
         let _ = eprintln!(self.rt; "{name}:{line}: {what}");
     }
 
-    /// Says so where an answer had more lines than were wanted.
+    /// Says so where an answer had more lines than were wanted, and makes room for another one.
     fn settle(&mut self) {
         if self.answer.is_left() {
             self.complain("more was answered above than is wanted");
         }
+        self.answer.begin();
     }
 
     /// Does what a line says.
@@ -195,17 +219,42 @@ impl<R: Runtime + Threads + Wait + Sync + AllocGlobal, I: BufRead> ScriptRun<'_,
             return Ok(());
         }
         self.settle();
-        self.read_below(code, below)?;
-        self.call_words(code, below.text.as_slice())
+        let is_first = self.call_line == 0;
+        self.call_line = self.script.line;
+        if code == AGAIN {
+            self.begin_again(is_first)
+        } else {
+            self.call_with_text(code, below)
+        }
     }
 
-    /// Reads the text below a line, if one stands there.
-    fn read_below(&mut self, code: &str, below: &mut Below) -> IoResult<()> {
+    /// From now on a call that lacks memory is made again, if no call was made before.
+    fn begin_again(&mut self, is_first: bool) -> IoResult<()> {
+        if !is_first {
+            return self.refuse(&LATE_AGAIN);
+        }
+        self.repeats = true;
+        Ok(())
+    }
+
+    /// Makes a call with the text below it, unless that has no end.
+    fn call_with_text(&mut self, code: &str, below: &mut Below) -> IoResult<()> {
+        if self.read_below(code, below)? {
+            self.call_words(code, below.text.as_slice())
+        } else {
+            let line = self.call_line;
+            self.complain_at(line, "no line `>>` ends the text below");
+            Ok(())
+        }
+    }
+
+    /// Reads the text below a line, if one stands there; false where it has no end.
+    fn read_below(&mut self, code: &str, below: &mut Below) -> IoResult<bool> {
         if has_text(code) {
             self.script.read_text(below)
         } else {
             below.text.clear();
-            Ok(())
+            Ok(true)
         }
     }
 
@@ -234,10 +283,6 @@ impl<R: Runtime + Threads + Wait + Sync + AllocGlobal, I: BufRead> ScriptRun<'_,
         let [name, given @ ..] = words else {
             return Ok(());
         };
-        if *name == "again" {
-            self.repeats = true;
-            return Ok(());
-        }
         self.answer(Call { name, given, text })
     }
 
@@ -267,27 +312,35 @@ impl<R: Runtime + Threads + Wait + Sync + AllocGlobal, I: BufRead> ScriptRun<'_,
         }
     }
 
-    /// Prints why there is no answer.
+    /// Prints why there is no answer. That the line is no call is said beside it.
     fn refuse(&mut self, why: &Unanswered) -> IoResult<()> {
         if matches!(why, Unanswered::NoCall | Unanswered::Misread(_)) {
-            self.is_good = false;
+            let line = self.call_line;
+            self.complain_at(line, why);
         }
         let _ = self.answer.refuse(why);
         self.print()
     }
 
-    /// Prints the answer.
+    /// Prints the answer, with no control character of a name where it goes to a terminal.
     fn print(&mut self) -> IoResult<()> {
-        print!(self.rt; "{}", self.answer.text.as_str())
+        let text = self.answer.text.as_str();
+        if self.is_watched {
+            print!(self.rt; "{}", Shown::lines(text))
+        } else {
+            print!(self.rt; "{text}")
+        }
     }
 }
 
-/// Runs a script in a session; whether all answers were as wanted.
+/// Runs a script in a session; whether all answers were as wanted. Standard output is watched where
+/// it is a terminal.
 pub fn run_script<R: Runtime + Threads + Wait + Sync + AllocGlobal, I: Read + Drop>(
     rt: &R,
     name: &str,
     input: I,
     session: Session,
+    is_watched: bool,
 ) -> IoResult<bool> {
     let mut text = String::new(rt.alloc());
     text.reserve(ROOM)?;
@@ -304,7 +357,9 @@ pub fn run_script<R: Runtime + Threads + Wait + Sync + AllocGlobal, I: Read + Dr
             compared: 0,
             is_asked: false,
         },
+        call_line: 0,
         repeats: false,
+        is_watched,
         is_good: true,
     };
     run.run()

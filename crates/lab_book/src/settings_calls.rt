@@ -9,6 +9,11 @@ use node_cost::{
 };
 use std::alloc::Global;
 
+/// How many nodes the greatest device has: 2 for each of 64 pins, each of a class of its own, of
+/// 10,000 blocks; 4 for each of 16 pads at 400 places; and 256 wires at each of the 100 places of
+/// 202 channels.
+const MOST_NODES: u32 = 6_476_800;
+
 /// The number of a node that stands at a place.
 pub fn index_of(place: usize) -> u32 {
     u32::try_from(place).unwrap_or(u32::MAX)
@@ -223,9 +228,12 @@ fn put_cost(given: &[&str], out: &mut String) -> Result<(), Unanswered> {
     put(out, cost(base, history, capacity, others, present))
 }
 
-/// How many nodes a value is made for; a few millions more than any device has.
-fn nodes(given: &[&str]) -> Result<usize, Unanswered> {
+/// How many nodes a value is made for: no more than the greatest device has.
+pub fn number_of_nodes(given: &[&str]) -> Result<usize, Unanswered> {
     let [nodes] = numbers::<1>(given)?;
+    if nodes > MOST_NODES {
+        return Err(Unanswered::Refused("a device has at most 6,476,800 nodes"));
+    }
     Ok(nodes as usize)
 }
 
@@ -235,7 +243,7 @@ fn make_counts(
     given: &[&str],
     out: &mut String,
 ) -> Result<(), Unanswered> {
-    let nodes = nodes(given)?;
+    let nodes = number_of_nodes(given)?;
     *kept = Some(Counts::new(alloc, nodes)?);
     added(writeln!(out, "{nodes} nodes"))
 }
@@ -246,7 +254,7 @@ fn make_histories(
     given: &[&str],
     out: &mut String,
 ) -> Result<(), Unanswered> {
-    let nodes = nodes(given)?;
+    let nodes = number_of_nodes(given)?;
     *kept = Some(Histories::new(alloc, nodes)?);
     added(writeln!(out, "{nodes} nodes"))
 }

@@ -1,6 +1,6 @@
 //! Calls of `node_cost`: what a net sees of the others.
 
-use crate::settings_calls::{NO_HISTORY, NO_NODE, index_of, long_number};
+use crate::settings_calls::{NO_HISTORY, NO_NODE, index_of, long_number, number_of_nodes};
 use lab_session::answer::{added, put};
 use lab_session::session::{NO_COUNTS, NO_HISTORIES, NO_PROBLEM, NO_VIEW, Session};
 use lab_session::unanswered::Unanswered;
@@ -82,10 +82,7 @@ fn nodes(problem: &Option<Problem>, given: &[&str]) -> Result<usize, Unanswered>
     match (given, problem) {
         ([], Some(problem)) => Ok(problem.device().node_count() as usize),
         ([], None) => Err(NO_PROBLEM),
-        _ => {
-            let [nodes] = numbers::<1>(given)?;
-            Ok(nodes as usize)
-        }
+        _ => number_of_nodes(given),
     }
 }
 

@@ -1,96 +1,343 @@
-//! What the program writes to.
+//! What the program writes to: ROUTE and the files beside it, each of which appears whole or not at
+//! all, and standard output.
 
-ghost use Rattle.std.specs.Prelude.{◌≤◌, IfOk, length};
+ghost use Rattle.std.specs.Prelude.{◌≤◌, IfOk, None, length};
 
-use crate::warning::is_free;
+use crate::identity::{STANDARD_ERROR, STANDARD_OUTPUT, leads_to};
+use crate::replacement::{Replacement, begin_replacement, replacement_of};
+use crate::shown::{Plain, PlainWriter};
 use run_log::Progress;
+use runs::WholeSink;
 use std::fs;
-use std::io::{Eprint, Result, Write};
+use std::fs::{File, OpenOptions};
+use std::io::{Eprint, ErrorKind, Result, Write};
+use std::os::unix::fs::FileTypeExt;
 use std::time::Clock;
+use vpr_text::{Broken, ByteSink};
 
-/// What a run writes to, from any of its threads.
-pub trait SharedOutputs {
-    /// A file that was created.
-    type Created: Write + Drop + Send + Sync;
+/// How many bytes a file may have that is read.
+const MOST_BYTES: u64 = 16_777_216;
 
-    /// Creates a file, or empties the one that is there.
-    fn create(&self, name: &str) -> Result<Self::Created>;
-
-    /// Creates a file beside the others of a run; none where it can't be or shouldn't be written,
-    /// of which a warning tells.
-    fn create_beside(&self, name: &str, others: [&str; 5]) -> Option<Self::Created>;
-
-    /// Writes a front of the bytes, of which it answers the length, to standard error, also where
-    /// they are no text.
-    fn write_error(&self, bytes: &[u8]) -> Result<usize>
-        ensures { IfOk result (λ count. count ≤ length bytes.now) };
-}
-
-impl SharedOutputs for HostRuntime {
-    type Created = fs::File;
-
-    fn create(&self, name: &str) -> Result<fs::File> {
-        fs::create(self, name)
-    }
-
-    fn create_beside(&self, name: &str, others: [&str; 5]) -> Option<fs::File> {
-        if !is_free(self, "", name, others) {
-            return None;
-        }
-        let created = fs::create(self, name);
-        if created.is_err() {
-            let _ = eprintln!(self; "warning: {name} cannot be written");
-        }
-        created.ok()
-    }
-
-    fn write_error(&self, bytes: &[u8]) -> Result<usize>
-        ensures { IfOk result (λ count. count ≤ length bytes.now) }
-    {
-        self.stderr().write(bytes)
-    }
-}
-
-/// A writer to a file that is created at the first write to it, to one that was created, or to
-/// standard error. Nothing is written before the line of progress has ended.
+/// Where the bytes of a file go.
 #[derive(Drop)]
-pub struct Writer<'a, R: SharedOutputs> {
-    pub rt: &'a R,
-    pub progress: &'a Progress<'a, R>,
-    /// The name of a file that is created at the first write.
-    pub name: Option<&'a str>,
-    /// The file that was created.
-    pub file: Option<R::Created>,
+enum Target {
+    /// To a file of its own, which takes the file's place when it is whole.
+    Replacing(File),
+    /// To the file itself.
+    InPlace(File),
+    /// Where standard output goes, which is the file.
+    Output,
+    /// Where standard error goes, which is the file.
+    Error,
 }
 
-impl<'a, R: SharedOutputs> Writer<'a, R> {
-    /// One to a file that is created at the first write to it.
-    pub fn to_new(rt: &'a R, progress: &'a Progress<'a, R>, name: &'a str) -> Writer<'a, R> {
-        Writer {
-            rt,
-            progress,
-            name: Some(name),
-            file: None,
-        }
+/// Creates a file, or empties the one that is there. A pipe is opened without waiting for somebody
+/// who reads it.
+#[inline(never)]
+pub fn create_at_once(rt: &HostRuntime, name: &str) -> Result<File> {
+    match fs::metadata(rt, name) {
+        Ok(found) if found.file_type().is_fifo() => open_pipe(rt, name),
+        _ => fs::create(rt, name),
     }
 }
 
-impl<R: SharedOutputs + Eprint + Clock> Write for Writer<'_, R> {
+/// Whether this is the name of a pipe.
+#[inline(never)]
+pub fn is_pipe(rt: &HostRuntime, name: &str) -> bool {
+    match fs::symlink_metadata(rt, name) {
+        Ok(found) => found.file_type().is_fifo(),
+        Err(_) => false,
+    }
+}
+
+/// Opens a pipe for writing without waiting for somebody who reads it: while it is open for both,
+/// there is one.
+#[inline(never)]
+fn open_pipe(rt: &HostRuntime, name: &str) -> Result<File> {
+    let both = OpenOptions::new().read(true).write(true).open(rt, name);
+    let file = OpenOptions::new().write(true).open(rt, name);
+    drop(both);
+    file
+}
+
+/// Tells that a file is written in place.
+fn warn_in_place(rt: &HostRuntime, name: &str, why: &str) {
+    let name = Plain(name);
+    let _ = eprintln!(rt; "warning: {name} is written in place: {why}");
+}
+
+/// Copies what was written into the file of this name, and removes it.
+#[inline(never)]
+fn copy_in_place(rt: &HostRuntime, name: &str, replacement: &Replacement) -> Result<()> {
+    warn_in_place(rt, name, "it cannot be replaced");
+    fs::copy(rt, replacement.begun(), name)?;
+    let _ = fs::remove_file(rt, replacement.begun());
+    Ok(())
+}
+
+/// Begins to write a file: beside it where it is on a disk and a file can be made there.
+#[inline(never)]
+fn begin_file(
+    rt: &HostRuntime,
+    name: &str,
+    replacement: Option<&mut Replacement>,
+) -> Result<Target> {
+    let Ok(found) = fs::metadata(rt, name) else {
+        return begin_beside(rt, name, replacement, None);
+    };
+    if !found.is_file() {
+        return Ok(Target::InPlace(fs::create(rt, name)?));
+    }
+    if leads_to(rt, STANDARD_OUTPUT, &found) {
+        return Ok(Target::Output);
+    }
+    if leads_to(rt, STANDARD_ERROR, &found) {
+        return Ok(Target::Error);
+    }
+    // One that may not be written isn't replaced either.
+    let _ = OpenOptions::new().write(true).open(rt, name)?;
+    begin_beside(rt, name, replacement, Some(&found))
+}
+
+/// Begins a file that takes the place of one that was found, or of none; where that can't be made,
+/// the file itself.
+#[inline(never)]
+fn begin_beside(
+    rt: &HostRuntime,
+    name: &str,
+    replacement: Option<&mut Replacement>,
+    found: Option<&fs::Metadata>,
+) -> Result<Target> {
+    if let Some(replacement) = replacement {
+        if let Ok(file) = begin_replacement(rt, replacement, found) {
+            return Ok(Target::Replacing(file));
+        }
+    }
+    let file = fs::create(rt, name)?;
+    warn_in_place(rt, name, "no file can be made beside it");
+    Ok(Target::InPlace(file))
+}
+
+/// Gives what was written the name of the file whose place it takes.
+#[inline(never)]
+fn rename_begun(rt: &HostRuntime, replacement: &Replacement) -> Result<()> {
+    fs::rename(rt, replacement.begun(), replacement.end())
+}
+
+/// Puts what was written into the place of the file of this name.
+fn put_in_place(rt: &HostRuntime, name: &str, replacement: &Replacement) -> Result<()> {
+    match rename_begun(rt, replacement) {
+        // A file that is mounted, as containers do, can't be replaced.
+        Err(error) if error.kind() == ErrorKind::ResourceBusy => {
+            copy_in_place(rt, name, replacement)
+        }
+        renamed => renamed,
+    }
+}
+
+/// Removes what was begun.
+#[inline(never)]
+fn remove_begun(rt: &HostRuntime, replacement: &Replacement) {
+    let _ = fs::remove_file(rt, replacement.begun());
+}
+
+/// Standard error.
+#[derive(Drop)]
+pub struct Errors<'a> {
+    rt: &'a HostRuntime,
+}
+
+impl<'a> Errors<'a> {
+    pub fn new(rt: &'a HostRuntime) -> Errors<'a> {
+        Errors { rt }
+    }
+}
+
+impl Write for Errors<'_> {
     fn write(&mut self, bytes: &[u8]) -> Result<usize> {
-        self.progress.end();
-        let mut file = match self.file.take() {
-            Some(file) => file,
-            None => match self.name {
-                Some(name) => self.rt.create(name)?,
-                None => return self.rt.write_error(bytes),
-            },
-        };
-        let written = file.write(bytes);
-        self.file = Some(file);
-        written
+        self.rt.stderr().write(bytes)
     }
 
     fn flush(&mut self) -> Result<()> {
+        Ok(())
+    }
+}
+
+/// A file that a run writes, or words on standard error. The file is begun at the first write; it
+/// is another one, which takes its place when it is whole, wherever that can be made. Nothing is
+/// written before the line of progress has ended.
+#[derive(Drop)]
+pub struct RunFile<'a> {
+    rt: &'a HostRuntime,
+    progress: &'a Progress<'a, HostRuntime>,
+    /// Its name; none of words.
+    name: Option<String>,
+    replacement: Option<Replacement>,
+    target: Option<Target>,
+    words: PlainWriter<Errors<'a>>,
+    /// How many bytes were written.
+    count: u64,
+    has_failed: bool,
+    /// Whether what was written is in its place.
+    is_placed: bool,
+}
+
+impl<'a> RunFile<'a> {
+    /// A file of this name, and what takes its place.
+    fn new(
+        rt: &'a HostRuntime,
+        progress: &'a Progress<'a, HostRuntime>,
+        name: Option<String>,
+        replacement: Option<Replacement>,
+    ) -> RunFile<'a> {
+        RunFile {
+            rt,
+            progress,
+            name,
+            replacement,
+            target: None,
+            words: PlainWriter::new(Errors::new(rt), true),
+            count: 0,
+            has_failed: false,
+            is_placed: false,
+        }
+    }
+
+    /// A file of this name.
+    ///
+    /// # Errors
+    /// Where memory ran out.
+    pub fn of_name(
+        rt: &'a HostRuntime,
+        progress: &'a Progress<'a, HostRuntime>,
+        name: &str,
+    ) -> Result<RunFile<'a>> {
+        let replacement = replacement_of(rt, name)?;
+        let name = String::from_str(rt.alloc(), name)?;
+        Ok(RunFile::new(rt, progress, Some(name), replacement))
+    }
+
+    /// Words on standard error.
+    pub fn of_words(rt: &'a HostRuntime, progress: &'a Progress<'a, HostRuntime>) -> RunFile<'a> {
+        RunFile::new(rt, progress, None, None)
+    }
+
+    /// Puts what was written into its place, where nothing has failed.
+    pub fn finish(&mut self) -> std::result::Result<(), Broken> {
+        if self.has_failed {
+            return Err(Broken);
+        }
+        self.complete()
+    }
+
+    /// What is written to, which is begun where it wasn't.
+    fn take_target(&mut self, name: &str) -> Result<Target> {
+        match self.target.take() {
+            Some(target) => Ok(target),
+            None => begin_file(self.rt, name, self.replacement.as_mut()),
+        }
+    }
+
+    /// Writes a front of the bytes, and answers its length.
+    fn write(&mut self, bytes: &[u8]) -> Result<usize>
+        ensures { IfOk result (λ count. count ≤ length bytes.now) }
+    {
+        self.progress.end();
+        let Some(name) = self.name.take() else {
+            return self.words.write(bytes);
+        };
+        let target = self.take_target(name.as_str());
+        self.name = Some(name);
+        let mut target = target?;
+        let written = write_to(self.rt, &mut target, bytes);
+        self.target = Some(target);
+        written
+    }
+
+    /// Takes away what was begun beside the file.
+    fn abandon(&mut self) {
+        if let Some(Target::Replacing(_)) = self.target.take() {
+            if let Some(replacement) = &self.replacement {
+                remove_begun(self.rt, replacement);
+            }
+        }
+    }
+
+    /// Whether what was begun is in its place now.
+    fn is_put_in_place(&mut self) -> bool {
+        let Some(Target::Replacing(_)) = self.target.take() else {
+            return true;
+        };
+        let (Some(replacement), Some(name)) = (&self.replacement, &self.name) else {
+            return true;
+        };
+        let is_put = put_in_place(self.rt, name.as_str(), replacement).is_ok();
+        if !is_put {
+            remove_begun(self.rt, replacement);
+        }
+        is_put
+    }
+
+    /// Warns of a file that is too long to be read.
+    fn warn_of_length(&self) {
+        if self.count <= MOST_BYTES {
+            return;
+        }
+        if let Some(name) = &self.name {
+            let name = Plain(name.as_str());
+            let _ = eprintln!(self.rt;
+                "warning: {name} has more than {MOST_BYTES} bytes: `check` and `report` refuse it"
+            );
+        }
+    }
+}
+
+/// Writes a front of the bytes to where they go, and answers its length.
+fn write_to(rt: &HostRuntime, target: &mut Target, bytes: &[u8]) -> Result<usize>
+    ensures { IfOk result (λ count. count ≤ length bytes.now) }
+{
+    match target {
+        Target::Replacing(file) | Target::InPlace(file) => file.write(bytes),
+        Target::Output => rt.stdout().write(bytes),
+        Target::Error => rt.stderr().write(bytes),
+    }
+}
+
+impl ByteSink for RunFile<'_> {
+    ghost taken = { λ _. None };
+
+    ghost failed = { λ file. file.has_failed };
+
+    fn put(&mut self, bytes: &[u8]) -> std::result::Result<usize, Broken> {
+        if self.has_failed {
+            return Err(Broken);
+        }
+        match self.write(bytes) {
+            Ok(count) if count > 0 => {
+                self.count = self.count.saturating_add(count as u64);
+                self.has_failed = false;
+                Ok(count)
+            }
+            _ => {
+                self.abandon();
+                self.has_failed = true;
+                Err(Broken)
+            }
+        }
+    }
+}
+
+impl WholeSink for RunFile<'_> {
+    ghost is_placed = { λ file. file.is_placed };
+
+    fn complete(&mut self) -> std::result::Result<(), Broken> {
+        let is_placed = self.is_put_in_place();
+        self.is_placed = is_placed;
+        self.has_failed = !is_placed;
+        if !is_placed {
+            return Err(Broken);
+        }
+        self.warn_of_length();
         Ok(())
     }
 }

@@ -1,11 +1,13 @@
 //! What is reported of ROUTE and of files beside it before anything is routed: that they can't be
 //! written, or shouldn't be. To find that out nothing is created and nothing is written.
 
+use crate::identity::{STANDARD_ERROR, STANDARD_OUTPUT, folder_of, is_name_of};
+use crate::shown::Plain;
 use std::fmt;
 use std::fs::{Files, Metadata, OpenOptions};
-use std::io::Eprint;
+use std::io::{Eprint, Result as IoResult};
 use std::os::unix::fs::MetadataExt;
-use std::path::Path;
+use std::rt::Runtime;
 
 /// The bits of a mode by which a file's owner may write it, and those by which anybody else may.
 const OWNER_WRITES: u32 = 0o200;
@@ -23,8 +25,6 @@ pub enum Doubt<'a> {
     ClosedFolder(&'a str),
     /// It is there, and we may not write it.
     Closed,
-    /// It is the input of this name too.
-    Input(&'a str),
 }
 
 impl fmt::Display for Doubt<'_> {
@@ -32,33 +32,25 @@ impl fmt::Display for Doubt<'_> {
         match *self {
             Doubt::Folder => write!(f, "cannot be written: it is a folder"),
             Doubt::NoFolder(folder) => {
+                let folder = Plain(folder);
                 write!(f, "cannot be written: there is no folder {folder}")
             }
             Doubt::ClosedFolder(folder) => {
+                let folder = Plain(folder);
                 write!(
                     f,
                     "cannot be written: no file may be made in the folder {folder}"
                 )
             }
             Doubt::Closed => write!(f, "cannot be written: it may not be"),
-            Doubt::Input(name) => {
-                write!(f, "is the input {name} too, and would be written over it")
-            }
         }
     }
 }
 
-/// What is wrong with ROUTE in a run with these inputs, so far as it can be known; a device, a pipe
-/// and the like aren't asked.
-pub fn doubt_of<'a, R: Files>(rt: &R, route: &'a str, inputs: [&'a str; 3]) -> Option<Doubt<'a>> {
-    match hindrance_of(rt, route) {
-        Some(doubt) => Some(doubt),
-        None => input_at(rt, route, inputs),
-    }
-}
-
-/// Why a file of this name can't be written, so far as it can be known.
-fn hindrance_of<'a, R: Files>(rt: &R, name: &'a str) -> Option<Doubt<'a>> {
+/// Why a file of this name can't be written, so far as it can be known; a device, a pipe and the
+/// like aren't asked.
+#[inline(never)]
+pub fn hindrance_of<'a, R: Files>(rt: &R, name: &'a str) -> Option<Doubt<'a>> {
     match rt.metadata(name) {
         Ok(found) if found.is_dir() => Some(Doubt::Folder),
         Ok(found) if found.is_file() => (!may_be_written(rt, name)).then_some(Doubt::Closed),
@@ -69,39 +61,14 @@ fn hindrance_of<'a, R: Files>(rt: &R, name: &'a str) -> Option<Doubt<'a>> {
     }
 }
 
-/// The input to which this name leads too, if there is one.
-fn input_at<'a, R: Files>(rt: &R, name: &str, inputs: [&'a str; 3]) -> Option<Doubt<'a>> {
-    match rt.metadata(name) {
-        Ok(found) if found.is_file() => inputs
-            .into_iter()
-            .find(|input| is_same_file(rt, input, &found))
-            .map(|input| Doubt::Input(input)),
-        _ => None,
-    }
-}
-
 /// Whether a file that is there can be opened for writing, which leaves it as it is.
+#[inline(never)]
 fn may_be_written<R: Files>(rt: &R, name: &str) -> bool {
     OpenOptions::new().write(true).open(rt, name).is_ok()
 }
 
-/// Whether a name leads to a file that was found by another one.
-fn is_same_file<R: Files>(rt: &R, name: &str, found: &Metadata) -> bool {
-    match rt.metadata(name) {
-        Ok(other) => other.dev() == found.dev() && other.ino() == found.ino(),
-        Err(_) => false,
-    }
-}
-
-/// The folder in which a file stands.
-fn folder_of(name: &str) -> &str {
-    match Path::new(name).parent() {
-        Some(folder) if !folder.as_str().is_empty() => folder.as_str(),
-        _ => ".",
-    }
-}
-
 /// What is wrong with the place of a file that isn't there.
+#[inline(never)]
 fn doubt_of_place<'a, R: Files>(rt: &R, name: &'a str) -> Option<Doubt<'a>> {
     let folder = folder_of(name);
     match rt.metadata(folder) {
@@ -112,6 +79,7 @@ fn doubt_of_place<'a, R: Files>(rt: &R, name: &'a str) -> Option<Doubt<'a>> {
 
 /// Whether a folder's mode lets us make no file in it. A process owns its entry in /proc; which
 /// groups it is in can't be asked, so one that its group may write is taken for open.
+#[inline(never)]
 fn is_closed<R: Files>(rt: &R, folder: &Metadata) -> bool {
     let Ok(own) = rt.metadata("/proc/self") else {
         return false;
@@ -124,40 +92,64 @@ fn is_closed<R: Files>(rt: &R, folder: &Metadata) -> bool {
     own.uid() != 0 && folder.mode() & bits == 0
 }
 
-/// Whether two names, of which the first leads to no file, would be those of one.
-fn is_same_new_file<R: Files>(rt: &R, name: &str, other: &str) -> bool {
-    if rt.metadata(other).is_ok() || Path::new(name).file_name() != Path::new(other).file_name() {
-        return false;
-    }
-    match rt.metadata(folder_of(name)) {
-        Ok(folder) => is_same_file(rt, folder_of(other), &folder),
-        Err(_) => false,
-    }
-}
-
-/// Whether a name is that of another file too, be it there or not.
-fn is_name_of<R: Files>(rt: &R, name: &str, other: &str) -> bool {
-    match rt.metadata(name) {
-        Ok(found) if found.is_file() => is_same_file(rt, other, &found),
-        Ok(_) => false,
-        Err(_) => is_same_new_file(rt, name, other),
-    }
-}
-
 /// The first of the other files of a run of which this is a name too.
-fn taken_by<'b, R: Files>(rt: &R, name: &str, others: [&'b str; 5]) -> Option<&'b str> {
-    others.into_iter().find(|other| is_name_of(rt, name, other))
+///
+/// # Errors
+/// Where that can't be found out.
+fn taken_by<'b>(
+    rt: &(impl Runtime + AllocGlobal),
+    name: &str,
+    others: [&'b str; 7],
+) -> IoResult<Option<&'b str>> {
+    for other in others {
+        if is_name_of(rt, name, other)? {
+            return Ok(Some(other));
+        }
+    }
+    Ok(None)
+}
+
+/// Why a file is not written over another one of the run.
+#[derive(Clone, Copy)]
+struct Taken<'a>(&'a str);
+
+impl fmt::Display for Taken<'_> {
+    fn fmt<W: fmt::Write>(&self, f: &mut fmt::Formatter<W>) -> fmt::Result {
+        match self.0 {
+            STANDARD_OUTPUT => write!(f, "standard output goes to it"),
+            STANDARD_ERROR => write!(f, "standard error goes to it"),
+            name => {
+                let name = Plain(name);
+                write!(f, "it is the file {name} too")
+            }
+        }
+    }
 }
 
 /// Whether a file may be written beside ROUTE, in a run with these other files, so far as that can
 /// be known. Where it may not, a warning tells why; it begins with what the file is, as `the log `.
-pub fn is_free<R: Files + Eprint>(rt: &R, what: &str, name: &str, others: [&str; 5]) -> bool {
-    if let Some(other) = taken_by(rt, name, others) {
-        let _ = eprintln!(rt; "warning: {what}{name} is not written: it is the file {other} too");
-        return false;
+#[inline(never)]
+pub fn is_free(
+    rt: &(impl Runtime + AllocGlobal),
+    what: &str,
+    name: &str,
+    others: [&str; 7],
+) -> bool {
+    let plain = Plain(name);
+    match taken_by(rt, name, others) {
+        Ok(None) => {}
+        Ok(Some(other)) => {
+            let why = Taken(other);
+            let _ = eprintln!(rt; "warning: {what}{plain} is not written: {why}");
+            return false;
+        }
+        Err(_) => {
+            let _ = eprintln!(rt; "warning: {what}{plain} cannot be written");
+            return false;
+        }
     }
     if let Some(doubt) = hindrance_of(rt, name) {
-        let _ = eprintln!(rt; "warning: {what}{name} {doubt}");
+        let _ = eprintln!(rt; "warning: {what}{plain} {doubt}");
         return false;
     }
     true

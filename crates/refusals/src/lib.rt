@@ -5,4 +5,4 @@ mod advice;
 mod refusal;
 
 pub use advice::{Advice, Offender, advice_on};
-pub use refusal::{Paths, tell_refusal};
+pub use refusal::{FileRead, FilesRead, tell_refusal};

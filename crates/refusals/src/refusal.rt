@@ -4,29 +4,38 @@ ghost use Rattle.std.specs.Prelude.{◌<◌, IfSome, length};
 
 use crate::advice::{Advice, Offender, advice_on};
 use run_inputs::{AppFault, InputFile};
-use std::alloc::Global;
-use std::fs;
-use std::rt::Runtime;
-use vpr_text::{Adapted, Lines, lines, read_all};
+use std::alloc::{AllocGlobal, Global};
+use std::io::Eprint;
+use vpr_text::{Lines, lines};
 
 /// How much of a line or a word is shown, in bytes.
 const MOST_SHOWN: usize = 200;
 
+/// How many lines of the file are shown of a line that is continued.
+const MOST_LINES: u32 = 8;
+
 /// What an architecture begins with that isn't for VPR 4.30.
 const XML: &str = "this looks like the XML of VTR 7 and later, and this reads VPR 4.30's format";
 
-/// The names of a run's files; of none where the run has no such file.
+/// A file of a run: its name, as it is shown, and the bytes that were read of it; none where they
+/// were not kept.
 #[derive(Clone, Copy)]
-pub struct Paths<'a> {
-    pub arch: &'a str,
-    pub net: &'a str,
-    pub place: &'a str,
-    pub route: &'a str,
+pub struct FileRead<'a> {
+    pub name: &'a str,
+    pub bytes: &'a [u8],
 }
 
-impl<'a> Paths<'a> {
-    /// The name of a file.
-    fn of(&self, file: InputFile) -> &'a str {
+/// The files of a run; without a name where the run has no such file.
+#[derive(Clone, Copy)]
+pub struct FilesRead<'a> {
+    pub arch: FileRead<'a>,
+    pub net: FileRead<'a>,
+    pub place: FileRead<'a>,
+    pub route: FileRead<'a>,
+}
+
+impl<'a> FilesRead<'a> {
+    fn of(&self, file: InputFile) -> FileRead<'a> {
         match file {
             InputFile::Arch => self.arch,
             InputFile::Net => self.net,
@@ -56,56 +65,42 @@ fn shown_as(byte: u8) -> char {
 }
 
 /// Tells on standard error why a file was refused, and what to do, as far as there is memory.
-pub fn tell_refusal(rt: &(impl Runtime + AllocGlobal), fault: &AppFault, paths: Paths<'_>) {
+pub fn tell_refusal(rt: &(impl Eprint + AllocGlobal), fault: &AppFault, files: FilesRead<'_>) {
     if let Some(advice) = advice_on(fault) {
-        tell(rt, &advice, paths);
+        tell(rt, &advice, files);
     }
 }
 
 /// Tells an advice.
-fn tell(rt: &(impl Runtime + AllocGlobal), advice: &Advice, paths: Paths<'_>) {
-    let path = paths.of(advice.file);
+fn tell(rt: &(impl Eprint + AllocGlobal), advice: &Advice, files: FilesRead<'_>) {
+    let file = files.of(advice.file);
+    let name = file.name;
     match advice.offender {
-        Offender::Block(block) => tell_block(rt, advice, path, paths.net, block),
+        Offender::Block(block) => tell_block(rt, advice, name, files.net.bytes, block),
         _ if advice.line == 0 => {
-            let _ = eprintln!(rt; "{path}: {}", advice.text);
+            let _ = eprintln!(rt; "{name}: {}", advice.text);
         }
-        _ => tell_line(rt, advice, path),
+        _ => tell_line(rt, advice, file),
     }
-}
-
-/// The bytes of a file, as many as a reader takes; none where they can't be read.
-fn bytes_of(rt: &(impl Runtime + AllocGlobal), path: &str) -> Option<Vec<u8>> {
-    if path == "stdin" {
-        return None;
-    }
-    let file = fs::open(rt, path).ok()?;
-    read_all(rt.alloc(), &mut Adapted::new(file)).ok()
 }
 
 /// Tells that a block has no row.
 fn tell_block(
-    rt: &(impl Runtime + AllocGlobal),
+    rt: &(impl Eprint + AllocGlobal),
     advice: &Advice,
-    path: &str,
-    net: &str,
+    name: &str,
+    net: &[u8],
     block: usize,
 ) {
     let text = advice.text;
-    match block_name(rt, net, block) {
-        Some(name) => {
-            let _ = eprintln!(rt; "{path}: block {name} {text}");
+    match name_among(rt.alloc(), net, block) {
+        Some(block) => {
+            let _ = eprintln!(rt; "{name}: block {block} {text}");
         }
         None => {
-            let _ = eprintln!(rt; "{path}: block {block} {text}");
+            let _ = eprintln!(rt; "{name}: block {block} {text}");
         }
     }
-}
-
-/// The name of a block of a netlist, by its number.
-fn block_name(rt: &(impl Runtime + AllocGlobal), net: &str, block: usize) -> Option<String> {
-    let bytes = bytes_of(rt, net)?;
-    name_among(rt.alloc(), bytes.as_slice(), block)
 }
 
 /// The name that the element of a block's number has.
@@ -126,33 +121,48 @@ fn is_element(lines: &Lines<'_>, line: usize) -> bool {
 }
 
 /// Tells of a line that is refused: the word that offends and what to do, and its text.
-fn tell_line(rt: &(impl Runtime + AllocGlobal), advice: &Advice, path: &str) {
-    match bytes_of(rt, path) {
-        Some(bytes) => tell_text(rt, advice, path, bytes.as_slice()),
-        None => {
-            let _ = eprintln!(rt; "{path}:{}: {}", advice.line, advice.text);
+fn tell_line(rt: &(impl Eprint + AllocGlobal), advice: &Advice, file: FileRead<'_>) {
+    tell_word(rt, advice, file);
+    let mut line = advice.line;
+    for _ in 0..MOST_LINES {
+        let text = line_of(file.bytes, line);
+        tell_text(rt, file.name, line, text);
+        if !is_continued(text) {
+            return;
         }
+        line = line.saturating_add(1);
     }
 }
 
-/// Tells of a line of a file with these bytes.
-fn tell_text(rt: &(impl Runtime + AllocGlobal), advice: &Advice, path: &str, bytes: &[u8]) {
-    tell_word(rt, advice, path, bytes);
-    let line = advice.line;
-    if let Some(text) = shown(rt.alloc(), line_of(bytes, line)) {
-        let _ = eprintln!(rt; "{path}:{line}: | {text}");
+/// Shows a line of a file, unless it has no text.
+fn tell_text(rt: &(impl Eprint + AllocGlobal), name: &str, line: u32, text: &[u8]) {
+    if text.is_empty() {
+        return;
     }
+    if let Some(text) = shown(rt.alloc(), text) {
+        let _ = eprintln!(rt; "{name}:{line}: | {text}");
+    }
+}
+
+/// Whether a line goes on in the next one: its last byte is a backslash, but for a comment and
+/// blanks.
+fn is_continued(text: &[u8]) -> bool {
+    let end = text.iter().position(|byte| *byte == b'#');
+    let words = text.get(..end.unwrap_or(text.len())).unwrap_or(text);
+    let last = words.iter().rev().find(|byte| !byte.is_ascii_whitespace());
+    last == Some(&b'\\')
 }
 
 /// Tells what to do about a line, and of which of its words.
-fn tell_word(rt: &(impl Runtime + AllocGlobal), advice: &Advice, path: &str, bytes: &[u8]) {
-    let (line, text) = (advice.line, text_on(advice, bytes));
-    match word_of(rt.alloc(), advice, bytes) {
+fn tell_word(rt: &(impl Eprint + AllocGlobal), advice: &Advice, file: FileRead<'_>) {
+    let name = file.name;
+    let (line, text) = (advice.line, text_on(advice, file.bytes));
+    match word_of(rt.alloc(), advice, file.bytes) {
         Some(word) => {
-            let _ = eprintln!(rt; "{path}:{line}: `{word}`: {text}");
+            let _ = eprintln!(rt; "{name}:{line}: `{word}`: {text}");
         }
         None => {
-            let _ = eprintln!(rt; "{path}:{line}: {text}");
+            let _ = eprintln!(rt; "{name}:{line}: {text}");
         }
     }
 }

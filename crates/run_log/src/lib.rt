@@ -4,6 +4,7 @@
 mod log;
 mod log_text;
 mod progress;
+mod trial_text;
 
 pub use log::Log;
 pub use progress::Progress;

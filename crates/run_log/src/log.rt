@@ -1,9 +1,10 @@
-//! A log of a negotiation, or of those of a search of widths: a head, and a line for each
-//! iteration.
+//! A log of a negotiation, or of those of a search of widths: a head, a line for each iteration,
+//! and one for each width that was tried.
 
 use crate::log_text::{write_head, write_row};
+use crate::trial_text::{write_left, write_routed};
 use congestion_book::Book;
-use net_workers::Gate;
+use net_workers::{Gate, TrialEnd};
 use node_cost::Settings;
 use rr_graph::Problem;
 use std::io::Eprint;
@@ -15,9 +16,9 @@ use vpr_text::ByteSink;
 /// The greatest number of an iteration.
 const MOST_ITERATIONS: u32 = 500;
 
-/// A gate that writes a log: before the first negotiation a head, and after each iteration a line,
-/// each whole and at once. Where it can't be written a warning stands on standard error, and the
-/// log ends there; the run goes on.
+/// A gate that writes a log: before the first negotiation a head, and after each iteration and each
+/// trial of a width a line, each whole and at once. Where it can't be written a warning stands on
+/// standard error, and the log ends there; the run goes on.
 #[derive(Drop)]
 pub struct Log<'a, R, W> {
     rt: &'a R,
@@ -88,6 +89,18 @@ impl<'a, R: Eprint + Clock + Wait, W: ByteSink + Drop> Log<'a, R, W> {
         write_row(sink, &self.settings, number, book, self.elapsed()).is_ok()
     }
 
+    /// Whether the line of a trial was written.
+    fn is_trial_written(&self, sink: &mut W, width: u32, end: TrialEnd) -> bool {
+        match end {
+            TrialEnd::Routed { iterations } => write_routed(sink, width, iterations).is_ok(),
+            TrialEnd::NotRouted {
+                unrouted,
+                overused,
+                iterations,
+            } => write_left(sink, width, unrouted, overused, iterations).is_ok(),
+        }
+    }
+
     /// Tells that the log ends.
     fn complain(&self) {
         let name = self.name;
@@ -120,6 +133,17 @@ impl<R: Eprint + Clock + Wait, W: ByteSink + Drop> Gate for Log<'_, R, W> {
             return;
         };
         if !self.is_row_written(sink, iteration, book) {
+            *out = None;
+            self.complain();
+        }
+    }
+
+    fn tried(&self, width: u32, end: TrialEnd) {
+        let mut out = self.out.lock(self.rt);
+        let Some(sink) = out.as_mut() else {
+            return;
+        };
+        if !self.is_trial_written(sink, width, end) {
             *out = None;
             self.complain();
         }

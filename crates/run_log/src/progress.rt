@@ -40,6 +40,8 @@ impl fmt::Display for Seconds {
 struct Standing {
     /// The width that is tried; 0 where there is no search of widths.
     width: u32,
+    /// The least width that was routed, where that is shown; 0 where none was.
+    least: u32,
     iteration: u32,
     /// How many nets had their turn in the iteration.
     turns: u32,
@@ -54,6 +56,7 @@ impl fmt::Display for Standing {
     fn fmt<W: Write>(&self, f: &mut fmt::Formatter<W>) -> fmt::Result {
         let Standing {
             width,
+            least,
             iteration,
             turns,
             nets,
@@ -61,6 +64,9 @@ impl fmt::Display for Standing {
         } = *self;
         if width > 0 {
             write!(f, "width {width}, ")?;
+        }
+        if least > 0 {
+            write!(f, "least routed {least}, ")?;
         }
         let (net, node) = (plural(nets), plural(overused));
         write!(f, "iteration {iteration}: {turns} of {nets} net{net}")?;
@@ -123,8 +129,13 @@ pub struct Progress<'a, R> {
     /// How many columns the terminal has.
     columns: u32,
     begin: Duration,
+    /// Whether a line stays after each trial of a width. Else the line of progress has the least
+    /// width that was routed.
+    keeps_trials: bool,
     /// The width that is tried; 0 where there is no search of widths.
     width: AtomicU32,
+    /// The least width that was routed; 0 where none was.
+    least: AtomicU32,
     iteration: AtomicU32,
     turns: AtomicU32,
     nets: AtomicU32,
@@ -142,7 +153,9 @@ impl<'a, R: Eprint + Clock> Progress<'a, R> {
             is_wanted,
             columns: COLUMNS,
             begin: rt.monotonic().unwrap_or(Duration::ZERO),
+            keeps_trials: true,
             width: AtomicU32::new(0),
+            least: AtomicU32::new(0),
             iteration: AtomicU32::new(1),
             turns: AtomicU32::new(0),
             nets: AtomicU32::new(0),
@@ -156,6 +169,29 @@ impl<'a, R: Eprint + Clock> Progress<'a, R> {
     pub fn within(mut self, columns: u32) -> Progress<'a, R> {
         self.columns = columns;
         self
+    }
+
+    /// The same with no line that stays after a trial of a width: for a terminal that standard
+    /// output goes to as well, where these lines come in the end.
+    pub fn without_trials(mut self) -> Progress<'a, R> {
+        self.keeps_trials = false;
+        self
+    }
+
+    /// The least width that is shown in the line; 0 where none is.
+    fn shown_least(&self) -> u32 {
+        if self.keeps_trials {
+            return 0;
+        }
+        self.least.load(Ordering::SeqCst)
+    }
+
+    /// Notes that a width was routed.
+    fn note_routed(&self, width: u32) {
+        let least = self.least.load(Ordering::SeqCst);
+        if least == 0 || width < least {
+            self.least.store(width, Ordering::SeqCst);
+        }
     }
 
     /// The milliseconds since it was made.
@@ -172,6 +208,7 @@ impl<'a, R: Eprint + Clock> Progress<'a, R> {
         self.is_shown.store(true, Ordering::SeqCst);
         let standing = Standing {
             width: self.width.load(Ordering::SeqCst),
+            least: self.shown_least(),
             iteration: self.iteration.load(Ordering::SeqCst),
             turns: self.turns.load(Ordering::SeqCst),
             nets: self.nets.load(Ordering::SeqCst),
@@ -229,10 +266,16 @@ impl<R: Eprint + Clock> Gate for Progress<'_, R> {
     }
 
     fn tried(&self, width: u32, end: TrialEnd) {
+        if matches!(end, TrialEnd::Routed { .. }) {
+            self.note_routed(width);
+        }
         if !self.is_wanted {
             return;
         }
         self.end();
+        if !self.keeps_trials {
+            return;
+        }
         let time = Seconds {
             milliseconds: self.elapsed(),
         };

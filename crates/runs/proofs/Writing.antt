@@ -1,5 +1,5 @@
 -- What comes of writing a routing and printing the line of an outcome.
-use Rattle.std.proofs.Common.{◌≡◌, ◌≢◌, ℕ, ◌<◌, Bool, true, false, MatchBool, List, length, Option, Result, Ok, Err, refl, sym, ap, ◌∙◌, arith, length-append}
+use Rattle.std.proofs.Common.{◌≡◌, ◌≢◌, ℕ, ◌<◌, Bool, true, false, MatchBool, List, length, Option, Result, Ok, Err, IfOk, refl, sym, ap, subst, ◌∙◌, arith, length-append}
 use Rattle.std.proofs.lemmas.Bool.{false≢true}
 use Rattle.route_file.specs.Text.{text_of}
 use Rattle.route_tree.specs.Usage.{Lists}
@@ -104,3 +104,10 @@ free_late Unwritten e = absurd (false≢true e)
 -- one that isn't is no want of memory
 pub not_memory : (f : AppFault) → is_free f ≡ false → f ≢ Memory
 not_memory f e same = false≢true (sym e ∙ ap is_free same)
+
+-- ---- what holds of a value holds of what printing it answers
+
+module _ {R : Type 0} (P : R → Type 0) (F T : Type 0) (value : R) (result : Result R AppFault) where
+  pub printed_so : (failed : Bool) → MatchBool failed ((result ≡ Err Unwritten) × F) ((result ≡ Ok value) × T) → P value → IfOk result P
+  printed_so true p holds = subst (λ (r : Result R AppFault). IfOk r P) (sym p.0) tt
+  printed_so false p holds = subst (λ (r : Result R AppFault). IfOk r P) (sym p.0) holds

@@ -1,5 +1,5 @@
 -- What a run of `route` answers, writes and prints (ours).
-use Rattle.std.specs.Prelude.{◌≡◌, ℕ, List, ◌++◌, codes, decimal, Result, Err, MatchBool}
+use Rattle.std.specs.Prelude.{◌≡◌, ℕ, Bool, true, List, ◌++◌, codes, decimal, Result, Err, MatchBool}
 use Rattle.node_cost.specs.Options.{RouterOptions}
 use Rattle.route_tree.specs.Usage.{Lists}
 use Rattle.route_file.specs.Text.{text_of}
@@ -45,6 +45,11 @@ abbrev pub WritesOutcome : (route out : Writing) → PlacedDesign → Outcome �
 WritesOutcome route out d (Success lists iterations) result = WritesSuccess route out d lists iterations result
 WritesOutcome route out d (NotRouted unrouted overused iterations) result =
     TakesNothing route × PrintsText out (left_text unrouted overused iterations) (NotRouted unrouted overused iterations) result
+
+-- the routing of a success is in its place
+abbrev pub PlacesOutcome : (is_placed : Bool) → Outcome → Type 0
+PlacesOutcome is_placed (Success lists iterations) = is_placed ≡ true
+PlacesOutcome is_placed (NotRouted unrouted overused iterations) = Unit {0}
 
 -- A design's problem is negotiated: the outcome is one of the negotiation, and a success is a
 -- routing of the problem; and it is written.

@@ -1,5 +1,5 @@
 -- What a run of `width` answers, writes and prints (ours).
-use Rattle.std.specs.Prelude.{◌≡◌, ℕ, Bool, if◌then◌else◌, List, ◌++◌, codes, decimal, Option, None, Some, Result, Err, MatchBool}
+use Rattle.std.specs.Prelude.{◌≡◌, ℕ, Bool, true, if◌then◌else◌, List, ◌++◌, codes, decimal, Option, None, Some, Result, Err, MatchBool}
 use Rattle.std.specs.List.{flat_map}
 use Rattle.rr_graph.specs.node.Mode.{Mode}
 use Rattle.node_cost.specs.Options.{RouterOptions}
@@ -62,6 +62,11 @@ WritesLeast route out mode p lines None value result = PrintsText out lines valu
 -- is written to `route`.
 abbrev pub WritesReport : {R : Type 0} → (route out : Writing) → Mode → PlacedNetlist → Report → R → Result R AppFault → Type 0
 WritesReport route out mode p r value result = WritesLeast route out mode p (report_text r) r.least value result
+
+-- the routing of the least width, where there is one, is in its place
+abbrev pub PlacesLeast : (is_placed : Bool) → Option LeastWidth → Type 0
+PlacesLeast is_placed (Some least) = is_placed ≡ true
+PlacesLeast is_placed None = Unit {0}
 
 -- Widths are tried for a placed netlist, from a start on: the report is that of the search, and it
 -- is written.

@@ -9,14 +9,14 @@ ghost use Rattle.run_inputs.specs.Faults.{ends_free};
 ghost use Rattle.run_inputs.specs.Inputs.{placed_problem};
 ghost use Rattle.run_inputs.specs.Runs.{PrintsText, writing_to};
 
-use crate::left_trees::write_trees;
+use crate::routing::write_trees;
 use crate::side_files::SideFiles;
+use crate::whole_sink::WholeSink;
 use net_workers::Gate;
 use route_tree::{Pairs, Routing};
 use rr_graph::{Device, Mode, Problem};
 use run_inputs::{AppFault, PlacedNetlist};
 use std::alloc::Global;
-use vpr_text::ByteSink;
 
 /// Whether all these numbers are below the count.
 fn are_below(count: u32, pairs: &[(u32, u32)]) -> bool
@@ -52,7 +52,7 @@ fn fits(problem: &Problem, routing: &Routing) -> bool
 
 /// Writes the text of a routing of a placed netlist at a width: Astray where it can't be meant for
 /// that.
-fn write_trial<W: ByteSink>(
+fn write_trial<W: WholeSink>(
     alloc: Global,
     placed: &PlacedNetlist<'_>,
     width: u32,

@@ -2,50 +2,27 @@
 
 ghost use Rattle.std.specs.Prelude.{◌≡◌, true, false};
 ghost use Rattle.vpr_text.specs.Output.{SendsTo};
-ghost use Rattle.route_tree.specs.Fits.{fits_problem};
-ghost use Rattle.route_file.specs.Design.{IsDesign};
 ghost use Rattle.route_file.specs.Text.{text_of};
 ghost use Rattle.run_inputs.specs.Faults.{ends_free};
 ghost use Rattle.runs.specs.kept.Left.{stuck_line, stuck_net, stuck_text};
 ghost use Rattle.run_inputs.specs.Runs.{PrintsText, TakesNothing, writing_to};
 
+use crate::routing::write_trees;
 use crate::side_files::SideFiles;
+use crate::whole_sink::WholeSink;
 use congestion_book::Book;
 use iteration::routing_of;
 use net_file::Netlist;
 use net_workers::Gate;
-use place_file::Placement;
-use route_file::WriteFault;
-use route_tree::Routing;
 use rr_graph::{Device, Problem};
 use run_inputs::{AppFault, Design, net_name, number_of_net};
 use std::alloc::Global;
 use std::sync::{Mutex, Wait};
 use text_output::{ByteSink, OutputBuffer, Piece, put_pieces};
 
-/// Writes the text of trees of a placed netlist, of which some nets may have none.
-#[inline(never)]
-pub(crate) fn write_trees<W: ByteSink>(
-    netlist: &Netlist<'_>,
-    placement: &Placement,
-    problem: &Problem,
-    trees: &Routing,
-    file: &mut W,
-) -> Result<(), AppFault>
-    requires design { IsDesign netlist.now placement.now problem.now }
-    requires fits { fits_problem problem.now trees.now ≡ true }
-    ensures { PrintsText (writing_to W.taken W.failed file.old file.new)
-        (text_of netlist.now placement.now problem.now trees.now) tt result }
-{
-    match route_file::write(netlist, placement, problem, trees, file) {
-        Ok(()) => Ok(()),
-        Err(WriteFault::Failed) => Err(AppFault::Unwritten),
-    }
-}
-
 /// Writes the text of the trees that a book of the design's problem has recorded.
 #[tactic(auto, using(crate::proofs::Leaving::book_fits))]
-fn write_recorded<W: ByteSink>(
+fn write_recorded<W: WholeSink>(
     alloc: Global,
     design: &Design<'_>,
     book: &Book,
@@ -70,7 +47,7 @@ fn write_recorded<W: ByteSink>(
 }
 
 /// Whether the trees of a book were written, which is of the design's problem.
-fn is_written<W: ByteSink>(alloc: Global, design: &Design<'_>, book: &Book, file: &mut W) -> bool {
+fn is_written<W: WholeSink>(alloc: Global, design: &Design<'_>, book: &Book, file: &mut W) -> bool {
     *book.problem() == *design.problem() && write_recorded(alloc, design, book, file).is_ok()
 }
 

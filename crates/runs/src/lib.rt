@@ -14,6 +14,7 @@ mod side_files;
 mod trials;
 mod tried_widths;
 mod verdict;
+mod whole_sink;
 mod width;
 
 pub use check::{check_run, judge};
@@ -23,4 +24,5 @@ pub use route::route_run;
 pub use side_files::{NoFiles, SideFiles};
 pub use trials::report_status;
 pub use verdict::{tree_fault_name, verdict_status};
+pub use whole_sink::WholeSink;
 pub use width::width_run;

@@ -8,13 +8,14 @@ ghost use Rattle.iteration.specs.Outcomes as negotiation;
 ghost use Rattle.run_inputs.specs.Faults.{ends_free, is_free};
 ghost use Rattle.run_inputs.specs.Runs.{MeetsDesign, PrintsText, TakesNothing, reading, writing_to};
 ghost use Rattle.run_inputs.specs.Inputs.{design_in, ends_before};
-ghost use Rattle.runs.specs.RouteRun.{RoutesDesign, RunsRoute, WritesOutcome, WritesSuccess};
+ghost use Rattle.runs.specs.RouteRun.{PlacesOutcome, RoutesDesign, RunsRoute, WritesOutcome, WritesSuccess};
 ghost use Rattle.runs.specs.kept.Routing.{RoutesProblem, outcome_text};
 
 use crate::left_trees::LeftTrees;
 use crate::outcome::put_outcome;
 use crate::routing::write_routing;
 use crate::side_files::SideFiles;
+use crate::whole_sink::WholeSink;
 use iteration::{Outcome, negotiate};
 use net_workers::{BothGates, Gate};
 use node_cost::Settings;
@@ -41,7 +42,7 @@ fn print_outcome<W: ByteSink>(outcome: Outcome, out: &mut W) -> Result<Outcome, 
 }
 
 /// Writes the routing of a success, and then prints the line of the outcome.
-fn write_success<R: ByteSink, W: ByteSink>(
+fn write_success<R: WholeSink, W: ByteSink>(
     design: &Design<'_>,
     routing: Routing,
     iterations: u32,
@@ -49,9 +50,10 @@ fn write_success<R: ByteSink, W: ByteSink>(
     out: &mut W,
 ) -> Result<Outcome, AppFault>
     requires { IsRouted design.now.problem routing }
-    ensures { WritesSuccess (writing_to R.taken R.failed route.old route.new)
+    ensures writes { WritesSuccess (writing_to R.taken R.failed route.old route.new)
         (writing_to W.taken W.failed out.old out.new)
         design.now routing iterations result }
+    ensures placed { IfOk result (PlacesOutcome (R.is_placed route.new)) }
 {
     let (netlist, placement) = (design.netlist(), design.placement());
     write_routing(netlist, placement, design.problem(), &routing, route)?;
@@ -59,15 +61,16 @@ fn write_success<R: ByteSink, W: ByteSink>(
 }
 
 /// Writes the routing, where the outcome is one, and then prints the line of the outcome.
-fn write_outcome<R: ByteSink, W: ByteSink>(
+fn write_outcome<R: WholeSink, W: ByteSink>(
     design: &Design<'_>,
     outcome: Outcome,
     route: &mut R,
     out: &mut W,
 ) -> Result<Outcome, AppFault>
     requires { RoutesProblem design.now.problem outcome }
-    ensures { WritesOutcome (writing_to R.taken R.failed route.old route.new)
+    ensures writes { WritesOutcome (writing_to R.taken R.failed route.old route.new)
         (writing_to W.taken W.failed out.old out.new) design.now outcome result }
+    ensures placed { IfOk result (PlacesOutcome (R.is_placed route.new)) }
 {
     match outcome {
         Outcome::Success(routing, iterations) => write_success(
@@ -116,7 +119,7 @@ fn negotiate_leaving<T: Threads + Wait + Sync + AllocGlobal, G: Gate + Sync, S: 
 /// Negotiates a routing of a design, and writes the outcome.
 fn route_design<
     T: Threads + Wait + Sync + AllocGlobal,
-    R: ByteSink,
+    R: WholeSink,
     W: ByteSink,
     G: Gate + Sync,
     S: SideFiles + Sync,
@@ -139,6 +142,7 @@ fn route_design<
     ensures out { ends_free result ≡ true
         → TakesNothing (writing_to W.taken W.failed out.old out.new) }
     ensures late { ends_before InputFile.Route result ≡ false }
+    ensures placed { IfOk result (PlacesOutcome (R.is_placed route.new)) }
 {
     let outcome = negotiate_leaving(rt, design, settings, workers, gate, rest)?;
     write_outcome(design, outcome, route, out)
@@ -156,7 +160,7 @@ fn route_design<
 /// reading, and neither sink took anything; else Unwritten exactly where writing failed: of
 /// `route`, which then took a front of the routing's text, and `out` took nothing; or of `out`,
 /// which took a front of the line.
-pub fn route_run<N: ByteSource, A: ByteSource, P: ByteSource, R: ByteSink, W: ByteSink>(
+pub fn route_run<N: ByteSource, A: ByteSource, P: ByteSource, R: WholeSink, W: ByteSink>(
     rt: &(impl Threads + Wait + Sync + AllocGlobal),
     net: &mut N,
     arch: &mut A,
@@ -187,6 +191,8 @@ pub fn route_run<N: ByteSource, A: ByteSource, P: ByteSource, R: ByteSink, W: By
         → TakesNothing (writing_to R.taken R.failed route.old route.new) }
     ensures out { ends_free result ≡ true
         → TakesNothing (writing_to W.taken W.failed out.old out.new) }
+    // The routing of a success is in its place.
+    ensures placed { IfOk result (PlacesOutcome (R.is_placed route.new)) }
     // A file is not read where the run ended at one before it.
     ensures net { ends_before InputFile.Net result ≡ true → net.new ≡ net.old }
     ensures place { ends_before InputFile.Place result ≡ true → place.new ≡ place.old }

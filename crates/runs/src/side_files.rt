@@ -1,13 +1,14 @@
 //! Files that a run writes beside its own: the trees that a negotiation left, and the routings of
 //! trials.
 
+use crate::whole_sink::WholeSink;
 use std::io::{Sink, sink};
-use vpr_text::{Adapted, ByteSink};
+use vpr_text::Adapted;
 
 /// Makes the files that a run writes beside its own. A run goes on where one can't be written.
 pub trait SideFiles {
     /// Such a file, or where words go.
-    type Out: ByteSink + Drop + Sync;
+    type Out: WholeSink + Drop + Sync;
 
     /// The file of a negotiation on channels of so many tracks; none where it isn't wanted, or
     /// can't be made.

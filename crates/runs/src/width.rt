@@ -1,6 +1,6 @@
 //! The `width` command over any sources and sinks.
 
-ghost use Rattle.std.specs.Prelude.{◌≡◌, ◌≤◌, true, false, IfErr, IfOk};
+ghost use Rattle.std.specs.Prelude.{◌≡◌, ◌≤◌, true, false, IfErr, IfOk, OnOk};
 ghost use Rattle.rr_graph.specs.Fabric.{most_tracks};
 ghost use Rattle.node_cost.specs.Options.{most_workers};
 ghost use Rattle.route_check.specs.Routed.{IsRouted};
@@ -10,7 +10,7 @@ ghost use Rattle.width_search.specs.Reports.{IsWidthReport, Negotiates};
 ghost use Rattle.run_inputs.specs.Faults.{ends_free, is_free};
 ghost use Rattle.run_inputs.specs.Inputs.{ends_before, placed_in, placed_problem};
 ghost use Rattle.run_inputs.specs.Runs.{MeetsDesign, PrintsText, TakesNothing, reading, writing_to};
-ghost use Rattle.runs.specs.WidthRun.{RunsWidth, SearchesWidths, WritesFound, WritesReport, report_text};
+ghost use Rattle.runs.specs.WidthRun.{PlacesLeast, RunsWidth, SearchesWidths, WritesFound, WritesReport, report_text};
 ghost use Rattle.runs.specs.kept.Routing.{RoutesLeast};
 
 use crate::kept_trials::KeptTrials;
@@ -19,6 +19,7 @@ use crate::routing::write_routing;
 use crate::side_files::SideFiles;
 use crate::trials::put_report;
 use crate::tried_widths::Widths;
+use crate::whole_sink::WholeSink;
 use net_workers::{BothGates, Gate};
 use node_cost::Settings;
 use route_tree::Routing;
@@ -45,7 +46,7 @@ fn print_report<W: ByteSink>(report: &WidthReport, out: &mut W) -> Result<(), Ap
 }
 
 /// Prints the lines of a search, and then writes the routing of the least width that was routed.
-fn write_found<R: ByteSink, W: ByteSink>(
+fn write_found<R: WholeSink, W: ByteSink>(
     placed: &PlacedNetlist<'_>,
     problem: &Problem,
     routing: &Routing,
@@ -55,9 +56,10 @@ fn write_found<R: ByteSink, W: ByteSink>(
 ) -> Result<(), AppFault>
     requires design { IsDesign placed.now.netlist placed.now.placement problem.now }
     requires routed { IsRouted problem.now routing.now }
-    ensures { WritesFound (writing_to R.taken R.failed route.old route.new)
+    ensures writes { WritesFound (writing_to R.taken R.failed route.old route.new)
         (writing_to W.taken W.failed out.old out.new) (report_text report.now)
         (text_of placed.now.netlist placed.now.placement problem.now routing.now) tt result }
+    ensures placed { OnOk result (R.is_placed route.new ≡ true) }
 {
     print_report(report, out)?;
     write_routing(
@@ -72,7 +74,7 @@ fn write_found<R: ByteSink, W: ByteSink>(
 /// Prints the lines of a search, and then writes the routing of the least width, where one was
 /// routed. The problem of that width is made before anything is printed, so that a run that is out
 /// of memory has written nothing.
-fn write_report<R: ByteSink, W: ByteSink>(
+fn write_report<R: WholeSink, W: ByteSink>(
     alloc: Global,
     placed: &PlacedNetlist<'_>,
     report: &WidthReport,
@@ -90,6 +92,7 @@ fn write_report<R: ByteSink, W: ByteSink>(
     ensures out { ends_free result ≡ true
         → TakesNothing (writing_to W.taken W.failed out.old out.new) }
     ensures late { ends_before InputFile.Route result ≡ false }
+    ensures placed { OnOk result (PlacesLeast (R.is_placed route.new) report.now.least) }
 {
     match report.least() {
         Some(least) => {
@@ -140,7 +143,7 @@ fn search_widths<T: Threads + Wait + Sync + AllocGlobal, G: Gate + Sync, S: Side
 /// routing of that width.
 fn width_placed<
     T: Threads + Wait + Sync + AllocGlobal,
-    R: ByteSink,
+    R: WholeSink,
     W: ByteSink,
     G: Gate + Sync,
     S: SideFiles + Sync,
@@ -165,6 +168,7 @@ fn width_placed<
     ensures out { ends_free result ≡ true
         → TakesNothing (writing_to W.taken W.failed out.old out.new) }
     ensures late { ends_before InputFile.Route result ≡ false }
+    ensures placed { IfOk result (λ report. PlacesLeast (R.is_placed route.new) report.least) }
 {
     let report = search_widths(rt, widths, start, gate, kept)?;
     write_report(rt.alloc(), widths.placed, &report, widths.mode, route, out)?;
@@ -185,7 +189,7 @@ fn width_placed<
 /// reading, and neither sink took anything; else Unwritten exactly where writing failed: of `out`,
 /// which then took a front of the lines, and `route` took nothing; or of `route`, which took a
 /// front of the routing's text.
-pub fn width_run<N: ByteSource, A: ByteSource, P: ByteSource, R: ByteSink, W: ByteSink>(
+pub fn width_run<N: ByteSource, A: ByteSource, P: ByteSource, R: WholeSink, W: ByteSink>(
     rt: &(impl Threads + Wait + Sync + AllocGlobal),
     net: &mut N,
     arch: &mut A,
@@ -218,6 +222,8 @@ pub fn width_run<N: ByteSource, A: ByteSource, P: ByteSource, R: ByteSink, W: By
         → TakesNothing (writing_to R.taken R.failed route.old route.new) }
     ensures out { ends_free result ≡ true
         → TakesNothing (writing_to W.taken W.failed out.old out.new) }
+    // The routing of the least width is in its place.
+    ensures placed { IfOk result (λ report. PlacesLeast (R.is_placed route.new) report.least) }
     // A file is not read where the run ended at one before it.
     ensures net { ends_before InputFile.Net result ≡ true → net.new ≡ net.old }
     ensures place { ends_before InputFile.Place result ≡ true → place.new ≡ place.old }

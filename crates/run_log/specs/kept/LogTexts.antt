@@ -108,3 +108,18 @@ row_text o iteration c milliseconds =
     iteration_text c.problem.device.width iteration (present_of o iteration)
     ++ (figures_text (overused_in c.problem c.lists) (excess_in c.problem c.lists) (unrouted_in c.lists) (wirelength_in c.problem c.lists)
     ++ time_text milliseconds)
+
+-- ---- what a trial of a width came to
+
+-- a routing, after so many iterations
+unfoldable pub trial_routed_text : (width iterations : ℕ) → List ℕ
+trial_routed_text width iterations =
+    codes "# width " ++ (decimal width ++ (codes ": routed, iterations " ++ (decimal iterations ++ codes "\n")))
+
+-- no routing: so many nets without a tree and overused nodes, after so many iterations
+unfoldable pub trial_left_text : (width unrouted overused iterations : ℕ) → List ℕ
+trial_left_text width unrouted overused iterations =
+    codes "# width "
+    ++ (decimal width
+    ++ (codes ": not routed: unrouted "
+    ++ (decimal unrouted ++ (codes ", overused " ++ (decimal overused ++ (codes ", iterations " ++ (decimal iterations ++ codes "\n")))))))

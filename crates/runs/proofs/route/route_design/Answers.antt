@@ -19,22 +19,22 @@ pub write_outcome-requires : goal.write_outcome-requires
 write_outcome-requires g c = routes_problem c.args.design.now.problem c.args.settings.now c.in_ok-outcome.outcome c.in_ok-outcome.ensures.outcome
 
 pub returns-clause-runs : goal.returns-clause-runs
-returns-clause-runs g c = λ _. (c.in_ok-outcome.outcome, c.in_ok-outcome.ensures.outcome, c.in_ok-outcome.ensures.run, c.write_outcome.ensures)
+returns-clause-runs g c = λ _. (c.in_ok-outcome.outcome, c.in_ok-outcome.ensures.outcome, c.in_ok-outcome.ensures.run, c.write_outcome.ensures.writes)
 
 pub returns-clause-route : goal.returns-clause-route
 returns-clause-route g c =
     let route = writing (g.R.ByteSink.taken c.args.route.now) (g.R.ByteSink.taken c.write_outcome.new.route) (g.R.ByteSink.failed c.write_outcome.new.route) in
     let out = writing (g.W.ByteSink.taken c.args.out.now) (g.W.ByteSink.taken c.write_outcome.new.out) (g.W.ByteSink.failed c.write_outcome.new.out) in
-    λ free. absurd (false≢true (sym (written_bound route out c.args.design.now c.write_outcome.result c.in_ok-outcome.outcome c.write_outcome.ensures) ∙ free))
+    λ free. absurd (false≢true (sym (written_bound route out c.args.design.now c.write_outcome.result c.in_ok-outcome.outcome c.write_outcome.ensures.writes) ∙ free))
 
 pub returns-clause-out : goal.returns-clause-out
 returns-clause-out g c =
     let route = writing (g.R.ByteSink.taken c.args.route.now) (g.R.ByteSink.taken c.write_outcome.new.route) (g.R.ByteSink.failed c.write_outcome.new.route) in
     let out = writing (g.W.ByteSink.taken c.args.out.now) (g.W.ByteSink.taken c.write_outcome.new.out) (g.W.ByteSink.failed c.write_outcome.new.out) in
-    λ free. absurd (false≢true (sym (written_bound route out c.args.design.now c.write_outcome.result c.in_ok-outcome.outcome c.write_outcome.ensures) ∙ free))
+    λ free. absurd (false≢true (sym (written_bound route out c.args.design.now c.write_outcome.result c.in_ok-outcome.outcome c.write_outcome.ensures.writes) ∙ free))
 
 pub returns-clause-late : goal.returns-clause-late
 returns-clause-late g c =
     let route = writing (g.R.ByteSink.taken c.args.route.now) (g.R.ByteSink.taken c.write_outcome.new.route) (g.R.ByteSink.failed c.write_outcome.new.route) in
     let out = writing (g.W.ByteSink.taken c.args.out.now) (g.W.ByteSink.taken c.write_outcome.new.out) (g.W.ByteSink.failed c.write_outcome.new.out) in
-    written_late route out c.args.design.now c.write_outcome.result c.in_ok-outcome.outcome c.write_outcome.ensures
+    written_late route out c.args.design.now c.write_outcome.result c.in_ok-outcome.outcome c.write_outcome.ensures.writes

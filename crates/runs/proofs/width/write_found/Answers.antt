@@ -6,8 +6,8 @@ use Rattle.run_inputs.proofs.Ending.{Keeps-same}
 use Rattle.runs.proofs.Widths.{found_unprinted}
 use Rattle.runs.proofs.width.write_found.Goals as goal
 
-pub returns-in_err-print_report : goal.returns-in_err-print_report
-returns-in_err-print_report g c =
+pub returns-in_err-print_report-clause-writes : goal.returns-in_err-print_report-clause-writes
+returns-in_err-print_report-clause-writes g c =
     let sink = g.W.ByteSink in
     let taken = g.R.ByteSink.taken c.args.route.now in
     let p = err_from_is_err_and c.from_residual.result c.from_residual.ensures.1 in

@@ -1,0 +1,18 @@
+//! How `lab` is called.
+
+/// What `--help` prints.
+pub const USAGE: &str = "\
+Makes the calls of the router's libraries that a script asks for, and prints their answers.
+
+lab SCRIPT ..      runs scripts, each from nothing
+lab                runs the script of standard input
+lab --help         prints this
+
+The exit status is
+  0  where all answers were as wanted, and every line could be read
+  1  where an answer was not, or a line or a script could not be read
+  2  where the command line has an unknown option, or a word that is no text
+What was not as wanted is said on standard error, as SCRIPT:LINE: ..
+
+The lines of a script and the calls are described in crates/lab/README.md.
+";

@@ -1,0 +1,32 @@
+//! Sinks whose bytes appear whole, as those of a file that takes its name when all were written.
+
+ghost use Rattle.std.specs.Prelude.{◌≡◌, Bool, OnOk, false, is_err, true};
+ghost use Rattle.std.specs.Io.KnownBytes.{Keeps};
+
+use std::io::Write;
+use vpr_text::{Adapted, Broken, ByteSink};
+
+/// A sink whose bytes take their place when all of them were written.
+pub trait WholeSink: ByteSink {
+    /// Whether what was written is in its place.
+    ghost is_placed: { Self → Bool };
+
+    /// Puts what was written into its place. It takes no byte.
+    ///
+    /// # Errors
+    /// Broken where that fails; then nothing has changed there.
+    fn complete(&mut self) -> Result<(), Broken>
+        requires { Self.failed self.old ≡ false }
+        ensures bytes { Keeps (Self.taken self.old) (Self.taken self.new) }
+        ensures breaks { Self.failed self.new ≡ is_err result }
+        ensures placed { OnOk result (Self.is_placed self.new ≡ true) };
+}
+
+/// The bytes of a writer stand where they belong as soon as they are written.
+impl<W: Write> WholeSink for Adapted<W> {
+    ghost is_placed = { λ _. true };
+
+    fn complete(&mut self) -> Result<(), Broken> {
+        Ok(())
+    }
+}
