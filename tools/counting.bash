@@ -2,6 +2,7 @@
 
 passed=0
 failed=0
+failures=
 
 # The numbers of the last line 'N passed, M failed' of a log, or one failure where there is none.
 count() {
@@ -23,15 +24,20 @@ run() {
   "$@" 2>&1 | tee "$log"
   status=${PIPESTATUS[0]}
   count "$log"
-  rm -f "$log"
   if [ "$status" -ne 0 ] && [ "$failed" -eq "$failed_before" ]; then
     failed=$((failed + 1))
   fi
+  if [ "$failed" -ne "$failed_before" ]; then
+    failures+="== $*"$'\n'"$(tail -n 20 "$log")"$'\n'
+  fi
+  rm -f "$log"
   return "$status"
 }
 
-# Prints the sum, as the last line, and ends with status 0 where something passed and nothing failed.
+# Prints the last lines of each command that failed, and the sum as the last line. The status is 0 where something passed and
+# nothing failed.
 finish() {
+  [ -z "$failures" ] || printf '\nwhat failed:\n%s' "$failures"
   echo "$passed passed, $failed failed"
   [ "$failed" -eq 0 ] && [ "$passed" -gt 0 ]
   exit
