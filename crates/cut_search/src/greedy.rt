@@ -1,112 +1,105 @@
-//! Which pins are worth giving up at a line: of each terminal astride of it those on some sides.
+//! Which pins are worth giving up: of each terminal at the border those that reach some sides.
 
-use crate::lines::{is_cut, sides_given};
-use crate::masks::{Array, INNER, Line, OUTER, is_astride, pin_mask};
-use rr_graph::{Kind, Node, Problem};
-use std::alloc::{AllocError, Global};
+use crate::draft::{Draft, Lacks};
+use crate::masks::{Around, INNER, OUTER, count_pins, is_astride, pin_mask};
+use crate::terminals::Terminal;
+use crate::worth::Worth;
+use arch_file::Pin;
 
-/// The nets of a problem by their sources: pairs of a source and a net, in order.
-pub(crate) fn nets_by_source(
-    alloc: Global,
-    problem: &Problem,
-) -> Result<Vec<(u32, u32)>, AllocError> {
-    let mut pairs = Vec::new(alloc);
-    for net in 0..problem.nets() {
-        pairs.push((problem.source(net), net))?;
+/// Whether some sink lacks a pin on the sides that a pin of the source reaches.
+fn is_parted(lacks: Lacks, mask: u8) -> bool {
+    match mask {
+        INNER => lacks.inner > 0,
+        OUTER => lacks.outer > 0,
+        0 => true,
+        _ => lacks.any > 0,
     }
-    pairs.sort()?;
-    Ok(pairs)
 }
 
-/// Adds the sinks of a net, each with the net.
-fn push_sinks(pairs: &mut Vec<(u32, u32)>, problem: &Problem, net: u32) -> Result<(), AllocError> {
-    if net < problem.nets() {
-        for id in problem.sinks(net) {
-            pairs.push((*id, net))?;
+/// Whether each pin of a class is given up, or parted from some sink.
+fn is_class_parted(pins: &[Pin], class: u32, around: Around, given_up: u8, lacks: Lacks) -> bool {
+    let mut parted = true;
+    for pin in pins {
+        if pin.class == class {
+            let mask = pin_mask(around, pin);
+            parted = parted && (mask & given_up != 0 || is_parted(lacks, mask));
         }
     }
-    Ok(())
+    parted
 }
 
-/// The nets of a problem by their sinks: pairs of a sink and a net, in order.
-pub(crate) fn nets_by_sink(
-    alloc: Global,
-    problem: &Problem,
-) -> Result<Vec<(u32, u32)>, AllocError> {
-    let mut pairs = Vec::new(alloc);
-    for net in 0..problem.nets() {
-        push_sinks(&mut pairs, problem, net)?;
-    }
-    pairs.sort()?;
-    Ok(pairs)
-}
-
-/// Whether the terminal of a pair is that of no pair before.
-fn is_first(pairs: &[(u32, u32)], at: usize) -> bool {
-    match (at.checked_sub(1), pairs.get(at)) {
-        (Some(before), Some(pair)) => match pairs.get(before) {
-            Some(other) => other.0 != pair.0,
-            None => true,
-        },
-        _ => true,
+/// Whether a net from the source of this index is cut.
+fn is_cut_from(draft: &Draft, at: usize, source: Terminal, net: u32) -> bool {
+    let around = draft.around(source);
+    let lacks = draft.lacks(net);
+    match source.class {
+        Some(class) => is_class_parted(draft.pins, class, around, draft.given_up(at), lacks),
+        None => is_parted(lacks, around.top),
     }
 }
 
-/// How many nets of the terminal with which these pairs begin are cut.
-fn cut_at(
-    problem: &Problem,
-    array: Array,
-    line: Line,
-    given: &[u8],
-    pairs: &[(u32, u32)],
-    id: u32,
-) -> u32 {
+/// Whether a net is cut.
+fn is_cut(draft: &Draft, net: u32) -> bool {
+    let at = draft.terminals.source_of(net);
+    match draft.terminals.get(at) {
+        Some(source) => is_cut_from(draft, at, source, net),
+        None => false,
+    }
+}
+
+/// How many nets of a terminal are cut.
+fn cut_at(draft: &Draft, terminal: Terminal) -> u32 {
     let mut count: u32 = 0;
-    for pair in pairs {
-        if pair.0 != id {
-            return count;
-        }
-        count = count.saturating_add(u32::from(is_cut(problem, array, line, given, pair.1)));
+    for net in draft.terminals.nets_of(terminal) {
+        count = count.saturating_add(u32::from(is_cut(draft, *net)));
     }
     count
 }
 
-/// Gives up the pins of a terminal on these sides, and no others of it.
-fn give(given: &mut Vec<u8>, id: u32, sides: u8) {
-    if (id as usize) < given.len() {
-        given[id as usize] = sides;
-    }
-}
-
-/// How many pins of the terminal are on these sides.
-fn pins_on(array: Array, line: Line, terminal: Node, sides: u8) -> u32 {
+/// How many nets are cut.
+fn cut_nets(draft: &Draft) -> u32 {
     let mut count: u32 = 0;
-    for pin in array.arch.pins() {
-        let on = pin.class == terminal.number
-            && pin_mask(line, pin, terminal.x, terminal.y) & sides != 0;
-        count = count.saturating_add(u32::from(on));
+    for net in 0..draft.terminals.net_count() {
+        count = count.saturating_add(u32::from(is_cut(draft, net)));
     }
     count
 }
 
-/// By how many nets more than pins it pays to give up the pins of the terminal on these sides.
-fn gain(
-    problem: &Problem,
-    array: Array,
-    line: Line,
-    given: &mut Vec<u8>,
-    pairs: &[(u32, u32)],
-    id: u32,
-    terminal: Node,
-    sides: u8,
-) -> u32 {
-    give(given, id, 0);
-    let without = cut_at(problem, array, line, given, pairs, id);
-    give(given, id, sides);
-    let with = cut_at(problem, array, line, given, pairs, id);
-    give(given, id, 0);
-    with.saturating_sub(without)
-        .saturating_sub(pins_on(array, line, terminal, sides))
+/// How many pins of a terminal reach one of these sides.
+fn pins_on(draft: &Draft, terminal: Terminal, sides: u8) -> u32 {
+    match terminal.class {
+        Some(class) => count_pins(draft.pins, draft.around(terminal), class, sides),
+        None => 0,
+    }
+}
+
+/// How many pins of the terminal of this index are given up.
+fn pins_given_at(draft: &Draft, at: usize) -> u32 {
+    let sides = draft.given_up(at);
+    match (sides, draft.terminals.get(at)) {
+        (0, _) | (_, None) => 0,
+        (_, Some(terminal)) => pins_on(draft, terminal, sides),
+    }
+}
+
+/// How many pins are given up.
+fn pins_given(draft: &Draft) -> u32 {
+    let mut count: u32 = 0;
+    for at in 0..draft.terminals.all().len() {
+        count = count.saturating_add(pins_given_at(draft, at));
+    }
+    count
+}
+
+/// By how many nets more than pins it pays to give up the pins of a terminal on these sides, where
+/// so many of its nets are cut before.
+fn gain(draft: &mut Draft, at: usize, terminal: Terminal, before: u32, sides: u8) -> u32 {
+    draft.give(at, sides);
+    let after = cut_at(draft, terminal);
+    draft.give(at, 0);
+    after
+        .saturating_sub(before)
+        .saturating_sub(pins_on(draft, terminal, sides))
 }
 
 /// The best of three, each by its sides; none where all are 0.
@@ -123,137 +116,52 @@ fn best_of(inner: u32, outer: u32, both: u32) -> u8 {
 }
 
 /// Gives up the pins of a terminal that are worth it.
-fn give_best(
-    problem: &Problem,
-    array: Array,
-    line: Line,
-    given: &mut Vec<u8>,
-    pairs: &[(u32, u32)],
-    id: u32,
-    terminal: Node,
-) {
-    let inner = gain(problem, array, line, given, pairs, id, terminal, INNER);
-    let outer = gain(problem, array, line, given, pairs, id, terminal, OUTER);
-    let both = gain(
-        problem,
-        array,
-        line,
-        given,
-        pairs,
-        id,
-        terminal,
-        INNER | OUTER,
-    );
-    give(given, id, best_of(inner, outer, both));
-}
-
-/// The same where the terminal stands astride of the line.
-fn give_astride(
-    problem: &Problem,
-    array: Array,
-    line: Line,
-    given: &mut Vec<u8>,
-    pairs: &[(u32, u32)],
-    id: u32,
-) {
-    if let Some(terminal) = problem.device().node(id) {
-        if is_astride(array, line, terminal) {
-            give_best(problem, array, line, given, pairs, id, terminal);
-        }
+fn give_best(draft: &mut Draft, at: usize, terminal: Terminal) {
+    let before = cut_at(draft, terminal);
+    let inner = gain(draft, at, terminal, before, INNER);
+    let outer = gain(draft, at, terminal, before, OUTER);
+    let both = gain(draft, at, terminal, before, INNER | OUTER);
+    let sides = best_of(inner, outer, both);
+    if sides != 0 {
+        draft.give(at, sides);
     }
 }
 
-/// Gives up the pins of all these terminals that are worth it, one terminal after another.
-fn give_all(
-    problem: &Problem,
-    array: Array,
-    line: Line,
-    given: &mut Vec<u8>,
-    pairs: &[(u32, u32)],
-) {
-    for at in 0..pairs.len() {
-        if is_first(pairs, at) {
-            give_astride(problem, array, line, given, &pairs[at..], pairs[at].0);
-        }
-    }
-}
-
-/// Adds the pins of a terminal on these sides.
-fn push_pins(
-    pins: &mut Vec<Node>,
-    array: Array,
-    line: Line,
-    kind: Kind,
-    terminal: Node,
-    sides: u8,
-) -> Result<(), AllocError> {
-    let mut number: u32 = 0;
-    for pin in array.arch.pins() {
-        if pin.class == terminal.number
-            && pin_mask(line, pin, terminal.x, terminal.y) & sides != 0
+/// Gives up the pins of the terminal of this index that are worth it, if it is a source or a sink
+/// as asked.
+fn give_at(draft: &mut Draft, at: usize, is_source: bool) {
+    if let Some(terminal) = draft.terminals.get(at) {
+        if terminal.is_source == is_source
+            && is_astride(draft.pins, draft.around(terminal), terminal.class)
         {
-            pins.push(Node {
-                kind,
-                x: terminal.x,
-                y: terminal.y,
-                number,
-            })?;
+            give_best(draft, at, terminal);
         }
-        number = number.saturating_add(1);
-    }
-    Ok(())
-}
-
-/// Adds the pins of the terminal of this number that are given up.
-fn push_given(
-    pins: &mut Vec<Node>,
-    problem: &Problem,
-    array: Array,
-    line: Line,
-    id: u32,
-    sides: u8,
-) -> Result<(), AllocError> {
-    match problem.device().node(id) {
-        Some(terminal) => {
-            let kind = match terminal.kind {
-                Kind::Source => Kind::Opin,
-                _ => Kind::Ipin,
-            };
-            push_pins(pins, array, line, kind, terminal, sides)
-        }
-        None => Ok(()),
     }
 }
 
-/// The pins that are given up.
-fn pins_given(
-    alloc: Global,
-    problem: &Problem,
-    array: Array,
-    line: Line,
-    given: &[u8],
-) -> Result<Vec<Node>, AllocError> {
-    let mut pins = Vec::new(alloc);
-    for id in 0..problem.device().node_count() {
-        let sides = sides_given(given, id);
-        if sides != 0 {
-            push_given(&mut pins, problem, array, line, id, sides)?;
-        }
+/// Gives up the pins of the sources that are worth it, or of the sinks, one terminal after another.
+fn give_all(draft: &mut Draft, is_source: bool) {
+    for at in 0..draft.terminals.all().len() {
+        give_at(draft, at, is_source);
     }
-    Ok(pins)
 }
 
-/// The pins that are worth giving up at a line, first those of sources and then those of sinks.
-pub(crate) fn worth_giving_up(
-    alloc: Global,
-    problem: &Problem,
-    array: Array,
-    line: Line,
-    sources: &[(u32, u32)],
-    sinks: &[(u32, u32)],
-) -> Result<Vec<Node>, AllocError> {
-    let mut given: Vec<u8> = vec![in alloc; 0; problem.device().node_count() as usize]?;
-    give_all(problem, array, line, &mut given, sources);
-    give_all(problem, array, line, &mut given, sinks);
-    pins_given(alloc, problem, array, line, &given)
+/// Gives up the pins that are worth it, first those of sources and then those of sinks. The nets
+/// that are cut then, less these pins, for the places.
+pub(crate) fn give_worthy(draft: &mut Draft) -> Worth {
+    give_all(draft, true);
+    give_all(draft, false);
+    Worth {
+        nets: cut_nets(draft).saturating_sub(pins_given(draft)),
+        places: draft.region.places(),
+    }
+}
+
+/// Takes all pins back.
+pub(crate) fn take_back(draft: &mut Draft) {
+    for at in 0..draft.terminals.all().len() {
+        if draft.given_up(at) != 0 {
+            draft.give(at, 0);
+        }
+    }
 }

@@ -1,49 +1,30 @@
-//! On which sides of a line pins stand: a bit for the inner side, and one for the outer.
+//! On which sides of a region's border pins are reached: a bit for the inner side, one for the
+//! outer.
 
-use arch_file::{Arch, Pin};
-use rr_graph::Node;
+use arch_file::Pin;
 
-/// The bit of the inner side, and that of the outer one.
+/// The bit of the inner side.
 pub(crate) const INNER: u8 = 1;
 
+/// The bit of the outer side.
 pub(crate) const OUTER: u8 = 2;
 
-/// A line across an array: behind a column or above a row of corners.
+/// The sides of the four places around a block. Around pads it is four times the side of their one
+/// place.
 #[derive(Clone, Copy, Debug)]
-pub(crate) struct Line {
-    pub(crate) is_column: bool,
-    pub(crate) at: u32,
+pub(crate) struct Around {
+    pub(crate) top: u8,
+    pub(crate) bottom: u8,
+    pub(crate) left: u8,
+    pub(crate) right: u8,
 }
 
-/// An array of blocks of an architecture.
-#[derive(Clone, Copy)]
-pub(crate) struct Array<'a> {
-    pub(crate) arch: &'a Arch,
-    pub(crate) nx: u32,
-    pub(crate) ny: u32,
-}
-
-/// Whether the corner is on the inner side of the line.
-fn has_corner(line: Line, x: u32, y: u32) -> bool {
-    if line.is_column {
-        x <= line.at
-    } else {
-        y <= line.at
-    }
-}
-
-/// The side of a place above a row, or right of a column; none for one of the border.
-fn place_mask(line: Line, is_above: bool, x: u32, y: u32) -> u8 {
-    let low = if is_above {
-        has_corner(line, x.saturating_sub(1), y)
-    } else {
-        has_corner(line, x, y.saturating_sub(1))
-    };
-    match (low, has_corner(line, x, y)) {
-        (true, true) => INNER,
-        (false, false) => OUTER,
-        _ => 0,
-    }
+/// How many output pins of a source reach the inner side alone, the outer side alone, and both.
+#[derive(Clone, Copy, Debug)]
+pub(crate) struct Outlets {
+    pub(crate) inner: u32,
+    pub(crate) outer: u32,
+    pub(crate) both: u32,
 }
 
 /// The mask where the test holds, else none.
@@ -51,86 +32,97 @@ fn when(test: bool, mask: u8) -> u8 {
     if test { mask } else { 0 }
 }
 
-/// The sides on which a pin of the block at (x, y) is reached.
-pub(crate) fn pin_mask(line: Line, pin: &Pin, x: u32, y: u32) -> u8 {
+/// The sides on which a pin of a block is reached.
+pub(crate) fn pin_mask(around: Around, pin: &Pin) -> u8 {
     if pin.global {
         return 0;
     }
-    let top = when(pin.sides.top, place_mask(line, true, x, y));
-    let bottom = when(
-        pin.sides.bottom,
-        place_mask(line, true, x, y.saturating_sub(1)),
-    );
-    let right = when(pin.sides.right, place_mask(line, false, x, y));
-    let left = when(
-        pin.sides.left,
-        place_mask(line, false, x.saturating_sub(1), y),
-    );
-    top | bottom | right | left
+    when(pin.sides.top, around.top)
+        | when(pin.sides.bottom, around.bottom)
+        | when(pin.sides.left, around.left)
+        | when(pin.sides.right, around.right)
 }
 
-/// The side on which the pads at (x, y) are reached.
-fn pad_mask(array: Array, line: Line, x: u32, y: u32) -> u8 {
-    if x == 0 {
-        place_mask(line, false, 0, y)
-    } else if x > array.nx {
-        place_mask(line, false, array.nx, y)
-    } else if y == 0 {
-        place_mask(line, true, x, 0)
-    } else {
-        place_mask(line, true, x, array.ny)
-    }
-}
-
-/// Whether a logic block stands there.
-pub(crate) fn is_block(array: Array, x: u32, y: u32) -> bool {
-    (1 <= x && x <= array.nx) && (1 <= y && y <= array.ny)
-}
-
-/// The sides on which the pins of a class of the block at (x, y) are reached, together, but for the
-/// pins with one of the given sides.
-fn class_mask(array: Array, line: Line, class: u32, x: u32, y: u32, given_up: u8) -> u8 {
+/// The sides on which the pins of a class are reached, together, but for the pins with one of the
+/// given sides.
+fn class_mask(pins: &[Pin], around: Around, class: u32, given_up: u8) -> u8 {
     let mut mask = 0;
-    for pin in array.arch.pins() {
-        let sides = pin_mask(line, pin, x, y);
-        mask |= when(pin.class == class && sides & given_up == 0, sides);
+    for pin in pins {
+        if pin.class == class {
+            let sides = pin_mask(around, pin);
+            mask |= when(sides & given_up == 0, sides);
+        }
     }
     mask
 }
 
 /// The sides on which the pins of a terminal are reached, together, but for the pins with one of
-/// the given sides.
-pub(crate) fn terminal_mask(array: Array, line: Line, terminal: Node, given_up: u8) -> u8 {
-    if is_block(array, terminal.x, terminal.y) {
-        class_mask(
-            array,
-            line,
-            terminal.number,
-            terminal.x,
-            terminal.y,
-            given_up,
-        )
-    } else {
-        pad_mask(array, line, terminal.x, terminal.y)
+/// the given sides. A pad has no class.
+pub(crate) fn terminal_mask(pins: &[Pin], around: Around, class: Option<u32>, given_up: u8) -> u8 {
+    match class {
+        Some(class) => class_mask(pins, around, class, given_up),
+        None => around.top,
     }
 }
 
-/// Whether the pins of a class of the block at (x, y) are all reached on one same side alone.
-fn is_class_aside(array: Array, line: Line, class: u32, x: u32, y: u32) -> bool {
+/// The outlets with one pin more, which has these sides.
+fn with_outlet(outlets: Outlets, mask: u8) -> Outlets {
+    let Outlets { inner, outer, both } = outlets;
+    Outlets {
+        inner: inner.saturating_add(u32::from(mask == INNER)),
+        outer: outer.saturating_add(u32::from(mask == OUTER)),
+        both: both.saturating_add(u32::from(mask == INNER | OUTER)),
+    }
+}
+
+/// The pins of a source by the sides that they reach.
+pub(crate) fn outlets_of(pins: &[Pin], around: Around, class: Option<u32>) -> Outlets {
+    let mut outlets = Outlets {
+        inner: 0,
+        outer: 0,
+        both: 0,
+    };
+    match class {
+        Some(class) => {
+            for pin in pins {
+                if pin.class == class {
+                    outlets = with_outlet(outlets, pin_mask(around, pin));
+                }
+            }
+            outlets
+        }
+        None => with_outlet(outlets, around.top),
+    }
+}
+
+/// How many pins of a class reach one of these sides.
+pub(crate) fn count_pins(pins: &[Pin], around: Around, class: u32, sides: u8) -> u32 {
+    let mut count: u32 = 0;
+    for pin in pins {
+        let counts = pin.class == class && pin_mask(around, pin) & sides != 0;
+        count = count.saturating_add(u32::from(counts));
+    }
+    count
+}
+
+/// Whether the pins of a class are reached otherwise than all on one same side alone.
+fn is_class_astride(pins: &[Pin], around: Around, class: u32) -> bool {
     let mut inner = true;
     let mut outer = true;
-    for pin in array.arch.pins() {
+    for pin in pins {
         if pin.class == class {
-            let sides = pin_mask(line, pin, x, y);
+            let sides = pin_mask(around, pin);
             inner = inner && sides == INNER;
             outer = outer && sides == OUTER;
         }
     }
-    inner || outer
+    !inner && !outer
 }
 
-/// Whether a block's terminal has pins that stand otherwise than all on one same side.
-pub(crate) fn is_astride(array: Array, line: Line, terminal: Node) -> bool {
-    is_block(array, terminal.x, terminal.y)
-        && !is_class_aside(array, line, terminal.number, terminal.x, terminal.y)
+/// Whether the pins of a block's terminal are reached otherwise than all on one same side alone.
+pub(crate) fn is_astride(pins: &[Pin], around: Around, class: Option<u32>) -> bool {
+    match class {
+        Some(class) => is_class_astride(pins, around, class),
+        None => false,
+    }
 }

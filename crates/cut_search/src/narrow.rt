@@ -1,8 +1,8 @@
-//! The place of a channel beside which most nets have a terminal that stands beside no other.
+//! The place of a channel at which most nets have a terminal that no other place reaches.
 
-use crate::masks::{Array, is_block};
-use arch_file::Sides;
-use rr_graph::{Kind, Node, Problem};
+use crate::terminals::{Terminal, Terminals};
+use arch_file::{Pin, Sides};
+use rr_graph::Kind;
 use std::alloc::{AllocError, Global};
 
 /// A place of a channel, above a row or right of a column.
@@ -13,14 +13,14 @@ const ABOVE: u32 = 0;
 const RIGHT: u32 = 1;
 
 /// The sides on which the pins of a class are reached.
-fn sides_of_class(array: Array, class: u32) -> Sides {
+fn sides_of_class(pins: &[Pin], class: u32) -> Sides {
     let mut sides = Sides {
         top: false,
         bottom: false,
         left: false,
         right: false,
     };
-    for pin in array.arch.pins() {
+    for pin in pins {
         let counts = pin.class == class && !pin.global;
         sides = Sides {
             top: sides.top || (counts && pin.sides.top),
@@ -32,7 +32,7 @@ fn sides_of_class(array: Array, class: u32) -> Sides {
     sides
 }
 
-/// The one place beside these sides of the block at (x, y), if there is one alone.
+/// The one place on these sides of the block at (x, y), if there is one alone.
 fn spot_of_sides(sides: Sides, x: u32, y: u32) -> Option<Spot> {
     match (sides.top, sides.bottom, sides.left, sides.right) {
         (true, false, false, false) => Some((ABOVE, x, y)),
@@ -43,66 +43,53 @@ fn spot_of_sides(sides: Sides, x: u32, y: u32) -> Option<Spot> {
     }
 }
 
-/// The place beside the pads at (x, y).
-fn spot_of_pad(array: Array, x: u32, y: u32) -> Spot {
+/// The place of the pads at (x, y).
+fn spot_of_pad(terminals: &Terminals, x: u32, y: u32) -> Spot {
     if x == 0 {
         (RIGHT, 0, y)
-    } else if x > array.nx {
-        (RIGHT, array.nx, y)
+    } else if x > terminals.nx() {
+        (RIGHT, terminals.nx(), y)
     } else if y == 0 {
         (ABOVE, x, 0)
     } else {
-        (ABOVE, x, array.ny)
+        (ABOVE, x, terminals.ny())
     }
 }
 
-/// The one place beside a terminal, if there is one alone.
-fn spot_of(array: Array, terminal: Node) -> Option<Spot> {
-    if is_block(array, terminal.x, terminal.y) {
-        spot_of_sides(
-            sides_of_class(array, terminal.number),
-            terminal.x,
-            terminal.y,
-        )
-    } else {
-        Some(spot_of_pad(array, terminal.x, terminal.y))
+/// The one place that reaches a terminal, if there is one alone.
+fn spot_of(pins: &[Pin], terminals: &Terminals, terminal: Terminal) -> Option<Spot> {
+    match terminal.class {
+        Some(class) => spot_of_sides(sides_of_class(pins, class), terminal.x, terminal.y),
+        None => Some(spot_of_pad(terminals, terminal.x, terminal.y)),
     }
 }
 
-/// Adds the one place beside the terminal of this number, with the net.
-fn push_spot(
-    spots: &mut Vec<(Spot, u32)>,
-    problem: &Problem,
-    array: Array,
-    id: u32,
-    net: u32,
-) -> Result<(), AllocError> {
-    let node = problem.device().node(id);
-    if let Some(spot) = node.and_then(|terminal| spot_of(array, terminal)) {
-        spots.push((spot, net))?;
+/// Adds the place with each of these nets.
+fn push_nets(spots: &mut Vec<(Spot, u32)>, spot: Spot, nets: &[u32]) -> Result<(), AllocError> {
+    for net in nets {
+        spots.push((spot, *net))?;
     }
     Ok(())
 }
 
-/// Adds those of the terminals of a net.
-fn push_net(
-    spots: &mut Vec<(Spot, u32)>,
-    problem: &Problem,
-    array: Array,
-    net: u32,
-) -> Result<(), AllocError> {
-    if net >= problem.nets() {
-        return Ok(());
+/// The places that are the only ones of terminals, with their nets, in order.
+fn spots_of(
+    alloc: Global,
+    pins: &[Pin],
+    terminals: &Terminals,
+) -> Result<Vec<(Spot, u32)>, AllocError> {
+    let mut spots = Vec::new(alloc);
+    for terminal in terminals.all() {
+        if let Some(spot) = spot_of(pins, terminals, *terminal) {
+            push_nets(&mut spots, spot, terminals.nets_of(*terminal))?;
+        }
     }
-    push_spot(spots, problem, array, problem.source(net), net)?;
-    for id in problem.sinks(net) {
-        push_spot(spots, problem, array, *id, net)?;
-    }
-    Ok(())
+    spots.sort()?;
+    Ok(spots)
 }
 
-/// The place at which most nets stand, each counted once, of places and nets in order.
-fn most_common(spots: &[(Spot, u32)]) -> Option<Spot> {
+/// The place with most nets, each counted once, of places and nets in order; and how many it has.
+fn most_common(spots: &[(Spot, u32)]) -> (Option<Spot>, u32) {
     let mut best = None;
     let mut most: u32 = 0;
     let mut count: u32 = 0;
@@ -124,22 +111,20 @@ fn most_common(spots: &[(Spot, u32)]) -> Option<Spot> {
         }
         last = Some(*entry);
     }
-    best
+    (best, most)
 }
 
-/// The place beside which most nets have a terminal that stands beside no other, as that of a cut.
+/// The place at which most nets have a terminal that no other place reaches, as that of a cut; and
+/// how many nets these are.
 pub(crate) fn narrowest(
     alloc: Global,
-    problem: &Problem,
-    array: Array,
-) -> Result<Vec<(Kind, u32, u32)>, AllocError> {
-    let mut spots = Vec::new(alloc);
-    for net in 0..problem.nets() {
-        push_net(&mut spots, problem, array, net)?;
-    }
-    spots.sort()?;
+    pins: &[Pin],
+    terminals: &Terminals,
+) -> Result<(Vec<(Kind, u32, u32)>, u32), AllocError> {
+    let spots = spots_of(alloc, pins, terminals)?;
+    let (spot, most) = most_common(spots.as_slice());
     let mut places = Vec::new(alloc);
-    if let Some(spot) = most_common(spots.as_slice()) {
+    if let Some(spot) = spot {
         let kind = if spot.0 == ABOVE {
             Kind::Chanx
         } else {
@@ -147,5 +132,5 @@ pub(crate) fn narrowest(
         };
         places.push((kind, spot.1, spot.2))?;
     }
-    Ok(places)
+    Ok((places, most))
 }
