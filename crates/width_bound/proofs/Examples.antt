@@ -1,5 +1,5 @@
--- A worked example that computes: one logic block, two pads on each side, and the line that has the
--- channel left of the block on one side and the one right of it on the other.
+-- Worked examples that compute. The first: one logic block, two pads on each side, and the line
+-- that has the channel left of the block on one side and the one right of it on the other.
 use Rattle.std.proofs.Common.{◌≡◌, ℕ, true, false, [], ◌∷◌, refl}
 use Rattle.arch_file.specs.Architecture.{Architecture}
 use Rattle.arch_file.specs.declared.entries.Direction.{Direction}
@@ -76,3 +76,39 @@ two_are_cut = (refl, refl)
 pub all_are_cut : (cut_nets across line_and_pin ≡ 4) × (least_width 4 1 2 ≡ 2)
 unfolding cut_nets is_cut pins_left is_given_up is_beside_inner is_beside_outer is_inner is_outer has_corner has_place belongs channels_beside nodes_of numbers_at classes_of pins_of is_same begins rank_of length_of type_of weight_of_first steps_of
 all_are_cut = (refl, refl)
+
+-- ---- examples/crossing: two nets between pads, on an array of 2 x 2 blocks of examples/small.arch
+
+abbrev bottom : Sides
+bottom = record { top = false; bottom = true; left = false; right = false }
+
+abbrev top : Sides
+top = record { top = true; bottom = false; left = false; right = false }
+
+abbrev small : Architecture
+small = record {
+  io_rat = 2;
+  pins = pin 0 Input bottom ∷ pin 0 Input top ∷ pin 1 Output right ∷ [];
+  fc_type = Fractional;
+  fc_output = 1000000000;
+  fc_input = 1000000000;
+  fc_pad = 1000000000;
+  segments = segment ∷ [];
+  switches = [];
+}
+
+abbrev two_by_two : Fabric
+two_by_two = record { architecture = small; nx = 2; ny = 2; width = 1; mode = Detailed }
+
+-- net a leads from the pad at (1,0) to that at (3,2), and net b from (3,1) to (0,1)
+abbrev crossing : RoutingProblem
+crossing = record { device = two_by_two; nets = net 0 4 38 ∷ net 1 16 20 ∷ [] }
+
+-- the corners of the columns 0 and 1
+abbrev middle : Cut
+middle = record { corners = (0, 0) ∷ (0, 1) ∷ (0, 2) ∷ (1, 0) ∷ (1, 1) ∷ (1, 2) ∷ []; places = []; pins = [] }
+
+-- both nets have to pass the three places of column 2: one track has room for them
+pub both_pass : (border_size 2 2 middle ≡ 3) × (cut_nets crossing middle ≡ 2) × (least_width 2 0 3 ≡ 1)
+unfolding border_size places_of_array is_border cut_nets is_cut pins_left is_given_up is_beside_inner is_beside_outer is_inner is_outer has_corner has_place belongs channels_beside nodes_of numbers_at classes_of pins_of is_same begins rank_of length_of type_of weight_of_first steps_of
+both_pass = (refl, refl, refl)
