@@ -11,13 +11,13 @@ use Rattle.run_inputs.specs.Inputs.{placed_with}
 use Rattle.bound_run.specs.Bounds.{below_line, bound_lines, count_line, figures_with}
 use Rattle.bound_run.specs.CutTexts.{corner_text, head_text, pin_line, pins_text, place_line, places_text, region_text, row_line}
 
--- what is told where there is a bound, where there is none, and where nets have no way
-pub told :
+-- the lines where there is a bound, where there is none, and where nets have no way
+pub lines :
     (bound_lines (figures_with 40 4 10) ≡ codes "no routing below width 4\n40 nets are cut by 10 places of channels and 4 pins\n")
     × (bound_lines (figures_with 3 4 10) ≡ codes "no routing below width 1\n3 nets are cut by 10 places of channels and 4 pins\n")
     × (bound_lines (figures_with 5 4 0) ≡ codes "no routing at any width\n5 nets are cut by 0 places of channels and 4 pins\n")
 unfolding digits bound_lines below_line count_line
-told = (refl, refl, refl)
+lines = (refl, refl, refl)
 
 pub heads :
     (head_text (figures_with 40 4 10) ≡ codes "bound 4\nnets 40\npins 4\nplaces 10\n")

@@ -1,3 +1,3 @@
 pub mod Filled
-pub mod Told
+pub mod Found
 pub mod Examples

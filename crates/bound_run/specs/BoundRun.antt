@@ -17,14 +17,14 @@ WritesBound true cut out lines text result =
     (TakesAll out lines × PrintsText cut text tt result)
 WritesBound false cut out lines text result = PrintsText out lines tt result × TakesNothing cut
 
--- what some cut says of a placed netlist is told, and it is true
-abbrev pub TellsBound : (is_wanted : Bool) → (cut out : Writing) → PlacedNetlist → Result (Unit {0}) AppFault → Type 0
-TellsBound is_wanted cut out p result =
+-- the lines of some cut of a placed netlist are printed, and they are true
+abbrev pub PrintsBound : (is_wanted : Bool) → (cut out : Writing) → PlacedNetlist → Result (Unit {0}) AppFault → Type 0
+PrintsBound is_wanted cut out p result =
     (found : Cut)
     × WritesBound is_wanted cut out (bound_lines (figures_of p found)) (cut_text p found) result
     × IsTrueOf p (figures_of p found)
 
 -- A run of `bound`, memory aside: with a fault of its files neither sink takes anything; where they
--- say a placed netlist, a bound is told.
+-- say a placed netlist, a bound is printed.
 abbrev pub RunsBound : (is_wanted : Bool) → (cut out : Writing) → Result PlacedNetlist AppFault → Result (Unit {0}) AppFault → Type 0
-RunsBound is_wanted cut out = StopsOrGoesOn (TakesNothing cut × TakesNothing out) (TellsBound is_wanted cut out)
+RunsBound is_wanted cut out = StopsOrGoesOn (TakesNothing cut × TakesNothing out) (PrintsBound is_wanted cut out)

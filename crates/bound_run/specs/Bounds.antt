@@ -1,4 +1,4 @@
--- What a cut says of a placed netlist, and the lines that tell it (ours).
+-- What a cut shows of a placed netlist, and the lines that are printed (ours).
 use Rattle.std.specs.Prelude.{◌≡◌, ℕ, ◌≤◌, ◌==◌, nat_lt, max, Bool, true, ◌&&◌, ◌||◌, if◌then◌else◌, List, ◌++◌, codes, decimal, length}
 use Rattle.rr_graph.specs.node.Mode.{Mode}
 use Rattle.rr_graph.specs.Fabric.{most_tracks}
@@ -22,12 +22,12 @@ abbrev pub has_no_way : CutFigures → Bool
 has_no_way c = c.places == 0 && nat_lt c.pins c.nets
 
 -- the width below which there is no routing; every width is at least 1
-abbrev pub width_told : CutFigures → ℕ
-width_told c = max c.width 1
+abbrev pub printed_width : CutFigures → ℕ
+printed_width c = max c.width 1
 
--- what is told rules a width out
+-- the lines rule a width out
 abbrev pub is_ruled_out : CutFigures → (width : ℕ) → Bool
-is_ruled_out c width = has_no_way c || nat_lt width (width_told c)
+is_ruled_out c width = has_no_way c || nat_lt width (printed_width c)
 
 -- there is no routing at a width that is ruled out, in either mode
 abbrev pub IsTrueOf : PlacedNetlist → CutFigures → Type 0
@@ -42,7 +42,7 @@ unfoldable pub below_line : (width : ℕ) → List ℕ
 below_line width = codes "no routing below width " ++ (decimal width ++ codes "\n")
 
 abbrev pub width_line : CutFigures → List ℕ
-width_line c = if has_no_way c then codes "no routing at any width\n" else below_line (width_told c)
+width_line c = if has_no_way c then codes "no routing at any width\n" else below_line (printed_width c)
 
 -- as `40 nets are cut by 10 places of channels and 4 pins`
 unfoldable pub count_line : CutFigures → List ℕ

@@ -15,13 +15,13 @@ use Rattle.text_output.specs.NodeTexts.{kind_text}
 use Rattle.width_bound.specs.declared.figures.CutFigures.{CutFigures}
 use Rattle.width_bound.specs.Cuts.{Cut, has_corner}
 use Rattle.run_inputs.specs.Inputs.{PlacedNetlist}
-use Rattle.bound_run.specs.Bounds.{figures_of, has_no_way, width_told}
+use Rattle.bound_run.specs.Bounds.{figures_of, has_no_way, printed_width}
 
 -- ---- what the cut says
 
 -- the width below which there is no routing, or `none` where there is none at any
 abbrev pub width_text : CutFigures → List ℕ
-width_text c = if has_no_way c then codes "none" else decimal (width_told c)
+width_text c = if has_no_way c then codes "none" else decimal (printed_width c)
 
 -- as `bound 4`, and then lines as `nets 40`, `pins 4` and `places 10`
 unfoldable pub head_text : CutFigures → List ℕ
@@ -38,9 +38,9 @@ begins_run cut x y = has_corner cut (x, y) && not (nat_lt 0 x && has_corner cut 
 abbrev pub ends_run : (nx : ℕ) → Cut → (x y : ℕ) → Bool
 ends_run nx cut x y = has_corner cut (x, y) && not (nat_lt x nx && has_corner cut (x + 1, y))
 
--- the number before a mark, where there is something to tell
+-- a mark and the number, if it is printed
 abbrev pub number_if : Bool → (mark : List ℕ) → ℕ → List ℕ
-number_if told mark n = if told then mark ++ decimal n else []
+number_if is_printed mark n = if is_printed then mark ++ decimal n else []
 
 unfoldable pub corner_text : (nx : ℕ) → Cut → (y x : ℕ) → List ℕ
 corner_text nx cut y x = number_if (begins_run cut x y) (codes " ") x ++ number_if (ends_run nx cut x y) (codes "-") x

@@ -1,11 +1,11 @@
-//! The text of a cut: what it says, and of what it is made.
+//! The text of a cut: its figures, and what it is made of.
 
 ghost use Rattle.std.specs.Prelude.{◌≡◌};
 ghost use Rattle.vpr_text.specs.Output.{SendsTo};
 ghost use Rattle.bound_run.specs.Bounds.{figures_of};
 ghost use Rattle.bound_run.specs.CutTexts.{cut_text, head_text, width_text};
 
-use crate::lines::{has_no_way, width_told};
+use crate::lines::{has_no_way, printed_width};
 use crate::pins::put_pins;
 use crate::places::put_places;
 use crate::region::put_region;
@@ -13,23 +13,23 @@ use run_inputs::PlacedNetlist;
 use text_output::{ByteSink, OutputBuffer, Piece, put_number, put_pieces};
 use width_bound::{Cut, CutFigures};
 
-/// Prints the width below which there is no routing, if there is one.
-fn put_width<W: ByteSink>(out: &mut OutputBuffer, sink: &mut W, figures: CutFigures)
+/// Prints the width below which there is no routing, or `none` where there is none at any width.
+pub fn put_width_text<W: ByteSink>(out: &mut OutputBuffer, sink: &mut W, figures: CutFigures)
     ensures { SendsTo W.taken W.failed sink.old sink.new out.old out.new (width_text figures) }
 {
     if has_no_way(figures) {
         out.push(sink, b"none");
     } else {
-        put_number(out, sink, width_told(figures));
+        put_number(out, sink, printed_width(figures));
     }
 }
 
-/// Prints the lines on what the cut says.
+/// Prints the lines of the figures.
 fn put_head<W: ByteSink>(out: &mut OutputBuffer, sink: &mut W, figures: CutFigures)
     ensures { SendsTo W.taken W.failed sink.old sink.new out.old out.new (head_text figures) }
 {
     out.push(sink, b"bound ");
-    put_width(out, sink, figures);
+    put_width_text(out, sink, figures);
     out.push(sink, b"\nnets ");
     put_number(out, sink, figures.nets);
     out.push(sink, b"\npins ");

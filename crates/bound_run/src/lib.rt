@@ -1,7 +1,8 @@
 //! The `bound` command over any sources and sinks: below which width a placed design has no
-//! routing, told by a cut of its array.
+//! routing, by a cut of its array.
 #![tactic(auto)]
 
+mod bound;
 mod certificate;
 mod lines;
 mod pins;
@@ -9,4 +10,7 @@ mod places;
 mod region;
 mod run;
 
+pub use bound::find_bound;
+pub use certificate::put_width_text;
+pub use lines::{has_no_way, printed_width, put_width_line};
 pub use run::bound_run;

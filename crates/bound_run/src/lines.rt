@@ -1,22 +1,22 @@
-//! The lines that tell what a cut says.
+//! The lines on a cut.
 
 ghost use Rattle.std.specs.Prelude.{◌≡◌};
 ghost use Rattle.vpr_text.specs.Output.{SendsTo};
-ghost use Rattle.bound_run.specs.Bounds.{below_line, bound_lines, count_line, has_no_way, width_line, width_told};
+ghost use Rattle.bound_run.specs.Bounds.{below_line, bound_lines, count_line, has_no_way, width_line, printed_width};
 
 use text_output::{ByteSink, OutputBuffer, Piece, put_pieces};
 use width_bound::CutFigures;
 
 /// Whether more nets are cut than pins are given up, with no place for the others.
-pub(crate) fn has_no_way(figures: CutFigures) -> bool
+pub fn has_no_way(figures: CutFigures) -> bool
     ensures { result ≡ has_no_way figures }
 {
     figures.places == 0 && figures.pins < figures.nets
 }
 
-/// The width below which there is no routing.
-pub(crate) fn width_told(figures: CutFigures) -> usize
-    ensures { result ≡ width_told figures }
+/// The width below which there is no routing: at least 1, which is true of any design.
+pub fn printed_width(figures: CutFigures) -> usize
+    ensures { result ≡ printed_width figures }
 {
     figures.width.max(1)
 }
@@ -37,14 +37,15 @@ fn put_below<W: ByteSink>(out: &mut OutputBuffer, sink: &mut W, width: usize)
     );
 }
 
-/// Prints at which widths there is no routing.
-fn put_width<W: ByteSink>(out: &mut OutputBuffer, sink: &mut W, figures: CutFigures)
+/// Prints at which widths there is no routing, as `no routing below width 4`, or that there is none
+/// at any width.
+pub fn put_width_line<W: ByteSink>(out: &mut OutputBuffer, sink: &mut W, figures: CutFigures)
     ensures { SendsTo W.taken W.failed sink.old sink.new out.old out.new (width_line figures) }
 {
     if has_no_way(figures) {
         out.push(sink, b"no routing at any width\n");
     } else {
-        put_below(out, sink, width_told(figures));
+        put_below(out, sink, printed_width(figures));
     }
 }
 
@@ -71,6 +72,6 @@ fn put_counts<W: ByteSink>(out: &mut OutputBuffer, sink: &mut W, figures: CutFig
 pub(crate) fn put_bound<W: ByteSink>(out: &mut OutputBuffer, sink: &mut W, figures: CutFigures)
     ensures { SendsTo W.taken W.failed sink.old sink.new out.old out.new (bound_lines figures) }
 {
-    put_width(out, sink, figures);
+    put_width_line(out, sink, figures);
     put_counts(out, sink, figures);
 }

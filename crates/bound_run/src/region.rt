@@ -63,23 +63,23 @@ fn put_marked<W: ByteSink>(out: &mut OutputBuffer, sink: &mut W, mark: &[u8], nu
     put_number(out, sink, number);
 }
 
-/// Prints a number after a mark, where there is something to tell.
+/// Prints a number after a mark, if there is one to print.
 fn put_if<W: ByteSink>(
     out: &mut OutputBuffer,
     sink: &mut W,
-    is_told: bool,
+    is_printed: bool,
     mark: &[u8],
     number: u32,
 )
     ensures { SendsTo W.taken W.failed sink.old sink.new out.old out.new
-        (number_if is_told mark.now number) }
+        (number_if is_printed mark.now number) }
 {
-    if is_told {
+    if is_printed {
         put_marked(out, sink, mark, number);
     }
 }
 
-/// Prints what is told at a corner of a row.
+/// Prints the begin or the end of a run at a corner of a row.
 fn put_corner<W: ByteSink>(out: &mut OutputBuffer, sink: &mut W, nx: u32, cut: &Cut, y: u32, x: u32)
     ensures { SendsTo W.taken W.failed sink.old sink.new out.old out.new
         (corner_text nx cut.now y x) }

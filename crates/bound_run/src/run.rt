@@ -1,22 +1,17 @@
 //! The `bound` command over any sources and sinks.
 
-ghost use Rattle.std.specs.Prelude.{◌≡◌, ◌≢◌, ℕ, true, false, List, Err, IfOk};
-ghost use Rattle.net_file.specs.Reads.{ReadsBytes};
-ghost use Rattle.place_file.specs.Placement.{IsPlaced};
-ghost use Rattle.run_inputs.specs.Inputs.{ends_before, placed_in, placed_with};
+ghost use Rattle.std.specs.Prelude.{◌≡◌, ◌≢◌, true, false, Err};
+ghost use Rattle.run_inputs.specs.Inputs.{ends_before, placed_in};
 ghost use Rattle.run_inputs.specs.Runs.{MeetsDesign, PrintsText, TakesNothing, reading, writing_to};
-ghost use Rattle.bound_run.specs.Bounds.{IsTrueOf, bound_lines, figures_of};
-ghost use Rattle.bound_run.specs.BoundRun.{RunsBound, TellsBound, WritesBound};
+ghost use Rattle.bound_run.specs.Bounds.{bound_lines, figures_of};
+ghost use Rattle.bound_run.specs.BoundRun.{RunsBound, PrintsBound, WritesBound};
 ghost use Rattle.bound_run.specs.CutTexts.{cut_text};
 
+use crate::bound::find_bound;
 use crate::certificate::put_cut;
 use crate::lines::put_bound;
-use arch_file::Arch;
-use cut_search::{FoundCut, least_possible};
-use net_file::Netlist;
-use place_file::Placement;
 use run_inputs::{AppFault, InputFile, NetlistText, PlacedNetlist};
-use std::alloc::{AllocError, Global};
+use std::alloc::Global;
 use text_output::{ByteSink, OutputBuffer};
 use vpr_text::ByteSource;
 use width_bound::{Cut, CutFigures};
@@ -71,7 +66,7 @@ fn print_both<C: ByteSink, W: ByteSink>(
 }
 
 /// Prints the lines on a cut of a placed netlist, and then its text, where that is wanted.
-fn tell<C: ByteSink, W: ByteSink>(
+fn print_found<C: ByteSink, W: ByteSink>(
     placed: &PlacedNetlist<'_>,
     found: &Cut,
     figures: CutFigures,
@@ -91,35 +86,7 @@ fn tell<C: ByteSink, W: ByteSink>(
     }
 }
 
-/// Finds a cut for a netlist and a placement that were read.
-fn cut_of(
-    alloc: Global,
-    arch: &Arch,
-    netlist: &Netlist<'_>,
-    placement: &Placement,
-) -> Result<FoundCut, AllocError>
-    requires read { (bytes : List ℕ) × ReadsBytes arch.now.pins bytes netlist.now }
-    requires placed { IsPlaced arch.now.io_rat netlist.now.blocks placement.now }
-    ensures figures { IfOk result (λ b. b.figures ≡
-        figures_of (placed_with arch.now netlist.now placement.now) b.cut) }
-    ensures told { IfOk result (λ b. IsTrueOf
-        (placed_with arch.now netlist.now placement.now) b.figures) }
-{
-    let _pads = arch.io_rat();
-    let _nets = netlist.nets();
-    let _columns = placement.nx();
-    least_possible(alloc, arch, netlist, placement)
-}
-
-/// Finds a cut of a placed netlist.
-fn find_cut(alloc: Global, placed: &PlacedNetlist<'_>) -> Result<FoundCut, AllocError>
-    ensures figures { IfOk result (λ b. b.figures ≡ figures_of placed.now b.cut) }
-    ensures told { IfOk result (λ b. IsTrueOf placed.now b.figures) }
-{
-    cut_of(alloc, placed.arch(), placed.netlist(), placed.placement())
-}
-
-/// Finds a cut of a placed netlist, and tells what it says.
+/// Finds a cut of a placed netlist, and prints what it shows.
 fn bound_placed<C: ByteSink, W: ByteSink>(
     alloc: Global,
     placed: &PlacedNetlist<'_>,
@@ -127,8 +94,8 @@ fn bound_placed<C: ByteSink, W: ByteSink>(
     out: &mut W,
     is_wanted: bool,
 ) -> Result<(), AppFault>
-    ensures tells { result ≢ Err AppFault.Memory
-        → TellsBound is_wanted (writing_to C.taken C.failed cut.old cut.new)
+    ensures prints { result ≢ Err AppFault.Memory
+        → PrintsBound is_wanted (writing_to C.taken C.failed cut.old cut.new)
         (writing_to W.taken W.failed out.old out.new) placed.now result }
     ensures cut { result ≡ Err AppFault.Memory
         → TakesNothing (writing_to C.taken C.failed cut.old cut.new) }
@@ -136,11 +103,11 @@ fn bound_placed<C: ByteSink, W: ByteSink>(
         → TakesNothing (writing_to W.taken W.failed out.old out.new) }
     ensures late { ends_before InputFile.Route result ≡ false }
 {
-    let found = match find_cut(alloc, placed) {
+    let found = match find_bound(alloc, placed) {
         Ok(found) => found,
         Err(_) => return Err(AppFault::Memory),
     };
-    tell(placed, &found.cut, found.figures, cut, out, is_wanted)
+    print_found(placed, &found.cut, found.figures, cut, out, is_wanted)
 }
 
 /// Reads an architecture, a netlist and its placement, in this order and each only where those
@@ -161,8 +128,8 @@ pub fn bound_run<N: ByteSource, A: ByteSource, P: ByteSource, C: ByteSink, W: By
     out: &mut W,
     is_wanted: bool,
 ) -> Result<(), AppFault>
-    // What the files say decides; where they say a placed netlist, what some cut says of it is
-    // told, and there is no routing of it at a width that this rules out.
+    // What the files say decides; where they say a placed netlist, the lines of some cut of it are
+    // printed, and there is no routing of it at a width that these rule out.
     ensures runs { result ≢ Err AppFault.Memory
         → MeetsDesign (reading (A.remaining arch.old) (A.failed arch.new))
         (reading (N.remaining net.old) (N.failed net.new))

@@ -4,4 +4,4 @@ use Rattle.bound_run.proofs.lines.put_bound.Goals as goal
 
 pub returns : goal.returns
 unfolding bound_lines
-returns g c = sends_then c.put_width.ensures c.put_counts.ensures
+returns g c = sends_then c.put_width_line.ensures c.put_counts.ensures

@@ -4,7 +4,7 @@ use Rattle.rr_graph.specs.Fabric.{numbers_below}
 use Rattle.bound_run.specs.CutTexts.{row_text}
 use Rattle.bound_run.proofs.region.put_region.Given as goal
 
--- what is told so far was sent
+-- what was printed so far was sent
 abbrev pub invariant-loop-y : goal.invariant-loop-y
 invariant-loop-y g l =
     let sink = g.W.ByteSink in

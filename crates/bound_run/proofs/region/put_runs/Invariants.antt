@@ -4,7 +4,7 @@ use Rattle.rr_graph.specs.Fabric.{numbers_below}
 use Rattle.bound_run.specs.CutTexts.{corner_text}
 use Rattle.bound_run.proofs.region.put_runs.Given as goal
 
--- what is told so far was sent
+-- what was printed so far was sent
 abbrev pub invariant-loop-x : goal.invariant-loop-x
 invariant-loop-x g l =
     let sink = g.W.ByteSink in

@@ -21,7 +21,7 @@ returns-in_err-placed-clause-runs g c =
 pub returns-clause-runs : goal.returns-clause-runs
 returns-clause-runs g c =
     λ ne. meets_files c.in_ok-text.ensures.given c.in_ok-placed.ensures.given (λ files h k.
-    goes_on_by _ _ _ (placing_goes files _ h ∙ k) (c.bound_placed.ensures.tells ne))
+    goes_on_by _ _ _ (placing_goes files _ h ∙ k) (c.bound_placed.ensures.prints ne))
 
 pub returns-clause-net : goal.returns-clause-net
 returns-clause-net g c = ends_not file.Net c.bound_placed.result c.bound_placed.ensures.late

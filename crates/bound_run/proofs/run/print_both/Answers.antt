@@ -3,7 +3,7 @@ use Rattle.run_inputs.specs.Runs.{writing}
 use Rattle.run_inputs.proofs.Ending.{Keeps-same}
 use Rattle.bound_run.specs.Bounds.{bound_lines}
 use Rattle.bound_run.specs.CutTexts.{cut_text}
-use Rattle.bound_run.proofs.Told.{unprinted}
+use Rattle.bound_run.proofs.Found.{unprinted}
 use Rattle.bound_run.proofs.run.print_both.Goals as goal
 
 pub returns-in_err-print_bound : goal.returns-in_err-print_bound

@@ -1,4 +1,4 @@
--- What comes of telling a bound, and that it is true.
+-- What becomes of the lines of a bound, and that they are true.
 use Rattle.std.proofs.Common.{◌≡◌, ℕ, ◌*◌, ◌<◌, ◌≤◌, Bool, true, false, List, length, Option, Result, Ok, Err, inl, inr, refl, sym, ap, ◌∙◌, arith}
 use Rattle.std.specs.Prelude.{◌==◌, nat_lt, max, ◌||◌, IfOk}
 use Rattle.std.proofs.lemmas.Bool.{and_parts, cases_Bool, eqb-true, false≢true, ltb-true}
@@ -35,7 +35,7 @@ pub unprinted : (lines text : List ℕ) (cut : Writing) (before after : Option (
 unprinted lines text cut before after true f p nothing = (p.0, p.1, nothing)
 unprinted lines text cut before after false f p nothing = let clash = p.0 in absurd cc
 
--- ---- what is told is true
+-- ---- what is printed is true
 
 module _ (a : Architecture) (design : netlist.Netlist) (placement : Placement) (cut : Cut)
     (within : place.IsWithinLimits placement) (limits : arch.IsWithinLimits a) (facts : IsNetlist design)
@@ -87,19 +87,19 @@ module _ (p : PlacedNetlist) (within : place.IsWithinLimits p.placement) (limits
         | inr e ↦ below mode width lists some few (narrow width c.width (has_no_way c) e ruled some)
       ]
 
-  pub truth_told : {E : Type 0} (r : Result FoundCut E) → IfOk r (λ b. b.figures ≡ figures_of p b.cut)
+  pub truth_found : {E : Type 0} (r : Result FoundCut E) → IfOk r (λ b. b.figures ≡ figures_of p b.cut)
       → IfOk r (λ b. (mode : Mode) (width : ℕ) (lists : Lists) → 1 ≤ width → width ≤ most_tracks → width < b.figures.width
       → ¬ IsRouted (placed_problem mode p width) lists)
       → IfOk r (λ b. IsTrueOf p b.figures)
-  truth_told (Ok b) is below = is_true b.cut b.figures is below
-  truth_told (Err e) is below = tt
+  truth_found (Ok b) is below = is_true b.cut b.figures is below
+  truth_found (Err e) is below = tt
 
-pub figures_told : {E : Type 0} (p : PlacedNetlist) (r : Result FoundCut E) → IfOk r (λ b. b.figures.nets ≡ cut_nets_of p.arch p.netlist p.placement b.cut)
+pub figures_found : {E : Type 0} (p : PlacedNetlist) (r : Result FoundCut E) → IfOk r (λ b. b.figures.nets ≡ cut_nets_of p.arch p.netlist p.placement b.cut)
     → IfOk r (λ b. b.figures.pins ≡ length b.cut.pins) → IfOk r (λ b. b.figures.places ≡ border_size p.placement.nx p.placement.ny b.cut)
     → IfOk r (λ b. b.figures.width ≡ least_width b.figures.nets b.figures.pins b.figures.places)
     → IfOk r (λ b. b.figures ≡ figures_of p b.cut)
-figures_told p (Ok b) nets pins places least =
+figures_found p (Ok b) nets pins places least =
     let width : b.figures.width ≡ least_width (cut_nets_of p.arch p.netlist p.placement b.cut) (length b.cut.pins) (border_size p.placement.nx p.placement.ny b.cut) =
     rw (least, nets, pins, places) refl in
     λ i. record { nets = nets i; pins = pins i; places = places i; width = width i }
-figures_told p (Err e) nets pins places least = tt
+figures_found p (Err e) nets pins places least = tt
