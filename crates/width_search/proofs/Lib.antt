@@ -1,1 +1,4 @@
+pub mod Sequences
 pub mod Searching
+pub mod Climbing
+pub mod Verifying

@@ -1,67 +1,18 @@
 -- A search of widths, trial by trial.
-use Rattle.std.proofs.Common.{◌≡◌, ℕ, ◌+◌, ◌-◌, ◌*◌, ◌/◌, ◌<◌, ◌≤◌, min, nat_lt, Bool, true, false, if◌then◌else◌, List, [], ◌∷◌, ◌++◌, length, take, slice_get, Option, Some, None, inl, inr, refl, sym, ap, ◌∙◌, arith, length-append}
+use Rattle.std.proofs.Common.{◌≡◌, ℕ, ◌+◌, ◌-◌, ◌*◌, ◌/◌, ◌<◌, ◌≤◌, min, nat_lt, Bool, true, false, if◌then◌else◌, List, [], ◌∷◌, ◌++◌, take, Option, Some, None, refl, ap, ◌∙◌, arith}
 use Rattle.std.specs.List.{All}
-use Rattle.std.proofs.Math.Seq.{get_or-append_seam, take-append_seam}
-use Rattle.std.proofs.lemmas.Bool.{cases_lt}
 use Rattle.std.proofs.lemmas.Bool.Decides.{nat_tests}
-use Rattle.std.proofs.lemmas.List.{get_or_append_left, take-append-le}
 use Rattle.std.proofs.lemmas.List.Elements.{All-nil, All-push}
-use Rattle.std.proofs.lemmas.List.Sums.{fold-append}
-use Rattle.std.proofs.lemmas.Option.{slice_get_within, slice_get-get_or, get_or_from_slice_get}
 use Rattle.iteration.specs.declared.outcome.Outcome.{Outcome}
 use Rattle.iteration.specs.declared.outcome.Outcome.TheVariants.{Success, NotRouted}
 use Rattle.width_search.specs.declared.report.LeastWidth.{LeastWidth}
 use Rattle.width_search.specs.declared.trial.Trial.{Trial}
 use Rattle.width_search.specs.Widths.{IsSequence, greatest_unrouted, least_routed, next_width, width_after, with_routed, with_unrouted}
-use Rattle.width_search.specs.Reports.{IsOfLeastWidth, IsReported, Report, is_success}
-use Rattle.width_search.specs.kept.Trials.{with_trial}
-
-abbrev pub last_of : List Trial → Option Trial
-last_of trials = slice_get trials (length trials - 1)
+use Rattle.width_search.specs.Reports.{IsOfLeastWidth, IsReported, Report, is_success, with_trial}
+use Rattle.width_search.proofs.Sequences.{greatest_more, last_more, last_of, least_more, none_yet, sequence_more}
 
 abbrev trial_of : (width : ℕ) → Bool → Trial
 trial_of width routed = record { width = width; routed = routed }
-
--- ---- one trial more
-
-module _ (trials : List Trial) (t : Trial) where
-  least_more : least_routed (trials ++ t ∷ []) ≡ with_routed (least_routed trials) t
-  unfolding least_routed
-  least_more = fold-append with_routed None trials (t ∷ [])
-
-  greatest_more : greatest_unrouted (trials ++ t ∷ []) ≡ with_unrouted (greatest_unrouted trials) t
-  unfolding greatest_unrouted
-  greatest_more = fold-append with_unrouted 0 trials (t ∷ [])
-
-  at_end : slice_get (trials ++ t ∷ []) (length trials) ≡ Some t
-  at_end =
-      slice_get-get_or (trials ++ t ∷ []) (length trials) t (omega (arith, length-append trials (t ∷ [])))
-      ∙ ap Some (get_or-append_seam trials t [] t)
-
-  last_more : last_of (trials ++ t ∷ []) ≡ Some t
-  last_more =
-      let e : length (trials ++ t ∷ []) - 1 ≡ length trials = omega (arith, length-append trials (t ∷ [])) in
-      ap (slice_get (trials ++ t ∷ [])) e ∙ at_end
-
-  same_some : (s : Trial) → ◌≡◌ {A = Option Trial} (Some t) (Some s) → s ≡ t
-  same_some s e = cc
-
-  module _ (start : ℕ) (was : IsSequence start trials) (next : next_width start trials ≡ Some t.width) where
-    earlier : (i : ℕ) (s : Trial) → slice_get (trials ++ t ∷ []) i ≡ Some s → i < length trials → next_width start (take i (trials ++ t ∷ [])) ≡ Some s.width
-    earlier i s at low =
-        let there : slice_get trials i ≡ Some s =
-        slice_get-get_or trials i s low ∙ ap Some (sym (get_or_append_left trials (t ∷ []) s i low) ∙ get_or_from_slice_get (trials ++ t ∷ []) i s s at) in
-        ap (next_width start) (take-append-le i trials (t ∷ []) (omega (arith, low))) ∙ was i s there
-
-    latest : (i : ℕ) (s : Trial) → slice_get (trials ++ t ∷ []) i ≡ Some s → length trials ≤ i → next_width start (take i (trials ++ t ∷ [])) ≡ Some s.width
-    latest i s at past =
-        let here : i ≡ length trials = omega (arith, past, slice_get_within (trials ++ t ∷ []) i s at, length-append trials (t ∷ [])) in
-        let is : s ≡ t = same_some s (sym at_end ∙ (ap (slice_get (trials ++ t ∷ [])) (sym here) ∙ at)) in
-        ap (λ n. next_width start (take n (trials ++ t ∷ []))) here
-        ∙ (ap (next_width start) (take-append_seam trials (t ∷ [])) ∙ (next ∙ ap (λ (x : Trial). Some x.width) (sym is)))
-
-    sequence_more : IsSequence start (trials ++ t ∷ [])
-    sequence_more i s at = elim (cases_lt i (length trials)) [ inl low ↦ earlier i s at low | inr past ↦ latest i s at past ]
 
 -- ---- the width of the next trial
 
@@ -162,18 +113,15 @@ trials_left trials = left_after (last_of trials) (least_routed trials) (greatest
 
 -- what has been tried from a start on, each trial being what its negotiation came to
 pub record IsSearch (comes_to : ℕ → Outcome → Type 0) (start : ℕ) (r : Report) : Type 0 where
-  pub widths : IsSequence start r.trials
+  pub widths : IsSequence (next_width start) r.trials
   pub within : AreWithin (last_of r.trials) (least_routed r.trials)
   pub reported : All (IsReported comes_to) r.trials
   pub least : IsOfLeastWidth comes_to r.trials r.least
 
 module _ (comes_to : ℕ → Outcome → Type 0) (start : ℕ) where
-  none_yet : (i : ℕ) (t : Trial) → slice_get [] i ≡ Some t → next_width start (take i []) ≡ Some t.width
-  none_yet i t at = absurd (omega (arith, slice_get_within [] i t at))
-
   pub search_begun : IsSearch comes_to start (record { trials = []; least = None })
   unfolding least_routed
-  search_begun = record { widths = none_yet; within = refl; reported = All-nil (IsReported comes_to); least = refl }
+  search_begun = record { widths = none_yet (λ i t. next_width start (take i []) ≡ Some t.width); within = refl; reported = All-nil (IsReported comes_to); least = refl }
 
   module _ (is_start : IsWidth start) (r : Report) (w : ℕ) (was : IsSearch comes_to start r) (next : next_width start r.trials ≡ Some w) where
     is : IsNext (last_of r.trials) (least_routed r.trials) (greatest_unrouted r.trials) w
@@ -199,7 +147,7 @@ module _ (comes_to : ℕ → Outcome → Type 0) (start : ℕ) where
     search_more outcome came =
         let t = trial_of w (is_success outcome) in
         record {
-          widths = sequence_more r.trials t start was.widths next;
+          widths = sequence_more r.trials t (next_width start) was.widths next;
           within = rw (last_more r.trials t, least_more r.trials t) (is.within (is_success outcome));
           reported = All-push (IsReported comes_to) r.trials t was.reported (outcome, came, refl);
           least = least_then outcome came;

@@ -1,7 +1,7 @@
--- Which channel widths are tried, one after another (ours): from a start on they double until one
--- is routed; from then on they halve the gap between the greatest that was not and the least that
--- was.
-use Rattle.std.specs.Prelude.{◌≡◌, ℕ, ◌+◌, ◌-◌, ◌*◌, ◌/◌, min, max, nat_lt, if◌then◌else◌, List, length, take, slice_get, Option, None, Some, unwrap_or}
+-- Which channel widths are tried, one after another (ours). A search from a start on doubles them
+-- until one is routed; from then on it halves the gap between the greatest that was not and the
+-- least that was. A search upward tries each one from a first on until one is routed.
+use Rattle.std.specs.Prelude.{◌≡◌, ℕ, ◌+◌, ◌-◌, ◌*◌, ◌/◌, ◌<◌, min, max, nat_lt, false, if◌then◌else◌, List, length, take, slice_get, Option, None, Some, unwrap_or}
 use Rattle.std.specs.List.{fold}
 use Rattle.rr_graph.specs.Fabric.{most_tracks}
 use Rattle.width_search.specs.declared.trial.Trial.{Trial}
@@ -42,6 +42,34 @@ width_after start (Some last) (Some routed) unrouted = halved unrouted routed
 abbrev pub next_width : (start : ℕ) → List Trial → Option ℕ
 next_width start trials = width_after start (slice_get trials (length trials - 1)) (least_routed trials) (greatest_unrouted trials)
 
+-- ---- a search upward
+
+-- a first width, or none where it is past the greatest there is
+abbrev pub first_upward : (first : ℕ) → Option ℕ
+first_upward first = if nat_lt most_tracks first then None else Some first
+
+-- one more than the last width; after the greatest there is, there is none
+abbrev pub one_more : (last : ℕ) → Option ℕ
+one_more last = if nat_lt last most_tracks then Some (last + 1) else None
+
+-- by the last trial: after one that was routed there is none
+abbrev pub upward_after : (first : ℕ) → (last : Option Trial) → Option ℕ
+upward_after first None = first_upward first
+upward_after first (Some last) = if last.routed then None else one_more last.width
+
+-- the width that is tried after these trials of a search upward, where another one is
+abbrev pub next_upward : (first : ℕ) → List Trial → Option ℕ
+next_upward first trials = upward_after first (slice_get trials (length trials - 1))
+
+-- ---- the trials of a search, by the width that is next after some trials
+
 -- each trial is of the width that is next after the trials before it
-abbrev pub IsSequence : (start : ℕ) → List Trial → Type 0
-IsSequence start trials = (i : ℕ) (t : Trial) → slice_get trials i ≡ Some t → next_width start (take i trials) ≡ Some t.width
+abbrev pub IsSequence : (next : List Trial → Option ℕ) → List Trial → Type 0
+IsSequence next trials = (i : ℕ) (t : Trial) → slice_get trials i ≡ Some t → next (take i trials) ≡ Some t.width
+
+-- The trials of a search upward as a reader wants them: trial i, counted from 0, is of the width
+-- first + i, and each trial but the last was not routed.
+abbrev pub GoesUpward : (first : ℕ) → List Trial → Type 0
+GoesUpward first trials =
+    (i : ℕ) (t : Trial) → slice_get trials i ≡ Some t
+    → (t.width ≡ first + i) × (i + 1 < length trials → t.routed ≡ false)

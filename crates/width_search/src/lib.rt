@@ -5,7 +5,9 @@
 mod report;
 mod search;
 mod trial;
+mod upward;
 
 pub use report::{LeastWidth, WidthReport};
 pub use search::{least_width, negotiate_at};
 pub use trial::Trial;
+pub use upward::upward_width;

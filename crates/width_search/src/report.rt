@@ -1,9 +1,8 @@
 //! What a search of widths comes to.
 
-ghost use Rattle.std.specs.Prelude.{◌≡◌, ◌≤◌, IfSome, None, OnOk, [], option_copied};
+ghost use Rattle.std.specs.Prelude.{◌≡◌, ◌≤◌, IfSome, None, OnErr, OnOk, [], option_copied};
 ghost use Rattle.rr_graph.specs.Fabric.{most_tracks};
-ghost use Rattle.width_search.specs.Reports.{is_success};
-ghost use Rattle.width_search.specs.kept.Trials.{with_trial};
+ghost use Rattle.width_search.specs.Reports.{is_success, with_trial};
 
 use crate::trial::Trial;
 use iteration::Outcome;
@@ -76,7 +75,8 @@ impl WidthReport {
     /// of the one before.
     pub(crate) fn add(&mut self, width: u32, outcome: Outcome) -> Result<(), AllocError>
         requires { (1 ≤ width) × (width ≤ most_tracks) }
-        ensures { OnOk result (self.new ≡ with_trial self.old width outcome) }
+        ensures adds { OnOk result (self.new ≡ with_trial self.old width outcome) }
+        ensures keeps { OnErr result (self.new ≡ self.old) }
     {
         let routed = is_success(&outcome);
         self.trials.push(Trial { width, routed })?;
@@ -84,5 +84,19 @@ impl WidthReport {
             self.least = Some(LeastWidth { width, routing });
         }
         Ok(())
+    }
+
+    /// Adds the trial of a width that is less than those that were routed, whose negotiation came
+    /// to this outcome. Its routing takes the place of the one before. The widths that a search of
+    /// its own left out are added so.
+    ///
+    /// # Errors
+    /// Where memory ran out: then the report is as before.
+    pub fn add_lesser(&mut self, width: u32, outcome: Outcome) -> Result<(), AllocError>
+        requires { (1 ≤ width) × (width ≤ most_tracks) }
+        ensures adds { OnOk result (self.new ≡ with_trial self.old width outcome) }
+        ensures keeps { OnErr result (self.new ≡ self.old) }
+    {
+        self.add(width, outcome)
     }
 }

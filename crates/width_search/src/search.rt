@@ -7,6 +7,7 @@ ghost use Rattle.rr_graph.specs.Fabric.{most_tracks};
 ghost use Rattle.node_cost.specs.Options.{most_workers};
 ghost use Rattle.rr_graph.specs.Designs.{problem_with};
 ghost use Rattle.width_search.specs.Reports.{IsWidthReport, Negotiates};
+ghost use Rattle.width_search.specs.Widths.{next_width};
 ghost use Rattle.width_search.specs.kept.Trials.{end_of};
 
 use crate::report::WidthReport;
@@ -23,7 +24,7 @@ use std::sync::Wait;
 use std::thread::Threads;
 
 /// What the gate is reported of a trial.
-fn end_of(outcome: &Outcome) -> TrialEnd
+pub(crate) fn end_of(outcome: &Outcome) -> TrialEnd
     ensures { result ≡ end_of outcome.now }
 {
     match outcome {
@@ -102,7 +103,8 @@ pub fn least_width<R: Threads + Wait + Sync, G: Gate + Sync>(
     // The trials are those that the search makes, and the routing is that of the least width that
     // was routed.
     ensures { IfOk result (IsWidthReport (Negotiates
-        (problem_with mode arch.now netlist.now placement.now) settings.now workers) start) }
+        (problem_with mode arch.now netlist.now placement.now) settings.now workers)
+        (next_width start)) }
 {
     let mut report = WidthReport::new(alloc);
     while let Some(width) = next_width(start, report.trials()) {

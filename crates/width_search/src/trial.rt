@@ -1,7 +1,7 @@
 //! Which widths are tried, one after another.
 
-ghost use Rattle.std.specs.Prelude.{◌≡◌};
-ghost use Rattle.width_search.specs.Widths.{doubled, greatest_unrouted, halved, least_routed, next_width, with_routed, with_unrouted};
+ghost use Rattle.std.specs.Prelude.{◌≡◌, Some};
+ghost use Rattle.width_search.specs.Widths.{doubled, first_upward, greatest_unrouted, halved, least_routed, next_upward, next_width, one_more, upward_after, with_routed, with_unrouted};
 
 /// The greatest width that a device may have, in tracks.
 const GREATEST_WIDTH: u32 = 256;
@@ -88,5 +88,48 @@ pub(crate) fn next_width(start: u32, trials: &[Trial]) -> Option<u32>
     match least_routed(trials) {
         None => doubled(last.width),
         Some(routed) => halved(greatest_unrouted(trials), routed),
+    }
+}
+
+/// The first width of a search upward, where there is such a width.
+fn first_upward(first: u32) -> Option<u32>
+    ensures { result ≡ first_upward first }
+{
+    if first > GREATEST_WIDTH {
+        None
+    } else {
+        Some(first)
+    }
+}
+
+/// One more than the last width.
+fn one_more(last: u32) -> Option<u32>
+    ensures { result ≡ one_more last }
+{
+    if last >= GREATEST_WIDTH {
+        None
+    } else {
+        Some(last + 1)
+    }
+}
+
+/// The width after this trial of a search upward.
+fn above(last: Trial) -> Option<u32>
+    ensures { result ≡ upward_after 0 (Some last) }
+{
+    if last.routed {
+        None
+    } else {
+        one_more(last.width)
+    }
+}
+
+/// The width that is tried after these trials of a search upward, where another one is.
+pub(crate) fn next_upward(first: u32, trials: &[Trial]) -> Option<u32>
+    ensures { result ≡ next_upward first trials.now }
+{
+    match trials.last() {
+        None => first_upward(first),
+        Some(last) => above(*last),
     }
 }

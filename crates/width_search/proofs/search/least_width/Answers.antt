@@ -23,14 +23,14 @@ negotiate_at-requires-clause-tracks g c κs within =
 pub loop-width-smaller : goal.loop-width-smaller
 loop-width-smaller g c =
     let comes_to = Negotiates (problem_with c.args.mode c.args.arch.now c.args.netlist.now c.args.placement.now) c.args.settings.now c.args.workers in
-    subst (λ (r : Report). trials_left r.trials < trials_left c.loop-width.report.trials) (sym c.in_ok-add.ensures)
+    subst (λ (r : Report). trials_left r.trials < trials_left c.loop-width.report.trials) (sym c.in_ok-add.ensures.adds)
     (fewer_trials comes_to c.args.start c.requires.start c.loop-width.report c.in-Some.width c.loop-width.invariant
     (next g (goal.at.loop-width-smaller g c).In-Some) c.in_ok-outcome.outcome)
 
 pub loop-width-preserved : goal.loop-width-preserved
 loop-width-preserved g c =
     let comes_to = Negotiates (problem_with c.args.mode c.args.arch.now c.args.netlist.now c.args.placement.now) c.args.settings.now c.args.workers in
-    subst (IsSearch comes_to c.args.start) (sym c.in_ok-add.ensures)
+    subst (IsSearch comes_to c.args.start) (sym c.in_ok-add.ensures.adds)
     (search_more comes_to c.args.start c.requires.start c.loop-width.report c.in-Some.width c.loop-width.invariant
     (next g (goal.at.loop-width-preserved g c).In-Some) c.in_ok-outcome.outcome c.in_ok-outcome.ensures)
 

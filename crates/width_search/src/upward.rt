@@ -1,0 +1,66 @@
+//! The search of widths upward: none is left out.
+
+ghost use Rattle.std.specs.Prelude.{◌≡◌, ℕ, ◌≤◌, List, IfOk};
+ghost use Rattle.net_file.specs.Reads.{ReadsBytes};
+ghost use Rattle.place_file.specs.Placement.{IsPlaced};
+ghost use Rattle.node_cost.specs.Options.{most_workers};
+ghost use Rattle.rr_graph.specs.Designs.{problem_with};
+ghost use Rattle.width_search.specs.Reports.{EndsUpward, IsWidthReport, Negotiates};
+ghost use Rattle.width_search.specs.Widths.{GoesUpward, next_upward};
+
+use crate::report::WidthReport;
+use crate::search::{end_of, negotiate_at};
+use crate::trial::next_upward;
+use arch_file::Arch;
+use net_file::Netlist;
+use net_workers::{Gate, WorkFault};
+use node_cost::Settings;
+use place_file::Placement;
+use rr_graph::Mode;
+use std::alloc::Global;
+use std::sync::Wait;
+use std::thread::Threads;
+
+/// Tries each channel width from `first` on, upward and with none left out, until a netlist, read
+/// and placed for this architecture, is routed, or until 256 was not. Where `first` is above 256
+/// there is no trial. Each trial is a negotiation on a new book, on a device of its own. The gate
+/// is reported of each trial.
+///
+/// # Errors
+/// As of `least_width`.
+pub fn upward_width<R: Threads + Wait + Sync, G: Gate + Sync>(
+    rt: &R,
+    alloc: Global,
+    arch: &Arch,
+    netlist: &Netlist<'_>,
+    placement: &Placement,
+    settings: &Settings,
+    first: u32,
+    mode: Mode,
+    workers: u32,
+    gate: &G,
+) -> Result<WidthReport, WorkFault>
+    requires first { 1 ≤ first }
+    requires workers { (1 ≤ workers) × (workers ≤ most_workers) }
+    requires read { (bytes : List ℕ) × ReadsBytes arch.now.pins bytes netlist.now }
+    requires placed { IsPlaced arch.now.io_rat netlist.now.blocks placement.now }
+    // The trials are those that such a search makes, and the routing is that of the least width
+    // that was routed.
+    ensures report { IfOk result (IsWidthReport (Negotiates
+        (problem_with mode arch.now netlist.now placement.now) settings.now workers)
+        (next_upward first)) }
+    // That is: trial i is of the width first + i, and each but the last was not routed.
+    ensures upward { IfOk result (λ r. GoesUpward first r.trials) }
+    // The routing is that of the last trial; there is none where no width is left.
+    ensures ends { IfOk result (λ r. EndsUpward first r.trials r.least) }
+{
+    let mut report = WidthReport::new(alloc);
+    while let Some(width) = next_upward(first, report.trials()) {
+        let outcome = negotiate_at(
+            rt, alloc, arch, netlist, placement, settings, width, mode, workers, gate,
+        )?;
+        gate.tried(width, end_of(&outcome));
+        report.add(width, outcome)?;
+    }
+    Ok(report)
+}
