@@ -17,8 +17,8 @@ use node_cost::Settings;
 use rr_graph::Mode;
 use run_inputs::{AppFault, print_fault, status};
 use runs::{
-    NoFiles, check_run, graph_run, outcome_status, report_status, route_run, verdict_status,
-    width_run,
+    NoFiles, WidthPlan, check_run, graph_run, outcome_status, report_status, route_run,
+    verdict_status, width_run,
 };
 use std::alloc::Global;
 use std::rt::Runtime;
@@ -211,6 +211,11 @@ fn search_design<R: Runtime + Threads + Wait + Sync + AllocGlobal>(
 {
     let mut written = sink(rt.alloc(), files.route_room);
     let mut printed = sink(rt.alloc(), files.out_room);
+    let plan = WidthPlan::Search {
+        start,
+        below: 0,
+        shows_bound: false,
+    };
     let answer = width_run(
         rt,
         &mut source_of(design.net),
@@ -218,13 +223,12 @@ fn search_design<R: Runtime + Threads + Wait + Sync + AllocGlobal>(
         &mut source_of(design.place),
         &mut written,
         &mut printed,
-        start,
+        plan,
         mode,
         settings,
         workers,
         gate,
         &NoFiles,
-        0,
     );
     let answer = answer.map(|report| report_status(&report));
     put_run(

@@ -4,3 +4,4 @@ pub mod Lines
 pub mod Writing
 pub mod Widths
 pub mod Leaving
+pub mod Verified

@@ -5,7 +5,7 @@ use Rattle.rr_graph.specs.node.Mode.{Mode}
 use Rattle.node_cost.specs.Options.{RouterOptions}
 use Rattle.width_search.specs.declared.report.LeastWidth.{LeastWidth}
 use Rattle.width_search.specs.declared.trial.Trial.{Trial}
-use Rattle.width_search.specs.Reports.{IsOfLeastWidth, IsWidthReport, Negotiates, Report}
+use Rattle.width_search.specs.Reports.{IsOfLeastWidth, Negotiates, Report}
 use Rattle.route_file.specs.Text.{text_of}
 use Rattle.run_inputs.specs.declared.fault.InputFile.TheVariants as file
 use Rattle.run_inputs.specs.declared.fault.AppFault.{AppFault}
@@ -31,9 +31,9 @@ routes_found : (mode : Mode) (p : PlacedNetlist) (o : RouterOptions) (workers : 
 routes_found mode p o workers trials (Some least) is = is.1.0.0
 routes_found mode p o workers trials None is = tt
 
-pub routes_least : (mode : Mode) (p : PlacedNetlist) (o : RouterOptions) (workers start : ℕ) (r : Report)
-    → IsWidthReport (Negotiates (placed_problem mode p) o workers) start r → RoutesLeast mode p r.least
-routes_least mode p o workers start r is = routes_found mode p o workers r.trials r.least is.least
+pub routes_least : (mode : Mode) (p : PlacedNetlist) (o : RouterOptions) (workers : ℕ) (r : Report)
+    → IsOfLeastWidth (Negotiates (placed_problem mode p) o workers) r.trials r.least → RoutesLeast mode p r.least
+routes_least mode p o workers r is = routes_found mode p o workers r.trials r.least is
 
 -- ---- what is printed, and then written
 

@@ -1,15 +1,22 @@
 -- What a run of `width` answers, writes and prints (ours).
-use Rattle.std.specs.Prelude.{◌≡◌, ℕ, Bool, true, if◌then◌else◌, List, ◌++◌, codes, decimal, Option, None, Some, Result, Err, MatchBool}
+use Rattle.std.specs.Prelude.{◌≡◌, ℕ, ◌<◌, ◌≤◌, Bool, true, if◌then◌else◌, List, ◌++◌, codes, decimal, Option, None, Some, Result, Err, MatchBool}
 use Rattle.std.specs.List.{flat_map}
 use Rattle.rr_graph.specs.node.Mode.{Mode}
+use Rattle.rr_graph.specs.Fabric.{most_tracks}
+use Rattle.route_tree.specs.Usage.{Lists}
+use Rattle.route_check.specs.Routed.{IsRouted}
 use Rattle.node_cost.specs.Options.{RouterOptions}
 use Rattle.route_file.specs.Text.{text_of}
+use Rattle.iteration.specs.declared.outcome.Outcome.{Outcome}
 use Rattle.width_search.specs.declared.report.LeastWidth.{LeastWidth}
 use Rattle.width_search.specs.declared.trial.Trial.{Trial}
-use Rattle.width_search.specs.Reports.{IsWidthReport, Negotiates, Report}
+use Rattle.width_search.specs.Reports.{EndsUpward, IsVerifiedReport, IsWidthReport, Negotiates, Report}
+use Rattle.width_search.specs.Widths.{GoesUpward, next_upward}
 use Rattle.run_inputs.specs.declared.fault.AppFault.{AppFault}
 use Rattle.run_inputs.specs.declared.fault.AppFault.TheVariants.{Unwritten}
 use Rattle.run_inputs.specs.Inputs.{PlacedNetlist, placed_problem}
+use Rattle.runs.specs.declared.plan.WidthPlan.{WidthPlan}
+use Rattle.runs.specs.declared.plan.WidthPlan.TheVariants.{Search, Upward}
 use Rattle.run_inputs.specs.Runs.{StopsOrGoesOn, PrintsText, TakesAll, TakesFront, TakesNothing, Writing}
 
 -- ---- the lines of a search
@@ -68,15 +75,46 @@ abbrev pub PlacesLeast : (is_placed : Bool) → Option LeastWidth → Type 0
 PlacesLeast is_placed (Some least) = is_placed ≡ true
 PlacesLeast is_placed None = Unit {0}
 
--- Widths are tried for a placed netlist, from a start on: the report is that of the search, and it
--- is written.
-abbrev pub SearchesWidths : RouterOptions → (workers start : ℕ) → Mode → (route out : Writing) → PlacedNetlist → Result Report AppFault → Type 0
-SearchesWidths o workers start mode route out p result =
+-- ---- which widths are tried
+
+-- the start of a plan
+abbrev pub start_of : WidthPlan → ℕ
+start_of (Search start below shows_bound) = start
+start_of (Upward start) = start
+
+-- no routing of the placed netlist is legal at a width from `low` on and below `high`, in either
+-- mode
+abbrev pub HasNoRouting : PlacedNetlist → (low high : ℕ) → Type 0
+HasNoRouting p low high =
+    (mode : Mode) (width : ℕ) (lists : Lists) → low ≤ width → width < high → width ≤ most_tracks
+    → ¬ IsRouted (placed_problem mode p width) lists
+
+-- each width was tried upward, and each from the start on that was left out has no routing
+pub record IsUpwardReport (comes_to : ℕ → Outcome → Type 0) (p : PlacedNetlist) (start : ℕ) (r : Report) : Type 0 where
+  pub first : ℕ
+  pub after_start : start ≤ first
+  -- no width is left out that may have a routing
+  pub none_below : HasNoRouting p start first
+  -- the report is that of a search upward from the first width on
+  pub searched : IsWidthReport comes_to (next_upward first) r
+  -- trial i is of the width first + i, and each trial but the last was not routed
+  pub upward : GoesUpward first r.trials
+  -- the routing is that of the last trial; there is none where no width is left
+  pub ends : EndsUpward first r.trials r.least
+
+-- the report is that of the plan
+abbrev pub IsPlanned : RouterOptions → (workers : ℕ) → Mode → PlacedNetlist → WidthPlan → Report → Type 0
+IsPlanned o workers mode p (Search start below shows_bound) r = IsVerifiedReport (Negotiates (placed_problem mode p) o workers) start below r
+IsPlanned o workers mode p (Upward start) r = IsUpwardReport (Negotiates (placed_problem mode p) o workers) p start r
+
+-- The widths of a plan are tried for a placed netlist, and the report is written.
+abbrev pub SearchesWidths : RouterOptions → (workers : ℕ) → WidthPlan → Mode → (route out : Writing) → PlacedNetlist → Result Report AppFault → Type 0
+SearchesWidths o workers plan mode route out p result =
     (r : Report)
-    × IsWidthReport (Negotiates (placed_problem mode p) o workers) start r
+    × IsPlanned o workers mode p plan r
     × WritesReport route out mode p r r result
 
 -- A run of `width`, free faults aside: with a fault of its files neither sink takes anything; where
--- they say a placed netlist, widths are tried for it, and the report is written.
-abbrev pub RunsWidth : RouterOptions → (workers start : ℕ) → Mode → (route out : Writing) → Result PlacedNetlist AppFault → Result Report AppFault → Type 0
-RunsWidth o workers start mode route out = StopsOrGoesOn (TakesNothing route × TakesNothing out) (SearchesWidths o workers start mode route out)
+-- they say a placed netlist, the widths of the plan are tried for it, and the report is written.
+abbrev pub RunsWidth : RouterOptions → (workers : ℕ) → WidthPlan → Mode → (route out : Writing) → Result PlacedNetlist AppFault → Result Report AppFault → Type 0
+RunsWidth o workers plan mode route out = StopsOrGoesOn (TakesNothing route × TakesNothing out) (SearchesWidths o workers plan mode route out)

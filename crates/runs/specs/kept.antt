@@ -1,3 +1,5 @@
 pub mod Routing
 pub mod Left
 pub mod Lesser
+pub mod Known
+pub mod Untried

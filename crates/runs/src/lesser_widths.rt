@@ -1,11 +1,16 @@
 //! Widths below the least that a search found, each tried once more or for the first time.
 
-ghost use Rattle.std.specs.Prelude.{◌≤◌};
+ghost use Rattle.std.specs.Prelude.{◌≡◌, ℕ, ◌≤◌};
 ghost use Rattle.vpr_text.specs.Output.{SendsTo};
 ghost use Rattle.rr_graph.specs.Fabric.{most_tracks};
 ghost use Rattle.node_cost.specs.Options.{most_workers};
-ghost use Rattle.runs.specs.kept.Lesser.{lesser_end, lesser_line, lesser_routed};
+ghost use Rattle.width_search.specs.Reports.{IsVerifiedReport, IsWidthReport, Negotiates, is_success};
+ghost use Rattle.width_search.specs.Widths.{next_width};
+ghost use Rattle.width_search.specs.kept.Verifying.{IsVerifying};
+ghost use Rattle.run_inputs.specs.Inputs.{placed_problem};
+ghost use Rattle.runs.specs.kept.Lesser.{AddsSuccess, TriesLesser, lesser_end, lesser_line, lesser_routed};
 
+use crate::bound::PAST_WIDTHS;
 use crate::kept_trials::KeptTrials;
 use crate::outcome::put_outcome;
 use crate::side_files::SideFiles;
@@ -56,7 +61,7 @@ fn put_end<W: ByteSink>(out: &mut OutputBuffer, words: &mut W, routed: Option<u3
     }
 }
 
-/// Tells what the negotiation of a width came to.
+/// Reports what the negotiation of a width came to.
 #[inline(never)]
 fn tell_outcome<W: ByteSink>(words: &mut W, width: u32, outcome: &Outcome) {
     let mut out = OutputBuffer::new();
@@ -64,7 +69,7 @@ fn tell_outcome<W: ByteSink>(words: &mut W, width: u32, outcome: &Outcome) {
     let _ = out.finish(words);
 }
 
-/// Tells which lesser width was routed, or that none was.
+/// Reports which lesser width was routed, or that none was.
 #[inline(never)]
 fn tell_end<W: ByteSink>(words: &mut W, routed: Option<u32>) {
     let mut out = OutputBuffer::new();
@@ -72,16 +77,46 @@ fn tell_end<W: ByteSink>(words: &mut W, routed: Option<u32>) {
     let _ = out.finish(words);
 }
 
-/// Negotiates at a width, tells what that came to, and answers whether it is routed.
+/// Prints why no further width can be tried.
+#[inline(never)]
+fn tell_fault<W: ByteSink>(words: &mut W, fault: &AppFault) {
+    let _ = print_fault(fault, words);
+}
+
+/// Whether a negotiation found a routing.
+fn is_routed(outcome: &Outcome) -> bool
+    ensures { result ≡ is_success outcome.now }
+{
+    matches!(outcome, Outcome::Success(_, _))
+}
+
+/// Adds a routing that a negotiation of a width found to the report, and answers whether it found
+/// one.
+fn add_success(report: &mut WidthReport, width: u32, outcome: Outcome) -> Result<bool, AppFault>
+    requires { (1 ≤ width) × (width ≤ most_tracks) }
+    ensures { AddsSuccess width outcome report.old report.new }
+{
+    if !is_routed(&outcome) {
+        return Ok(false);
+    }
+    report.add_lesser(width, outcome)?;
+    Ok(true)
+}
+
+/// Negotiates at a width, reports what that came to, adds a routing to the report, and answers
+/// whether there is one.
 fn try_lesser<T: Threads + Wait + Sync + AllocGlobal, W: ByteSink, G: Gate + Sync>(
     rt: &T,
     widths: &Widths<'_, '_, '_>,
+    report: &mut WidthReport,
     width: u32,
     gate: &G,
     words: &mut W,
 ) -> Result<bool, AppFault>
     requires tracks { (1 ≤ width) × (width ≤ most_tracks) }
     requires workers { (1 ≤ widths.now.workers) × (widths.now.workers ≤ most_workers) }
+    ensures { TriesLesser (Negotiates (placed_problem widths.now.mode widths.now.placed.now)
+        widths.now.settings.now widths.now.workers) width report.old report.new }
 {
     let placed = widths.placed;
     let outcome = negotiate_at(
@@ -97,79 +132,106 @@ fn try_lesser<T: Threads + Wait + Sync + AllocGlobal, W: ByteSink, G: Gate + Syn
         gate,
     )?;
     tell_outcome(words, width, &outcome);
-    Ok(matches!(outcome, Outcome::Success(_, _)))
+    add_success(report, width, outcome)
 }
 
-/// Negotiates at so many widths below one, the greatest first, and tells what each came to. The
-/// least that was routed.
+/// The least width that was routed, with one lesser width more.
+fn least_with(least: Option<u32>, lesser: u32, is_routed: bool) -> Option<u32> {
+    if is_routed { Some(lesser) } else { least }
+}
+
+/// Negotiates at so many widths below one, the greatest first, reports what each came to, and adds
+/// the routings to the report. The least width that was routed; and in `past` the least width that
+/// was tried.
 fn try_all<T: Threads + Wait + Sync + AllocGlobal, W: ByteSink, G: Gate + Sync>(
     rt: &T,
     widths: &Widths<'_, '_, '_>,
+    report: &mut WidthReport,
     width: u32,
     count: u32,
     gate: &G,
     words: &mut W,
+    past: &mut u32,
 ) -> Result<Option<u32>, AppFault>
     requires tracks { (1 ≤ width) × (width ≤ most_tracks) }
     requires workers { (1 ≤ widths.now.workers) × (widths.now.workers ≤ most_workers) }
+    ensures { (start : ℕ) → IsVerifying (Negotiates
+        (placed_problem widths.now.mode widths.now.placed.now) widths.now.settings.now
+        widths.now.workers) start count width 1 report.old
+        → IsVerifiedReport (Negotiates (placed_problem widths.now.mode widths.now.placed.now)
+        widths.now.settings.now widths.now.workers) start count report.new }
 {
     let mut routed = None;
-    for step in 1..width {
-        if step > count {
-            break;
-        }
+    for step in 1..width.min(count.saturating_add(1)) {
         let lesser = width - step;
-        if try_lesser(rt, widths, lesser, gate, words)? {
-            routed = Some(lesser);
-        }
+        let is_routed = try_lesser(rt, widths, report, lesser, gate, words)?;
+        routed = least_with(routed, lesser, is_routed);
+        *past = lesser;
     }
     Ok(routed)
 }
 
-/// Tries so many widths below the least that was found, and tells of each what it came to, and in
-/// the end whether one was routed.
-fn try_below<T: Threads + Wait + Sync + AllocGlobal, W: ByteSink, G: Gate + Sync>(
+/// Tries so many widths below the least that was found, reports what each comes to, and in the end
+/// whether one was routed. Where one of them can't be tried that is reported, and those that were
+/// routed before count. The least width that was tried.
+fn try_below<T: Threads + Wait + Sync + AllocGlobal, G: Gate + Sync, S: SideFiles + Sync>(
     rt: &T,
     widths: &Widths<'_, '_, '_>,
+    report: &mut WidthReport,
     width: u32,
     count: u32,
     gate: &G,
-    words: &mut W,
-) -> Result<(), AppFault>
+    kept: &S,
+) -> u32
     requires tracks { (1 ≤ width) × (width ≤ most_tracks) }
     requires workers { (1 ≤ widths.now.workers) × (widths.now.workers ≤ most_workers) }
+    ensures { (start : ℕ) → IsVerifying (Negotiates
+        (placed_problem widths.now.mode widths.now.placed.now) widths.now.settings.now
+        widths.now.workers) start count width 1 report.old
+        → IsVerifiedReport (Negotiates (placed_problem widths.now.mode widths.now.placed.now)
+        widths.now.settings.now widths.now.workers) start count report.new }
 {
-    let routed = try_all(rt, widths, width, count, gate, words)?;
-    tell_end(words, routed);
-    Ok(())
-}
-
-/// Tries so many widths below the least that was found, and tells what each came to. Where one of
-/// them can't be tried that is told.
-pub(crate) fn verify<T: Threads + Wait + Sync + AllocGlobal, G: Gate + Sync, S: SideFiles + Sync>(
-    rt: &T,
-    widths: &Widths<'_, '_, '_>,
-    report: &WidthReport,
-    below: u32,
-    gate: &G,
-    kept: &S,
-)
-    requires workers { (1 ≤ widths.now.workers) × (widths.now.workers ≤ most_workers) }
-{
-    if below == 0 {
-        return;
-    }
-    let Some(least) = report.least() else {
-        return;
-    };
     let trials = KeptTrials::new(rt.alloc(), widths.placed, widths.mode, kept);
     let gates = BothGates {
         first: gate,
         second: &trials,
     };
     let mut words = kept.words();
-    let tried = try_below(rt, widths, least.width, below, &gates, &mut words);
-    if let Err(fault) = tried {
-        let _ = print_fault(&fault, &mut words);
+    let mut past = width;
+    let tried = try_all(
+        rt, widths, report, width, count, &gates, &mut words, &mut past,
+    );
+    match tried {
+        Ok(routed) => tell_end(&mut words, routed),
+        Err(fault) => tell_fault(&mut words, &fault),
     }
+    past
+}
+
+/// Tries so many widths below the least that a search found, and adds those that are routed to its
+/// report. The least width such that it and all from there up to that of the search were tried; one
+/// more than the greatest there is, where the search found none.
+pub(crate) fn verify<T: Threads + Wait + Sync + AllocGlobal, G: Gate + Sync, S: SideFiles + Sync>(
+    rt: &T,
+    widths: &Widths<'_, '_, '_>,
+    report: &mut WidthReport,
+    below: u32,
+    gate: &G,
+    kept: &S,
+) -> u32
+    requires workers { (1 ≤ widths.now.workers) × (widths.now.workers ≤ most_workers) }
+    ensures { (start : ℕ) → IsWidthReport (Negotiates
+        (placed_problem widths.now.mode widths.now.placed.now) widths.now.settings.now
+        widths.now.workers) (next_width start) report.old
+        → IsVerifiedReport (Negotiates (placed_problem widths.now.mode widths.now.placed.now)
+        widths.now.settings.now widths.now.workers) start below report.new }
+{
+    let Some(least) = report.least() else {
+        return PAST_WIDTHS;
+    };
+    let width = least.width;
+    if below == 0 {
+        return width;
+    }
+    try_below(rt, widths, report, width, below, gate, kept)
 }

@@ -28,9 +28,28 @@ fn put_in_place<W: WholeSink>(file: &mut W) -> Result<(), AppFault>
     }
 }
 
+/// Writes the text of trees of a placed netlist, of which some nets may have none.
+#[inline(never)]
+fn write_text<W: WholeSink>(
+    netlist: &Netlist<'_>,
+    placement: &Placement,
+    problem: &Problem,
+    trees: &Routing,
+    file: &mut W,
+) -> Result<(), AppFault>
+    requires design { IsDesign netlist.now placement.now problem.now }
+    requires fits { fits_problem problem.now trees.now ≡ true }
+    ensures writes { PrintsText (writing_to W.taken W.failed file.old file.new)
+        (text_of netlist.now placement.now problem.now trees.now) tt result }
+{
+    match route_file::write(netlist, placement, problem, trees, file) {
+        Ok(()) => Ok(()),
+        Err(WriteFault::Failed) => Err(AppFault::Unwritten),
+    }
+}
+
 /// Writes the text of trees of a placed netlist, of which some nets may have none, and puts it into
 /// its place.
-#[inline(never)]
 pub(crate) fn write_trees<W: WholeSink>(
     netlist: &Netlist<'_>,
     placement: &Placement,
@@ -44,9 +63,9 @@ pub(crate) fn write_trees<W: WholeSink>(
         (text_of netlist.now placement.now problem.now trees.now) tt result }
     ensures placed { OnOk result (W.is_placed file.new ≡ true) }
 {
-    match route_file::write(netlist, placement, problem, trees, file) {
+    match write_text(netlist, placement, problem, trees, file) {
         Ok(()) => put_in_place(file),
-        Err(WriteFault::Failed) => Err(AppFault::Unwritten),
+        Err(fault) => Err(fault),
     }
 }
 

@@ -1,20 +1,13 @@
-use Rattle.std.proofs.Common.{sym, ◌∙◌}
-use Rattle.std.proofs.lemmas.Bool.{false≢true}
-use Rattle.std.proofs.lemmas.Result.{err_from_is_err_and}
-use Rattle.runs.proofs.Widths.{routes_least}
-use Rattle.runs.proofs.Writing.{free_late}
 use Rattle.runs.proofs.width.width_placed.Goals as goal
 
-pub returns-in_err-report-clause-runs : goal.returns-in_err-report-clause-runs
-returns-in_err-report-clause-runs g c =
-    let p = err_from_is_err_and c.from_residual.result c.from_residual.ensures.1 in
-    rw (p.1, p.2) (λ bound. absurd (false≢true (sym bound ∙ c.in_err-report.ensures.free)))
+pub search_placed-requires-clause-start : goal.search_placed-requires-clause-start
+search_placed-requires-clause-start g c κs within = rw c.in-Search.is at c.requires.plan
 
-pub returns-in_err-report-clause-late : goal.returns-in_err-report-clause-late
-returns-in_err-report-clause-late g c =
-    let p = err_from_is_err_and c.from_residual.result c.from_residual.ensures.1 in
-    rw (p.1, p.2) (free_late c.in_err-report.field-0.0 c.in_err-report.ensures.free)
+pub upward_placed-requires-clause-start : goal.upward_placed-requires-clause-start
+upward_placed-requires-clause-start g c κs within = rw c.in-Upward.is at c.requires.plan
 
-pub write_report-requires : goal.write_report-requires
-write_report-requires g c =
-    routes_least c.args.widths.now.mode c.args.widths.now.placed.now c.args.widths.now.settings.now c.args.widths.now.workers c.args.start c.in_ok-report.report c.in_ok-report.ensures.report
+pub returns-in-Search-clause-runs : goal.returns-in-Search-clause-runs
+returns-in-Search-clause-runs g c = rw c.in-Search.is c.search_placed.ensures.runs
+
+pub returns-in-Upward-clause-runs : goal.returns-in-Upward-clause-runs
+returns-in-Upward-clause-runs g c = rw c.in-Upward.is c.upward_placed.ensures.runs

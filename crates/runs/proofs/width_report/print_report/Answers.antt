@@ -3,7 +3,7 @@ use Rattle.vpr_text.specs.Output.{Buffer, Sends, stream}
 use Rattle.runs.specs.WidthRun.{report_text}
 use Rattle.run_inputs.proofs.Ending.{printed, broken_text}
 use Rattle.runs.proofs.Widths.{report_filled}
-use Rattle.runs.proofs.width.print_report.Goals as goal
+use Rattle.runs.proofs.width_report.print_report.Goals as goal
 
 pub returns-in-Ok : goal.returns-in-Ok
 returns-in-Ok g c =

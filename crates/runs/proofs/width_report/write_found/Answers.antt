@@ -4,7 +4,7 @@ use Rattle.run_inputs.specs.Runs.{writing}
 use Rattle.runs.specs.WidthRun.{report_text}
 use Rattle.run_inputs.proofs.Ending.{Keeps-same}
 use Rattle.runs.proofs.Widths.{found_unprinted}
-use Rattle.runs.proofs.width.write_found.Goals as goal
+use Rattle.runs.proofs.width_report.write_found.Goals as goal
 
 pub returns-in_err-print_report-clause-writes : goal.returns-in_err-print_report-clause-writes
 returns-in_err-print_report-clause-writes g c =

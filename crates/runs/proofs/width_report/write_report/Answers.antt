@@ -2,7 +2,7 @@ use Rattle.std.proofs.Common.{sym, ◌∙◌}
 use Rattle.std.proofs.lemmas.Bool.{false≢true}
 use Rattle.run_inputs.specs.Runs.{writing}
 use Rattle.runs.proofs.Widths.{found_bound, found_late, report_written}
-use Rattle.runs.proofs.width.write_report.Goals as goal
+use Rattle.runs.proofs.width_report.write_report.Goals as goal
 
 pub returns-in_ok-problem-in-Some-clause-writes : goal.returns-in_ok-problem-in-Some-clause-writes
 returns-in_ok-problem-in-Some-clause-writes g c =

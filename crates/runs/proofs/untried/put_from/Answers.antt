@@ -1,0 +1,10 @@
+use Rattle.vpr_text.proofs.Printing.{sends_then}
+use Rattle.runs.specs.kept.Untried.{untried_from}
+use Rattle.runs.proofs.untried.put_from.Goals as goal
+
+pub returns : goal.returns
+unfolding untried_from
+returns g c =
+    let word = rw c.untried_word.ensures at c.push.ensures in
+    let were = rw c.untried_were.ensures at c.push-2.ensures in
+    sends_then word (sends_then c.put_gaps.ensures (sends_then were c.put_advice.ensures))

@@ -1,0 +1,11 @@
+use Rattle.std.specs.List.{flat_map}
+use Rattle.vpr_text.specs.Output.{Sends, stream}
+use Rattle.rr_graph.specs.Fabric.{numbers_below}
+use Rattle.runs.specs.kept.Untried.{gap_text}
+use Rattle.runs.proofs.untried.put_gaps.Given as goal
+
+-- what was printed so far was sent
+abbrev pub invariant-loop-width : goal.invariant-loop-width
+invariant-loop-width g l =
+    let sink = g.W.ByteSink in
+    Sends (stream (sink.taken l.initial.words) (sink.failed l.initial.words) l.initial.out) (stream (sink.taken l.words) (sink.failed l.words) l.out) (flat_map (gap_text l.trials l.bound l.past l.first) (numbers_below l.width))

@@ -1,0 +1,60 @@
+//! The bound of a placed netlist in a search of its widths.
+
+ghost use Rattle.std.specs.Prelude.{◌≡◌, min, true, IfErr, IfOk};
+ghost use Rattle.run_inputs.specs.Faults.{is_free};
+ghost use Rattle.bound_run.specs.Bounds.{IsTrueOf};
+ghost use Rattle.runs.specs.kept.Known.{first_possible, first_width};
+
+use crate::side_files::SideFiles;
+use bound_run::{find_bound, has_no_way, printed_width, put_width_line};
+use run_inputs::{AppFault, PlacedNetlist};
+use std::alloc::Global;
+use text_output::OutputBuffer;
+use width_bound::CutFigures;
+
+/// One more than the greatest width that a device may have.
+pub(crate) const PAST_WIDTHS: u32 = 257;
+
+/// What a cut of a placed netlist says: there is no routing at the widths that it rules out.
+pub(crate) fn bound_of(alloc: Global, placed: &PlacedNetlist<'_>) -> Result<CutFigures, AppFault>
+    ensures sound { IfOk result (IsTrueOf placed.now) }
+    ensures free { IfErr result (λ e. is_free e ≡ true) }
+{
+    let found = find_bound(alloc, placed)?;
+    Ok(found.figures)
+}
+
+/// The printed width, or one more than the greatest there is where that is less.
+fn width_or_past(width: usize) -> u32
+    ensures { result ≡ min width 257 }
+{
+    width.min(PAST_WIDTHS as usize) as u32
+}
+
+/// The least width that the figures don't rule out; one more than the greatest there is, where they
+/// rule out all.
+pub(crate) fn first_possible(figures: CutFigures) -> u32
+    ensures { result ≡ first_possible figures }
+{
+    if has_no_way(figures) {
+        PAST_WIDTHS
+    } else {
+        width_or_past(printed_width(figures))
+    }
+}
+
+/// From which width on each is tried: the greater of the start and the least that isn't ruled out.
+pub(crate) fn first_width(start: u32, figures: CutFigures) -> u32
+    ensures { result ≡ first_width start figures }
+{
+    start.max(first_possible(figures))
+}
+
+/// Reports where words go below which width there is no routing.
+#[inline(never)]
+pub(crate) fn tell_bound<S: SideFiles>(kept: &S, figures: CutFigures) {
+    let mut words = kept.words();
+    let mut out = OutputBuffer::new();
+    put_width_line(&mut out, &mut words, figures);
+    let _ = out.finish(&mut words);
+}

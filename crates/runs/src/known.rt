@@ -1,0 +1,226 @@
+//! What is known of the least width after each one from a first on was tried.
+
+ghost use Rattle.std.specs.Prelude.{◌≡◌, ◌≤◌, option_copied};
+ghost use Rattle.vpr_text.specs.Output.{SendsTo};
+ghost use Rattle.runs.specs.kept.Known.{also_untried, between_text, end_text, gap_line, known_from, known_line, least_possible, none_below, one_was, range_text, routed_line, several_were, too_text, tried_text, were_text, widths_word};
+
+use crate::bound::PAST_WIDTHS;
+use crate::side_files::SideFiles;
+use text_output::{ByteSink, OutputBuffer, Piece, put_pieces};
+use width_search::{LeastWidth, WidthReport};
+
+/// What one width, or several, are called.
+fn widths_word(first: u32, last: u32) -> &'static [u8]
+    ensures { result.now ≡ widths_word first last }
+{
+    if first == last { b"width " } else { b"widths " }
+}
+
+/// Prints one width, of which more is said.
+#[tactic(auto, unfolding(crate::specs::kept::Known::one_was))]
+fn put_one<W: ByteSink>(out: &mut OutputBuffer, words: &mut W, width: u32)
+    ensures { SendsTo W.taken W.failed words.old words.new out.old out.new (one_was width) }
+{
+    put_pieces(out, words, &[Piece::Number(width), Piece::Text(b" was")]);
+}
+
+/// Prints the first and the last of several widths, of which more is said.
+#[tactic(auto, unfolding(crate::specs::kept::Known::several_were))]
+fn put_several<W: ByteSink>(out: &mut OutputBuffer, words: &mut W, first: u32, last: u32)
+    ensures { SendsTo W.taken W.failed words.old words.new out.old out.new
+        (several_were first last) }
+{
+    put_pieces(
+        out,
+        words,
+        &[
+            Piece::Number(first),
+            Piece::Text(b" to "),
+            Piece::Number(last),
+            Piece::Text(b" were"),
+        ],
+    );
+}
+
+/// Prints a range of widths, of which more is said.
+fn put_were<W: ByteSink>(out: &mut OutputBuffer, words: &mut W, first: u32, last: u32)
+    ensures { SendsTo W.taken W.failed words.old words.new out.old out.new
+        (were_text first last) }
+{
+    if first == last {
+        put_one(out, words, first);
+    } else {
+        put_several(out, words, first, last);
+    }
+}
+
+/// Prints what is so of a range of widths.
+fn put_range<W: ByteSink>(out: &mut OutputBuffer, words: &mut W, first: u32, last: u32, what: &[u8])
+    ensures { SendsTo W.taken W.failed words.old words.new out.old out.new
+        (range_text first last what.now) }
+{
+    out.push(words, widths_word(first, last));
+    put_were(out, words, first, last);
+    out.push(words, what);
+}
+
+/// Prints that a range of widths was not tried, after what was said of others.
+fn put_too<W: ByteSink>(out: &mut OutputBuffer, words: &mut W, first: u32, last: u32)
+    ensures { SendsTo W.taken W.failed words.old words.new out.old out.new (too_text first last) }
+{
+    out.push(words, b", ");
+    put_were(out, words, first, last);
+    out.push(words, b" not tried");
+}
+
+/// Prints which widths below the first were not tried, where some are possible.
+fn put_also<W: ByteSink>(out: &mut OutputBuffer, words: &mut W, bound: u32, first: u32)
+    ensures { SendsTo W.taken W.failed words.old words.new out.old out.new
+        (also_untried bound first) }
+{
+    if bound < first {
+        put_too(out, words, bound, first - 1);
+    }
+}
+
+/// Prints which widths were tried and not routed, and which below them were not tried.
+fn put_tried<W: ByteSink>(out: &mut OutputBuffer, words: &mut W, bound: u32, first: u32, past: u32)
+    requires { 1 ≤ past }
+    ensures { SendsTo W.taken W.failed words.old words.new out.old out.new
+        (tried_text bound first past) }
+{
+    put_range(out, words, first, past - 1, b" tried and not routed");
+    put_also(out, words, bound, first);
+}
+
+/// Prints which widths from the bound on were not routed or not tried.
+fn put_between<W: ByteSink>(
+    out: &mut OutputBuffer,
+    words: &mut W,
+    bound: u32,
+    first: u32,
+    past: u32,
+)
+    ensures { SendsTo W.taken W.failed words.old words.new out.old out.new
+        (between_text bound first past) }
+{
+    if first < past {
+        put_tried(out, words, bound, first, past);
+    } else {
+        put_range(out, words, bound, first.saturating_sub(1), b" not tried");
+    }
+}
+
+/// Prints below which width none is possible.
+#[tactic(auto, unfolding(crate::specs::kept::Known::none_below))]
+fn put_none_below<W: ByteSink>(out: &mut OutputBuffer, words: &mut W, bound: u32)
+    ensures { SendsTo W.taken W.failed words.old words.new out.old out.new (none_below bound) }
+{
+    put_pieces(
+        out,
+        words,
+        &[
+            Piece::Text(b"; below "),
+            Piece::Number(bound),
+            Piece::Text(b" none is possible\n"),
+        ],
+    );
+}
+
+/// Ends a line, after the width below which none is possible where there is such a width.
+fn put_end<W: ByteSink>(out: &mut OutputBuffer, words: &mut W, bound: u32)
+    ensures { SendsTo W.taken W.failed words.old words.new out.old out.new (end_text bound) }
+{
+    if bound > 1 {
+        put_none_below(out, words, bound);
+    } else {
+        out.push(words, b"\n");
+    }
+}
+
+/// Prints the line of the widths from the bound on that are less than `past`.
+fn put_gap<W: ByteSink>(out: &mut OutputBuffer, words: &mut W, bound: u32, first: u32, past: u32)
+    ensures { SendsTo W.taken W.failed words.old words.new out.old out.new
+        (gap_line bound first past) }
+{
+    put_between(out, words, bound, first, past);
+    put_end(out, words, bound);
+}
+
+/// Prints that a width is the least possible.
+#[tactic(auto, unfolding(crate::specs::kept::Known::least_possible))]
+fn put_least_possible<W: ByteSink>(out: &mut OutputBuffer, words: &mut W, width: u32)
+    ensures { SendsTo W.taken W.failed words.old words.new out.old out.new
+        (least_possible width) }
+{
+    put_pieces(
+        out,
+        words,
+        &[
+            Piece::Number(width),
+            Piece::Text(b" is the least possible width\n"),
+        ],
+    );
+}
+
+/// Prints what is known where a width was routed.
+fn put_routed<W: ByteSink>(
+    out: &mut OutputBuffer,
+    words: &mut W,
+    bound: u32,
+    first: u32,
+    least: u32,
+)
+    ensures { SendsTo W.taken W.failed words.old words.new out.old out.new
+        (routed_line bound first least) }
+{
+    if least == bound {
+        put_least_possible(out, words, least);
+    } else {
+        put_gap(out, words, bound, first, least);
+    }
+}
+
+/// Prints what is known after each width from a first on was tried.
+fn put_line<W: ByteSink>(
+    out: &mut OutputBuffer,
+    words: &mut W,
+    bound: u32,
+    first: u32,
+    least: Option<&LeastWidth>,
+)
+    ensures { SendsTo W.taken W.failed words.old words.new out.old out.new
+        (known_line bound first (option_copied least.entry)) }
+{
+    match least {
+        Some(least) => put_routed(out, words, bound, first, least.width),
+        None => put_gap(out, words, bound, first, PAST_WIDTHS),
+    }
+}
+
+/// Prints what is known after each width was tried from the greater of the start and the bound on:
+/// nothing where the bound rules out all.
+fn put_known<W: ByteSink>(
+    out: &mut OutputBuffer,
+    words: &mut W,
+    start: u32,
+    bound: u32,
+    report: &WidthReport,
+)
+    ensures { SendsTo W.taken W.failed words.old words.new out.old out.new
+        (known_from start bound report.now.least) }
+{
+    if bound < PAST_WIDTHS {
+        put_line(out, words, bound, start.max(bound), report.least());
+    }
+}
+
+/// Reports where words go what is known of the least width after each one was tried from the
+/// greater of the start and the bound on.
+#[inline(never)]
+pub(crate) fn tell_known<S: SideFiles>(kept: &S, start: u32, bound: u32, report: &WidthReport) {
+    let mut words = kept.words();
+    let mut out = OutputBuffer::new();
+    put_known(&mut out, &mut words, start, bound, report);
+    let _ = out.finish(&mut words);
+}

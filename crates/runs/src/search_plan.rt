@@ -1,0 +1,128 @@
+//! A search of widths that doubles and halves, and lesser widths after it.
+
+ghost use Rattle.std.specs.Prelude.{◌≡◌, ◌≤◌, true, false, IfErr, IfOk};
+ghost use Rattle.rr_graph.specs.Fabric.{most_tracks};
+ghost use Rattle.node_cost.specs.Options.{most_workers};
+ghost use Rattle.width_search.specs.Reports.{IsVerifiedReport, IsWidthReport, Negotiates};
+ghost use Rattle.width_search.specs.Widths.{next_width};
+ghost use Rattle.run_inputs.specs.Faults.{ends_free, is_free};
+ghost use Rattle.run_inputs.specs.Inputs.{ends_before, placed_problem};
+ghost use Rattle.run_inputs.specs.Runs.{TakesNothing, writing_to};
+ghost use Rattle.runs.specs.WidthRun.{PlacesLeast, SearchesWidths};
+ghost use Rattle.runs.specs.declared.plan.WidthPlan.TheVariants.{Search};
+
+use crate::bound::PAST_WIDTHS;
+use crate::kept_trials::KeptTrials;
+use crate::lesser_widths::verify;
+use crate::side_files::SideFiles;
+use crate::tried_widths::Widths;
+use crate::untried::show_bound;
+use crate::whole_sink::WholeSink;
+use crate::width_report::write_report;
+use net_workers::{BothGates, Gate};
+use run_inputs::{AppFault, InputFile};
+use std::alloc::AllocGlobal;
+use std::sync::Wait;
+use std::thread::Threads;
+use text_output::ByteSink;
+use width_search::{WidthReport, least_width};
+
+/// Searches for the least width of a placed netlist.
+fn search_widths<T: Threads + Wait + Sync + AllocGlobal, G: Gate + Sync, S: SideFiles + Sync>(
+    rt: &T,
+    widths: &Widths<'_, '_, '_>,
+    start: u32,
+    gate: &G,
+    kept: &S,
+) -> Result<WidthReport, AppFault>
+    requires start { (1 ≤ start) × (start ≤ most_tracks) }
+    requires workers { (1 ≤ widths.now.workers) × (widths.now.workers ≤ most_workers) }
+    ensures report { IfOk result (IsWidthReport
+        (Negotiates (placed_problem widths.now.mode widths.now.placed.now)
+        widths.now.settings.now widths.now.workers) (next_width start)) }
+    ensures free { IfErr result (λ e. is_free e ≡ true) }
+{
+    let placed = widths.placed;
+    let trials = KeptTrials::new(rt.alloc(), placed, widths.mode, kept);
+    let gates = BothGates {
+        first: gate,
+        second: &trials,
+    };
+    let report = least_width(
+        rt,
+        rt.alloc(),
+        placed.arch(),
+        placed.netlist(),
+        placed.placement(),
+        widths.settings,
+        start,
+        widths.mode,
+        widths.workers,
+        &gates,
+    )?;
+    Ok(report)
+}
+
+/// Searches for the least width of a placed netlist, and tries so many widths below it. `past` is
+/// the least width such that it and all from there up to that of the search were tried.
+fn search_all<T: Threads + Wait + Sync + AllocGlobal, G: Gate + Sync, S: SideFiles + Sync>(
+    rt: &T,
+    widths: &Widths<'_, '_, '_>,
+    start: u32,
+    below: u32,
+    gate: &G,
+    kept: &S,
+    past: &mut u32,
+) -> Result<WidthReport, AppFault>
+    requires start { (1 ≤ start) × (start ≤ most_tracks) }
+    requires workers { (1 ≤ widths.now.workers) × (widths.now.workers ≤ most_workers) }
+    ensures report { IfOk result (IsVerifiedReport
+        (Negotiates (placed_problem widths.now.mode widths.now.placed.now)
+        widths.now.settings.now widths.now.workers) start below) }
+    ensures free { IfErr result (λ e. is_free e ≡ true) }
+{
+    let mut report = search_widths(rt, widths, start, gate, kept)?;
+    *past = verify(rt, widths, &mut report, below, gate, kept);
+    Ok(report)
+}
+
+/// Searches for the least width of a placed netlist, and tries so many widths below it. Then prints
+/// the lines of these trials, and writes the routing of the least width that was routed. In the end
+/// the width below which there is no routing is reported, where that is wanted.
+pub(crate) fn search_placed<
+    T: Threads + Wait + Sync + AllocGlobal,
+    R: WholeSink,
+    W: ByteSink,
+    G: Gate + Sync,
+    S: SideFiles + Sync,
+>(
+    rt: &T,
+    widths: &Widths<'_, '_, '_>,
+    route: &mut R,
+    out: &mut W,
+    start: u32,
+    below: u32,
+    shows_bound: bool,
+    gate: &G,
+    kept: &S,
+) -> Result<WidthReport, AppFault>
+    requires start { (1 ≤ start) × (start ≤ most_tracks) }
+    requires workers { (1 ≤ widths.now.workers) × (widths.now.workers ≤ most_workers) }
+    ensures runs { ends_free result ≡ false
+        → SearchesWidths widths.now.settings.now widths.now.workers
+        (Search start below shows_bound) widths.now.mode
+        (writing_to R.taken R.failed route.old route.new)
+        (writing_to W.taken W.failed out.old out.new) widths.now.placed.now result }
+    ensures route { ends_free result ≡ true
+        → TakesNothing (writing_to R.taken R.failed route.old route.new) }
+    ensures out { ends_free result ≡ true
+        → TakesNothing (writing_to W.taken W.failed out.old out.new) }
+    ensures late { ends_before InputFile.Route result ≡ false }
+    ensures placed { IfOk result (λ report. PlacesLeast (R.is_placed route.new) report.least) }
+{
+    let mut past = PAST_WIDTHS;
+    let report = search_all(rt, widths, start, below, gate, kept, &mut past)?;
+    write_report(rt.alloc(), widths.placed, &report, widths.mode, route, out)?;
+    show_bound(rt.alloc(), widths.placed, &report, past, kept, shows_bound);
+    Ok(report)
+}

@@ -1,0 +1,248 @@
+//! The widths that a search left out, from the bound of a placed netlist up to the least that was
+//! routed.
+
+ghost use Rattle.std.specs.Prelude.{◌≡◌, ◌<◌, ◌-◌, true, ◌&&◌, nat_lt, find, Some};
+ghost use Rattle.std.specs.List.{flat_map};
+ghost use Rattle.vpr_text.specs.Output.{SendsTo};
+ghost use Rattle.rr_graph.specs.Fabric.{numbers_below};
+ghost use Rattle.runs.specs.kept.Untried.{are_several, begins_gap, ends_gap, gap_mark, gap_text, is_tried, is_untried, untried_by, untried_from, untried_line, untried_were, untried_word, upward_advice, width_if};
+
+use crate::bound::{bound_of, first_possible, tell_bound};
+use crate::side_files::SideFiles;
+use run_inputs::PlacedNetlist;
+use std::alloc::Global;
+use text_output::{ByteSink, OutputBuffer, Piece, put_number, put_pieces};
+use width_search::{Trial, WidthReport};
+
+/// Whether a trial was of this width.
+fn is_tried(trials: &[Trial], width: u32) -> bool
+    ensures { result ≡ is_tried trials.now width }
+{
+    trials.iter().any(|trial| trial.width == width)
+}
+
+/// Whether the width is at least the bound and less than `past`, and was not tried.
+#[tactic(auto, unfolding(crate::specs::kept::Untried::is_untried))]
+fn is_untried(trials: &[Trial], bound: u32, past: u32, width: u32) -> bool
+    ensures { result ≡ is_untried trials.now bound past width }
+{
+    (width >= bound && width < past) && !is_tried(trials, width)
+}
+
+/// Whether the width below, if there is one, was left out.
+fn has_lower(trials: &[Trial], bound: u32, past: u32, width: u32) -> bool
+    ensures { result ≡ (nat_lt 0 width && is_untried trials.now bound past (width - 1)) }
+{
+    width > 0 && is_untried(trials, bound, past, width - 1)
+}
+
+/// Whether a run of widths that were left out begins at the width.
+fn begins_gap(trials: &[Trial], bound: u32, past: u32, width: u32) -> bool
+    ensures { result ≡ begins_gap trials.now bound past width }
+{
+    is_untried(trials, bound, past, width) && !has_lower(trials, bound, past, width)
+}
+
+/// Whether a run of several such widths ends at the width.
+fn ends_gap(trials: &[Trial], bound: u32, past: u32, width: u32) -> bool
+    requires { width < past }
+    ensures { result ≡ ends_gap trials.now bound past width }
+{
+    (is_untried(trials, bound, past, width) && !begins_gap(trials, bound, past, width))
+        && !is_untried(trials, bound, past, width + 1)
+}
+
+/// Prints a width after a mark.
+fn put_marked<W: ByteSink>(out: &mut OutputBuffer, words: &mut W, mark: &[u8], width: u32)
+    ensures { SendsTo W.taken W.failed words.old words.new out.old out.new
+        (width_if true mark.now width) }
+{
+    out.push(words, mark);
+    put_number(out, words, width);
+}
+
+/// Prints a width after a mark, if it is to be printed.
+fn put_if<W: ByteSink>(
+    out: &mut OutputBuffer,
+    words: &mut W,
+    is_printed: bool,
+    mark: &[u8],
+    width: u32,
+)
+    ensures { SendsTo W.taken W.failed words.old words.new out.old out.new
+        (width_if is_printed mark.now width) }
+{
+    if is_printed {
+        put_marked(out, words, mark, width);
+    }
+}
+
+/// What is printed before a run that begins at the width.
+fn gap_mark(first: u32, width: u32) -> &'static [u8]
+    ensures { result.now ≡ gap_mark first width }
+{
+    if width == first { b"" } else { b", " }
+}
+
+/// Prints the begin or the end of a run at the width.
+fn put_width<W: ByteSink>(
+    out: &mut OutputBuffer,
+    words: &mut W,
+    trials: &[Trial],
+    bound: u32,
+    past: u32,
+    first: u32,
+    width: u32,
+)
+    requires { width < past }
+    ensures { SendsTo W.taken W.failed words.old words.new out.old out.new
+        (gap_text trials.now bound past first width) }
+{
+    let begins = begins_gap(trials, bound, past, width);
+    let ends = ends_gap(trials, bound, past, width);
+    put_if(out, words, begins, gap_mark(first, width), width);
+    put_if(out, words, ends, b" to ", width);
+}
+
+/// Prints the runs of widths that were left out.
+fn put_gaps<W: ByteSink>(
+    out: &mut OutputBuffer,
+    words: &mut W,
+    trials: &[Trial],
+    bound: u32,
+    past: u32,
+    first: u32,
+)
+    ensures { SendsTo W.taken W.failed words.old words.new out.old out.new
+        (flat_map (gap_text trials.now bound past first) (numbers_below past)) }
+{
+    for width in 0..past {
+        put_width(out, words, trials, bound, past, first, width);
+    }
+}
+
+/// Whether a width above the first was left out too.
+fn are_several(trials: &[Trial], bound: u32, past: u32, first: u32) -> bool
+    ensures { result ≡ are_several trials.now bound past first }
+{
+    (0..past).any(|width| first < width && is_untried(trials, bound, past, width))
+}
+
+/// What one width, or several, are called.
+fn untried_word(several: bool) -> &'static [u8]
+    ensures { result.now ≡ untried_word several }
+{
+    if several { b"widths " } else { b"width " }
+}
+
+/// What follows one width, or several.
+fn untried_were(several: bool) -> &'static [u8]
+    ensures { result.now ≡ untried_were several }
+{
+    if several { b" were" } else { b" was" }
+}
+
+/// Prints how each width from the bound on is tried.
+#[tactic(auto, unfolding(crate::specs::kept::Untried::upward_advice))]
+fn put_advice<W: ByteSink>(out: &mut OutputBuffer, words: &mut W, bound: u32)
+    ensures { SendsTo W.taken W.failed words.old words.new out.old out.new (upward_advice bound) }
+{
+    put_pieces(
+        out,
+        words,
+        &[
+            Piece::Text(b" not tried: --upward tries each width from "),
+            Piece::Number(bound),
+            Piece::Text(b" on\n"),
+        ],
+    );
+}
+
+/// Prints the line of the widths that were left out, which are one or several.
+fn put_from<W: ByteSink>(
+    out: &mut OutputBuffer,
+    words: &mut W,
+    trials: &[Trial],
+    bound: u32,
+    past: u32,
+    first: u32,
+    several: bool,
+)
+    ensures { SendsTo W.taken W.failed words.old words.new out.old out.new
+        (untried_from trials.now bound past first several) }
+{
+    out.push(words, untried_word(several));
+    put_gaps(out, words, trials, bound, past, first);
+    out.push(words, untried_were(several));
+    put_advice(out, words, bound);
+}
+
+/// Prints the line of the widths that were left out, of which this one is the first.
+fn put_first<W: ByteSink>(
+    out: &mut OutputBuffer,
+    words: &mut W,
+    trials: &[Trial],
+    bound: u32,
+    past: u32,
+    first: u32,
+)
+    ensures { SendsTo W.taken W.failed words.old words.new out.old out.new
+        (untried_by trials.now bound past (Some first)) }
+{
+    let several = are_several(trials, bound, past, first);
+    put_from(out, words, trials, bound, past, first, several);
+}
+
+/// The first width that was left out, if one was.
+fn first_untried(trials: &[Trial], bound: u32, past: u32) -> Option<u32>
+    ensures { result ≡ find (is_untried trials.now bound past) (numbers_below past) }
+{
+    (0..past).find(|width| is_untried(trials, bound, past, *width))
+}
+
+/// Prints which widths from the bound on that are less than `past` were left out, if some were.
+fn put_untried<W: ByteSink>(
+    out: &mut OutputBuffer,
+    words: &mut W,
+    trials: &[Trial],
+    bound: u32,
+    past: u32,
+)
+    ensures { SendsTo W.taken W.failed words.old words.new out.old out.new
+        (untried_line trials.now bound past) }
+{
+    match first_untried(trials, bound, past) {
+        Some(first) => put_first(out, words, trials, bound, past, first),
+        None => {}
+    }
+}
+
+/// Reports where words go which widths from the bound on that are less than `past` were left out.
+#[inline(never)]
+fn tell_untried<S: SideFiles>(kept: &S, trials: &[Trial], bound: u32, past: u32) {
+    let mut words = kept.words();
+    let mut out = OutputBuffer::new();
+    put_untried(&mut out, &mut words, trials, bound, past);
+    let _ = out.finish(&mut words);
+}
+
+/// Reports where words go below which width a placed netlist has no routing, and which widths from
+/// there on that are less than `past` were left out, if that is wanted. Where memory runs out,
+/// nothing is reported.
+#[inline(never)]
+pub(crate) fn show_bound<S: SideFiles>(
+    alloc: Global,
+    placed: &PlacedNetlist<'_>,
+    report: &WidthReport,
+    past: u32,
+    kept: &S,
+    is_wanted: bool,
+) {
+    if !is_wanted {
+        return;
+    }
+    if let Ok(figures) = bound_of(alloc, placed) {
+        tell_bound(kept, figures);
+        tell_untried(kept, report.trials(), first_possible(figures), past);
+    }
+}

@@ -1,0 +1,106 @@
+//! The widths of a placed netlist upward, from its bound on.
+
+ghost use Rattle.std.specs.Prelude.{◌≡◌, ◌≤◌, true, false, IfErr, IfOk};
+ghost use Rattle.rr_graph.specs.Fabric.{most_tracks};
+ghost use Rattle.node_cost.specs.Options.{most_workers};
+ghost use Rattle.width_search.specs.Reports.{Negotiates};
+ghost use Rattle.bound_run.specs.Bounds.{IsTrueOf};
+ghost use Rattle.run_inputs.specs.Faults.{ends_free, is_free};
+ghost use Rattle.run_inputs.specs.Inputs.{ends_before, placed_problem};
+ghost use Rattle.run_inputs.specs.Runs.{TakesNothing, writing_to};
+ghost use Rattle.runs.specs.WidthRun.{IsUpwardReport, PlacesLeast, SearchesWidths};
+ghost use Rattle.runs.specs.declared.plan.WidthPlan.TheVariants.{Upward};
+
+use crate::bound::{bound_of, first_possible, first_width, tell_bound};
+use crate::kept_trials::KeptTrials;
+use crate::known::tell_known;
+use crate::side_files::SideFiles;
+use crate::tried_widths::Widths;
+use crate::whole_sink::WholeSink;
+use crate::width_report::write_report;
+use net_workers::{BothGates, Gate};
+use run_inputs::{AppFault, InputFile};
+use std::alloc::AllocGlobal;
+use std::sync::Wait;
+use std::thread::Threads;
+use text_output::ByteSink;
+use width_bound::CutFigures;
+use width_search::{WidthReport, upward_width};
+
+/// Tries each width of a placed netlist from a start on that these figures don't rule out, upward.
+fn try_upward<T: Threads + Wait + Sync + AllocGlobal, G: Gate + Sync, S: SideFiles + Sync>(
+    rt: &T,
+    widths: &Widths<'_, '_, '_>,
+    start: u32,
+    figures: CutFigures,
+    gate: &G,
+    kept: &S,
+) -> Result<WidthReport, AppFault>
+    requires start { (1 ≤ start) × (start ≤ most_tracks) }
+    requires workers { (1 ≤ widths.now.workers) × (widths.now.workers ≤ most_workers) }
+    requires sound { IsTrueOf widths.now.placed.now figures }
+    ensures report { IfOk result (IsUpwardReport
+        (Negotiates (placed_problem widths.now.mode widths.now.placed.now)
+        widths.now.settings.now widths.now.workers) widths.now.placed.now start) }
+    ensures free { IfErr result (λ e. is_free e ≡ true) }
+{
+    let placed = widths.placed;
+    let trials = KeptTrials::new(rt.alloc(), placed, widths.mode, kept);
+    let gates = BothGates {
+        first: gate,
+        second: &trials,
+    };
+    let report = upward_width(
+        rt,
+        rt.alloc(),
+        placed.arch(),
+        placed.netlist(),
+        placed.placement(),
+        widths.settings,
+        first_width(start, figures),
+        widths.mode,
+        widths.workers,
+        &gates,
+    )?;
+    Ok(report)
+}
+
+/// Finds the bound of a placed netlist, and tries each width from there on, or from the start where
+/// that is greater, until one is routed. Then prints the lines of the trials, and writes the
+/// routing of the last one. Words report the bound before, and what is known of the least width
+/// after.
+pub(crate) fn upward_placed<
+    T: Threads + Wait + Sync + AllocGlobal,
+    R: WholeSink,
+    W: ByteSink,
+    G: Gate + Sync,
+    S: SideFiles + Sync,
+>(
+    rt: &T,
+    widths: &Widths<'_, '_, '_>,
+    route: &mut R,
+    out: &mut W,
+    start: u32,
+    gate: &G,
+    kept: &S,
+) -> Result<WidthReport, AppFault>
+    requires start { (1 ≤ start) × (start ≤ most_tracks) }
+    requires workers { (1 ≤ widths.now.workers) × (widths.now.workers ≤ most_workers) }
+    ensures runs { ends_free result ≡ false
+        → SearchesWidths widths.now.settings.now widths.now.workers (Upward start)
+        widths.now.mode (writing_to R.taken R.failed route.old route.new)
+        (writing_to W.taken W.failed out.old out.new) widths.now.placed.now result }
+    ensures route { ends_free result ≡ true
+        → TakesNothing (writing_to R.taken R.failed route.old route.new) }
+    ensures out { ends_free result ≡ true
+        → TakesNothing (writing_to W.taken W.failed out.old out.new) }
+    ensures late { ends_before InputFile.Route result ≡ false }
+    ensures placed { IfOk result (λ report. PlacesLeast (R.is_placed route.new) report.least) }
+{
+    let figures = bound_of(rt.alloc(), widths.placed)?;
+    tell_bound(kept, figures);
+    let report = try_upward(rt, widths, start, figures, gate, kept)?;
+    write_report(rt.alloc(), widths.placed, &report, widths.mode, route, out)?;
+    tell_known(kept, start, first_possible(figures), &report);
+    Ok(report)
+}
