@@ -47,7 +47,7 @@ class Routing:
 
     # ---- lines
 
-    def whole(self):
+    def whole(self, bound):
         lengths = [sum(len(places_of(self.device, node)) for node in nodes if node in self.device.spans) for nodes in self.covered]
         listed = sum(pairs is not None for pairs in self.lists)
         every = self.design.nets()
@@ -56,6 +56,7 @@ class Routing:
         names = [f" {net.name}" for net, length in zip(self.nets, lengths) if length == longest]
         yield f"array {self.device.nx} x {self.device.ny}"
         yield f"width {self.device.width}"
+        yield f"bound {bound}"
         yield f"nets {len(every)}"
         yield f"global {sum(net.is_global for net in every)}"
         yield f"trees {listed} of {len(self.nets)}"
@@ -148,9 +149,9 @@ def overuse_in_words(device, design, lists, text, name):
     return [*routing.overused(), *routing.uses(text, name)]
 
 
-def report(device, design, lists, text, is_map):
-    """What `report` prints of the routing, whose file has this text."""
+def report(device, design, lists, bound, text, is_map):
+    """What `report` prints of the routing, whose file has this text, with the bound of its netlist."""
     routing = Routing(device, design, lists)
-    lines = [*routing.whole(), *routing.types(), *routing.channels(), *routing.overused(), *routing.named(text)]
+    lines = [*routing.whole(bound), *routing.types(), *routing.channels(), *routing.overused(), *routing.named(text)]
     lines += ["map", *routing.map()] if is_map else []
     return "".join(f"{line}\n" for line in lines)

@@ -3,9 +3,11 @@ use Rattle.std.proofs.Common.{◌<◌, Bool, List, length, arith, length-append}
 use Rattle.vpr_text.specs.Words.{Line}
 use Rattle.net_file.specs.Netlist.{Netlist}
 use Rattle.rr_graph.specs.Problems.{RoutingProblem}
+use Rattle.width_bound.specs.declared.figures.CutFigures.{CutFigures}
 use Rattle.report_run.specs.Figures.{device_lines}
 use Rattle.report_run.specs.Report.{RouteReport, figure_lines, counted_lines, route_report_text}
 
-pub report_filled : (is_map : Bool) (netlist : Netlist) (p : RoutingProblem) (lines : List Line) (r : RouteReport) → 0 < length (route_report_text is_map netlist p lines r)
+pub report_filled : (is_map : Bool) (netlist : Netlist) (p : RoutingProblem) (b : CutFigures) (lines : List Line) (r : RouteReport)
+    → 0 < length (route_report_text is_map netlist p b lines r)
 unfolding route_report_text counted_lines figure_lines device_lines
-report_filled is_map netlist p lines r = simp length-append (omega arith)
+report_filled is_map netlist p b lines r = simp length-append (omega arith)

@@ -1,4 +1,4 @@
--- The lines on the device, and those on the whole routing (ours).
+-- The lines on the device, that on the bound, and those on the whole routing (ours).
 use Rattle.std.specs.Prelude.{ℕ, List, [], ◌++◌, codes, decimal, filter, length, count_by, Option, None, Some}
 use Rattle.std.specs.List.{sum_by}
 use Rattle.net_file.specs.Netlist.{Netlist}
@@ -7,6 +7,8 @@ use Rattle.rr_graph.specs.Nodes.{is_wire_at, node_count_of}
 use Rattle.rr_graph.specs.Problems.{RoutingProblem}
 use Rattle.route_report.specs.Wirelength.{places_at}
 use Rattle.route_report.specs.declared.figures.Figures.{Figures}
+use Rattle.width_bound.specs.declared.figures.CutFigures.{CutFigures}
+use Rattle.bound_run.specs.CutTexts.{width_text}
 use Rattle.report_run.specs.Texts.{mean_text, name_text, share_text}
 
 -- how many wires the device has, and how many places these pass
@@ -25,6 +27,11 @@ unfoldable pub device_lines : Fabric → List ℕ
 device_lines f =
     codes "array " ++ (decimal f.nx ++ (codes " x " ++ (decimal f.ny
     ++ (codes "\nwidth " ++ (decimal f.width ++ codes "\n")))))
+
+-- as `bound 4`, the width below which there is no routing, or `bound none`, where there is none at
+-- any width
+unfoldable pub bound_line : CutFigures → List ℕ
+bound_line b = codes "bound " ++ (width_text b ++ codes "\n")
 
 -- as `nets 120`, `global 1` and `trees 117 of 119`: of the nets that are to be routed, how many
 -- have a list

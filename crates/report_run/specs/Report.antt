@@ -12,8 +12,9 @@ use Rattle.route_report.specs.Covered.{uses_of}
 use Rattle.route_report.specs.Figures.{figures_of}
 use Rattle.route_report.specs.Overused.{Overuse, overused_nodes}
 use Rattle.route_report.specs.WireTypes.{wire_types_of}
+use Rattle.width_bound.specs.declared.figures.CutFigures.{CutFigures}
 use Rattle.report_run.specs.Channels.{channel_lines}
-use Rattle.report_run.specs.Figures.{device_lines, length_lines, net_count_lines, use_lines}
+use Rattle.report_run.specs.Figures.{bound_line, device_lines, length_lines, net_count_lines, use_lines}
 use Rattle.report_run.specs.Map.{map_text}
 use Rattle.report_run.specs.Named.{naming_lines}
 use Rattle.report_run.specs.Overused.{overuse_lines}
@@ -36,21 +37,22 @@ route_report_on p lists = record {
   overused = overused_nodes p lists;
 }
 
--- the lines on the whole routing
-unfoldable pub figure_lines : Netlist → RoutingProblem → Figures → List ℕ
-figure_lines netlist p c =
-    device_lines p.device ++ (net_count_lines netlist c ++ (use_lines p.device c ++ length_lines netlist p c))
+-- the lines on the whole routing, and that on the bound, of the figures of a cut
+unfoldable pub figure_lines : Netlist → RoutingProblem → CutFigures → Figures → List ℕ
+figure_lines netlist p b c =
+    device_lines p.device
+    ++ (bound_line b ++ (net_count_lines netlist c ++ (use_lines p.device c ++ length_lines netlist p c)))
 
 -- the lines of a report, without those on the file
-unfoldable pub counted_lines : Netlist → RoutingProblem → RouteReport → List ℕ
-counted_lines netlist p r =
-    figure_lines netlist p r.figures
+unfoldable pub counted_lines : Netlist → RoutingProblem → CutFigures → RouteReport → List ℕ
+counted_lines netlist p b r =
+    figure_lines netlist p b r.figures
     ++ (type_lines r.types ++ (channel_lines p.device r.channels ++ overuse_lines netlist p r.overused))
 
 abbrev pub map_if : (is_map : Bool) → Fabric → RouteReport → List ℕ
 map_if is_map f r = if is_map then map_text f r.channels else []
 
 -- the lines of a report, those on the lines of the file, and the map where it is asked for
-unfoldable pub route_report_text : (is_map : Bool) → Netlist → RoutingProblem → List Line → RouteReport → List ℕ
-route_report_text is_map netlist p lines r =
-    counted_lines netlist p r ++ (naming_lines p.device r.uses lines ++ map_if is_map p.device r)
+unfoldable pub route_report_text : (is_map : Bool) → Netlist → RoutingProblem → CutFigures → List Line → RouteReport → List ℕ
+route_report_text is_map netlist p b lines r =
+    counted_lines netlist p b r ++ (naming_lines p.device r.uses lines ++ map_if is_map p.device r)

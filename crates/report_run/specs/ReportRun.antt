@@ -4,13 +4,16 @@ use Rattle.vpr_text.specs.declared.fault.TextFault.{TextFault}
 use Rattle.vpr_text.specs.Text.{lines_of}
 use Rattle.vpr_text.specs.Words.{Line}
 use Rattle.rr_graph.specs.node.Mode.{Mode}
+use Rattle.rr_graph.specs.Problems.{RoutingProblem}
 use Rattle.route_tree.specs.Usage.{Lists}
 use Rattle.run_inputs.specs.declared.fault.AppFault.{AppFault}
 use Rattle.run_inputs.specs.declared.fault.InputFile.TheVariants as file
-use Rattle.run_inputs.specs.Inputs.{PlacedDesign, after_design, routing_from}
+use Rattle.width_bound.specs.Cuts.{Cut}
+use Rattle.run_inputs.specs.Inputs.{PlacedDesign, PlacedNetlist, after_design, design_on, routing_from}
 use Rattle.run_inputs.specs.Runs.{DesignFiles, Input, PrintsText, StopsOrGoesOn, TakesNothing, Writing, bytes_in}
 use Rattle.vpr_text.specs.Readings.{◌>>=◌}
-use Rattle.report_run.specs.Report.{route_report_on, route_report_text}
+use Rattle.bound_run.specs.Bounds.{IsTrueOf, figures_of}
+use Rattle.report_run.specs.Report.{RouteReport, route_report_on, route_report_text}
 
 -- a routing, the lines of its file, and the design that it is meant for
 pub record Reported : Type 0 where
@@ -36,13 +39,27 @@ reported_on d route = bytes_in file.Route route >>= reported_of d
 abbrev pub reported_in : (width : ℕ) → Mode → DesignFiles → (route : Input) → Result Reported AppFault
 reported_in = after_design reported_on
 
--- the report of the routing is printed
-abbrev pub PrintsReport : (is_map : Bool) → (out : Writing) → Reported → Result (Unit {0}) AppFault → Type 0
-PrintsReport is_map out r result =
-    let p = r.design.problem in
-    PrintsText out (route_report_text is_map r.design.netlist p r.lines (route_report_on p r.routing)) tt result
+-- the text of a report is printed with the bound of some cut of the placed netlist, and that bound
+-- is true
+abbrev pub PrintsBounded : (is_map : Bool) → (out : Writing) → PlacedNetlist → RoutingProblem → List Line → RouteReport → Result (Unit {0}) AppFault → Type 0
+PrintsBounded is_map out placed p lines r result =
+    (found : Cut)
+    × PrintsText out (route_report_text is_map placed.netlist p (figures_of placed found) lines r) tt result
+    × IsTrueOf placed (figures_of placed found)
 
--- A run of `report`, memory aside: where its files say a routing of a problem, its report is
+-- the report of a routing of the placed netlist is printed
+abbrev pub PrintsReport : (is_map : Bool) → (out : Writing) → PlacedNetlist → Reported → Result (Unit {0}) AppFault → Type 0
+PrintsReport is_map out placed r =
+    let p = r.design.problem in
+    PrintsBounded is_map out placed p r.lines (route_report_on p r.routing)
+
+-- A run over a placed netlist, memory aside: where the routing file says a routing, its report is
 -- printed.
-abbrev pub RunsReport : (is_map : Bool) → (out : Writing) → Result Reported AppFault → Result (Unit {0}) AppFault → Type 0
-RunsReport is_map out = StopsOrGoesOn (TakesNothing out) (PrintsReport is_map out)
+abbrev pub RunsPlaced : (is_map : Bool) → (out : Writing) → PlacedNetlist → Result Reported AppFault → Result (Unit {0}) AppFault → Type 0
+RunsPlaced is_map out placed = StopsOrGoesOn (TakesNothing out) (PrintsReport is_map out placed)
+
+-- A run of `report`, memory aside: where its files say a placed netlist, and then a routing of it
+-- on the device of this width and mode, the report of the routing is printed.
+abbrev pub RunsReport : (is_map : Bool) → (out : Writing) → (width : ℕ) → Mode → (route : Input) → Result PlacedNetlist AppFault → Result (Unit {0}) AppFault → Type 0
+RunsReport is_map out width mode route =
+    StopsOrGoesOn (TakesNothing out) (λ placed. RunsPlaced is_map out placed (reported_on (design_on width mode placed) route))

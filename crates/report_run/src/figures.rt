@@ -1,16 +1,18 @@
-//! The lines on the device, and those on the whole routing.
+//! The lines on the device, that on the bound, and those on the whole routing.
 
 ghost use Rattle.std.specs.Prelude.{◌≡◌};
 ghost use Rattle.vpr_text.specs.Output.{SendsTo};
-ghost use Rattle.report_run.specs.Figures.{device_lines, length_lines, longest_text, net_count_lines, use_lines};
+ghost use Rattle.report_run.specs.Figures.{bound_line, device_lines, length_lines, longest_text, net_count_lines, use_lines};
 ghost use Rattle.report_run.specs.Report.{figure_lines};
 
 use crate::device::{global_nets, places_in, wires_in};
 use crate::text::{put_mean, put_name, put_share};
+use bound_run::put_width_text;
 use net_file::Netlist;
 use route_report::Figures;
 use rr_graph::{Device, Problem};
 use text_output::{ByteSink, OutputBuffer, Piece, put_number, put_pieces};
+use width_bound::CutFigures;
 
 /// Prints the lines on the device.
 #[tactic(auto, unfolding(crate::specs::Figures::device_lines))]
@@ -30,6 +32,15 @@ fn put_device<W: ByteSink>(out: &mut OutputBuffer, sink: &mut W, device: &Device
             Piece::Text(b"\n"),
         ],
     );
+}
+
+/// Prints the line on the bound, of the figures of a cut.
+fn put_bound<W: ByteSink>(out: &mut OutputBuffer, sink: &mut W, bound: CutFigures)
+    ensures { SendsTo W.taken W.failed sink.old sink.new out.old out.new (bound_line bound) }
+{
+    out.push(sink, b"bound ");
+    put_width_text(out, sink, bound);
+    out.push(sink, b"\n");
 }
 
 /// Prints the lines on how many nets there are, and how many have a list.
@@ -105,19 +116,21 @@ fn put_lengths<W: ByteSink>(
     out.push(sink, b"\n");
 }
 
-/// Prints the lines on the whole routing.
+/// Prints the lines on the whole routing, and that on the bound.
 pub(crate) fn put_figures<W: ByteSink>(
     out: &mut OutputBuffer,
     sink: &mut W,
     netlist: &Netlist<'_>,
     problem: &Problem,
+    bound: CutFigures,
     figures: &Figures,
 )
     ensures { SendsTo W.taken W.failed sink.old sink.new out.old out.new
-        (figure_lines netlist.now problem.now figures.now) }
+        (figure_lines netlist.now problem.now bound figures.now) }
 {
     let device = problem.device();
     put_device(out, sink, device);
+    put_bound(out, sink, bound);
     put_nets(out, sink, netlist, figures);
     put_uses(out, sink, device, figures);
     put_lengths(out, sink, netlist, problem, figures);

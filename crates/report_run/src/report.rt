@@ -21,6 +21,7 @@ use std::alloc::{AllocError, Global};
 use std::marker::Model;
 use text_output::{ByteSink, OutputBuffer};
 use vpr_text::Lines;
+use width_bound::CutFigures;
 
 /// What a report says of a routing.
 #[derive(Drop)]
@@ -66,18 +67,19 @@ impl RouteReport {
         })
     }
 
-    /// Prints the lines of the report.
+    /// Prints the lines of the report, with the bound of a cut.
     fn put_lines<W: ByteSink>(
         &self,
         out: &mut OutputBuffer,
         sink: &mut W,
         netlist: &Netlist<'_>,
         problem: &Problem,
+        bound: CutFigures,
     )
         ensures { SendsTo W.taken W.failed sink.old sink.new out.old out.new
-            (counted_lines netlist.now problem.now self.now) }
+            (counted_lines netlist.now problem.now bound self.now) }
     {
-        put_figures(out, sink, netlist, problem, &self.figures);
+        put_figures(out, sink, netlist, problem, bound, &self.figures);
         put_types(out, sink, &self.types);
         put_channels(out, sink, problem.device(), &self.channels);
         put_overused(out, sink, netlist, problem, &self.overused);
@@ -99,20 +101,22 @@ impl RouteReport {
         }
     }
 
-    /// Prints the report, what is said of the lines of the file, and the map if it is asked for.
+    /// Prints the report with the bound of a cut, what is said of the lines of the file, and the
+    /// map if it is asked for.
     pub(crate) fn put<W: ByteSink>(
         &self,
         out: &mut OutputBuffer,
         sink: &mut W,
         netlist: &Netlist<'_>,
         problem: &Problem,
+        bound: CutFigures,
         lines: &Lines<'_>,
         is_map: bool,
     )
         ensures { SendsTo W.taken W.failed sink.old sink.new out.old out.new
-            (route_report_text is_map netlist.now problem.now lines.now self.now) }
+            (route_report_text is_map netlist.now problem.now bound lines.now self.now) }
     {
-        self.put_lines(out, sink, netlist, problem);
+        self.put_lines(out, sink, netlist, problem, bound);
         put_naming_lines(out, sink, problem.device(), &self.uses, lines);
         self.put_map_if(out, sink, problem.device(), is_map);
     }

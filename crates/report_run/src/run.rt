@@ -1,71 +1,102 @@
 //! The `report` command over any sources and sink.
 
-ghost use Rattle.std.specs.Prelude.{◌≡◌, ◌≢◌, ◌≤◌, true, false, Err, IsOk};
+ghost use Rattle.std.specs.Prelude.{◌≡◌, ◌≢◌, ◌≤◌, true, false, map, Err, IsOk};
 ghost use Rattle.vpr_text.specs.Text.{lines_of};
+ghost use Rattle.net_file.specs.Routed.{routed_numbers};
 ghost use Rattle.rr_graph.specs.Fabric.{most_tracks};
-ghost use Rattle.run_inputs.specs.Inputs.{ends_before};
+ghost use Rattle.run_inputs.specs.Inputs.{design_on, ends_before, placed_in};
 ghost use Rattle.run_inputs.specs.Runs.{Meets, MeetsDesign, PrintsText, TakesNothing, reading, writing_to};
-ghost use Rattle.report_run.specs.Report.{route_report_text};
-ghost use Rattle.report_run.specs.ReportRun.{PrintsReport, RunsReport, reported_in, reported_of, reported_on, reported_with};
+ghost use Rattle.report_run.specs.Report.{route_report_on, route_report_text};
+ghost use Rattle.report_run.specs.ReportRun.{PrintsBounded, PrintsReport, RunsPlaced, RunsReport, reported_of, reported_on, reported_with};
+ghost use Rattle.report_run.specs.kept.Placed.{design_with};
 
 use crate::report::RouteReport;
+use bound_run::find_bound;
+use net_file::Netlist;
 use route_tree::Routing;
-use rr_graph::Mode;
-use run_inputs::{AppFault, Design, InputFile, NetlistText, parse_routing, read_input};
+use rr_graph::{Mode, Problem};
+use run_inputs::{AppFault, InputFile, NetlistText, PlacedNetlist, parse_routing, read_input};
 use std::alloc::Global;
 use text_output::{ByteSink, OutputBuffer};
 use vpr_text::{ByteSource, Lines, TextFault, lines};
+use width_bound::CutFigures;
 
-/// Prints the text of a report of a routing whose file has these lines.
+/// Prints the text of a report of a routing whose file has these lines, with the bound of a cut.
 fn print_report<W: ByteSink>(
     report: &RouteReport,
-    design: &Design<'_>,
+    netlist: &Netlist<'_>,
+    problem: &Problem,
+    bound: CutFigures,
     lines: &Lines<'_>,
     out: &mut W,
     is_map: bool,
 ) -> Result<(), AppFault>
     ensures { PrintsText (writing_to W.taken W.failed out.old out.new)
-        (route_report_text is_map design.now.netlist design.now.problem lines.now report.now)
-        tt result }
+        (route_report_text is_map netlist.now problem.now bound lines.now report.now) tt result }
 {
-    let netlist = design.netlist();
-    let problem = design.problem();
     let mut buffer = OutputBuffer::new();
-    report.put(&mut buffer, out, netlist, problem, lines, is_map);
+    report.put(&mut buffer, out, netlist, problem, bound, lines, is_map);
     match buffer.finish(out) {
         Ok(()) => Ok(()),
         Err(_) => Err(AppFault::Unwritten),
     }
 }
 
-/// Makes the report of a routing of a design, and prints it.
+/// Finds a bound of a placed netlist, and prints a report with it.
+fn report_bounded<W: ByteSink>(
+    alloc: Global,
+    placed: &PlacedNetlist<'_>,
+    problem: &Problem,
+    report: &RouteReport,
+    lines: &Lines<'_>,
+    out: &mut W,
+    is_map: bool,
+) -> Result<(), AppFault>
+    ensures prints { result ≢ Err AppFault.Memory
+        → PrintsBounded is_map (writing_to W.taken W.failed out.old out.new)
+        placed.now problem.now lines.now report.now result }
+    ensures memory { result ≡ Err AppFault.Memory
+        → TakesNothing (writing_to W.taken W.failed out.old out.new) }
+    ensures late { ends_before InputFile.Route result ≡ false }
+{
+    let Ok(found) = find_bound(alloc, placed) else {
+        return Err(AppFault::Memory);
+    };
+    let netlist = placed.netlist();
+    let bound = found.figures;
+    print_report(report, netlist, problem, bound, lines, out, is_map)
+}
+
+/// Makes the report of a routing of a placed netlist, and prints it.
 fn report_lines<W: ByteSink>(
     alloc: Global,
-    design: &Design<'_>,
+    placed: &PlacedNetlist<'_>,
+    problem: &Problem,
     routing: &Routing,
     lines: &Lines<'_>,
     out: &mut W,
     is_map: bool,
 ) -> Result<(), AppFault>
     ensures reports { result ≢ Err AppFault.Memory
-        → PrintsReport is_map (writing_to W.taken W.failed out.old out.new)
-        (record { design = design.now; lines = lines.now; routing = routing.now }) result }
+        → PrintsBounded is_map (writing_to W.taken W.failed out.old out.new)
+        placed.now problem.now lines.now (route_report_on problem.now routing.now) result }
     ensures memory { result ≡ Err AppFault.Memory
         → TakesNothing (writing_to W.taken W.failed out.old out.new) }
     ensures late { ends_before InputFile.Route result ≡ false }
 {
-    let report = match RouteReport::new(alloc, design.problem(), routing) {
+    let report = match RouteReport::new(alloc, problem, routing) {
         Ok(report) => report,
         Err(_) => return Err(AppFault::Memory),
     };
-    print_report(&report, design, lines, out, is_map)
+    report_bounded(alloc, placed, problem, &report, lines, out, is_map)
 }
 
-/// Prints the report of a routing of a design, which was read from these bytes, so that they have
-/// lines.
+/// Prints the report of a routing of a placed netlist, which was read from these bytes, so that
+/// they have lines.
 fn report_routing<W: ByteSink>(
     alloc: Global,
-    design: &Design<'_>,
+    placed: &PlacedNetlist<'_>,
+    problem: &Problem,
     routing: &Routing,
     bytes: &[u8],
     out: &mut W,
@@ -73,8 +104,8 @@ fn report_routing<W: ByteSink>(
 ) -> Result<(), AppFault>
     requires { IsOk (lines_of bytes.now) }
     ensures reports { result ≢ Err AppFault.Memory
-        → PrintsReport is_map (writing_to W.taken W.failed out.old out.new)
-        (reported_with design.now bytes.now routing.now) result }
+        → PrintsReport is_map (writing_to W.taken W.failed out.old out.new) placed.now
+        (reported_with (design_with placed.now problem.now) bytes.now routing.now) result }
     ensures memory { result ≡ Err AppFault.Memory
         → TakesNothing (writing_to W.taken W.failed out.old out.new) }
     ensures late { ends_before InputFile.Route result ≡ false }
@@ -84,53 +115,82 @@ fn report_routing<W: ByteSink>(
         Err(TextFault::Memory) => return Err(AppFault::Memory),
         Err(_) => unreachable!(),
     };
-    report_lines(alloc, design, routing, &lines, out, is_map)
+    report_lines(alloc, placed, problem, routing, &lines, out, is_map)
 }
 
-/// Reads bytes as a routing of a design, and prints the report of it.
+/// Reads bytes as a routing of a placed netlist, and prints the report of it.
 fn report_bytes<W: ByteSink>(
     alloc: Global,
-    design: &Design<'_>,
+    placed: &PlacedNetlist<'_>,
+    problem: &Problem,
     bytes: &[u8],
     out: &mut W,
     is_map: bool,
 ) -> Result<(), AppFault>
+    requires { map (λ n. n.number) problem.now.nets ≡ routed_numbers placed.now.netlist }
     ensures runs { result ≢ Err AppFault.Memory
-        → RunsReport is_map (writing_to W.taken W.failed out.old out.new)
-        (reported_of design.now bytes.now) result }
+        → RunsPlaced is_map (writing_to W.taken W.failed out.old out.new) placed.now
+        (reported_of (design_with placed.now problem.now) bytes.now) result }
     ensures memory { result ≡ Err AppFault.Memory
         → TakesNothing (writing_to W.taken W.failed out.old out.new) }
     ensures late { ends_before InputFile.Route result ≡ false }
 {
-    let netlist = design.netlist();
-    let problem = design.problem();
+    let netlist = placed.netlist();
     let routing = parse_routing(alloc, bytes, netlist, problem)?;
-    report_routing(alloc, design, &routing, bytes, out, is_map)
+    report_routing(alloc, placed, problem, &routing, bytes, out, is_map)
 }
 
-/// Reads a routing of a design from a source, and prints the report of it.
+/// Reads a routing of a placed netlist from a source, and prints the report of it.
 fn report_design<R: ByteSource, W: ByteSink>(
     alloc: Global,
-    design: &Design<'_>,
+    placed: &PlacedNetlist<'_>,
+    problem: &Problem,
     route: &mut R,
     out: &mut W,
     is_map: bool,
 ) -> Result<(), AppFault>
+    requires { map (λ n. n.number) problem.now.nets ≡ routed_numbers placed.now.netlist }
     ensures runs { result ≢ Err AppFault.Memory
         → Meets (reading (R.remaining route.old) (R.failed route.new))
-        (λ r. RunsReport is_map (writing_to W.taken W.failed out.old out.new)
-        (reported_on design.now r) result) }
+        (λ r. RunsPlaced is_map (writing_to W.taken W.failed out.old out.new) placed.now
+        (reported_on (design_with placed.now problem.now) r) result) }
     ensures memory { result ≡ Err AppFault.Memory
         → TakesNothing (writing_to W.taken W.failed out.old out.new) }
     ensures late { ends_before InputFile.Route result ≡ false }
 {
     let bytes = read_input(alloc, route, InputFile::Route)?;
-    report_bytes(alloc, design, &bytes, out, is_map)
+    report_bytes(alloc, placed, problem, &bytes, out, is_map)
+}
+
+/// Reads a routing of a placed netlist on a device, and prints the report of it.
+fn report_placed<R: ByteSource, W: ByteSink>(
+    alloc: Global,
+    placed: &PlacedNetlist<'_>,
+    route: &mut R,
+    out: &mut W,
+    width: u32,
+    mode: Mode,
+    is_map: bool,
+) -> Result<(), AppFault>
+    requires tracks { (1 ≤ width) × (width ≤ most_tracks) }
+    ensures runs { result ≢ Err AppFault.Memory
+        → Meets (reading (R.remaining route.old) (R.failed route.new))
+        (λ r. RunsPlaced is_map (writing_to W.taken W.failed out.old out.new) placed.now
+        (reported_on (design_on width mode placed.now) r) result) }
+    ensures memory { result ≡ Err AppFault.Memory
+        → TakesNothing (writing_to W.taken W.failed out.old out.new) }
+    ensures late { ends_before InputFile.Route result ≡ false }
+{
+    let problem = match placed.problem(alloc, width, mode) {
+        Ok(problem) => problem,
+        Err(_) => return Err(AppFault::Memory),
+    };
+    report_design(alloc, placed, &problem, route, out, is_map)
 }
 
 /// Reads an architecture, a netlist, its placement and its routing, in this order and each only
-/// where those before it are without fault; and prints the figures of the routing, legal or not, on
-/// the device of the placement's size.
+/// where those before it are without fault; finds a bound of the channel width; and prints the
+/// figures of the routing, legal or not, on the device of the placement's size, with the bound.
 ///
 /// # Errors
 /// Memory aside, exactly the first fault of the files by the order of reading, and then nothing was
@@ -147,14 +207,15 @@ pub fn report_run<N: ByteSource, A: ByteSource, P: ByteSource, R: ByteSource, W:
     is_map: bool,
 ) -> Result<(), AppFault>
     requires tracks { (1 ≤ width) × (width ≤ most_tracks) }
-    // What the files say decides, and where they say a routing of a problem, its report is printed.
+    // What the files say decides. Where they say a placed netlist and a routing of it, the report
+    // is printed, with the bound of some cut. There is no routing at a width that this rules out.
     ensures runs { result ≢ Err AppFault.Memory
         → MeetsDesign (reading (A.remaining arch.old) (A.failed arch.new))
         (reading (N.remaining net.old) (N.failed net.new))
         (reading (P.remaining place.old) (P.failed place.new))
         (λ files. Meets (reading (R.remaining route.old) (R.failed route.new))
         (λ r. RunsReport is_map (writing_to W.taken W.failed out.old out.new)
-        (reported_in width mode files r) result)) }
+        width mode r (placed_in files) result)) }
     // Nothing is written where memory runs out.
     ensures memory { result ≡ Err AppFault.Memory
         → TakesNothing (writing_to W.taken W.failed out.old out.new) }
@@ -164,6 +225,6 @@ pub fn report_run<N: ByteSource, A: ByteSource, P: ByteSource, R: ByteSource, W:
     ensures route { ends_before InputFile.Route result ≡ true → route.new ≡ route.old }
 {
     let text = NetlistText::read(alloc, arch, net)?;
-    let design = Design::read(alloc, &text, place, width, mode)?;
-    report_design(alloc, &design, route, out, is_map)
+    let placed = PlacedNetlist::read(alloc, &text, place)?;
+    report_placed(alloc, &placed, route, out, width, mode, is_map)
 }

@@ -7,4 +7,4 @@ unfolding figure_lines
 returns g c =
     let device = rw c.device-device.ensures.device at c.put_device.ensures in
     let uses = rw c.device-device.ensures.device at c.put_uses.ensures in
-    sends_then device (sends_then c.put_nets.ensures (sends_then uses c.put_lengths.ensures))
+    sends_then device (sends_then c.put_bound.ensures (sends_then c.put_nets.ensures (sends_then uses c.put_lengths.ensures)))

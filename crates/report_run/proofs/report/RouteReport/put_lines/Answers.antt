@@ -14,6 +14,6 @@ returns g c =
     let types = rw c.deref.ensures.value at c.put_types.ensures in
     let channels = rw (c.device.ensures.device, c.deref-2.ensures.value) at c.put_channels.ensures in
     let overused = rw c.deref-3.ensures.value at c.put_overused.ensures in
-    let sent : Sends s t (counted_lines c.args.netlist.now c.args.problem.now (report_inside c.self.inside)) =
+    let sent : Sends s t (counted_lines c.args.netlist.now c.args.problem.now c.args.bound (report_inside c.self.inside)) =
     sends_then c.put_figures.ensures (sends_then types (sends_then channels overused)) in
-    subst (λ (r : RouteReport). Sends s t (counted_lines c.args.netlist.now c.args.problem.now r)) c.self.view_is sent
+    subst (λ (r : RouteReport). Sends s t (counted_lines c.args.netlist.now c.args.problem.now c.args.bound r)) c.self.view_is sent
