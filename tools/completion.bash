@@ -8,8 +8,8 @@ _pathfinder() {
       words="$values --global --explain -h --help"
       ;;
     width)
-      values='--start --keep --verify --workers --iterations --first-pres --init-pres --mult --acc --bb --log'
-      words="$values --global --explain -h --help"
+      values='--start --verify --keep --workers --iterations --first-pres --init-pres --mult --acc --bb --log'
+      words="$values --upward --no-bound --global --explain -h --help"
       ;;
     check)
       values='--width'

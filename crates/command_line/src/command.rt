@@ -142,6 +142,16 @@ fn route_command<'a>(alloc: Global) -> Result<Command<'a>, AllocError> {
     with_settings(alloc, command)
 }
 
+/// The option of a search from the bound on, in which there is no lesser width to verify.
+fn upward_flag<'a>(alloc: Global) -> Result<Arg<'a>, AllocError> {
+    Arg::new(alloc, "upward")
+        .long("upward")
+        .action(ArgAction::SetTrue)
+        .help(help::UPWARD)
+        .conflicts_with("verify")?
+        .conflicts_with("no-bound")
+}
+
 fn width_command<'a>(alloc: Global) -> Result<Command<'a>, AllocError> {
     let command = Command::new(alloc, "width")
         .about("Search for the least channel width at which a placed netlist is routed")
@@ -152,18 +162,22 @@ fn width_command<'a>(alloc: Global) -> Result<Command<'a>, AllocError> {
             "ROUTE",
             "The routing file that is written, of the least width; without one it is left alone",
         ))?
-        .arg(setting(
-            alloc,
-            "start",
-            1,
-            MOST_TRACKS,
-            "12",
-            "The width that is tried first, in tracks, 1 to 256",
-        ))?
-        .arg(global_flag(alloc))?
-        .arg(explain_flag(alloc, help::EXPLAIN))?
+        .arg(setting(alloc, "start", 1, MOST_TRACKS, "12", help::START).default_value_if(
+            "upward",
+            "true",
+            Some("1"),
+        )?)?
+        .arg(upward_flag(alloc)?)?
+        .arg(setting(alloc, "verify", 0, MOST_TRACKS, "0", help::VERIFY))?
+        .arg(
+            Arg::new(alloc, "no-bound")
+                .long("no-bound")
+                .action(ArgAction::SetTrue)
+                .help(help::NO_BOUND),
+        )?
         .arg(side_file(alloc, "keep", "PREFIX", help::KEEP))?
-        .arg(setting(alloc, "verify", 0, MOST_TRACKS, "0", help::VERIFY))?;
+        .arg(global_flag(alloc))?
+        .arg(explain_flag(alloc, help::EXPLAIN))?;
     with_settings(alloc, command)
 }
 
@@ -283,6 +297,10 @@ pub struct WidthWords<'a> {
     pub keep: Option<&'a str>,
     /// How many widths below the least are tried too.
     pub verify: u32,
+    /// Whether each width from the bound on is tried, upward.
+    pub upward: bool,
+    /// Whether the bound is left out.
+    pub no_bound: bool,
 }
 
 /// What the `check` command was given.
@@ -393,6 +411,8 @@ pub fn width_words<'a>(matches: &ArgMatches<'a>) -> Option<WidthWords<'a>>
         log: matches.get_str("log"),
         keep: matches.get_str("keep"),
         verify: matches.get_one::<u32>("verify")?,
+        upward: matches.get_flag("upward"),
+        no_bound: matches.get_flag("no-bound"),
     })
 }
 

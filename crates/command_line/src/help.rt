@@ -46,18 +46,27 @@ Exit status:
 
 /// The end of the help of `width`.
 pub const WIDTH: &str = "\
-From the first width on it doubles until one is routed, up to 256, and then halves the gap between
-the greatest that was not and the least that was. It prints a line for each width that it tried,
-and a last one. A lesser width than the one found may be routable all the same: `--verify 2` tries
-two of them, and standard error tells of each what it came to.
+The width is doubled until one is routed, up to 256. Then the gap between the greatest width that
+was not routed and the least that was is halved. It prints a line for each width that it tried, and
+a last one. At the end, standard error has a width below which no routing exists (`bound`).
 
-Example, in examples/uart:
+A width below the least one may be routable all the same. `--verify 2` tries two of them, and
+standard error has the outcome of each; a width that is routed counts. `--upward` tries each width
+from the bound on, so that each width below the answer is impossible or was tried.
+
+Examples, in examples/uart:
   $ pathfinder width uart.net k4n1.arch uart.place new.route
   width 12: routed
   width 6: routed
   width 3: not routed
   width 4: routed
   least routed width: 4
+  no routing below width 3
+  $ pathfinder width uart.net k4n1.arch uart.place new.route --upward --iterations 500
+  no routing below width 3
+  width 3: routed
+  least routed width: 3
+  3 is the least possible width
 
 Exit status:
   0  a width was routed
@@ -95,14 +104,16 @@ Exit status:
 
 /// The end of the help of `report`.
 pub const REPORT: &str = "\
-It prints a figure a line, after its name: nets and trees; wires and places that are used, of all;
-the wirelength, its mean and the greatest of a net; so of each type of wire and of each channel; and
-what too many nets use, with these nets and the lines of ROUTE that name it. docs/FORMATS.md has
-each line.
+It prints a figure a line, after its name: the width below which there is no routing, as `bound`
+prints it; nets and trees; wires and places that are used, of all; the wirelength, its mean and the
+greatest of a net; so of each type of wire and of each channel; and what too many nets use, with
+these nets and the lines of ROUTE that name it. docs/FORMATS.md has each line.
 
 Example, in examples/uart:
   $ pathfinder report uart.net k4n1.arch uart.place uart.route --width 6
   array 11 x 11
+  width 6
+  bound 3
   ..
   wirelength 602
   mean 5.28
@@ -202,10 +213,23 @@ pub const KEEP: &str = "\
 Also the routing of each routed trial, at once, to PREFIX, the width and
 .route";
 
+/// The help of `--start`.
+pub const START: &str = "\
+The width that is tried first, in tracks, 1 to 256; with --upward none
+below it is";
+
+/// The help of `--upward`.
+pub const UPWARD: &str = "\
+Try each width from the bound on, upward, until one is routed";
+
 /// The help of `--verify`.
 pub const VERIFY: &str = "\
-Widths below the least that are tried too; what they come to is told on
-standard error, 0 to 256";
+Also try N narrower widths, and print the outcomes to standard error,
+0 to 256";
+
+/// The help of `--no-bound`.
+pub const NO_BOUND: &str = "\
+Leave out the bound at the end of standard error";
 
 /// The help of `--bb`.
 pub const BB: &str = "\

@@ -3,6 +3,7 @@
 ghost use Rattle.std.specs.Prelude.{◌≤◌};
 ghost use Rattle.rr_graph.specs.Fabric.{longest_side, most_tracks};
 ghost use Rattle.node_cost.specs.Options.{most_workers};
+ghost use Rattle.runs.specs.WidthRun.{start_of};
 
 use crate::files::{BehindProgress, RunFile};
 use crate::identity::{STANDARD_ERROR, STANDARD_OUTPUT, is_name_of, leads_to};
@@ -23,7 +24,7 @@ use route_explain::explain_run;
 use rr_graph::Mode;
 use run_inputs::AppFault;
 use run_log::Progress;
-use runs::{check_run, graph_run, route_run, width_run};
+use runs::{WidthPlan, check_run, graph_run, route_run, width_run};
 use std::fs::{File, Files};
 use std::io;
 use std::io::{Printer, Read, Write};
@@ -175,6 +176,22 @@ pub fn route<'a, R: Runtime + Threads + Wait + Sync + AllocGlobal>(
     )
 }
 
+/// Which widths a search tries.
+fn plan_of(start: u32, upward: bool, below: u32, shows_bound: bool) -> WidthPlan
+    requires { (1 ≤ start) × (start ≤ most_tracks) }
+    ensures { (1 ≤ start_of result) × (start_of result ≤ most_tracks) }
+{
+    if upward {
+        WidthPlan::Upward { start }
+    } else {
+        WidthPlan::Search {
+            start,
+            below,
+            shows_bound,
+        }
+    }
+}
+
 /// The `width` command, whose files were opened as those of `route` are.
 pub fn width<'a, R: Runtime + Threads + Wait + Sync + AllocGlobal>(
     handle: &'a R,
@@ -213,7 +230,8 @@ pub fn width<'a, R: Runtime + Threads + Wait + Sync + AllocGlobal>(
         first: progress,
         second: &log,
     };
-    let (start, mode) = (given.start, mode_of(given.global));
+    let plan = plan_of(given.start, given.upward, given.verify, !given.no_bound);
+    let mode = mode_of(given.global);
     width_run(
         handle,
         &mut design.net,
@@ -221,13 +239,12 @@ pub fn width<'a, R: Runtime + Threads + Wait + Sync + AllocGlobal>(
         &mut design.place,
         &mut route,
         &mut out,
-        start,
+        plan,
         mode,
         &settings,
         workers,
         &gate,
         &kept,
-        given.verify,
     )
 }
 

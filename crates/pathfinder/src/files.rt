@@ -60,7 +60,8 @@ fn open_pipe(rt: &HostRuntime, name: &str) -> Result<File> {
     file
 }
 
-/// Tells that a file is written in place.
+/// Warns that a file is written in place.
+#[inline(never)]
 fn warn_in_place(rt: &HostRuntime, name: &str, why: &str) {
     let name = Plain(name);
     let _ = eprintln!(rt; "warning: {name} is written in place: {why}");
@@ -279,6 +280,7 @@ impl<'a> RunFile<'a> {
     }
 
     /// Warns of a file that is too long to be read.
+    #[inline(never)]
     fn warn_of_length(&self) {
         if self.count <= MOST_BYTES {
             return;

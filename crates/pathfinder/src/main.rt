@@ -1,6 +1,7 @@
 //! `pathfinder`: routes placed designs in the text formats of VPR 4.30.
 #![tactic(auto)]
 
+mod begun;
 mod commands;
 mod files;
 mod identity;
@@ -16,18 +17,17 @@ mod warning;
 ghost use Rattle.std.specs.Prelude.{◌≤◌};
 ghost use Rattle.rr_graph.specs.Fabric.{longest_side, most_tracks};
 
+use begun::{begin, begin_with_route, read_of, refused, refused_with};
 use clap::error::ErrorKind;
 use clap::{ArgMatches, Error as ClapError};
 use command_line::command;
 use command_line::command::GraphWords;
 use commands::{Watched, output};
 use names::ShownNames;
-use opened::{Input, Kept, OpenedDesign, open, open_design};
-use refusals::{FilesRead, tell_refusal};
-use run_inputs::{AppFault, InputFile, print_fault, status};
+use opened::{Input, Kept, open};
+use run_inputs::{AppFault, InputFile, status};
 use run_log::Progress;
 use runs::{outcome_status, report_status, verdict_status};
-use std::fs::File;
 use std::io::{IsTerminal, Read, Write};
 use std::process::ExitCode;
 use std::rt::Runtime;
@@ -98,13 +98,10 @@ fn run_route<R: Runtime + Threads + Wait + Sync + AllocGlobal>(
         return BAD_WORDS;
     };
     let files = [given.net, given.arch, given.place, given.route];
-    let Ok(names) = ShownNames::of(rt.alloc(), files, given.log) else {
-        return refused(rt, AppFault::Memory);
-    };
     let is_explained = given.explain;
-    let mut design = match open_design(rt, given.arch, given.net, given.place, is_explained) {
-        Ok(design) => design,
-        Err(fault) => return refused_with(rt, fault, is_explained, names.without_bytes()),
+    let (names, mut design) = match begin(rt, files, given.log, is_explained) {
+        Ok(begun) => begun,
+        Err(status) => return status,
     };
     let progress = progress_on(rt, watched);
     let answer = commands::route(handle, rt, given, &names, &mut design, &progress, watched);
@@ -127,13 +124,10 @@ fn run_width<R: Runtime + Threads + Wait + Sync + AllocGlobal>(
         return BAD_WORDS;
     };
     let files = [given.net, given.arch, given.place, given.route];
-    let Ok(names) = ShownNames::of(rt.alloc(), files, given.log) else {
-        return refused(rt, AppFault::Memory);
-    };
     let is_explained = given.explain;
-    let mut design = match open_design(rt, given.arch, given.net, given.place, is_explained) {
-        Ok(design) => design,
-        Err(fault) => return refused_with(rt, fault, is_explained, names.without_bytes()),
+    let (names, mut design) = match begin(rt, files, given.log, is_explained) {
+        Ok(begun) => begun,
+        Err(status) => return status,
     };
     let progress = progress_on(rt, watched);
     let answer = commands::width(handle, rt, given, &names, &mut design, &progress, watched);
@@ -157,13 +151,10 @@ fn run_check(
         return BAD_WORDS;
     };
     let files = [given.net, given.arch, given.place, given.route];
-    let Ok(names) = ShownNames::of(rt.alloc(), files, None) else {
-        return refused(rt, AppFault::Memory);
-    };
     let is_explained = given.explain;
-    let (mut design, mut route) = match open_all(rt, files, is_explained) {
-        Ok(opened) => opened,
-        Err(fault) => return refused_with(rt, fault, is_explained, names.without_bytes()),
+    let ((names, mut design), mut route) = match begin_with_route(rt, files, is_explained) {
+        Ok(begun) => begun,
+        Err(status) => return status,
     };
     match commands::check(
         handle,
@@ -189,13 +180,10 @@ fn run_report(rt: &HostRuntime, given: &ArgMatches<'_>, watched: Watched) -> u8 
         return BAD_WORDS;
     };
     let files = [given.net, given.arch, given.place, given.route];
-    let Ok(names) = ShownNames::of(rt.alloc(), files, None) else {
-        return refused(rt, AppFault::Memory);
-    };
     let is_explained = given.explain;
-    let (mut design, mut route) = match open_all(rt, files, is_explained) {
-        Ok(opened) => opened,
-        Err(fault) => return refused_with(rt, fault, is_explained, names.without_bytes()),
+    let ((names, mut design), mut route) = match begin_with_route(rt, files, is_explained) {
+        Ok(begun) => begun,
+        Err(status) => return status,
     };
     match commands::report(rt, given, &mut design, &mut route, watched) {
         Ok(()) => 0,
@@ -212,13 +200,10 @@ fn run_bound(rt: &HostRuntime, given: &ArgMatches<'_>, watched: Watched) -> u8 {
         return BAD_WORDS;
     };
     let files = [given.net, given.arch, given.place, ""];
-    let Ok(names) = ShownNames::of(rt.alloc(), files, None) else {
-        return refused(rt, AppFault::Memory);
-    };
     let is_explained = given.explain;
-    let mut design = match open_design(rt, given.arch, given.net, given.place, is_explained) {
-        Ok(design) => design,
-        Err(fault) => return refused_with(rt, fault, is_explained, names.without_bytes()),
+    let (names, mut design) = match begin(rt, files, None, is_explained) {
+        Ok(begun) => begun,
+        Err(status) => return status,
     };
     let progress = progress_on(rt, watched);
     match commands::bound(rt, given, &mut design, &progress, watched) {
@@ -273,31 +258,6 @@ fn list_graph<F: Read + Drop>(
     }
 }
 
-/// The opened files of a design, and the opened routing file.
-type Opened = (OpenedDesign<File>, Input<File>);
-
-/// Opens the files of a design and then ROUTE.
-fn open_all(rt: &HostRuntime, files: [&str; 4], is_kept: bool) -> Result<Opened, AppFault> {
-    let [net, arch, place, route] = files;
-    let design = open_design(rt, arch, net, place, is_kept)?;
-    let route = open(rt, route, InputFile::Route, is_kept)?;
-    Ok((design, route))
-}
-
-/// The files of a run with what was read of them.
-fn read_of<'a>(
-    names: &'a ShownNames,
-    design: &'a OpenedDesign<File>,
-    route: &'a [u8],
-) -> FilesRead<'a> {
-    names.with_bytes(
-        design.net.get_ref().bytes(),
-        design.arch.get_ref().bytes(),
-        design.place.get_ref().bytes(),
-        route,
-    )
-}
-
 /// The words of the command line. `help --help` asks for what `help` alone does.
 #[inline(never)]
 fn words(rt: &HostRuntime) -> io::Result<Vec<String>> {
@@ -307,22 +267,6 @@ fn words(rt: &HostRuntime) -> io::Result<Vec<String>> {
         words.retain(|word| word.as_str() != "--help" && word.as_str() != "-h");
     }
     Ok(words)
-}
-
-/// Prints a fault's line, and answers its status, also where the line can't be printed.
-fn refused(rt: &HostRuntime, fault: AppFault) -> u8 {
-    let _ = print_fault(&fault, &mut Adapted::new(io::writer(rt)));
-    status(&fault)
-}
-
-/// Prints a fault's line, and explains it on standard error where that is wanted; answers its
-/// status.
-fn refused_with(rt: &HostRuntime, fault: AppFault, explain: bool, files: FilesRead<'_>) -> u8 {
-    let status = refused(rt, fault);
-    if explain {
-        tell_refusal(rt, &fault, files);
-    }
-    status
 }
 
 /// Prints what clap says of the words, and answers the status: 0 for help and for the version where

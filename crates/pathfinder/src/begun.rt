@@ -1,0 +1,82 @@
+//! How the runs with a design begin, and how a fault ends any run.
+
+use crate::names::ShownNames;
+use crate::opened::{Input, OpenedDesign, open, open_design};
+use refusals::{FilesRead, tell_refusal};
+use run_inputs::{AppFault, InputFile, print_fault, status};
+use std::fs::File;
+use std::io;
+use vpr_text::Adapted;
+
+/// The names of a run's files, and the opened files of its design.
+pub type Begun = (ShownNames, OpenedDesign<File>);
+
+/// Opens the files of a design: NET, ARCH and PLACE, before ROUTE.
+///
+/// # Errors
+/// The status of the fault, which is printed.
+#[inline(never)]
+pub fn begin(
+    rt: &HostRuntime,
+    files: [&str; 4],
+    log: Option<&str>,
+    is_explained: bool,
+) -> Result<Begun, u8> {
+    let [net, arch, place, _] = files;
+    let Ok(names) = ShownNames::of(rt.alloc(), files, log) else {
+        return Err(refused(rt, AppFault::Memory));
+    };
+    match open_design(rt, arch, net, place, is_explained) {
+        Ok(design) => Ok((names, design)),
+        Err(fault) => Err(refused_with(rt, fault, is_explained, names.without_bytes())),
+    }
+}
+
+/// Opens the files of a design and then ROUTE, all before one is read.
+///
+/// # Errors
+/// As of `begin`.
+#[inline(never)]
+pub fn begin_with_route(
+    rt: &HostRuntime,
+    files: [&str; 4],
+    is_explained: bool,
+) -> Result<(Begun, Input<File>), u8> {
+    let [_, _, _, route] = files;
+    let (names, design) = begin(rt, files, None, is_explained)?;
+    match open(rt, route, InputFile::Route, is_explained) {
+        Ok(route) => Ok(((names, design), route)),
+        Err(fault) => Err(refused_with(rt, fault, is_explained, names.without_bytes())),
+    }
+}
+
+/// The files of a run with what was read of them.
+pub fn read_of<'a>(
+    names: &'a ShownNames,
+    design: &'a OpenedDesign<File>,
+    route: &'a [u8],
+) -> FilesRead<'a> {
+    names.with_bytes(
+        design.net.get_ref().bytes(),
+        design.arch.get_ref().bytes(),
+        design.place.get_ref().bytes(),
+        route,
+    )
+}
+
+/// Prints a fault's line, and answers its status, also where the line can't be printed.
+#[inline(never)]
+pub fn refused(rt: &HostRuntime, fault: AppFault) -> u8 {
+    let _ = print_fault(&fault, &mut Adapted::new(io::writer(rt)));
+    status(&fault)
+}
+
+/// Prints a fault's line, and explains it on standard error where that is wanted; answers its
+/// status.
+pub fn refused_with(rt: &HostRuntime, fault: AppFault, explain: bool, files: FilesRead<'_>) -> u8 {
+    let status = refused(rt, fault);
+    if explain {
+        tell_refusal(rt, &fault, files);
+    }
+    status
+}
