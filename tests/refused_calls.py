@@ -7,7 +7,7 @@ import pathlib
 import re
 import subprocess
 import tempfile
-from dataclasses import dataclass
+from dataclasses import dataclass, replace
 from typing import Callable, Optional
 
 from bundled import TOP
@@ -164,6 +164,19 @@ def run_of(name, words, before=None, refusals=(b"error: memory\n",)):
     return Run(name, words, before, lambda given: given == usual or given.is_refusal(refusals, before))
 
 
+def run_that_complains(name, words, refusals):
+    """A run whose answer is always the same, or that of a refusal, but that standard error may have a front of its lines."""
+    usual = usual_of(words)
+    lines = usual.complained.splitlines(keepends=True)
+    fronts = [b"".join(lines[:count]) for count in range(len(lines) + 1)]
+
+    def is_right(given):
+        plain = replace(given, complained=b"")
+        return given.complained in fronts and (plain == replace(usual, complained=b"") or plain.is_refusal(refusals, None))
+
+    return Run(name, words, None, is_right)
+
+
 def is_legal(program, design, width, routing):
     """Whether a program finds a routing of a design legal at a width."""
     judged = Run("", (program, "check", *design, ROUTE, "--width", width), routing, None).answer({})
@@ -190,7 +203,7 @@ def route_by_workers(name, program, design, width, workers, before=None):
 
 def search_by_workers(name, program, design, start, workers, before=None):
     """A run that searches for the least width of a design by several workers."""
-    words = (program, "width", *design, ROUTE, "--start", start, "--workers", workers)
+    words = (program, "width", *design, ROUTE, "--start", start, "--workers", workers, "--no-bound")
 
     def width_of(printed):
         told = re.fullmatch(rb"(?:width \d+: (?:not )?routed\n)+least routed width: (\d+)\n", printed)
