@@ -1,0 +1,499 @@
+"""Reads and writes the text files of VPR 4.30: architectures, netlists and placements.
+
+    import vpr430
+
+    architecture = vpr430.read_architecture("k4n1.arch")
+    netlist = vpr430.read_netlist("uart.net", architecture)
+    placement = vpr430.read_placement("uart.place", architecture, netlist)
+
+docs/FORMATS.md describes the files and their limits. A file that is refused raises `Fault`, whose
+text is `FILE:LINE: what is wrong`, and one that can't be read raises `Unread`. Of an architecture
+only what packing, placing and drawing need is kept; the other lines are passed over. What
+`netlist_text` and `placement_text` answer is read again to the same blocks, nets and sites.
+
+Names are texts in which bytes that are no UTF-8 are kept (`surrogateescape`). This module needs
+Python 3.8 or later, and its standard library alone.
+"""
+from __future__ import annotations
+
+import dataclasses
+import enum
+import re
+
+MOST_BYTES = 2**24
+MOST_NUMBER = 2**32 - 1
+# Pads at a place, pins of a block, classes, blocks, nets, logic blocks in a row or a column.
+MOST_PADS, MOST_PINS, MOST_CLASSES = 16, 64, 64
+MOST_BLOCKS, MOST_NETS, MOST_SIDE = 20_000, 65_535, 100
+# No net: what stands in a pinlist or a subblock where a pin is not used.
+OPEN = "open"
+TEXT = {"encoding": "utf-8", "errors": "surrogateescape"}
+BAD_BYTE = re.compile(rb"[\x00-\x08\x0e-\x1f\x7f]")
+# How wide the lines are that are written here.
+WIDEST = 79
+
+
+# ---- Texts ---------------------------------------------------------------------------------------
+
+
+class Fault(Exception):
+    """A file says what it may not."""
+
+
+class Unread(Exception):
+    """A file can't be read, or can't be written."""
+
+
+@dataclasses.dataclass(frozen=True)
+class Line:
+    """A line of a file by its words. One that is continued has the number of its first line."""
+
+    path: str
+    number: int
+    words: tuple
+
+    def fault(self, what):
+        """The fault that this line has."""
+        return Fault(f"{self.path}:{self.number}: {what}")
+
+    def number_of(self, word, least=0, most=MOST_NUMBER):
+        """The number that a word of this line is."""
+        digits = word.lstrip("0") or word[-1:]
+        is_number = re.fullmatch("[0-9]+", word) and len(digits) <= len(str(most))
+        if not is_number or not least <= int(digits) <= most:
+            raise self.fault(f"`{word}` is no number from {least} to {most}")
+        return int(digits)
+
+    def expect(self, form):
+        """Refuses a line of other words than its form, but where that has capitals."""
+        wanted = form.split()
+        fits = len(self.words) == len(wanted) and all(
+            want.isupper() or word == want for word, want in zip(self.words, wanted)
+        )
+        if not fits:
+            raise self.fault(f"it has not the form `{form}`")
+
+
+def read_lines(path):
+    """The lines of a file that have words, and one without words where the file ends.
+
+    A comment is cut first; a line whose last word then ends in a backslash goes on in the next one.
+    """
+    try:
+        with open(path, "rb") as file:
+            source = file.read(MOST_BYTES + 1)
+    except (OSError, ValueError) as fault:  # a name with a zero byte is no OSError
+        raise Unread(f"{path}: {getattr(fault, 'strerror', fault)}") from fault
+    if len(source) > MOST_BYTES:
+        raise Fault(f"{path}: it has more than {MOST_BYTES} bytes")
+    lines, held, first = [], [], None
+    rows = source.split(b"\n")
+    for number, row in enumerate(rows, 1):
+        if BAD_BYTE.search(row):
+            raise Line(path, number, ()).fault("a control character stands here")
+        words = row.split(b"#", 1)[0].split()
+        first = first or number
+        goes_on = bool(words) and words[-1].endswith(b"\\")
+        if goes_on:
+            words[-1] = words[-1][:-1]
+        held += [word.decode(**TEXT) for word in words if word]
+        if not goes_on or number == len(rows):
+            if held:
+                lines.append(Line(path, first, tuple(held)))
+            held, first = [], None
+    return lines, Line(path, len(rows), ())
+
+
+def folded(words, indent="   "):
+    """Words as a line, which is continued by backslashes where it would be too wide."""
+    rows, row = [], ""
+    for word in words:
+        if row.strip() and len(row) + 1 + len(word) > WIDEST - 2:
+            rows.append(row)
+            row = indent + word
+        else:
+            row = f"{row} {word}" if row else word
+    return " \\\n".join([*rows, row]) + "\n"
+
+
+# ---- Architectures -------------------------------------------------------------------------------
+
+
+class Side(enum.Enum):
+    """A side of a logic block."""
+
+    TOP = "top"
+    BOTTOM = "bottom"
+    LEFT = "left"
+    RIGHT = "right"
+
+
+@dataclasses.dataclass(frozen=True)
+class Pin:
+    """A pin of a logic block. Pins of one class are equivalent."""
+
+    number: int
+    pin_class: int
+    is_input: bool
+    is_global: bool
+    sides: frozenset
+
+
+@dataclasses.dataclass(frozen=True)
+class Architecture:
+    """A device: how many pads fit beside a row or column, and what a logic block is like."""
+
+    pads: int
+    pins: tuple
+    # How many subblocks a logic block has and how many inputs their look-up tables; None where the
+    # file doesn't say.
+    subblocks: int | None
+    lut_size: int | None
+
+    def input_pins(self):
+        """The pins that take the signals of ordinary nets."""
+        return [pin for pin in self.pins if pin.is_input and not pin.is_global]
+
+    def output_pins(self):
+        return [pin for pin in self.pins if not pin.is_input]
+
+    def clock_pins(self):
+        """The pins that take global nets."""
+        return [pin for pin in self.pins if pin.is_global]
+
+
+# The keywords of an architecture that have no part here.
+PASSED_OVER = (
+    "chan_width_io chan_width_x chan_width_y switch_block_type Fc_type Fc_output Fc_input Fc_pad"
+    " segment switch"
+).split()
+# The keywords that have one number, with the least and the most that it may be.
+COUNTS = {
+    "io_rat": (1, MOST_PADS),
+    "subblocks_per_clb": (0, MOST_NUMBER),
+    "subblock_lut_size": (0, MOST_NUMBER),
+}
+
+
+def _pin_of(line, number):
+    """The pin of a line as `inpin class: 0 top left`."""
+    key, *words = line.words
+    if len(words) < 2 or words[0] != "class:":
+        raise line.fault(f"it has not the form `{key} class: N SIDES`")
+    pin_class = line.number_of(words[1], most=MOST_CLASSES - 1)
+    is_global = key == "inpin" and words[2:3] == ["global"]
+    names = words[3:] if is_global else words[2:]
+    for name in names:
+        if name not in [side.value for side in Side]:
+            raise line.fault(f"`{name}` is no side of a block")
+    if not names and not is_global:
+        raise line.fault("the pin has no side")
+    return Pin(number, pin_class, key == "inpin", is_global, frozenset(map(Side, names)))
+
+
+def read_architecture(path):
+    """The architecture of a file."""
+    lines, end = read_lines(path)
+    counts, pins, directions = {}, [], {}
+    for line in lines:
+        key = line.words[0]
+        if key in COUNTS:
+            if key in counts:
+                raise line.fault(f"`{key}` stands twice")
+            line.expect(f"{key} N")
+            counts[key] = line.number_of(line.words[1], *COUNTS[key])
+        elif key in ("inpin", "outpin"):
+            pin = _pin_of(line, len(pins))
+            if directions.setdefault(pin.pin_class, pin.is_input) != pin.is_input:
+                raise line.fault(f"class {pin.pin_class} has inputs and outputs")
+            pins.append(pin)
+            if len(pins) > MOST_PINS:
+                raise line.fault(f"there are more than {MOST_PINS} pins")
+        elif key not in PASSED_OVER and not key.startswith(("T_", "C_", "R_")):
+            raise line.fault(f"`{key}` is no keyword of an architecture")
+    if "io_rat" not in counts or not pins:
+        lacking = "a pin" if pins == [] and "io_rat" in counts else "`io_rat`"
+        raise end.fault(f"the file ends without {lacking}")
+    if sorted(directions) != list(range(len(directions))):
+        raise end.fault("the file ends with a class left out below another one")
+    return Architecture(
+        counts["io_rat"], tuple(pins), counts.get("subblocks_per_clb"), counts.get("subblock_lut_size")
+    )
+
+
+# ---- Netlists ------------------------------------------------------------------------------------
+
+
+class Kind(enum.Enum):
+    """What a block is: a pad that drives a net, a pad that takes one, or a logic block."""
+
+    INPUT = "input"
+    OUTPUT = "output"
+    CLB = "clb"
+
+
+@dataclasses.dataclass(frozen=True)
+class Subblock:
+    """A look-up table and a flip-flop of a logic block, by what its inputs, output and clock are
+    joined to.
+
+    Each is a pin of the block by its number, `open`, or at an input `ble_N`, the output of the
+    block's subblock N.
+    """
+
+    name: str
+    inputs: tuple
+    output: str
+    clock: str
+
+
+@dataclasses.dataclass
+class Block:
+    """A block with the net of each of its pins, or None where a pin is open."""
+
+    name: str
+    kind: Kind
+    nets: list
+    subblocks: list = dataclasses.field(default_factory=list)
+    # What is said of the block in a comment, where it is written.
+    note: str = ""
+
+    @property
+    def is_pad(self):
+        return self.kind is not Kind.CLB
+
+
+@dataclasses.dataclass(frozen=True)
+class Terminal:
+    """A pin of a block, by the block's number and the pin's place in its pinlist."""
+
+    block: int
+    pin: int
+
+
+@dataclasses.dataclass
+class Net:
+    """A net with the pin that drives it and those that take its signal."""
+
+    name: str
+    driver: Terminal | None
+    sinks: list
+    is_global: bool
+
+    @property
+    def is_routed(self):
+        """Whether wires are wanted for it."""
+        return bool(self.sinks) and not self.is_global
+
+    def terminals(self):
+        return [self.driver, *self.sinks]
+
+
+@dataclasses.dataclass
+class Netlist:
+    """Blocks and nets, numbered from 0 as FORMATS.md tells."""
+
+    blocks: list
+    nets: list
+    global_names: list
+
+
+def drives(architecture, block, pin):
+    """Whether this pin of the block drives its net."""
+    if block.is_pad:
+        return block.kind is Kind.INPUT
+    return not architecture.pins[pin].is_input
+
+
+def join_nets(architecture, blocks, global_names):
+    """The nets at the pins of blocks, and of each the blocks that drive it too many."""
+    nets, too_many = {}, {}
+    for number, block in enumerate(blocks):
+        for pin, name in enumerate(block.nets):
+            if name is None:
+                continue
+            net = nets.setdefault(name, Net(name, None, [], name in global_names))
+            if not drives(architecture, block, pin):
+                net.sinks.append(Terminal(number, pin))
+            elif net.driver is None:
+                net.driver = Terminal(number, pin)
+            else:
+                too_many.setdefault(name, Terminal(number, pin))
+    return list(nets.values()), too_many
+
+
+def _block_of(architecture, element, line):
+    """The block of an element's line and of its pinlist's."""
+    if line.words[0] != "pinlist:":
+        raise line.fault("a pinlist must stand here")
+    kind = Kind(element.words[0][1:])
+    nets = [None if word == OPEN else word for word in line.words[1:]]
+    many = len(architecture.pins) if kind is Kind.CLB else 1
+    if len(nets) != many:
+        raise line.fault(f"the pinlist has not {many} names but {len(nets)}")
+    return Block(element.words[1], kind, nets)
+
+
+def _subblock_of(architecture, line):
+    """The subblock of a line, or None where it has another form: `pathfinder` reads none of it."""
+    many = architecture.lut_size
+    if many is None or len(line.words) != many + 4:
+        return None
+    return Subblock(line.words[1], line.words[2 : 2 + many], *line.words[-2:])
+
+
+def read_netlist(path, architecture):
+    """The netlist of a file, for an architecture."""
+    lines, end = read_lines(path)
+    blocks, pinlists, names, global_names, element = [], [], set(), [], None
+    for line in lines:
+        key = line.words[0]
+        if element:
+            blocks.append(_block_of(architecture, element, line))
+            pinlists.append(line)
+            if blocks[-1].name in names:
+                raise element.fault(f"two blocks have the name `{blocks[-1].name}`")
+            names.add(blocks[-1].name)
+            element = None
+        elif key in (".input", ".output", ".clb"):
+            line.expect(f"{key} NAME")
+            element = line
+            if len(blocks) == MOST_BLOCKS:
+                raise line.fault(f"there are more than {MOST_BLOCKS} blocks")
+        elif key == ".global" and len(line.words) > 1:
+            global_names += line.words[1:]
+        elif key == "subblock:" and blocks and not blocks[-1].is_pad:
+            subblock = _subblock_of(architecture, line)
+            blocks[-1].subblocks += [subblock] if subblock else []
+        else:
+            raise line.fault(f"`{key}` can't stand here")
+    if element:
+        raise end.fault("the file ends behind an element without its pinlist")
+    nets, too_many = join_nets(architecture, blocks, set(global_names))
+    if len(nets) > MOST_NETS:
+        raise end.fault(f"there are more than {MOST_NETS} nets")
+    netlist = Netlist(blocks, nets, global_names)
+    for net in nets:
+        _check_net(architecture, netlist, net, too_many, pinlists)
+    return netlist
+
+
+def _check_net(architecture, netlist, net, too_many, pinlists):
+    """Refuses a net that isn't driven just once, or has to be routed to pins that can't be."""
+    ends = [end.block for end in (net.driver, *net.sinks) if end]
+    line = pinlists[min(ends)]
+    if net.driver is None:
+        raise line.fault(f"nothing drives the net `{net.name}`")
+    if net.name in too_many:
+        raise line.fault(f"more than one pin drives the net `{net.name}`")
+    met = set()
+    for end in net.sinks:
+        if net.is_global or netlist.blocks[end.block].is_pad:
+            continue
+        pin = architecture.pins[end.pin]
+        if pin.is_global:
+            raise line.fault(f"the net `{net.name}` isn't global, and takes a pin that is")
+        if (end.block, pin.pin_class) in met:
+            name = netlist.blocks[end.block].name
+            raise line.fault(f"the net `{net.name}` takes two pins of a class of `{name}`")
+        met.add((end.block, pin.pin_class))
+
+
+def netlist_text(blocks, global_names, heads=()):
+    """The text of a netlist, with lines of comment at its head."""
+    parts = ["".join(f"# {head}\n" for head in heads)]
+    if global_names:
+        parts.append(folded([".global", *global_names]))
+    for block in blocks:
+        note = f" # {block.note}" if block.note else ""
+        nets = [OPEN if name is None else name for name in block.nets]
+        text = f".{block.kind.value} {block.name}{note}\n" + folded(["pinlist:", *nets])
+        for subblock in block.subblocks:
+            words = [subblock.name, *subblock.inputs, subblock.output, subblock.clock]
+            text += folded(["subblock:", *words])
+        parts.append(text)
+    return "\n".join(part for part in parts if part)
+
+
+# ---- Placements ----------------------------------------------------------------------------------
+
+
+@dataclasses.dataclass(frozen=True)
+class Site:
+    """A place of the array and, at its border, which pad of the place."""
+
+    x: int
+    y: int
+    position: int = 0
+
+
+@dataclasses.dataclass
+class Placement:
+    """The size of an array, and the site of each block by its number."""
+
+    nx: int
+    ny: int
+    sites: list
+
+
+def pad_places(nx, ny):
+    """The places of pads, once round the array from the lower left corner upward."""
+    left = [(0, y) for y in range(1, ny + 1)]
+    top = [(x, ny + 1) for x in range(1, nx + 1)]
+    right = [(nx + 1, y) for y in range(ny, 0, -1)]
+    bottom = [(x, 0) for x in range(nx, 0, -1)]
+    return left + top + right + bottom
+
+
+def is_site(architecture, nx, ny, block, site):
+    """Whether a block may stand there."""
+    is_column, is_row = 1 <= site.x <= nx, 1 <= site.y <= ny
+    if not block.is_pad:
+        return is_column and is_row and site.position == 0
+    is_beside = (site.x in (0, nx + 1) and is_row) or (site.y in (0, ny + 1) and is_column)
+    return is_beside and site.position < architecture.pads
+
+
+def read_placement(path, architecture, netlist):
+    """The placement of a file, for a netlist."""
+    lines, end = read_lines(path)
+    heads = ("Netlist file: NET Architecture file: ARCH", "Array size: NX x NY logic blocks")
+    for at, form in enumerate(heads):
+        if at == len(lines):
+            raise end.fault(f"the file ends without its line `{form}`")
+        lines[at].expect(form)
+    nx, ny = (lines[1].number_of(lines[1].words[at], 1, MOST_SIDE) for at in (2, 4))
+    numbers = {block.name: number for number, block in enumerate(netlist.blocks)}
+    sites, taken = {}, set()
+    for line in lines[2:]:
+        line.expect("BLOCK X Y SUBBLK")
+        name = line.words[0]
+        site = Site(*(line.number_of(word) for word in line.words[1:]))
+        if name not in numbers:
+            raise line.fault(f"the netlist has no block `{name}`")
+        if numbers[name] in sites:
+            raise line.fault(f"the block `{name}` stands in a row before")
+        if not is_site(architecture, nx, ny, netlist.blocks[numbers[name]], site):
+            raise line.fault(f"the block `{name}` can't stand there")
+        if site in taken:
+            raise line.fault("a block of a row before stands there")
+        sites[numbers[name]] = site
+        taken.add(site)
+    for name, number in numbers.items():
+        if number not in sites:
+            raise end.fault(f"the file ends without a row of the block `{name}`")
+    return Placement(nx, ny, [sites[number] for number in range(len(netlist.blocks))])
+
+
+def placement_text(placement, netlist, net_name, arch_name):
+    """The text of a placement. The names are those of its files, for the head."""
+    rows = [
+        f"Netlist file: {net_name}   Architecture file: {arch_name}",
+        f"Array size: {placement.nx} x {placement.ny} logic blocks",
+        "",
+        "#block name\tx\ty\tsubblk\tblock number",
+        "#----------\t--\t--\t------\t------------",
+    ]
+    for number, (block, site) in enumerate(zip(netlist.blocks, placement.sites)):
+        rows.append(f"{block.name}\t{site.x}\t{site.y}\t{site.position}\t#{number}")
+    return "\n".join(rows) + "\n"
