@@ -34,14 +34,17 @@ def script(path):
 def told(tool, folder, *words):
     """The status of a tool, and what it prints on both outputs. It runs in this process.
 
-    Words that have a dot name files of the folder.
+    Words that end as names of files do name files of the folder.
     """
     out, complaints = (io.TextIOWrapper(io.BytesIO()) for _ in range(2))
     with contextlib.redirect_stdout(out), contextlib.redirect_stderr(complaints):
         try:
-            status = command.main(tool.run, [f"{folder}/{word}" if "." in word else word for word in words])
+            named = [f"{folder}/{word}" if re.search(r"\.[a-z]+$", word) else word for word in words]
+            status = command.main(tool.run, named)
         except SystemExit as end:
             status = end.code
+    for text in (out, complaints):
+        text.flush()
     texts = (text.buffer.getvalue().decode(errors="surrogateescape") for text in (out, complaints))
     return (status, *(text.replace(f"{folder}/", "") for text in texts))
 
@@ -75,7 +78,7 @@ class Gates:
     """A BLIF: inputs, outputs, look-up tables by their outputs, and flip-flops by theirs."""
 
     def __init__(self, text):
-        self.inputs, self.outputs, self.tables, self.flip_flops, self.starts = [], [], {}, {}, {}
+        self.inputs, self.outputs, self.tables, self.flip_flops = [], [], {}, {}
         table = None
         for key, *words in lines_of(text):
             if key == ".inputs":
@@ -86,13 +89,12 @@ class Gates:
                 table = self.tables[words[-1]] = Table(words[:-1])
             elif key == ".latch":
                 self.flip_flops[words[1]] = words[0]
-                self.starts[words[1]] = ALL if words[-1] == "1" and len(words) in (3, 5) else 0
             elif not key.startswith("."):
                 table.rows.append((key, words[0]) if words else ("", key))
 
-    def run(self, stimuli):
-        """What each output has in each cycle."""
-        state, answers = dict(self.starts), []
+    def run(self, stimuli, names):
+        """What each of these names has in each cycle."""
+        state, answers = {}, []
         for stimulus in stimuli:
             values = {**stimulus, **state}
 
@@ -102,14 +104,16 @@ class Gates:
                     values[name] = table.value([value_of(other) for other in table.inputs])
                 return values[name]
 
-            answers.append({name: value_of(name) for name in self.outputs})
+            answers.append({name: value_of(name) for name in names})
             state = {name: value_of(taken) for name, taken in self.flip_flops.items()}
         return answers
 
     def stimuli(self, cycles, seed):
-        """Random values of the inputs for these cycles."""
+        """Random values of the inputs for these cycles; in the first, of the flip-flops too."""
         chance = random.Random(seed)
-        return [{name: chance.getrandbits(LANES) for name in self.inputs} for _ in range(cycles)]
+        first = {name: chance.getrandbits(LANES) for name in self.flip_flops}
+        drawn = [{name: chance.getrandbits(LANES) for name in self.inputs} for _ in range(cycles)]
+        return [{**first, **drawn[0]}, *drawn[1:]]
 
 
 class Subblock:
@@ -155,11 +159,10 @@ class Packed:
         return None if taken in self.subblocks else self.gates.tables.get(taken)
 
     def run(self, stimuli):
-        """What each output has in each cycle, by the pins that nets are at."""
-        gates, answers = self.gates, []
-        state = {name: gates.starts[name] for name in self.subblocks if name in gates.starts}
+        """What each output and each subblock has in each cycle, by the pins that nets are at."""
+        answers, state = [], {}
         for stimulus in stimuli:
-            known = dict(state)
+            known = {**stimulus, **state}
 
             def output_of(subblock):
                 if subblock.name not in known:
@@ -185,10 +188,12 @@ class Packed:
                 assert len(values) == len(table.inputs), subblock.name
                 return table.value(values)
 
-            answers.append({
+            outputs = {
                 name[len("out:") :]: net(nets[0])
                 for name, (kind, nets, _) in self.blocks.items()
                 if kind == ".output"
-            })
-            state = {name: logic_of(self.subblocks[name]) for name in state}
+            }
+            answers.append({**{name: output_of(one) for name, one in self.subblocks.items()}, **outputs})
+            flip_flops = [name for name in self.subblocks if name in self.gates.flip_flops]
+            state = {name: logic_of(self.subblocks[name]) for name in flip_flops}
         return answers
