@@ -216,9 +216,8 @@ def read_architecture(path):
         raise end.fault(f"the file ends without {lacking}")
     if sorted(directions) != list(range(len(directions))):
         raise end.fault("the file ends with a class left out below another one")
-    return Architecture(
-        counts["io_rat"], tuple(pins), counts.get("subblocks_per_clb"), counts.get("subblock_lut_size")
-    )
+    sizes = (counts.get(key) for key in ("subblocks_per_clb", "subblock_lut_size"))
+    return Architecture(counts["io_rat"], tuple(pins), *sizes)
 
 
 # ---- Netlists ------------------------------------------------------------------------------------
@@ -486,9 +485,13 @@ def read_placement(path, architecture, netlist):
 
 
 def placement_text(placement, netlist, net_name, arch_name):
-    """The text of a placement. The names are those of its files, for the head."""
+    """The text of a placement. The names are those of its files, for the head.
+
+    There each is one word: what would end it or begin a comment is `_`.
+    """
+    names = [re.sub(r"[\s#\\\x00-\x1f\x7f]", "_", name) for name in (net_name, arch_name)]
     rows = [
-        f"Netlist file: {net_name}   Architecture file: {arch_name}",
+        f"Netlist file: {names[0]}   Architecture file: {names[1]}",
         f"Array size: {placement.nx} x {placement.ny} logic blocks",
         "",
         "#block name\tx\ty\tsubblk\tblock number",
