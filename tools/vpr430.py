@@ -1,12 +1,14 @@
-"""Reads and writes the text files of VPR 4.30: architectures, netlists and placements.
+"""Reads the text files of VPR 4.30: architectures, netlists, placements and routings.
 
     import vpr430
 
     architecture = vpr430.read_architecture("k4n1.arch")
     netlist = vpr430.read_netlist("uart.net", architecture)
     placement = vpr430.read_placement("uart.place", architecture, netlist)
+    graph = vpr430.graph_of(listing)  # what `pathfinder graph k4n1.arch 11 11 6` prints
+    sections = vpr430.read_routing("uart.route", netlist, placement, graph)
 
-docs/FORMATS.md describes the files and their limits. A file that is refused raises `Fault`, whose
+Netlists and placements are written too. docs/FORMATS.md describes the files and their limits. A file that is refused raises `Fault`, whose
 text is `FILE:LINE: what is wrong`, and one that can't be read raises `Unread`. Of an architecture
 only what packing, placing and drawing need is kept; the other lines are passed over. What
 `netlist_text` and `placement_text` answer is read again to the same blocks, nets and sites.
@@ -18,7 +20,9 @@ from __future__ import annotations
 
 import dataclasses
 import enum
+import functools
 import re
+import typing
 
 MOST_BYTES = 2**24
 MOST_NUMBER = 2**32 - 1
@@ -500,3 +504,185 @@ def placement_text(placement, netlist, net_name, arch_name):
     for number, (block, site) in enumerate(zip(netlist.blocks, placement.sites)):
         rows.append(f"{block.name}\t{site.x}\t{site.y}\t{site.position}\t#{number}")
     return "\n".join(rows) + "\n"
+
+
+# ---- Devices -------------------------------------------------------------------------------------
+
+
+class Node(typing.NamedTuple):
+    """A node of a device: its kind, its first and its last place, and which one of there it is."""
+
+    kind: str
+    x: int
+    y: int
+    end_x: int
+    end_y: int
+    label: str
+    number: int
+
+    def __str__(self):
+        end = "" if self[1:3] == self[3:5] else f" to ({self.end_x},{self.end_y})"
+        return f"{self.kind} ({self.x},{self.y}){end} {self.label}: {self.number}"
+
+    @property
+    def is_wire(self):
+        return self.kind in WIRES
+
+
+WIRES = ("CHANX", "CHANY")
+LISTED_NODE = re.compile(
+    r"(\d+) (\w+) \((\d+),(\d+)\)(?: to \((\d+),(\d+)\))? (\w+): (\d+) cap (\d+)"
+)
+
+
+@dataclasses.dataclass
+class Graph:
+    """The nodes of a device by their numbers, for how many nets each has room, and the edges.
+
+    An edge is a line of the listing, as `84 -> 64`.
+    """
+
+    nodes: list
+    capacities: list
+    edges: list
+
+    @functools.cached_property
+    def numbers(self):
+        """The number of each node."""
+        return {node: number for number, node in enumerate(self.nodes)}
+
+    @functools.cached_property
+    def successors(self):
+        """Of each node the numbers of the nodes to which it leads."""
+        successors = [[] for _ in self.nodes]
+        for edge in self.edges:
+            start, _, end = edge.partition(" -> ")
+            successors[int(start)].append(int(end))
+        return successors
+
+
+def graph_of(listing, name="graph"):
+    """The graph of the listing that `pathfinder graph` prints, by whatever name."""
+    head, *lines = listing.splitlines()
+    counts = re.fullmatch(r"(\d+) nodes, (\d+) edges", head)
+    if not counts or int(counts[1]) + int(counts[2]) != len(lines):
+        raise Fault(f"{name}:1: it is no listing of `pathfinder graph`")
+    many = int(counts[1])
+    nodes, capacities = [], []
+    for number, line in enumerate(lines[:many]):
+        found = LISTED_NODE.fullmatch(line)
+        if not found or int(found[1]) != number:
+            raise Fault(f"{name}:{number + 2}: it is not the line of node {number}")
+        _, kind, x, y, end_x, end_y, label, at, capacity = found.groups()
+        nodes.append(Node(kind, int(x), int(y), int(end_x or x), int(end_y or y), label, int(at)))
+        capacities.append(int(capacity))
+    return Graph(nodes, capacities, lines[many:])
+
+
+# ---- Routings ------------------------------------------------------------------------------------
+
+
+@dataclasses.dataclass
+class Section:
+    """What a routing lists for a net: nodes by their numbers, each with the number of its line."""
+
+    line: int
+    nodes: list = dataclasses.field(default_factory=list)
+    lines: list = dataclasses.field(default_factory=list)
+
+    def steps(self, graph):
+        """The pairs of nodes of which the second is reached from the first."""
+        return [
+            (before, node)
+            for before, node in zip(self.nodes, self.nodes[1:])
+            if graph.nodes[before].kind != "SINK"
+        ]
+
+
+NODE_LABELS = {
+    "SOURCE": ("Class:", "Pad:"),
+    "SINK": ("Class:", "Pad:"),
+    "OPIN": ("Pin:", "Pad:"),
+    "IPIN": ("Pin:", "Pad:"),
+    "CHANX": ("Track:",),
+    "CHANY": ("Track:",),
+}
+BRACKETS = str.maketrans("(,)", "   ")
+
+
+def _node_of(line, graph):
+    """The number of the node that a line of a routing names."""
+    words = " ".join(line.words).translate(BRACKETS).split()
+    has_ends = len(words) == 8 and words[0] in WIRES and words[3] == "to"
+    if len(words) != 5 and not has_ends or words[-2] not in NODE_LABELS.get(words[0], ()):
+        raise line.fault("it has not the form `KIND (X,Y) LABEL: NUMBER`")
+    kind, label = words[0], words[-2]
+    x, y, *end = (line.number_of(word) for word in (*words[1:3], *words[4:-2][: 2 * has_ends]))
+    first, last = sorted([(x, y), tuple(end) or (x, y)])
+    node = Node(kind, *first, *last, label[:-1], line.number_of(words[-1]))
+    if node not in graph.numbers:
+        raise line.fault(f"the device has no node {node}")
+    return graph.numbers[node]
+
+
+def _net_of(line, nets):
+    """The number of the net whose section a line begins."""
+    words, is_global = line.words, len(line.words) == 6
+    name = words[2] if len(words) > 2 else ""
+    if is_global:
+        has_form = words[3:] == ("global", "net", "connecting:") and name.endswith("):")
+        name = name[:-1]
+    else:
+        has_form = len(words) == 3
+    if not has_form or not (name.startswith("(") and name.endswith(")") and len(name) > 1):
+        raise line.fault("it has not the form `Net N (NAME)`")
+    line.number_of(words[1])
+    if (name[1:-1], is_global) not in nets:
+        what = "global net" if is_global else "net that isn't global"
+        raise line.fault(f"the netlist has no {what} `{name[1:-1]}`")
+    return nets[name[1:-1], is_global]
+
+
+def _check_routing_head(lines, end, placement):
+    """Refuses a routing that doesn't begin as one of this array."""
+    if len(lines) < 2:
+        raise end.fault("the file ends without its two first lines")
+    size = lines[0]
+    last = "blocks." if size.words[-1] == "blocks." else "blocks"
+    size.expect(f"Array size: NX x NY logic {last}")
+    if [size.number_of(size.words[at]) for at in (2, 4)] != [placement.nx, placement.ny]:
+        raise size.fault(f"the array of the placement is {placement.nx} x {placement.ny}")
+    lines[1].expect("Routing:")
+
+
+def read_routing(path, netlist, placement, graph):
+    """Of each net of a netlist its section in a routing, or None where it has none.
+
+    Global nets have none here. Whether the routing is legal isn't looked at.
+    """
+    lines, end = read_lines(path)
+    _check_routing_head(lines, end, placement)
+    numbers = {(net.name, net.is_global): number for number, net in enumerate(netlist.nets)}
+    sections, began, net, section = [None] * len(netlist.nets), set(), None, None
+    for line in lines[2:]:
+        if line.words[0] == "Net":
+            number = _net_of(line, numbers)
+            if number in began:
+                raise line.fault("a line before begins a section of the same net")
+            began.add(number)
+            net, section = netlist.nets[number], Section(line.number)
+            sections[number] = None if net.is_global else section
+            met, before = set(), None
+        elif net and net.is_global and line.words[0] == "Block":
+            continue
+        elif net is None or not net.is_routed:
+            raise line.fault("no node can stand here")
+        else:
+            node = _node_of(line, graph)
+            if before is not None and graph.nodes[before].kind == "SINK" and node not in met:
+                raise line.fault("a path begins at a node that stood in no line of the net before")
+            section.nodes.append(node)
+            section.lines.append(line.number)
+            met.add(node)
+            before = node
+    return sections
