@@ -6,11 +6,16 @@ tests/check-pictures compares the two.
 """
 from __future__ import annotations
 
+import argparse
 import collections
 import dataclasses
 import functools
+import os
+import re
 import typing
 
+import command
+import vpr430
 from vpr430 import Kind, Node
 
 PITCH = 6
@@ -21,9 +26,18 @@ MOST_SPACING, LEAST_SPACING, USUAL_SIDE = 9, 3, 96
 # Colours of nets: colour-blind people can tell them apart, and none is close to that of overuse.
 NET_COLOURS = ("#0072b2", "#e69f00", "#009e73", "#aa4499", "#56b4e9", "#332288", "#999933")
 OVERUSED_COLOUR = "#d00000"
-HISTORY_COLOUR = "#c9a227"
+HISTORY_COLOUR = "#b39ddb"
 # Of channels, from empty to full.
 HEAT_COLOURS = ("#ffffff", "#edf6e4", "#d0e9cf", "#a6d6c9", "#7cbcc8", "#5a9cc2", "#3f78b0")
+
+# What no page and no picture may have: control characters, and what is no character of a text.
+BAD_CHARACTER = re.compile("[\x00-\x1f\x7f-\x9f\ud800-\udfff\ufffe\uffff]")
+
+
+def legible(name):
+    """A name as it is shown: what is no character of a text is U+FFFD."""
+    text = name.encode(**vpr430.TEXT).decode("utf-8", "replace")
+    return BAD_CHARACTER.sub("\ufffd", text)
 
 
 class Box(typing.NamedTuple):
@@ -155,6 +169,61 @@ def source_of(netlist, architecture, placement, net):
     else:
         label, number = "Pad", site.position
     return Node("SOURCE", site.x, site.y, site.x, site.y, label, number)
+
+
+@dataclasses.dataclass
+class Design:
+    """The files of a design, and the graph of its device."""
+
+    options: argparse.Namespace
+    architecture: vpr430.Architecture
+    netlist: vpr430.Netlist
+    placement: vpr430.Placement
+    graph: vpr430.Graph
+    layout: Layout
+
+    def source(self, net):
+        """The node from which a net begins."""
+        nets = self.netlist.nets
+        return source_of(self.netlist, self.architecture, self.placement, nets[net])
+
+    def sections(self, path):
+        """The sections of a routing."""
+        return vpr430.read_routing(path, self.netlist, self.placement, self.graph)
+
+    @property
+    def to_route(self):
+        """How many nets are to be routed."""
+        return sum(net.is_routed for net in self.netlist.nets)
+
+    @functools.cached_property
+    def chosen(self):
+        """The numbers of the nets that the command line names."""
+        numbers = {net.name: number for number, net in enumerate(self.netlist.nets)}
+        for name in self.options.nets:
+            if name not in numbers:
+                raise command.WrongWords(f"{self.options.net} has no net `{name}`")
+        return [numbers[name] for name in self.options.nets]
+
+    def free_sites(self):
+        """The places at which no block stands."""
+        taken = {(site.x, site.y, site.position) for site in self.placement.sites}
+        logic = [
+            (x, y, 0) for x in range(1, self.layout.nx + 1) for y in range(1, self.layout.ny + 1)
+        ]
+        pads = [
+            (x, y, position)
+            for x, y in vpr430.pad_places(self.layout.nx, self.layout.ny)
+            for position in range(self.layout.pads)
+        ]
+        return [site for site in logic + pads if site not in taken]
+
+    @property
+    def title(self):
+        """What is drawn, in a line."""
+        mode = ", global routing" if self.options.is_global else ""
+        layout, name = self.layout, legible(os.path.basename(self.options.net))
+        return f"{name}: {layout.nx} x {layout.ny} blocks, width {layout.tracks}{mode}"
 
 
 @dataclasses.dataclass

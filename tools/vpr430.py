@@ -8,10 +8,11 @@
     graph = vpr430.graph_of(listing)  # what `pathfinder graph k4n1.arch 11 11 6` prints
     sections = vpr430.read_routing("uart.route", netlist, placement, graph)
 
-Netlists and placements are written too. docs/FORMATS.md describes the files and their limits. A file that is refused raises `Fault`, whose
-text is `FILE:LINE: what is wrong`, and one that can't be read raises `Unread`. Of an architecture
-only what packing, placing and drawing need is kept; the other lines are passed over. What
-`netlist_text` and `placement_text` answer is read again to the same blocks, nets and sites.
+Netlists and placements are written too. docs/FORMATS.md describes the files and their limits. A
+file that is refused raises `Fault`, whose text is `FILE:LINE: what is wrong`, and one that can't be
+read raises `Unread`. Of an architecture only what packing, placing and drawing need is kept; the
+other lines are passed over. What `netlist_text` and `placement_text` answer is read again to the
+same blocks, nets and sites.
 
 Names are texts in which bytes that are no UTF-8 are kept (`surrogateescape`). This module needs
 Python 3.8 or later, and its standard library alone.
