@@ -598,7 +598,8 @@ const picture = (() => {
 
     /** Shades of what nodes have cost, the darker the more. */
     histories(histories, sketch) {
-      const most = Math.max(...histories.values(), 1);
+      let most = 1;
+      for (const history of histories.values()) most = Math.max(most, history);
       const { context, view, layout, data } = this;
       context.fillStyle = data.historyColour;
       for (const [node, history] of histories) {
