@@ -11,7 +11,7 @@
 const picture = (() => {
   const KINDS = ["SOURCE", "SINK", "OPIN", "IPIN", "CHANX", "CHANY"];
   const LABELS = ["Class", "Pin", "Pad", "Track"];
-  const [SOURCE, SINK, OPIN, IPIN, CHANX, CHANY] = KINDS.keys();
+  const [, SINK, OPIN, IPIN, CHANX, CHANY] = KINDS.keys();
   const PAD = LABELS.indexOf("Pad");
   const MOST_ROWS = 400;
   // A full drawing that takes longer, in milliseconds, waits until the view rests.
@@ -694,7 +694,7 @@ const picture = (() => {
       this.showShot(data.shots.length - 1);
       this.resize();
       this.showAll();
-      new Pointer(this);
+      this.pointer = new Pointer(this);
     }
 
     /** The lines of all wires. */
@@ -1083,10 +1083,16 @@ const picture = (() => {
       return line;
     }
 
+    /** Names the nets that are lit up, and marks their lines. */
     showChosen() {
+      const { chosen, data } = this.page;
+      const names = [...chosen].map((net) => data.nets[net].name);
+      element("chosen").textContent = names.length ? `lit up: ${names.join(" ")}` : "";
       for (const line of element("nets").children) {
-        line.classList.toggle("is-chosen", this.page.chosen.has(Number(line.dataset.net)));
+        line.classList.toggle("is-chosen", chosen.has(Number(line.dataset.net)));
       }
+      const first = document.querySelector("#nets .is-chosen");
+      if (first) first.scrollIntoView({ block: "nearest" });
     }
 
     /** Small drawings with their texts. */
