@@ -280,9 +280,9 @@ class Routing:
 
     def in_words(self, number):
         """What is said of a node: as `report` does of an overused one."""
-        names = self.nets_at.get(number, ())
+        used = len(self.nets_at.get(number, ()))
         text = f"node {number} {self.graph.nodes[number]}"
-        return f"{text} used {len(names)} of {self.graph.capacities[number]}"
+        return f"{text} used {used} of {self.graph.capacities[number]}"
 
 
 def colours_of(nets, routing):
