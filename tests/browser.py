@@ -1,11 +1,13 @@
 """Headless Chromium, which is told what to do through a pipe (Chrome DevTools Protocol)."""
 import base64
+import contextlib
 import json
 import os
 import select
 import shutil
 import subprocess
 import tempfile
+import time
 
 NAMES = ("chromium", "chromium-browser", "google-chrome")
 LONGEST = 120  # Seconds that an answer may take.
@@ -24,14 +26,14 @@ class Browser:
     """A browser with one page. What is typed and clicked there is as if a user did it."""
 
     def __init__(self, width=1200, height=800):
-        self.folder = tempfile.TemporaryDirectory()
+        self.folder = tempfile.mkdtemp()
         to_browser, self.output = os.pipe()
         self.input, from_browser = os.pipe()
         words = [
             program(), "--headless=new", "--remote-debugging-pipe", "--no-sandbox", "--disable-gpu",
             "--no-first-run", "--disable-extensions", "--disable-background-networking",
             "--disable-component-update", "--disable-dev-shm-usage", "--hide-scrollbars",
-            f"--user-data-dir={self.folder.name}", f"--window-size={width},{height}", "about:blank",
+            f"--user-data-dir={self.folder}", f"--window-size={width},{height}", "about:blank",
         ]
         shell = f'exec "$@" 3<&{to_browser} 4>&{from_browser}'
         self.process = subprocess.Popen(
@@ -52,11 +54,25 @@ class Browser:
         return self
 
     def __exit__(self, *_):
-        self.process.terminate()
-        self.process.wait()
+        self.session = None
+        with contextlib.suppress(NoAnswer, OSError):
+            self.call("Browser.close")
+        try:
+            self.process.wait(LONGEST)
+        except subprocess.TimeoutExpired:
+            self.process.kill()
+            self.process.wait()
         os.close(self.output)
         os.close(self.input)
-        self.folder.cleanup()
+        self.remove_folder()
+
+    def remove_folder(self):
+        """Removes the browser's folder, into which processes of its own may still write."""
+        for _ in range(50):
+            shutil.rmtree(self.folder, ignore_errors=True)
+            if not os.path.exists(self.folder):
+                break
+            time.sleep(0.1)
 
     # ---- messages
 
