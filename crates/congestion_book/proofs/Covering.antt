@@ -19,7 +19,8 @@ use Rattle.route_tree.proofs.Members.{one_passes}
 use Rattle.congestion_book.specs.Turns.{one_if}
 use Rattle.congestion_book.specs.kept.Usage.{times_in}
 use Rattle.congestion_book.specs.kept.Views.{stands_in}
-use Rattle.congestion_book.specs.kept.Counts.{IsTreeOrNone, RoutesOrNone, rows_of}
+use Rattle.congestion_book.specs.kept.Counts.{IsTreeOrNone, rows_of}
+use Rattle.congestion_book.specs.Recorded.{RoutesOrNone}
 use Rattle.route_tree.proofs.RowTests.{ends_of_rows}
 
 -- the first node, and where the pairs end

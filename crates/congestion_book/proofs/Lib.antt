@@ -4,6 +4,7 @@ pub mod Counting
 pub mod Covering
 pub mod Recording
 pub mod Seeing
+pub mod WholeViews
 pub mod Filled
 pub mod Rows
 pub mod Lengths

@@ -3,7 +3,7 @@ use Rattle.std.proofs.Common.{◌≡◌, inl, inr, ℕ, ◌+◌, ◌-◌, ◌<�
 use Rattle.std.specs.Prelude.{is_none}
 use Rattle.std.proofs.lemmas.Bool.{cases_eq}
 use Rattle.std.proofs.lemmas.Grind.{get_or-set_at}
-use Rattle.std.proofs.lemmas.List.{length-map, get_or-map, map-set, length-replicate}
+use Rattle.std.proofs.lemmas.List.{length-map, get_or-map, map-set, set-get_or, length-replicate}
 use Rattle.std.proofs.lemmas.List.Sums.{sum_by-set, sum_by-cons, get_or-le-sum_by, count_by-le-length}
 use Rattle.std.proofs.lemmas.Option.{none-some}
 use Rattle.routing_problem.specs.Nodes.{node_count_of}
@@ -20,8 +20,8 @@ use Rattle.congestion_book.specs.Turns.{one_if}
 use Rattle.congestion_book.specs.kept.Usage.{overused_by, times_in, ReplacesEach, HasRoomInPlace}
 use Rattle.congestion_book.specs.kept.Views.{stands_in}
 use Rattle.congestion_book.proofs.Covering.{uses_rows, uses_standing, rows_within}
-use Rattle.congestion_book.specs.Recorded.{occupancies_of, unrouted_in}
-use Rattle.congestion_book.specs.kept.Counts.{RoutesOrNone, IsTreeOrNone, rows_of, AreRecorded}
+use Rattle.congestion_book.specs.Recorded.{AreRoutes, RoutesOrNone, occupancies_of, unrouted_in}
+use Rattle.congestion_book.specs.kept.Counts.{IsTreeOrNone, rows_of, AreRecorded}
 use Rattle.route_report.proofs.Counting.{listed_below, zeros}
 
 -- counts that are exact are the occupancies by the lists
@@ -39,9 +39,16 @@ route_here : (p : RoutingProblem) (i : ℕ) (l : Option (List Pair)) (pairs : Li
 route_here p i (Some ps) pairs h e = subst (RoutesOrNone p i) e h
 route_here p i None pairs h e = cc
 
-route_there : (p : RoutingProblem) (i : ℕ) (l : Option (List Pair)) → ((pairs : List Pair) → l ≡ Some pairs → IsRoute p i pairs) → RoutesOrNone p i l
+pub route_there : (p : RoutingProblem) (i : ℕ) (l : Option (List Pair)) → ((pairs : List Pair) → l ≡ Some pairs → IsRoute p i pairs) → RoutesOrNone p i l
 route_there p i (Some pairs) h = h pairs refl
 route_there p i None h = tt
+
+-- each list routes its net, also where one net has another one that does
+pub routes_set : (p : RoutingProblem) (lists : Lists) (i : ℕ) (l : Option (List Pair)) → i < length lists → AreRoutes p lists → RoutesOrNone p i l → AreRoutes p (set lists i l)
+routes_set p lists i l entry routes next j pairs e = elim (cases_eq j i) [
+  | inl here ↦ subst (λ k. IsRoute p k pairs) (sym here) (route_here p i l pairs next (sym (get_or-set_at lists i j l None here entry) ∙ e))
+  | inr apart ↦ routes j pairs (sym (get_or-set_other lists i j l None apart) ∙ e)
+]
 
 module _ {p : RoutingProblem} (trees : List (Option (List Row))) {counts : List ℕ} {overused unrouted i : ℕ} {before : Option (List Row)}
     (low : i < length p.nets) (kept : AreRecorded p (lists_of_trees trees) counts overused unrouted) (is : before ≡ get_or trees i before) where
@@ -54,7 +61,7 @@ module _ {p : RoutingProblem} (trees : List (Option (List Row))) {counts : List 
   there : i < length trees
   there = let same = length-map trees list_of_tree in omega (arith, entry, same)
 
-  listed : get_or lists i None ≡ list_of_tree before
+  pub listed : get_or lists i None ≡ list_of_tree before
   listed = get_or-map list_of_tree trees i before None there ∙ ap list_of_tree (sym is)
 
   routes : RoutesOrNone p i (list_of_tree before)
@@ -70,6 +77,10 @@ module _ {p : RoutingProblem} (trees : List (Option (List Row))) {counts : List 
       let one = get_or-le-sum_by (λ (l : Option (List Pair)). one_if (is_none l)) lists i None entry in
       let old : one_if (is_none (get_or lists i None)) ≡ one_if (is_none before) = ap (λ l. one_if (is_none l)) listed ∙ ap one_if (none_alike before) in
       omega (arith, one, old, kept.without, e)
+
+  -- where the net's tree stays the same
+  pub kept_lists : (after : Option (List Row)) → before ≡ after → lists ≡ set lists i (list_of_tree after)
+  kept_lists after same = sym (ap (set lists i) (ap list_of_tree (sym same) ∙ sym listed) ∙ set-get_or lists i None)
 
   -- ---- the rows of the net's own tree
   module _ {own : List Row} (rows : own ≡ rows_of before) (tree : IsTreeOrNone before) where
@@ -118,10 +129,7 @@ module _ {p : RoutingProblem} (trees : List (Option (List Row))) {counts : List 
           let kept_now : AreRecorded p (set lists i (list_of_tree after)) new over (unrouted - less + more) = record {
             problem = kept.problem;
             one_each = length-set lists i (list_of_tree after) ∙ kept.one_each;
-            routes = λ j pairs e. elim (cases_eq j i) [
-              | inl here ↦ subst (λ k. IsRoute p k pairs) (sym here) (route_here p i (list_of_tree after) pairs next_routes (sym (get_or-set_at lists i j (list_of_tree after) None here entry) ∙ e))
-              | inr apart ↦ kept.routes j pairs (sym (get_or-set_other lists i j (list_of_tree after) None apart) ∙ e)
-            ];
+            routes = routes_set p lists i (list_of_tree after) entry kept.routes next_routes;
             size = changes.size ∙ kept.size;
             uses = λ a. omega (arith, change a, changes.each a, kept.uses a);
             over = counts_over;

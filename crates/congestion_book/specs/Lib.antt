@@ -2,6 +2,7 @@ pub mod Turns
 pub mod Recorded
 pub mod Histories
 pub mod Contents
+pub mod Totals
 pub mod Looks
 pub mod Steps
 pub mod Runs

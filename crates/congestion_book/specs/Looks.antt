@@ -10,11 +10,17 @@ use Rattle.node_cost.specs.Views.{NetView, others_in}
 use Rattle.congestion_book.specs.declared.faults.DrawFault.{DrawFault}
 use Rattle.congestion_book.specs.declared.faults.DrawFault.TheVariants.{ViewSize}
 use Rattle.congestion_book.specs.Contents.{Content, node_total, view_of}
+use Rattle.congestion_book.specs.Totals.{ShowsAll}
 
 -- A look gives the view of the net, as a draw does. A view of another size is refused.
 abbrev pub Looks : Content → NetView → (net : ℕ) → Result (Unit {0}) DrawFault → NetView → Type 0
 Looks c seen net (Ok done) sees = (length seen ≡ node_total c) × (sees ≡ view_of c net)
 Looks c seen net (Err ViewSize) sees = (length seen ≢ node_total c) × (sees ≡ seen)
+
+-- A look at all gives a view in which no net is left out. A view of another size is refused.
+abbrev pub LooksAtAll : Content → NetView → Result (Unit {0}) DrawFault → NetView → Type 0
+LooksAtAll c seen (Ok done) sees = (length seen ≡ node_total c) × ShowsAll c sees
+LooksAtAll c seen (Err ViewSize) sees = (length seen ≢ node_total c) × (sees ≡ seen)
 
 -- so many other nets are as many as the node has room for, or more
 abbrev pub fills : RoutingProblem → ℕ → (others : ℕ) → Bool

@@ -1,6 +1,6 @@
 -- What the recorded lists come to: how many nets use each node, how many nodes are overused and by
 -- how much, how many nets have no list, and how long all nets are.
-use Rattle.std.specs.Prelude.{◌≡◌, ℕ, nat_lt, List, map, sum, Some, is_none, count_by}
+use Rattle.std.specs.Prelude.{◌≡◌, ℕ, nat_lt, List, map, sum, Option, Some, None, is_none, count_by}
 use Rattle.std.specs.List.{sum_by}
 use Rattle.routing_problem.specs.Fabric.{numbers_below}
 use Rattle.routing_problem.specs.Nodes.{node_count_of}
@@ -13,6 +13,11 @@ use Rattle.route_report.specs.Wirelength.{wirelengths_of}
 -- each recorded list routes its net
 abbrev pub AreRoutes : RoutingProblem → Lists → Type 0
 AreRoutes p lists = (i : ℕ) (pairs : List Pair) → list_in lists i ≡ Some pairs → IsRoute p i pairs
+
+-- the list routes its net, where there is one
+abbrev pub RoutesOrNone : RoutingProblem → (net : ℕ) → Option (List Pair) → Type 0
+RoutesOrNone p i (Some pairs) = IsRoute p i pairs
+RoutesOrNone p i None = Unit {0}
 
 -- how many nets with a list use each node
 unfoldable pub occupancies_of : RoutingProblem → Lists → List ℕ

@@ -53,6 +53,11 @@ Draws old seen worker (Ok None) new sees = (length seen ≡ node_total old) × (
 Draws old seen worker (Ok (Some net)) new sees =
     (length seen ≡ node_total old) × (net ≡ old.drawn) × (net < net_count old) × (new ≡ after_draw old worker) × (sees ≡ view_of old net)
 
+-- A draw without a view.
+abbrev pub DrawsNet : Content → (worker : ℕ) → Option ℕ → Content → Type 0
+DrawsNet old worker None new = (old.drawn ≡ net_count old) × (new ≡ old)
+DrawsNet old worker (Some net) new = (net ≡ old.drawn) × (net < net_count old) × (new ≡ after_draw old worker)
+
 -- the worker holds the net, and the pairs route it
 abbrev pub MayCommit : Content → (worker net : ℕ) → List Pair → Type 0
 MayCommit c worker net pairs = (holder_in c.holders net ≡ Some worker) × IsRoute c.problem net pairs
@@ -70,6 +75,11 @@ Commits old worker net pairs (Err (commit.Illegal fault)) new =
 abbrev pub Passes : Content → (worker net : ℕ) → Result (Unit {0}) PassFault → Content → Type 0
 Passes old worker net (Ok done) new = (holder_in old.holders net ≡ Some worker) × (new ≡ after_turn old worker net None)
 Passes old worker net (Err pass.NotHeld) new = (holder_in old.holders net ≢ Some worker) × (new ≡ old)
+
+-- The end of a turn, with a list that routes the net or with none, needs the worker's hold on it.
+abbrev pub EndsTurn : Content → (worker net : ℕ) → Option (List Pair) → Result (Unit {0}) PassFault → Content → Type 0
+EndsTurn old worker net list (Ok done) new = (holder_in old.holders net ≡ Some worker) × (new ≡ after_turn old worker net list)
+EndsTurn old worker net list (Err pass.NotHeld) new = (holder_in old.holders net ≢ Some worker) × (new ≡ old)
 
 -- A close needs a turn at each net, then fewer than 500 rows, then memory.
 abbrev pub Closes : Content → Result (Unit {0}) CloseFault → Content → Type 0

@@ -1,14 +1,15 @@
 //! The congestion book.
 
-ghost use Rattle.std.specs.Prelude.{◌≡◌, ◌==◌, ◌<◌, ◌≤◌, ◌↔◌, if◌then◌else◌, nat_le, length, Some, None, IsOk, IfOk, IfErr};
+ghost use Rattle.std.specs.Prelude.{◌≡◌, ◌==◌, ◌<◌, ◌≤◌, ◌↔◌, if◌then◌else◌, nat_le, length, Some, None, IsOk, IfOk, IfErr, OnOk, OnErr};
 ghost use Rattle.route_tree.specs.Faults.{IsRoute};
 ghost use Rattle.route_tree.specs.Rows.{pairs_of};
 ghost use Rattle.route_tree.specs.TreeLists.{list_of_tree};
+ghost use Rattle.route_tree.specs.Usage.{list_in};
 ghost use Rattle.node_cost.specs.Options.{most_iterations};
 ghost use Rattle.congestion_book.specs.Turns.{holder_in, IsFirstWaiting};
-ghost use Rattle.congestion_book.specs.kept.Counts.{RoutesOrNone};
+ghost use Rattle.congestion_book.specs.Recorded.{RoutesOrNone};
 ghost use Rattle.congestion_book.specs.Contents.{IsSound, opening, net_count};
-ghost use Rattle.congestion_book.specs.Steps.{Draws, MayCommit, Commits, Passes, Closes, fault_alone, after_turn, after_close};
+ghost use Rattle.congestion_book.specs.Steps.{Draws, DrawsNet, MayCommit, Commits, Passes, EndsTurn, Closes, fault_alone, after_turn, after_close};
 ghost use Rattle.congestion_book.specs.kept.Closing.{TellsClosing, IsNext};
 
 use crate::faults::{CloseFault, CommitFault, DrawFault, PassFault};
@@ -92,6 +93,15 @@ impl Book {
         Ok(Some(net))
     }
 
+    /// Gives the worker the least net that was not drawn in the open iteration, as `draw` does,
+    /// without its view.
+    pub fn draw_net(&mut self, worker: u32) -> Option<u32>
+        ensures step { DrawsNet self.old worker result self.new }
+        ensures sound { IsSound self.new }
+    {
+        self.turns.draw(worker)
+    }
+
     /// Records the tree of a net that the worker holds, in place of the one before, and ends the
     /// turn. A tree that doesn't route the net is refused, and so is another worker than the net's
     /// holder: then nothing changes, and the tree comes back.
@@ -145,6 +155,29 @@ impl Book {
         Ok(())
     }
 
+    /// Ends the turn at a net that the worker holds: the net gives its recorded tree, or none, for
+    /// this one, of which it is known that it routes the net, or for none. Another worker than the
+    /// net's holder is refused, and nothing changes.
+    pub fn exchange_routed(
+        &mut self,
+        worker: u32,
+        net: u32,
+        tree: &mut Option<Tree>,
+    ) -> Result<(), PassFault>
+        requires routes { RoutesOrNone self.old.problem net (list_of_tree tree.old) }
+        ensures step { EndsTurn self.old worker net (list_of_tree tree.old) result self.new }
+        ensures back { OnOk result (list_of_tree tree.new ≡ list_in self.old.lists net) }
+        ensures same { OnErr result (tree.new ≡ tree.old) }
+        ensures sound { IsSound self.new }
+    {
+        if self.turns.holds(worker, net) {
+            self.exchange(worker, net, tree);
+            Ok(())
+        } else {
+            Err(PassFault::NotHeld)
+        }
+    }
+
     /// Ends the turn at a net that the worker holds. From now on the net has this tree, or none.
     fn end_turn(&mut self, worker: u32, net: u32, tree: Option<Tree>)
         requires held { holder_in self.old.holders net ≡ Some worker }
@@ -152,8 +185,21 @@ impl Book {
         ensures ended { self.new ≡ after_turn self.old worker net (list_of_tree tree) }
         ensures sound { IsSound self.new }
     {
+        let mut tree = tree;
+        self.exchange(worker, net, &mut tree);
+    }
+
+    /// Ends the turn at a net that the worker holds. The net gives its recorded tree, or none, for
+    /// this one, or none.
+    fn exchange(&mut self, worker: u32, net: u32, tree: &mut Option<Tree>)
+        requires held { holder_in self.old.holders net ≡ Some worker }
+        requires routes { RoutesOrNone self.old.problem net (list_of_tree tree.old) }
+        ensures ended { self.new ≡ after_turn self.old worker net (list_of_tree tree.old) }
+        ensures back { list_of_tree tree.new ≡ list_in self.old.lists net }
+        ensures sound { IsSound self.new }
+    {
         let passed = tree.is_none();
-        self.routes.replace(&self.problem, net, tree);
+        self.routes.exchange(&self.problem, net, tree);
         self.turns.end_turn(worker, net, passed);
     }
 

@@ -8,7 +8,8 @@ ghost use Rattle.node_cost.specs.Options.{most_iterations};
 ghost use Rattle.congestion_book.specs.Recorded.{unrouted_in, overused_in, excess_in, wirelength_in};
 ghost use Rattle.congestion_book.specs.Histories.{history_of};
 ghost use Rattle.congestion_book.specs.Contents.{IsSound, IsFresh, net_count, node_total, turns_of};
-ghost use Rattle.congestion_book.specs.Looks.{Looks, have_filled};
+ghost use Rattle.congestion_book.specs.Turns.{holder_in};
+ghost use Rattle.congestion_book.specs.Looks.{Looks, LooksAtAll, have_filled};
 
 use crate::book::Book;
 use crate::faults::DrawFault;
@@ -127,6 +128,26 @@ impl Book {
         let histories = self.history.histories();
         self.routes.show(view, net, histories);
         Ok(())
+    }
+
+    /// Fills a view with what all nets use, by the trees as they are now, and with the histories. A
+    /// view of another size is refused, and stays as it was.
+    pub fn look_at_all(&self, view: &mut View) -> Result<(), DrawFault>
+        ensures { LooksAtAll self.now view.old result view.new }
+    {
+        let nodes = self.problem.device().node_count() as usize;
+        if view.len() != nodes {
+            return Err(DrawFault::ViewSize);
+        }
+        self.routes.show_all(view, self.history.histories());
+        Ok(())
+    }
+
+    /// Whether the worker holds the net.
+    pub fn holds(&self, worker: u32, net: u32) -> bool
+        ensures { (result ≡ true) ↔ (holder_in self.now.holders net ≡ Some worker) }
+    {
+        self.turns.holds(worker, net)
     }
 
     /// Whether a node of a tree is full now by the nets but this one, and was not by those in the

@@ -24,7 +24,7 @@ fn leave_node(view: &mut View, id: u32)
 }
 
 /// One net less uses each node of a tree.
-fn leave_rows(view: &mut View, rows: &[Row])
+pub(crate) fn leave_rows(view: &mut View, rows: &[Row])
     requires there { All (λ r. r.node < length view.old) rows.now }
     requires used { (a : ℕ) → times_in (nodes_of rows.now) a ≤ others_in view.old a }
     ensures { LeavesOut (nodes_of rows.now) view.old view.new }

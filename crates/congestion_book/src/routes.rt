@@ -1,19 +1,19 @@
 //! The recorded trees, and what is counted of them.
 
-ghost use Rattle.std.specs.Prelude.{◌≡◌, ◌<◌, ◌≤◌, ◌+◌, ℕ, All, length, set, replicate, Some, None, is_none, IfOk};
+ghost use Rattle.std.specs.Prelude.{◌≡◌, ◌<◌, ◌≤◌, ◌+◌, ℕ, true, All, length, set, replicate, Some, None, is_none, IfOk};
 ghost use Rattle.std.specs.Arc.{arc_value};
 ghost use Rattle.congestion_book.specs.Histories.{amount_in, row_of};
 ghost use Rattle.congestion_book.specs.kept.Views.{SeesOthers};
 ghost use Rattle.congestion_book.specs.Looks.{has_filled};
-ghost use Rattle.std.specs.List.{list_any};
+ghost use Rattle.std.specs.List.{list_any, zip};
 ghost use Rattle.routing_problem.specs.Nodes.{node_count_of};
 ghost use Rattle.routing_problem.specs.Problems.{RoutingProblem};
 ghost use Rattle.route_tree.specs.Usage.{list_in};
 ghost use Rattle.route_tree.specs.TreeLists.{list_of_tree};
 ghost use Rattle.congestion_book.specs.kept.Fields.{AreExact, HasNet, lists_kept};
 ghost use Rattle.congestion_book.specs.Turns.{one_if};
-ghost use Rattle.congestion_book.specs.Recorded.{occupancies_of};
-ghost use Rattle.congestion_book.specs.kept.Counts.{RoutesOrNone, IsTreeOrNone, rows_of};
+ghost use Rattle.congestion_book.specs.Recorded.{RoutesOrNone, occupancies_of};
+ghost use Rattle.congestion_book.specs.kept.Counts.{IsTreeOrNone, rows_of};
 
 use crate::filling::any_filled;
 use crate::history::OveruseRow;
@@ -23,6 +23,7 @@ use node_cost::{Histories, View};
 use route_tree::{Row, Tree};
 use routing_problem::Problem;
 use std::alloc::{AllocError, Global};
+use std::mem;
 use std::sync::Arc;
 
 /// The recorded tree of each net, or none, how many nets have none, and how many nets use each
@@ -42,6 +43,17 @@ pub(crate) fn rows_of(tree: &Option<Tree>) -> &[Row]
     match tree {
         None => &[],
         Some(tree) => tree.as_slice(),
+    }
+}
+
+/// Whether two nets' trees, or none, are the same.
+pub(crate) fn are_same(one: &Option<Tree>, other: &Option<Tree>) -> bool
+    ensures { result ≡ true → one.now ≡ other.now }
+{
+    match (one, other) {
+        (Some(one), Some(other)) => *one == *other,
+        (None, None) => true,
+        _ => false,
     }
 }
 
@@ -70,24 +82,41 @@ impl Routes {
         })
     }
 
-    /// The recorded tree of a net becomes this one, or none.
-    pub(crate) fn replace(&mut self, problem: &Problem, net: u32, tree: Option<Tree>)
+    /// Gives the recorded tree of a net, or none, for this one, or none. Where both are the same
+    /// nothing changes.
+    pub(crate) fn exchange(&mut self, problem: &Problem, net: u32, tree: &mut Option<Tree>)
         requires there { net < length problem.now.nets }
-        requires routes { RoutesOrNone problem.now net (list_of_tree tree) }
+        requires routes { RoutesOrNone problem.now net (list_of_tree tree.old) }
         requires recorded { AreExact problem.now self.old }
-        ensures lists { lists_kept self.new ≡ set (lists_kept self.old) net (list_of_tree tree) }
+        ensures lists { lists_kept self.new ≡
+            set (lists_kept self.old) net (list_of_tree tree.old) }
         ensures counts { self.new.usage.counts ≡
-            occupancies_of problem.now (set (lists_kept self.old) net (list_of_tree tree)) }
+            occupancies_of problem.now (set (lists_kept self.old) net (list_of_tree tree.old)) }
         ensures recorded { AreExact problem.now self.new }
+        ensures back { list_of_tree tree.new ≡ list_in (lists_kept self.old) net }
     {
         let device = problem.device();
         let before = &self.trees[net as usize];
+        if are_same(before, tree) {
+            return;
+        }
         let old_rows = rows_of(before);
-        let new_rows = rows_of(&tree);
+        let new_rows = rows_of(tree);
         self.usage.replace_each(device, old_rows, new_rows);
         self.unrouted -= count_none(before);
-        self.unrouted += count_none(&tree);
-        self.trees[net as usize] = tree;
+        self.unrouted += count_none(tree);
+        mem::swap(&mut self.trees[net as usize], tree);
+    }
+}
+
+impl Routes {
+    /// The view becomes that by what is counted and by these histories, with no net left out.
+    pub(crate) fn show_all(&self, view: &mut View, histories: &Arc<Histories, Global>)
+        requires size { length view.old ≡ length self.now.usage.counts }
+        requires histories { length (arc_value histories.now) ≡ length self.now.usage.counts }
+        ensures { view.new ≡ zip self.now.usage.counts (arc_value histories.now) }
+    {
+        view.look_at(&self.usage.counts, histories);
     }
 }
 

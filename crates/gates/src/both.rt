@@ -39,6 +39,11 @@ impl<A: Gate, B: Gate> Gate for BothGates<'_, A, B> {
         self.second.searched(worker, net);
     }
 
+    fn looked(&self, worker: u32, net: u32) {
+        self.first.looked(worker, net);
+        self.second.looked(worker, net);
+    }
+
     fn closed(&self, iteration: u32, book: &Book) {
         self.first.closed(iteration, book);
         self.second.closed(iteration, book);

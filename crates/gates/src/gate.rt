@@ -20,6 +20,10 @@ pub trait Gate {
     /// are not reached.
     fn stuck(&self, _net: u32, _sink: u32) {}
 
+    /// After a worker found, when it came to make its turn at a net, that the others had filled a
+    /// node of its tree, and before it searches again.
+    fn looked(&self, _worker: u32, _net: u32) {}
+
     /// After the first search for a net, before the worker comes to make its turn.
     fn searched(&self, worker: u32, net: u32);
 

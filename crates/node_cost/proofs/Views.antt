@@ -34,7 +34,7 @@ seen_set (o ∷ os) [] (suc a) n h = refl
 seen_set (o ∷ os) (x ∷ hs) zero n h = refl
 seen_set (o ∷ os) (x ∷ hs) (suc a) n h = ap (λ seen. (o, x) ∷ seen) (seen_set os hs a n h)
 
--- one net less uses a node, and its history stays
+-- another number of nets uses a node, and its history stays
 pub left_out : (others histories : List ℕ) (a count : ℕ) → length histories ≡ length others →
     zip (set others a count) histories ≡ set (zip others histories) a (count, history_in (zip others histories) a)
 left_out [] hs a n e = refl

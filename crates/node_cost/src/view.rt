@@ -1,6 +1,6 @@
 //! What a net sees of the others when it is routed.
 
-ghost use Rattle.std.specs.Prelude.{◌≡◌, ℕ, ◌≤◌, ◌<◌, ◌-◌, length, set, replicate, IfOk, IsTrue, ◌↔◌};
+ghost use Rattle.std.specs.Prelude.{◌≡◌, ℕ, ◌≤◌, ◌<◌, ◌+◌, ◌-◌, length, set, replicate, IfOk, IsTrue, ◌↔◌};
 ghost use Rattle.std.specs.List.{zip};
 ghost use Rattle.std.specs.Arc.{arc_value};
 ghost use Rattle.node_cost.specs.Views.{others_in, history_in};
@@ -179,5 +179,15 @@ impl View {
         ensures { self.new ≡ set self.old id (others_in self.old id - 1, history_in self.old id) }
     {
         self.others.take_one(id);
+    }
+
+    /// One net more uses a node.
+    #[tactic(auto, using(crate::proofs::Views::length_seen, crate::proofs::Views::others_at, crate::proofs::Views::left_out))]
+    pub fn take_back(&mut self, id: u32)
+        requires there { id < length self.old }
+        requires room { others_in self.old id < GREATEST_OTHERS }
+        ensures { self.new ≡ set self.old id (others_in self.old id + 1, history_in self.old id) }
+    {
+        self.others.add_one(id);
     }
 }

@@ -4,17 +4,10 @@ use Rattle.std.specs.Prelude.{◌≡◌, ℕ, List, [], length, get_or, Option, 
 use Rattle.routing_problem.specs.Nodes.{node_count_of}
 use Rattle.routing_problem.specs.Problems.{RoutingProblem, IsProblem}
 use Rattle.route_tree.specs.declared.tree.Row.{Row}
-use Rattle.route_tree.specs.Paths.{Pair}
 use Rattle.route_tree.specs.Rows.{IsTree}
-use Rattle.route_tree.specs.Faults.{IsRoute}
 use Rattle.route_tree.specs.Usage.{use_of, Lists}
 use Rattle.congestion_book.specs.kept.Usage.{overused_by}
 use Rattle.congestion_book.specs.Recorded.{AreRoutes, unrouted_in}
-
--- the list routes its net, where there is one
-abbrev pub RoutesOrNone : RoutingProblem → (net : ℕ) → Option (List Pair) → Type 0
-RoutesOrNone p i (Some pairs) = IsRoute p i pairs
-RoutesOrNone p i None = Unit {0}
 
 -- these are the rows of a tree, where there is one
 abbrev pub IsTreeOrNone : Option (List Row) → Type 0
