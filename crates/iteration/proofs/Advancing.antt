@@ -50,7 +50,7 @@ module _ (o : RouterOptions) (workers : ℕ) (old new : Content) (made : IsItera
   rows_after = ap length row_after ∙ length-append old.rows (row_of old.problem new.lists ∷ [])
 
   -- what has no tree after it is stuck in it
-  stuck_after : (i : ℕ) → i < length old.problem.nets → list_in new.lists i ≡ None → IsStuckNet old (present_of o (length old.rows + 1)) o.bb i
+  stuck_after : (i : ℕ) → i < length old.problem.nets → list_in new.lists i ≡ None → IsStuckNet old made.between (present_of o (length old.rows + 1)) o.bb i
   stuck_after i low none =
       let nets : length made.between.problem.nets ≡ length old.problem.nets = ap (λ (q : RoutingProblem). length q.nets) made.agrees.within.problem in
       stuck_net old made.between (present_of o (length old.rows + 1)) o.bb workers made.reports made.agrees i (omega (arith, low, nets))
@@ -123,18 +123,20 @@ module _ (p : RoutingProblem) (o : RouterOptions) (workers : ℕ) where
           most = omega (arith, reported.2, within);
           early = λ low. omega (arith, reported.0, early_end (length s.rows) (unrouted_of s) (overused_of s) ended (omega (arith, reported.0, reported.1, reported.3)) (omega (arith, low, reported.2)));
           before = last.before;
+          between = last.follows.between;
           book = s;
           begins = record { problem = was.problem; acc = was.acc; rows = omega (arith, now) };
           ends = record { problem = is.problem; acc = is.acc; rows = sym reported.2 };
           sound_before = sound_reached last.before last.reached;
           sound = last.follows.sound;
+          closed = last.follows.closed;
           row =
               row_after o workers last.before s last.follows
               ∙ ap (λ (q : RoutingProblem). last.before.rows ++ row_of q s.lists ∷ []) was.problem;
           without = sym reported.0;
           over = sym reported.1;
           stuck = λ i low none.
-              subst (λ n. IsStuckNet last.before (present_of o n) o.bb i) now
+              subst (λ n. IsStuckNet last.before last.follows.between (present_of o n) o.bb i) now
               (stuck_after o workers last.before s last.follows i (omega (arith, low, nets)) none);
         }
 

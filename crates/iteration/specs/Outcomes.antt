@@ -6,6 +6,7 @@ use Rattle.route_check.specs.Routed.{IsRouted}
 use Rattle.route_tree.specs.Usage.{list_in}
 use Rattle.congestion_book.specs.Histories.{row_of}
 use Rattle.congestion_book.specs.Contents.{Content, IsSound}
+use Rattle.congestion_book.specs.Steps.{after_close}
 use Rattle.net_workers.specs.Searches.{IsStuckNet}
 use Rattle.iteration.specs.declared.outcome.Outcome.{Outcome}
 use Rattle.iteration.specs.declared.outcome.Outcome.TheVariants.{Success, NotRouted}
@@ -33,25 +34,27 @@ pub record IsBookAfter (p : RoutingProblem) (o : RouterOptions) (iterations : �
   pub rows : length c.rows ≡ iterations
 
 -- What is left where a negotiation doesn't succeed within its limit: after so many iterations, some
--- nets have no tree, each of which is stuck in what it could see in the last iteration, or some
--- nodes are overused. Before the limit it ends only where a net has no tree.
+-- nets have no tree, each of which is stuck in what it saw in the last iteration, after some of its
+-- turns, or some nodes are overused. Before the limit it ends only where a net has no tree.
 pub record IsLeft (p : RoutingProblem) (o : RouterOptions) (unrouted overused iterations : ℕ) : Type 0 where
   pub some : 1 ≤ unrouted + overused
   pub least : 1 ≤ iterations
   pub most : iterations ≤ o.iterations
   pub early : iterations < o.iterations → 1 ≤ unrouted
-  -- the book before the last iteration, and the one that it leaves: both are sound, and this one
-  -- has the iteration's row besides
+  -- the book before the last iteration, the one at its end, before it was closed, and the one that
+  -- it leaves: the first and the last are sound, and the last has the iteration's row besides
   pub before : Content
+  pub between : Content
   pub book : Content
   pub begins : IsBookAfter p o (iterations - 1) before
   pub ends : IsBookAfter p o iterations book
   pub sound_before : IsSound before
   pub sound : IsSound book
+  pub closed : book ≡ after_close between
   pub row : book.rows ≡ before.rows ++ row_of p book.lists ∷ []
   pub without : unrouted_of book ≡ unrouted
   pub over : overused_of book ≡ overused
-  pub stuck : (i : ℕ) → i < length p.nets → list_in book.lists i ≡ None → IsStuckNet before (present_of o iterations) o.bb i
+  pub stuck : (i : ℕ) → i < length p.nets → list_in book.lists i ≡ None → IsStuckNet before between (present_of o iterations) o.bb i
 
 -- A success is a routing of the problem: one legal list for each net, and no node overused. What
 -- else is left is reported.

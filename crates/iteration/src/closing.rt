@@ -50,9 +50,10 @@ pub(crate) fn make_iteration<R: Threads + Wait + Sync, G: Gate + Sync>(
 {
     let iteration = book.rows().len() as u32 + 1;
     gate.opened(iteration, book.problem().nets());
-    let (mut book, _reports) = iterate_in(
+    let (mut book, reports) = iterate_in(
         rt, alloc, workspace, book, settings, iteration, workers, gate,
     )?;
+    workspace.keep(reports);
     close(alloc, &mut book)?;
     gate.closed(iteration, &book);
     Ok(book)

@@ -129,6 +129,12 @@ impl<R: Wait + Clock> Gate for LabGate<'_, R> {
         }
     }
 
+    fn looked(&self, _worker: u32, _net: u32) {
+        if let LabGate::Meeting(gate) = self {
+            gate.looked();
+        }
+    }
+
     fn closed(&self, iteration: u32, book: &Book) {
         match self {
             LabGate::Counting(gate) => gate.closed(iteration, book.unrouted(), book.overused()),

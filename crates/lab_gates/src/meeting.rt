@@ -21,6 +21,8 @@ pub struct Meeting {
     searched: AtomicU32,
     /// In how many iterations they met.
     met: AtomicU32,
+    /// How often a worker looked again at a net.
+    looked: AtomicU32,
     patience: Patience,
 }
 
@@ -33,6 +35,7 @@ impl Meeting {
             drawn: AtomicU32::new(0),
             searched: AtomicU32::new(0),
             met: AtomicU32::new(0),
+            looked: AtomicU32::new(0),
             patience: Patience::new(),
         }
     }
@@ -56,9 +59,14 @@ impl Meeting {
         before != self.all() && before | flag(net) == self.all()
     }
 
-    /// Tells in how many iterations the nets met, and whether one gave up.
+    /// Tells in how many iterations the nets met, how often a worker looked again in these, if one
+    /// did, and whether one gave up.
     pub fn put(&self, out: &mut String) -> Result<(), Unanswered> {
         write!(out, "gate: met {} times", self.met.load(Ordering::SeqCst))?;
+        let looked = self.looked.load(Ordering::SeqCst);
+        if looked > 0 {
+            write!(out, ", looked {looked} times")?;
+        }
         if self.patience.is_gone() {
             out.push_str(", gave up")?;
         }
@@ -78,6 +86,12 @@ impl Meeting {
         if self.holds(net) {
             self.completes(&self.drawn, net);
             self.patience.await_number(&self.drawn, self.all());
+        }
+    }
+
+    pub fn looked(&self) {
+        if self.is_awake.load(Ordering::SeqCst) {
+            self.looked.fetch_add(1, Ordering::SeqCst);
         }
     }
 

@@ -1,17 +1,12 @@
--- How many turns are a worker's, or at a net; and what follows where all together are as many as
--- there may be.
-use Rattle.std.proofs.Common.{◌≡◌, inl, inr, ℕ, zero, suc, ◌+◌, ◌<◌, ◌≤◌, ◌==◌, nat_lt, ◌∷◌, [], List, length, take, get_or, refl, sym, ap, ◌∙◌, arith, add-one, Option, None, Some, is_some}
+-- How many turns are at a net, and what follows where all together are as many as there are nets.
+use Rattle.std.proofs.Common.{◌≡◌, inl, inr, ℕ, zero, suc, ◌+◌, ◌<◌, ◌≤◌, ◌==◌, nat_lt, ◌∷◌, [], List, length, get_or, refl, sym, ap, ◌∙◌, arith, add-one, Option, None, Some, is_some}
 use Rattle.std.proofs.lemmas.Bool.{cases_lt, eq-eqb}
 use Rattle.std.proofs.lemmas.Bool.Decides.{nat_tests}
-use Rattle.std.proofs.lemmas.List.{take_all, length-map, length-take-le}
-use Rattle.std.proofs.lemmas.List.Sums.{sum_by-cons, sum_by_more, length-filter, get_or-le-sum_by}
-use Rattle.std.specs.Prelude.{All, sum_by, count_by}
+use Rattle.std.proofs.lemmas.List.Sums.{sum_by-cons, get_or-le-sum_by}
+use Rattle.std.specs.Prelude.{All, count_by}
 use Rattle.congestion_book.specs.declared.turn.Turn.{Turn}
 use Rattle.congestion_book.specs.Turns.{AreInOrder, NameEachOnce, holder_in, one_if}
 use Rattle.congestion_book.specs.Contents.{Content, IsSound, net_count, table_in}
-use Rattle.net_workers.specs.declared.report.ReportEntry.{ReportEntry}
-use Rattle.net_workers.specs.Agreement.{IsReportOf, reported_turn}
-use Rattle.net_workers.specs.kept.ReportsSoFar.{Begins}
 
 one_step : (x n : ℕ) → one_if (nat_lt x (n + 1)) ≡ one_if (nat_lt x n) + one_if (x == n)
 one_step x n = grind (arith, nat_tests)
@@ -130,47 +125,3 @@ module _ (c : Content) (sound : IsSound c) (full : length c.turns ≡ net_count 
       let all = all_drawn in
       let once = order.once i in
       not_some (holder_in c.holders i) (grind (arith, nat_tests))
-
--- ---- reports with as many entries as there are turns
--- the entries of the first n reports
-abbrev entries_of : ℕ → List (List ReportEntry) → ℕ
-entries_of n rs = sum_by length (take n rs)
-
-module _ (c : Content) (rs : List (List ReportEntry)) (known : All (λ t. t.worker < length rs) c.turns) (count : sum_by length rs ≡ length c.turns)
-    (begins : (w : ℕ) → w < length rs → (n : ℕ) × Begins c c.turns w n (get_or rs w [])) where
-  abbrev of_worker : ℕ → ℕ
-  of_worker w = at (λ t. t.worker) w c.turns
-
-  abbrev entries : ℕ → ℕ
-  entries w = length (get_or rs w [])
-
-  -- a report that begins with the worker's turns has no fewer entries
-  begun : (w n : ℕ) (es : List ReportEntry) → Begins c c.turns w n es → of_worker w ≡ n
-  begun w n es b =
-      sym (length-filter (λ t. t.worker == w) c.turns) ∙ ap length b.reported ∙ length-map (take n es) (reported_turn w) ∙ length-take-le n es b.within
-
-  few_turns : (w : ℕ) → w < length rs → of_worker w ≤ entries w
-  few_turns w low = let b = begins w low in omega (arith, begun w b.0 (get_or rs w []) b.1, b.1.within)
-
-  sum_is_entries : (n : ℕ) → n ≤ length rs → sum_below (λ t. t.worker) c.turns entries (length rs) few_turns n ≡ entries_of n rs
-  sum_is_entries zero low = refl
-  sum_is_entries (suc n) low =
-      let next : entries_of (suc n) rs ≡ entries_of n rs + entries n =
-      ap (λ k. entries_of k rs) (sym (add-one n)) ∙ sum_by_more (λ (es : List ReportEntry). length es) rs n [] (omega (arith, low)) in
-      omega (arith, next, sum_is_entries n (omega (arith, low)))
-
-  all_whole : (w : ℕ) → w < length rs → of_worker w ≡ entries w
-  all_whole w low =
-      let all = below_all (λ t. t.worker) c.turns (length rs) known in
-      let whole : entries_of (length rs) rs ≡ sum_by length rs = ap (λ (es : List (List ReportEntry)). sum_by length es) (take_all (length rs) rs (omega arith)) in
-      let sum = sum_is_entries (length rs) (omega arith) in
-      each_full (λ t. t.worker) c.turns entries (length rs) few_turns (length rs) (omega arith) (omega (arith, all, whole, sum, count)) w low
-
-  -- each report that begins well is whole
-  pub all_tell : (w : ℕ) → w < length rs → IsReportOf c w (get_or rs w [])
-  all_tell w low =
-      let b = begins w low in
-      let es = get_or rs w [] in
-      let same = all_whole w low in
-      let all : take b.0 es ≡ es = take_all b.0 es (omega (arith, begun w b.0 es b.1, same)) in
-      record { turns = rw all at b.1.reported; recorded = rw all at b.1.recorded }

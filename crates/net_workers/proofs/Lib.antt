@@ -1,7 +1,11 @@
 pub mod WorkerParts
 pub mod Draws
-pub mod Telling
 pub mod Counts
-pub mod Searching
 pub mod Faulting
+pub mod Fronts
+pub mod Adding
+pub mod TurnLogs
+pub mod Replicas
+pub mod Logs
+pub mod Entries
 pub mod Reports

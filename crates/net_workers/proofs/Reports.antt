@@ -15,7 +15,7 @@ use Rattle.route_tree.specs.Usage.{list_in}
 use Rattle.congestion_book.specs.Contents.{Content, net_count}
 use Rattle.net_workers.specs.declared.report.ReportEntry.{ReportEntry}
 use Rattle.net_workers.specs.Agreement.{Agrees, IsRecorded, reported_turn}
-use Rattle.net_workers.specs.Searches.{IsFoundIn, IsFound, IsStuckNet}
+use Rattle.net_workers.specs.Searches.{IsFoundIn, IsFound, IsStuckNet, view_after}
 
 module _ (i : ℕ) where
   next : (t : Turn) (ts : List Turn) → turns_at (t ∷ ts) i ≡ one_if (t.net == i) + turns_at ts i
@@ -63,14 +63,15 @@ no_tree : (tree : Option (List Row)) → list_of_tree tree ≡ None → tree ≡
 no_tree None none = refl
 no_tree (Some rows) none = cc
 
-stuck_entry : (c : Content) (present bb : ℕ) (e : ReportEntry) → IsFound c present bb e → e.tree ≡ None → IsStuckNet c present bb e.net
+stuck_entry : (old new : Content) (present bb : ℕ) (e : ReportEntry) → IsFound old new present bb e → e.tree ≡ None → IsStuckNet old new present bb e.net
 unfolding IsFound IsStuckNet
-stuck_entry c present bb e found none = (found.0, found.1, subst (IsFoundIn (space_of c.problem e.net found.0 present bb)) none found.2)
+stuck_entry old new present bb e found none =
+    (e.seen, found.0, subst (IsFoundIn (space_of old.problem e.net (view_after old new e.seen e.net) present bb)) none found.1)
 
 module _ (old new : Content) (present bb workers : ℕ) (reports : List (List ReportEntry)) (agrees : Agrees old new present bb workers reports) where
   -- what is true of each entry
   abbrev IsReported : ReportEntry → Type 0
-  IsReported e = IsRecorded new e × IsFound old present bb e
+  IsReported e = IsRecorded new e × IsFound old new present bb e
 
   pub entry_of : (i : ℕ) → i < net_count new → (e : ReportEntry) × (e.net ≡ i) × IsReported e
   entry_of i low =
@@ -84,8 +85,8 @@ module _ (old new : Content) (present bb workers : ℕ) (reports : List (List Re
       has_entry i IsReported w (get_or reports w []) (λ k d l. (reported.recorded k d l, found k d l)) (omega (arith, turn.2, count))
 
   -- a net that was passed is stuck
-  pub stuck_net : (i : ℕ) → i < net_count new → list_in new.lists i ≡ None → IsStuckNet old present bb i
+  pub stuck_net : (i : ℕ) → i < net_count new → list_in new.lists i ≡ None → IsStuckNet old new present bb i
   stuck_net i low none =
       let e = entry_of i low in
       let passed : list_of_tree e.0.tree ≡ None = sym e.2.0 ∙ ap (list_in new.lists) e.1 ∙ none in
-      subst (IsStuckNet old present bb) e.1 (stuck_entry old present bb e.0 e.2.1 (no_tree e.0.tree passed))
+      subst (IsStuckNet old new present bb) e.1 (stuck_entry old new present bb e.0 e.2.1 (no_tree e.0.tree passed))

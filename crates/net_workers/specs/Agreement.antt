@@ -35,5 +35,6 @@ pub record Agrees (old new : Content) (present bb workers : ℕ) (reports : List
   pub count : length reports ≡ workers
   pub known : All (λ t. t.worker < workers) new.turns
   pub reported : (w : ℕ) → w < workers → IsReportOf new w (get_or reports w [])
-  -- each tree is what a search found, and a net without one is stuck
-  pub found : All (AreFound old present bb) reports
+  -- each tree is what a search found by the turns that its worker had seen, and a net without one
+  -- is stuck
+  pub found : All (AreFound old new present bb) reports

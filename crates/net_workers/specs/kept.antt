@@ -1,4 +1,7 @@
 pub mod Faults
-pub mod ReportsSoFar
 pub mod Evenness
-pub mod Attempts
+pub mod Looks
+pub mod Routes
+pub mod TurnLogs
+pub mod LogRules
+pub mod Pages

@@ -4,11 +4,14 @@
 ghost use Rattle.std.specs.Prelude.{◌≡◌, ◌+◌, ◌<◌, ◌↔◌, true, if◌then◌else◌, [], length, vec_len, sum_by, All, Some, IfOk, IfErr, IsOk, OnOk, OnErr};
 ghost use Rattle.route_tree.specs.Rows.{pairs_of};
 ghost use Rattle.route_tree.specs.Faults.{IsRoute};
-ghost use Rattle.congestion_book.specs.Turns.{holder_in};
+ghost use Rattle.congestion_book.specs.Turns.{holder_in, turns_at};
+ghost use Rattle.congestion_book.specs.Totals.{ShowsAll};
+ghost use Rattle.route_tree.specs.TreeLists.{list_of_tree};
 ghost use Rattle.congestion_book.specs.Contents.{IsSound, IsFresh, view_of};
-ghost use Rattle.congestion_book.specs.Steps.{Draws, Commits, Passes, fault_alone};
+ghost use Rattle.congestion_book.specs.Steps.{Draws, DrawsNet, Commits, Passes, EndsTurn, fault_alone};
 ghost use Rattle.net_workers.specs.WorkerParts.{AreParts, IsOfIteration, one_more};
 ghost use Rattle.net_workers.specs.Searches.{IsSeenIn, ShowsNet};
+ghost use Rattle.net_workers.specs.kept.Routes.{RoutesNet};
 ghost use Rattle.net_workers.specs.Looks.{looks_again, CommitsOrLooks, part_with, ShowsAgain};
 
 use crate::share::{Round, Share};
@@ -138,31 +141,6 @@ impl<L: Round> Desk<L> {
         }
     }
 
-    /// Records a tree of which it is known that it routes the net, as `commit` does: it isn't
-    /// looked at again.
-    pub(crate) fn commit_routed(
-        &mut self,
-        share: &mut Share<L>,
-        net: u32,
-        tree: Tree,
-    ) -> Result<(), (CommitFault, Tree)>
-        requires routes { IsRoute L.opening.problem net (pairs_of tree) }
-        ensures step { Commits self.old share.old.worker net (pairs_of tree)
-            (fault_alone result) self.new }
-        ensures counted { OnOk result (share.new ≡ one_more share.old) }
-        ensures uncounted { OnErr result (share.new ≡ share.old) }
-    {
-        let worker = share.worker();
-        let Desk { book, total, .. } = self;
-        match book.commit_routed(worker, net, tree) {
-            Ok(()) => {
-                share.count_turn(total, open_turns(book).len());
-                Ok(())
-            }
-            Err(refused) => Err(refused),
-        }
-    }
-
     /// Comes to commit the tree of a net, which was found with this view. Where a node of the tree
     /// is full now by the other nets, and was not by those in the view, the view becomes that of
     /// the net as the book is now, and the tree is let go; else it is committed as `commit` does.
@@ -183,30 +161,6 @@ impl<L: Round> Desk<L> {
             return Ok(TurnOrLook::Look);
         }
         match self.commit(share, net, tree) {
-            Ok(()) => Ok(TurnOrLook::Turn),
-            Err(back) => Err(back),
-        }
-    }
-
-    /// Comes to commit a tree of which it is known that it routes the net, as `commit_or_look`
-    /// does.
-    pub(crate) fn commit_routed_or_look(
-        &mut self,
-        share: &mut Share<L>,
-        net: u32,
-        tree: Tree,
-        view: &mut View,
-    ) -> Result<TurnOrLook, (CommitFault, Tree)>
-        requires routes { IsRoute L.opening.problem net (pairs_of tree) }
-        ensures step { CommitsOrLooks self.old view.old share.old.worker net tree
-            (fault_alone result) self.new view.new }
-        ensures share { share.new ≡ part_with result share.old }
-        ensures shown { ShowsAgain L.opening net result view.new }
-    {
-        if self.looks_again(net, &tree, view) {
-            return Ok(TurnOrLook::Look);
-        }
-        match self.commit_routed(share, net, tree) {
             Ok(()) => Ok(TurnOrLook::Turn),
             Err(back) => Err(back),
         }
@@ -237,6 +191,55 @@ impl<L: Round> Desk<L> {
         let worker = share.worker();
         let Desk { book, total, .. } = self;
         match book.pass(worker, net) {
+            Ok(()) => {
+                share.count_turn(total, open_turns(book).len());
+                Ok(())
+            }
+            Err(fault) => Err(fault),
+        }
+    }
+
+    /// Gives the share's worker the least net that was not drawn, without its view.
+    pub(crate) fn draw_net(&mut self, share: &mut Share<L>) -> Option<u32>
+        ensures step { DrawsNet self.old share.old.worker result self.new }
+        ensures share { share.new ≡ share.old }
+    {
+        let _sound = self.book.problem();
+        self.book.draw_net(share.worker())
+    }
+
+    /// Whether the share's worker holds a net, which then had no turn.
+    pub(crate) fn holds(&self, share: &Share<L>, net: u32) -> bool
+        ensures { result ≡ true → turns_at self.now.turns net ≡ 0 }
+    {
+        let _sound = self.book.problem();
+        self.book.holds(share.worker(), net)
+    }
+
+    /// Fills a view with what all nets use.
+    pub(crate) fn look_at_all(&self, view: &mut View) -> Result<(), DrawFault>
+        ensures { OnOk result (ShowsAll self.now view.new) }
+    {
+        self.book.look_at_all(view)
+    }
+
+    /// Ends the turn of the share's worker at a net that it holds, with a tree of which it is known
+    /// that it routes the net, or with none. The tree becomes the one that the net had before.
+    pub(crate) fn exchange(
+        &mut self,
+        share: &mut Share<L>,
+        net: u32,
+        tree: &mut Option<Tree>,
+    ) -> Result<(), PassFault>
+        requires routes { RoutesNet L.opening.problem net tree.old }
+        ensures step { EndsTurn self.old share.old.worker net (list_of_tree tree.old)
+            result self.new }
+        ensures counted { OnOk result (share.new ≡ one_more share.old) }
+        ensures uncounted { OnErr result (share.new ≡ share.old) }
+    {
+        let worker = share.worker();
+        let Desk { book, total, .. } = self;
+        match book.exchange_routed(worker, net, tree) {
             Ok(()) => {
                 share.count_turn(total, open_turns(book).len());
                 Ok(())

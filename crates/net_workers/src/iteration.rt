@@ -1,193 +1,119 @@
 //! An iteration of several workers on one book.
 
-ghost use Rattle.std.specs.Prelude.{◌≡◌, ◌<◌, ◌≤◌, length, vec_len, sum_by, All, None, Err, IfOk, IfSome};
+ghost use Rattle.std.specs.Prelude.{◌≡◌, ◌<◌, ◌≤◌, IfOk};
 ghost use Rattle.node_cost.specs.Options.{present_of, most_iterations, most_workers};
 ghost use Rattle.congestion_book.specs.Contents.{IsSound, IsFresh};
 ghost use Rattle.net_workers.specs.Agreement.{Agrees};
-ghost use Rattle.net_workers.specs.WorkerParts.{AreParts, IsOfIteration};
-ghost use Rattle.net_workers.specs.kept.Faults.{first_of, first_met};
-ghost use Rattle.net_workers.specs.Searches.{AreFound};
+ghost use Rattle.net_workers.specs.kept.TurnLogs.{plan_of};
 
-use crate::comparison::{all_begin, is_done};
+use crate::board::Board;
+use crate::comparison::is_done;
 use crate::desk::Desk;
 use crate::fault::WorkFault;
+use crate::gathering::{gather, reports_of};
+use crate::history::{Logged, Opened};
+use crate::opening::trees_of;
+use crate::page::Cell;
 use crate::report::Report;
-use crate::share::{Round, Share};
+use crate::search::SearchOptions;
+use crate::staff::{dismiss_all, hire_all};
 use crate::threads::run_all;
-use crate::worker::{Finished, SearchOptions};
+use crate::turn_desk::TurnDesk;
+use crate::worker::Worker;
 use crate::workspace::{Tools, Workspace};
 use congestion_book::Book;
 use gates::Gate;
 use node_cost::Settings;
+use route_tree::Tree;
 use std::alloc::{AllocError, Global};
 use std::marker::Brand;
+use std::mem;
 use std::sync::ledger::Blank;
 use std::sync::{Mutex, Wait};
 use std::thread::Threads;
 use wave_ground::PreparedProblem;
 
-/// The first of a fault and those that were met before.
-fn first_of(met: Option<WorkFault>, fault: WorkFault) -> WorkFault
-    ensures { result ≡ first_of met fault }
-{
-    match met {
-        Some(met) => met.min(fault),
-        None => fault,
-    }
-}
-
-/// The first of the workers' faults, if there are any.
-fn first_fault<L: Round>(results: &[Result<Finished<L>, WorkFault>]) -> Option<WorkFault>
-    ensures { result ≡ first_met None results.now }
-{
-    let mut met = None;
-    for result in results {
-        met = match result {
-            Ok(_) => met,
-            Err(fault) => Some(first_of(met, *fault)),
-        };
-    }
-    met
-}
-
-/// What the workers hand back, or the first of their faults.
-fn all_finished<L: Round>(
+/// The book and the reports, where each net had its turn.
+fn settle<L: Logged>(
     alloc: Global,
-    results: Vec<Result<Finished<L>, WorkFault>>,
-) -> Result<Vec<Finished<L>>, WorkFault>
-    ensures all { IfOk result (λ all. vec_len all ≡ vec_len results) }
-    ensures first { IfSome (first_met None results.items) (λ fault. result ≡ Err fault) }
-{
-    if let Some(fault) = first_fault(&results) {
-        return Err(fault);
-    }
-    let mut all = Vec::with_capacity(alloc, results.len())?;
-    for result in results {
-        all.push_reserved(result?);
-    }
-    Ok(all)
-}
-
-/// The shares and the reports, which have together as many entries as the shares have counted. What
-/// the workers searched with is added to the tools.
-fn take_apart<L: Round>(
-    alloc: Global,
-    all: Vec<Finished<L>>,
-    tools: &mut Vec<Tools>,
-) -> Result<(Vec<Share<L>>, Vec<Report>), AllocError>
-    ensures shares { IfOk result (λ r. vec_len r.0 ≡ vec_len all) }
-    ensures reports { IfOk result (λ r. vec_len r.1 ≡ vec_len all) }
-    ensures counted { IfOk result (λ r. sum_by (λ s. s.turns) r.0.items ≡ sum_by length r.1.items) }
-    ensures found { IfOk result (λ r. All (AreFound L.opening L.present L.bb) r.1.items) }
-{
-    let mut shares = Vec::with_capacity(alloc, all.len())?;
-    let mut reports = Vec::with_capacity(alloc, all.len())?;
-    tools.reserve(all.len())?;
-    for finished in all {
-        let (share, report, used) = finished.into_parts();
-        shares.push_reserved(share);
-        reports.push_reserved(report);
-        tools.push_reserved(used);
-    }
-    Ok((shares, reports))
-}
-
-/// The book and the reports, which have together as many entries as the book has open turns. What
-/// the workers searched with is added to the tools.
-fn settle<L: Round>(
-    alloc: Global,
-    desk: Desk<L>,
-    results: Vec<Result<Finished<L>, WorkFault>>,
-    tools: &mut Vec<Tools>,
+    desk: TurnDesk<L>,
+    row: Vec<Cell<L>>,
+    workers: u32,
 ) -> Result<(Book, Vec<Report>), WorkFault>
-    requires { vec_len results ≡ L.parts }
-    ensures count { IfOk result (λ r. vec_len r.1 ≡ L.parts) }
-    ensures found { IfOk result (λ r. All (AreFound L.opening L.present L.bb) r.1.items) }
-    ensures turns { IfOk result (λ r. sum_by length r.1.items ≡ length r.0.turns) }
-    ensures known { IfOk result (λ r. All (λ t. t.worker < L.workers) r.0.turns) }
-    ensures sound { IfOk result (λ r. IsSound r.0) }
-    ensures within { IfOk result (λ r. IsOfIteration L.opening r.0) }
-{
-    let all = all_finished(alloc, results)?;
-    let (shares, reports) = take_apart(alloc, all, tools)?;
-    Ok((desk.gather(shares), reports))
-}
-
-/// The book and the reports, where they agree.
-fn compare<L: Round>(book: Book, reports: Vec<Report>) -> Result<(Book, Vec<Report>), WorkFault>
-    requires count { vec_len reports ≡ L.workers }
-    requires few { L.workers ≤ most_workers }
-    requires found { All (AreFound L.opening L.present L.bb) reports.items }
-    requires turns { sum_by length reports.items ≡ length book.turns }
-    requires known { All (λ t. t.worker < L.workers) book.turns }
-    requires sound { IsSound book }
-    requires within { IsOfIteration L.opening book }
+    requires workers { workers ≡ L.workers }
     ensures sound { IfOk result (λ r. IsSound r.0) }
     ensures agrees { IfOk result (λ r. Agrees L.opening r.0 L.present L.bb L.workers r.1.items) }
 {
-    if !is_done(&book) || !all_begin(&book, &reports) {
+    let (book, front) = desk.into_parts();
+    if !is_done(&book) {
         return Err(WorkFault::Astray);
     }
+    let turns = gather(alloc, row, &front)?;
+    let reports = reports_of(alloc, turns, workers)?;
     Ok((book, reports))
 }
 
 /// The workers of a round at a desk, until no net is left. They take the tools that were left, and
 /// leave theirs.
-fn work_at<L: Round + Send + Sync, R: Threads + Wait + Sync, G: Gate + Sync>(
+fn work_at<L: Logged + Send + Sync, R: Threads + Wait + Sync, G: Gate + Sync>(
     rt: &R,
     alloc: Global,
-    desk: Desk<L>,
-    prepared: &PreparedProblem,
+    desk: TurnDesk<L>,
+    board: &Board<'_, L>,
+    workers: Vec<Worker<L>>,
     tools: &mut Vec<Tools>,
-    options: SearchOptions,
-    shares: Vec<Share<L>>,
     gate: &G,
-) -> Result<(Book, Vec<Report>), WorkFault>
-    requires shares { AreParts shares.items L.workers }
-    requires workers { (L.parts ≡ L.workers) × (L.workers ≤ most_workers) }
-    requires problem { prepared.now ≡ L.opening.problem }
-    requires options { (options.present ≡ L.present) × (options.bb ≡ L.bb) }
-    ensures sound { IfOk result (λ r. IsSound r.0) }
-    ensures agrees { IfOk result (λ r. Agrees L.opening r.0 L.present L.bb L.workers r.1.items) }
-{
-    let workers = shares.len();
+) -> Result<TurnDesk<L>, WorkFault> {
+    let all = workers.len();
     let desk = Mutex::new(desk);
-    let results = run_all(rt, alloc, &desk, prepared, tools, options, shares, gate)?;
-    if results.len() != workers {
+    let results = run_all(rt, alloc, &desk, board, workers, gate)?;
+    if results.len() != all {
         return Err(WorkFault::NoThread);
     }
-    let (book, reports) = settle(alloc, desk.into_inner(), results, tools)?;
-    compare::<L>(book, reports)
+    dismiss_all(results, tools)?;
+    Ok(desk.into_inner())
 }
 
-/// An iteration in a round that names its workers, its options and its book.
-fn iterate_as<L: Round + Send + Sync, R: Threads + Wait + Sync, G: Gate + Sync>(
+/// An iteration in a round that names its workers, its options and its book. The workers take the
+/// tools that were left, and leave theirs; the trees are some that may be recorded, and become
+/// those with which the iteration opened.
+fn iterate_as<L: Logged + Send + Sync, R: Threads + Wait + Sync, G: Gate + Sync>(
     rt: &R,
     alloc: Global,
-    workspace: &mut Workspace,
+    prepared: &PreparedProblem,
+    tools: &mut Vec<Tools>,
+    trees: &mut Vec<Option<Tree>>,
     book: Book,
     options: SearchOptions,
     workers: u32,
     blank: Blank,
+    opened: Opened,
     gate: &G,
 ) -> Result<(Book, Vec<Report>), WorkFault>
-    requires problem { workspace.old ≡ book.problem }
+    requires problem { prepared.now ≡ book.problem }
     requires fresh { IsFresh book }
     requires few { workers ≤ most_workers }
     requires workers { workers ≡ L.workers }
     requires book { book ≡ L.opening }
     requires options { (options.present ≡ L.present) × (options.bb ≡ L.bb) }
+    requires plan { L.plan ≡ plan_of L.opening L.present L.bb L.workers }
+    requires history { opened.seen.book ≡ L.history }
     requires name { blank.name ≡ L.name }
     requires parts { blank.parts ≡ L.parts }
     requires one_each { blank.parts ≡ workers }
     ensures sound { IfOk result (λ r. IsSound r.0) }
-    ensures agrees { IfOk result (λ r.
-        Agrees book r.0 options.present options.bb workers r.1.items) }
-    ensures workspace { workspace.new ≡ workspace.old }
+    ensures agrees { IfOk result (λ r. Agrees L.opening r.0 L.present L.bb L.workers r.1.items) }
 {
+    let (head, front) = opened.named::<L>();
+    let opening = trees_of(alloc, &book, mem::replace(trees, Vec::new(alloc)))?;
+    let board = Board::new(alloc, prepared, options, opening, head)?;
     let (desk, shares) = Desk::<L>::new(alloc, book, workers, blank)?;
-    let Workspace { prepared, tools } = workspace;
-    work_at(rt, alloc, desk, prepared, tools, options, shares, gate)
+    let staff = hire_all(alloc, &board, &desk, &front, shares, tools)?;
+    let desk = TurnDesk::new(desk, front);
+    let desk = work_at(rt, alloc, desk, &board, staff, tools, gate)?;
+    let (row, opening) = board.into_parts();
+    *trees = opening;
+    settle(alloc, desk, row, workers)
 }
 
 /// Iteration k of a negotiation: so many workers draw the nets of the book, in whose open iteration
@@ -223,9 +149,17 @@ pub fn iterate_in<R: Threads + Wait + Sync, G: Gate + Sync>(
         settings.now.bb workers r.1.items) }
     ensures workspace { workspace.new ≡ workspace.old }
 {
-    let options = SearchOptions::of(settings, iteration);
+    let options = SearchOptions::of(settings, iteration, workers);
     let blank = Blank::new(workers as u64);
-    iterate_as::<Brand, R, G>(rt, alloc, workspace, book, options, workers, blank, gate)
+    let opened = Opened::new();
+    let Workspace {
+        prepared,
+        tools,
+        trees,
+    } = workspace;
+    iterate_as::<Brand, R, G>(
+        rt, alloc, prepared, tools, trees, book, options, workers, blank, opened, gate,
+    )
 }
 
 /// A workspace of the book's problem, of which it makes a copy.

@@ -2,13 +2,24 @@
 //! congestion book under one lock.
 #![tactic(auto)]
 
+mod board;
 mod comparison;
 mod desk;
 mod fault;
+mod gathering;
+mod had_room;
+mod history;
 mod iteration;
+mod made_turn;
+mod opening;
+mod page;
+mod replica;
 mod report;
+mod search;
 mod share;
+mod staff;
 mod threads;
+mod turn_desk;
 mod turn_or_look;
 mod worker;
 mod workspace;

@@ -1,14 +1,17 @@
 //! What a worker tells of its turns.
 
-ghost use Rattle.std.specs.Prelude.{◌≡◌};
+ghost use Rattle.std.specs.Prelude.{◌≡◌, ◌++◌, ◌∷◌, [], OnOk};
 
 use route_tree::Tree;
+use std::alloc::AllocError;
 use std::marker::Model;
 
-/// One turn: the net, and a copy of the tree that was committed, or none where the net was passed.
+/// One turn: the net, how many turns of the iteration the worker had seen when it searched, and a
+/// copy of the tree that was committed, or none where the net was passed.
 #[derive(Debug, Drop)]
 pub struct ReportEntry {
     pub net: u32,
+    pub seen: u64,
     pub tree: Option<Tree>,
 }
 
@@ -33,6 +36,23 @@ impl Report {
         ensures { result ≡ entries.items }
     {
         Report { entries }
+    }
+
+    /// Adds a turn.
+    pub(crate) fn add(&mut self, entry: ReportEntry) -> Result<(), AllocError>
+        ensures { OnOk result (self.new ≡ self.old ++ entry ∷ []) }
+    {
+        self.entries.reserve(1)?;
+        self.entries.push_reserved(entry);
+        Ok(())
+    }
+
+    /// The turns, taken apart.
+    pub(crate) fn into_entries(self) -> Vec<ReportEntry>
+        ensures { result.items ≡ self }
+    {
+        let Report { entries } = self;
+        entries
     }
 
     /// The turns.

@@ -3,8 +3,11 @@
 ghost use Rattle.std.specs.Prelude.{◌≡◌, IfOk, IsTrue};
 ghost use Rattle.routing_problem.specs.Nodes.{node_count_of};
 
+use crate::had_room::HadRoom;
+use crate::report::{Report, ReportEntry};
 use group_wave::Scratch;
 use node_cost::View;
+use route_tree::Tree;
 use routing_problem::Problem;
 use std::alloc::{AllocError, Global};
 use std::marker::Model;
@@ -14,6 +17,8 @@ use wave_ground::PreparedProblem;
 #[derive(Drop)]
 pub(crate) struct Tools {
     pub(crate) view: View,
+    pub(crate) turned: Vec<bool>,
+    pub(crate) room: HadRoom,
     pub(crate) scratch: Scratch,
 }
 
@@ -25,6 +30,8 @@ impl Tools {
         let nodes = prepared.problem().device().node_count() as usize;
         Ok(Tools {
             view: View::new(alloc, nodes)?,
+            turned: Vec::new(alloc),
+            room: HadRoom::new(alloc),
             scratch: Scratch::new(alloc, prepared)?,
         })
     }
@@ -53,12 +60,14 @@ impl Tools {
     }
 }
 
-/// What the workers of a problem's iterations search with: the problem, prepared for searches, and
-/// the tools that workers left, kept for those of the next iteration. Contracts see the problem.
+/// What the workers of a problem's iterations search with: the problem, prepared for searches; the
+/// tools that workers left, kept for those of the next iteration; and trees with which an iteration
+/// opened. Contracts see the problem.
 #[derive(Drop)]
 pub struct Workspace {
     pub(crate) prepared: PreparedProblem,
     pub(crate) tools: Vec<Tools>,
+    pub(crate) trees: Vec<Option<Tree>>,
 }
 
 impl Model for Workspace {
@@ -67,6 +76,16 @@ impl Model for Workspace {
     ghost Value = { RoutingProblem };
 
     ghost view = { λ w. w.prepared };
+}
+
+/// Keeps the trees that a worker reports.
+fn keep_entries(trees: &mut Vec<Option<Tree>>, report: Report) {
+    for entry in report.into_entries() {
+        let ReportEntry { net, tree, .. } = entry;
+        if (net as usize) < trees.len() {
+            trees[net as usize] = tree;
+        }
+    }
 }
 
 impl Workspace {
@@ -82,7 +101,18 @@ impl Workspace {
         Ok(Workspace {
             prepared,
             tools: Vec::new(alloc),
+            trees: Vec::new(alloc),
         })
+    }
+
+    /// Keeps the trees that workers report, so that the next iteration of the book needn't copy
+    /// them.
+    pub fn keep(&mut self, reports: Vec<Report>)
+        ensures { self.new ≡ self.old }
+    {
+        for report in reports {
+            keep_entries(&mut self.trees, report);
+        }
     }
 
     /// The problem.

@@ -1,3 +1,4 @@
+use Rattle.net_workers.specs.kept.TurnLogs.{plan_of}
 use Rattle.net_workers.proofs.iteration.iterate_in.Given as goal
 
 abbrev pub ghosts-iterate_as-L-Ledger : goal.ghosts-iterate_as-L-Ledger
@@ -5,3 +6,6 @@ ghosts-iterate_as-L-Ledger g a = record { name = a.blank.name; parts = a.blank.p
 
 abbrev pub ghosts-iterate_as-L-Round : goal.ghosts-iterate_as-L-Round
 ghosts-iterate_as-L-Round g a = record { workers = a.workers; bb = a.options.bb; present = a.options.present; opening = a.book }
+
+abbrev pub ghosts-iterate_as-L-Logged : goal.ghosts-iterate_as-L-Logged
+ghosts-iterate_as-L-Logged g a = record { plan = plan_of a.book a.options.present a.options.bb a.workers; history = a.opened.seen.book }

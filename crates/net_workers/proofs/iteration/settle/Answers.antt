@@ -1,0 +1,24 @@
+use Rattle.std.proofs.Common.{rules, ◌≡◌, length, ap, ◌∙◌}
+use Rattle.net_workers.specs.kept.TurnLogs.{IsLegal, plan_of, entries_of}
+use Rattle.net_workers.proofs.Entries.{agrees_by}
+use Rattle.net_workers.proofs.iteration.settle.Goals as goal
+
+pub reports_of-requires : goal.reports_of-requires
+reports_of-requires g c =
+    let parts = c.into_parts-book.ensures in
+    let turns : c.in_ok-turns.turns.items ≡ c.args.desk = c.in_ok-turns.ensures ∙ parts.history in
+    let legal : IsLegal (plan_of g.L.Round.opening g.L.Round.present g.L.Round.bb g.L.Round.workers) c.args.desk = rw parts.plan at parts.legal in
+    rw (turns, c.requires.workers) (λ k d low. (legal.each k d low).worker)
+
+pub returns-clause-agrees : goal.returns-clause-agrees
+returns-clause-agrees g c =
+    let round = g.L.Round in
+    let parts = c.into_parts-book.ensures in
+    let turns : c.in_ok-turns.turns.items ≡ c.args.desk = c.in_ok-turns.ensures ∙ parts.history in
+    let legal : IsLegal (plan_of round.opening round.present round.bb round.workers) c.args.desk = rw parts.plan at parts.legal in
+    let reports = c.in_ok-reports.ensures in
+    let done = c.is_done.ensures in
+    let count : length c.in_ok-reports.reports.items ≡ round.workers = search rules in
+    agrees_by round.opening c.into_parts-book.result.0 round.present round.bb round.workers c.args.desk c.in_ok-reports.reports.items legal parts.sound parts.within parts.lists parts.turns
+    (done.once c.if-not-is_done.false) (done.free c.if-not-is_done.false) count parts.known
+    (λ w low. reports.each w (rw c.requires.workers low) ∙ ap (entries_of w) turns)

@@ -1,0 +1,41 @@
+use Rattle.std.proofs.Common.{arith}
+use Rattle.net_workers.specs.kept.TurnLogs.{book_after}
+use Rattle.net_workers.proofs.Replicas.{listed_there, shows_open, lacks_open, still_replica}
+use Rattle.net_workers.proofs.replica.Replica.is_filled.Goals as goal
+
+pub opening_tree-own-requires : goal.opening_tree-own-requires
+opening_tree-own-requires g c =
+    let p = g.L.Logged.plan in
+    let is_open = rw c.deref.ensures.value at (c.is_open.ensures.0 c.if-not-is_open.false) in
+    listed_there p c.self.inside.view c.self.inside.turned.items c.self.inside.front c.self.invariant (omega (arith, is_open.0, c.self.invariant.nets.all))
+
+pub leave_net-requires : goal.leave_net-requires
+leave_net-requires g c =
+    let p = g.L.Logged.plan in
+    let is_open = rw c.deref.ensures.value at (c.is_open.ensures.0 c.if-not-is_open.false) in
+    record {
+      shown = (
+        book_after p c.self.inside.front,
+        shows_open p c.self.inside.view c.self.inside.turned.items c.self.inside.front c.self.invariant c.found.inside.net c.opening_tree-own.result.now is_open.0 is_open.1 c.opening_tree-own.ensures,
+      );
+    }
+
+pub return_net-requires : goal.return_net-requires
+return_net-requires g c =
+    let p = g.L.Logged.plan in
+    let is_open = rw c.deref.ensures.value at (c.is_open.ensures.0 c.if-not-is_open.false) in
+    let shows = shows_open p c.self.inside.view c.self.inside.turned.items c.self.inside.front c.self.invariant c.found.inside.net c.opening_tree-own.result.now is_open.0 is_open.1 c.opening_tree-own.ensures in
+    record {
+      lacks = (
+        book_after p c.self.inside.front,
+        lacks_open p c.self.inside.view c.self.inside.turned.items c.self.inside.front c.self.invariant c.found.inside.net c.opening_tree-own.result.now c.leave_net.new.view shows (c.leave_net.ensures (book_after p c.self.inside.front) shows),
+      );
+    }
+
+pub invariant_of-self : goal.invariant_of-self
+invariant_of-self g c =
+    let p = g.L.Logged.plan in
+    let is_open = rw c.deref.ensures.value at (c.is_open.ensures.0 c.if-not-is_open.false) in
+    let shows = shows_open p c.self.inside.view c.self.inside.turned.items c.self.inside.front c.self.invariant c.found.inside.net c.opening_tree-own.result.now is_open.0 is_open.1 c.opening_tree-own.ensures in
+    let lacks = lacks_open p c.self.inside.view c.self.inside.turned.items c.self.inside.front c.self.invariant c.found.inside.net c.opening_tree-own.result.now c.leave_net.new.view shows (c.leave_net.ensures (book_after p c.self.inside.front) shows) in
+    still_replica p c.self.inside.view c.self.inside.turned.items c.self.inside.front c.self.invariant c.return_net.new.view (c.return_net.ensures (book_after p c.self.inside.front) lacks)

@@ -1,0 +1,89 @@
+//! How workers search in an iteration.
+
+ghost use Rattle.std.specs.Prelude.{◌≡◌, ◌<◌, ◌≤◌, length, IfOk};
+ghost use Rattle.routing_problem.specs.Nodes.{node_count_of};
+ghost use Rattle.node_cost.specs.Options.{greatest_present, present_of, most_iterations};
+ghost use Rattle.wavefront.specs.Growth.{space_of};
+ghost use Rattle.net_workers.specs.Searches.{IsFoundIn};
+ghost use Rattle.net_workers.specs.kept.Routes.{RoutesNet};
+ghost use Rattle.net_workers.specs.kept.Looks.{most_looks};
+
+use crate::fault::WorkFault;
+use gates::Gate;
+use group_wave::{Scratch, route_net};
+use node_cost::{Settings, View};
+use route_tree::Tree;
+use std::alloc::Global;
+use wave_ground::PreparedProblem;
+use wavefront::{Found, SearchFault};
+
+/// How many times a worker may look again at a net that it holds.
+const MOST_LOOKS: u32 = 4;
+
+/// The present-congestion factor of an iteration, by how much the boxes of nets are widened, and
+/// how many times a worker may look again at a net.
+#[derive(Clone, Copy)]
+pub(crate) struct SearchOptions {
+    pub(crate) present: u32,
+    pub(crate) bb: u32,
+    pub(crate) looks: u32,
+    pub(crate) ghost present_within: { present ≤ greatest_present },
+    pub(crate) ghost bb_within: { (1 ≤ bb) × (bb ≤ 255) },
+}
+
+impl SearchOptions {
+    /// Those of an iteration, counted from 1, by so many workers.
+    pub(crate) fn of(settings: &Settings, iteration: u32, workers: u32) -> SearchOptions
+        requires { (1 ≤ iteration) × (iteration ≤ most_iterations) }
+        ensures present { result.present ≡ present_of settings.now iteration }
+        ensures bb { result.bb ≡ settings.now.bb }
+        ensures looks { result.looks ≡ most_looks iteration workers }
+    {
+        SearchOptions {
+            present: settings.present(iteration),
+            bb: settings.bb(),
+            looks: if iteration == 1 || workers == 1 {
+                0
+            } else {
+                MOST_LOOKS
+            },
+        }
+    }
+}
+
+/// A search for the tree of a net: the tree, or none where the net is stuck, of which the gate is
+/// told.
+pub(crate) fn search<G: Gate>(
+    alloc: Global,
+    prepared: &PreparedProblem,
+    net: u32,
+    view: &View,
+    options: SearchOptions,
+    scratch: &mut Scratch,
+    gate: &G,
+) -> Result<Option<Tree>, WorkFault>
+    requires net { net < length prepared.now.nets }
+    requires fits { scratch.old ≡ node_count_of prepared.now.device }
+    ensures found { IfOk result (IsFoundIn
+        (space_of prepared.now net view.now options.present options.bb)) }
+    ensures routes { IfOk result (RoutesNet prepared.now net) }
+    ensures fits { scratch.new ≡ scratch.old }
+{
+    match route_net(
+        alloc,
+        prepared,
+        net,
+        view,
+        options.present,
+        options.bb,
+        scratch,
+    ) {
+        Ok(Found::Tree(tree)) => Ok(Some(tree)),
+        Ok(Found::NoPath(sink)) => {
+            gate.stuck(net, sink);
+            Ok(None)
+        }
+        Err(SearchFault::Memory) => Err(WorkFault::Memory),
+        Err(SearchFault::ViewSize) => Err(WorkFault::Astray),
+    }
+}

@@ -1,0 +1,112 @@
+//! The workers of an iteration, before they begin and after they ended.
+
+ghost use Rattle.std.specs.Prelude.{◌≡◌, ◌<◌, [], false, length, vec_len, replicate, None, Err, IfOk, IfSome};
+ghost use Rattle.congestion_book.specs.Contents.{net_count};
+ghost use Rattle.net_workers.specs.kept.Faults.{first_of, first_met};
+
+use crate::board::Board;
+use crate::desk::Desk;
+use crate::fault::WorkFault;
+use crate::history::{Front, Logged};
+use crate::replica::Replica;
+use crate::share::Share;
+use crate::worker::Worker;
+use crate::workspace::Tools;
+use std::alloc::{AllocError, Global};
+
+/// That none of so many nets had a turn.
+fn set_none_turned(turned: &mut Vec<bool>, nets: u32) -> Result<(), AllocError>
+    ensures { IfOk result (λ done. turned.new.items ≡ replicate nets false) }
+{
+    turned.clear();
+    turned.resize(nets as usize, false)
+}
+
+/// The worker of a share, which sees the desk's book as the iteration opens, with the tools that
+/// another worker left, if there are any.
+fn hire<L: Logged>(
+    alloc: Global,
+    board: &Board<'_, L>,
+    desk: &Desk<L>,
+    front: &Front<L>,
+    share: Share<L>,
+    left: Option<Tools>,
+) -> Result<Worker<L>, WorkFault>
+    requires opens { desk.now ≡ L.plan.opening }
+    requires none { front.now ≡ [] }
+{
+    let Tools {
+        mut view,
+        mut turned,
+        room,
+        scratch,
+    } = Tools::fitting(alloc, board.prepared(), left)?;
+    set_none_turned(&mut turned, board.prepared().problem().nets())?;
+    if desk.look_at_all(&mut view).is_err() {
+        return Err(WorkFault::Astray);
+    }
+    let replica = Replica::new(view, turned, front.again());
+    Ok(Worker::new(share, replica, room, scratch))
+}
+
+/// The workers of these shares. They take the tools that were left, as long as there are any.
+pub(crate) fn hire_all<L: Logged>(
+    alloc: Global,
+    board: &Board<'_, L>,
+    desk: &Desk<L>,
+    front: &Front<L>,
+    shares: Vec<Share<L>>,
+    tools: &mut Vec<Tools>,
+) -> Result<Vec<Worker<L>>, WorkFault>
+    requires opens { desk.now ≡ L.plan.opening }
+    requires none { front.now ≡ [] }
+    ensures { IfOk result (λ all. vec_len all ≡ vec_len shares) }
+{
+    let mut all = Vec::with_capacity(alloc, shares.len())?;
+    for share in shares {
+        let worker = hire(alloc, board, desk, front, share, tools.pop())?;
+        all.push_reserved(worker);
+    }
+    Ok(all)
+}
+
+/// The first of a fault and those that were met before.
+fn first_of(met: Option<WorkFault>, fault: WorkFault) -> WorkFault
+    ensures { result ≡ first_of met fault }
+{
+    match met {
+        Some(met) => met.min(fault),
+        None => fault,
+    }
+}
+
+/// The first of the workers' faults, if there are any.
+fn first_fault(results: &[Result<Tools, WorkFault>]) -> Option<WorkFault>
+    ensures { result ≡ first_met None results.now }
+{
+    let mut met = None;
+    for result in results {
+        met = match result {
+            Ok(_) => met,
+            Err(fault) => Some(first_of(met, *fault)),
+        };
+    }
+    met
+}
+
+/// Takes back what the workers searched with, or answers the first of their faults.
+pub(crate) fn dismiss_all(
+    results: Vec<Result<Tools, WorkFault>>,
+    tools: &mut Vec<Tools>,
+) -> Result<(), WorkFault>
+    ensures first { IfSome (first_met None results.items) (λ fault. result ≡ Err fault) }
+{
+    if let Some(fault) = first_fault(&results) {
+        return Err(fault);
+    }
+    tools.reserve(results.len())?;
+    for result in results {
+        tools.push_reserved(result?);
+    }
+    Ok(())
+}
