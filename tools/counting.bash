@@ -1,4 +1,5 @@
-# Adds up what tests count. Sourced by ./test, ./prove and .ci/run.
+# Adds up what tests count, and runs them, one by one (run) or side by side (plan, run_planned). Sourced by ./test, ./prove and
+# .ci/run.
 
 passed=0
 failed=0
@@ -17,19 +18,31 @@ count() {
   fi
 }
 
-# Runs a command, shows what it prints, and adds its counts; a failure that it does not count is one.
-run() {
-  local log status failed_before=$failed
-  log=$(mktemp)
-  "$@" 2>&1 | tee "$log"
-  status=${PIPESTATUS[0]}
+# Adds what came of a command: its log, its status, and its words. A failure that it does not count is one.
+add() {
+  local log=$1 status=$2 failed_before=$failed
+  shift 2
   count "$log"
   if [ "$status" -ne 0 ] && [ "$failed" -eq "$failed_before" ]; then
     failed=$((failed + 1))
   fi
   if [ "$failed" -ne "$failed_before" ]; then
-    failures+="== $*"$'\n'"$(tail -n 20 "$log")"$'\n'
+    failures+="== $(shortened "$*")"$'\n'"$(tail -n 20 "$log")"$'\n'
   fi
+}
+
+# The first words of a long line.
+shortened() {
+  [ "${#1}" -le 200 ] && echo "$1" || echo "${1:0:200} .."
+}
+
+# Runs a command, shows what it prints, and adds its counts.
+run() {
+  local log status
+  log=$(mktemp)
+  "$@" 2>&1 | tee "$log"
+  status=${PIPESTATUS[0]}
+  add "$log" "$status" "$@"
   rm -f "$log"
   return "$status"
 }
@@ -38,7 +51,158 @@ run() {
 # nothing failed.
 finish() {
   [ -z "$failures" ] || printf '\nwhat failed:\n%s' "$failures"
+  [ -z "$own" ] || leave_files
   echo "$passed passed, $failed failed"
   [ "$failed" -eq 0 ] && [ "$passed" -gt 0 ]
   exit
+}
+
+# ---- Temporary files
+
+# The folder of the script's own temporary files, where it has one.
+own=
+
+# Has all temporary files stand in one folder, in which every user may make some, as in /tmp. A signal ends what runs, and takes
+# them all away.
+own_files() {
+  local signal
+  own=$(mktemp -d "${TMPDIR:-/tmp}/tests-XXXXXX") || exit 1
+  mkdir "$own/files" "$own/logs"
+  chmod 755 "$own"
+  chmod 1777 "$own/files"
+  export TMPDIR=$own/files
+  for signal in INT TERM HUP PIPE; do
+    trap "end_by $signal" "$signal"
+  done
+}
+
+# Takes the folder away, or says where it is: a test that failed may have kept files there.
+leave_files() {
+  rm -rf "$own/logs"
+  rmdir "$own/files" "$own" 2>/dev/null || echo "temporary files were left in $own/files"
+}
+
+# Ends what runs, takes all temporary files away, and ends by the signal that came.
+end_by() {
+  local tries
+  trap '' INT TERM HUP PIPE
+  exec 2>/dev/null
+  # Python cleans up at this one.
+  signal_running -INT
+  for ((tries = 0; tries < 50; tries++)); do
+    signal_running -0 || break
+    sleep 0.1
+  done
+  signal_running -KILL
+  chmod -R u+rwx "$own"
+  rm -rf "$own"
+  trap - "$1"
+  kill "-$1" "$$"
+}
+
+# ---- Commands side by side
+
+# The commands that are planned, each as words of a shell, in the order in which what they print is shown; those of them that
+# begin before the others, by their places; and of each that was begun, by its place, its process group as long as it runs, when
+# it began, how many seconds it took, and its status.
+planned=()
+first=()
+running=()
+began=()
+took=()
+ended=()
+shown=0
+
+# Plans a command, which is run beside others (run_planned).
+plan() {
+  planned+=("$(printf '%q ' "$@")")
+}
+
+# Plans one that takes so long that it begins before the others.
+plan_first() {
+  first+=("${#planned[@]}")
+  plan "$@"
+}
+
+# Runs what is planned, as many commands at a time as there are processors. What each prints is shown whole, in the order of the
+# plan, as soon as it and all before it have ended; and its counts are added. It wants own_files, and `top`, the repository.
+run_planned() {
+  local at most
+  most=$(nproc)
+  for at in "${first[@]}" "${!planned[@]}"; do
+    [ -z "${began[at]-}" ] || continue
+    [ "${#running[@]}" -lt "$most" ] || await_end
+    begin "$at"
+  done
+  while [ "${#running[@]}" -gt 0 ]; do
+    await_end
+  done
+}
+
+# Begins a planned command, as a process group, which a signal ends whole.
+begin() {
+  set -m
+  {
+    eval "${planned[$1]}"
+    echo $? >"$own/logs/$1.status"
+  } >"$own/logs/$1" 2>&1 </dev/null &
+  set +m
+  running[$1]=$!
+  began[$1]=$SECONDS
+  tell_running
+}
+
+# Waits until one of the commands that run has ended, or more, and shows what can be shown.
+await_end() {
+  local at waited many=${#running[@]}
+  while [ "${#running[@]}" -eq "$many" ]; do
+    wait -n
+    waited=$?
+    for at in "${!running[@]}"; do
+      # What was killed leaves no status; by 127 there is nothing left to wait for.
+      if [ -s "$own/logs/$at.status" ] || [ "$waited" -eq 127 ] || ! kill -0 "${running[at]}" 2>/dev/null; then
+        ended[at]=$(cat "$own/logs/$at.status" 2>/dev/null || echo 1)
+        took[at]=$((SECONDS - began[at]))
+        unset "running[at]"
+      fi
+    done
+  done
+  show_ended
+  tell_running
+}
+
+# Shows what was printed by those that have ended and whose turn it is.
+show_ended() {
+  while [ -n "${ended[shown]-}" ]; do
+    tell ''
+    eval "set -- ${planned[shown]}"
+    echo "== ${1#"$top/"} (${took[shown]} s)"
+    cat "$own/logs/$shown"
+    add "$own/logs/$shown" "${ended[shown]}" "$@"
+    shown=$((shown + 1))
+  done
+}
+
+# Tells what runs.
+tell_running() {
+  local at names=
+  for at in "${!running[@]}"; do
+    eval "set -- ${planned[at]}"
+    names+=" ${1##*/}"
+  done
+  [ -z "$names" ] || tell "$shown of ${#planned[@]} shown; now$names"
+}
+
+# Writes a line on a terminal, in place of the one before.
+tell() {
+  [ ! -t 1 ] || [ "${TERM:-dumb}" = dumb ] || printf '\r\e[K%.79s' "$1"
+}
+
+# Sends a signal to all that runs; whether there is something.
+signal_running() {
+  local group is_there=1
+  for group in "${running[@]}"; do
+    ! kill "$1" -- "-$group" 2>/dev/null || is_there=0
+  done
+  return "$is_there"
 }
