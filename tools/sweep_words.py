@@ -1,0 +1,220 @@
+"""The words of a sweep's command line: its options, and the jobs that they name."""
+import argparse
+import decimal
+import itertools
+import os
+import pathlib
+import re
+import shlex
+
+from sweep_plan import USUAL_RATIO, Job
+from sweep_streams import TEXT, WrongWords
+from sweep_table import stem_of
+
+MOST_JOBS = 1024
+MOST_SECONDS = 10**9
+MOST_SEEDS, MOST_SEED, MOST_EFFORT = 1000, 2**32 - 1, 1000
+
+
+class Words(argparse.ArgumentParser):
+    def error(self, message):
+        raise WrongWords(message)
+
+
+def whole_number(most=None):
+    """Reads a whole number above 0, up to the most, if any; the program has bounds of its own."""
+    what = f"from 1 to {most}" if most else "above 0"
+
+    def read(text):
+        if not re.fullmatch(r"0*[1-9][0-9]{0,8}", text) or int(text) > (most or int(text)):
+            raise argparse.ArgumentTypeError(f"{text!r} is no whole number {what}")
+        return int(text)
+
+    return read
+
+
+def time_limit(text):
+    try:
+        value = float(text)
+    except ValueError:
+        value = 0.0
+    if not 0 < value <= MOST_SECONDS:
+        what = f"number of seconds above 0, up to {MOST_SECONDS}"
+        raise argparse.ArgumentTypeError(f"{text!r} is no {what}")
+    return value
+
+
+def seeds(text):
+    """Seeds as `1-5,9` tells them, each once."""
+    found = []
+    for part in text.split(","):
+        ends = re.fullmatch(r"([0-9]{1,10})(?:-([0-9]{1,10}))?", part)
+        first, last = (int(ends[1]), int(ends[2] or ends[1])) if ends else (1, 0)
+        if not first <= last <= MOST_SEED or len(found) + last - first >= MOST_SEEDS:
+            what = f"seeds up to {MOST_SEED}, as 1-5 or 1,4,9, at most {MOST_SEEDS}"
+            raise argparse.ArgumentTypeError(f"{text!r} is no list of {what}")
+        found += range(first, last + 1)
+    return list(dict.fromkeys(found))
+
+
+def effort(text):
+    """The words of an effort for the placer."""
+    try:
+        value = float(text)
+    except ValueError:
+        value = 0.0
+    if not 0 < value <= MOST_EFFORT:
+        raise argparse.ArgumentTypeError(f"{text!r} is no number above 0, up to {MOST_EFFORT}")
+    return ["--effort", f"{value:.15g}"]
+
+
+def ratio(text):
+    """A ratio that a word tells exactly: 1.1 times 10 tracks are 11, and not a little more."""
+    if not re.fullmatch(r"[0-9]+(\.[0-9]+)?", text) or decimal.Decimal(text) < 1:
+        raise ValueError(text)
+    return decimal.Decimal(text)
+
+
+ratio.__name__ = "ratio of 1 or more"
+
+
+def read_words(words):
+    """The options of a command line."""
+    handed = []
+    if "--" in words:
+        at = words.index("--")
+        words, handed = words[:at], words[at + 1 :]
+    parser = Words(add_help=False, allow_abbrev=False)
+    parser.add_argument("words", nargs="*")
+    parser.add_argument("-h", "--help", action="store_true")
+    parser.add_argument("--arch", action="append", default=[])
+    parser.add_argument("--circuits", action="append", default=[])
+    parser.add_argument("--from-blif")
+    parser.add_argument("--seeds", type=seeds)
+    parser.add_argument("--effort", type=effort)
+    parser.add_argument("--out")
+    parser.add_argument("--keep")
+    parser.add_argument("--ratio", type=ratio, default=USUAL_RATIO)
+    parser.add_argument("--start", type=whole_number())
+    parser.add_argument("--upward", action="store_true")
+    parser.add_argument("--global", action="store_true", dest="is_global")
+    parser.add_argument("--workers", type=whole_number())
+    parser.add_argument("-j", type=whole_number(MOST_JOBS), default=1, dest="jobs")
+    parser.add_argument("--timeout", type=time_limit)
+    parser.add_argument("--summary", action="store_true")
+    parser.add_argument("--jobs-list", action="store_true")
+    parser.add_argument("--job", action="store_true")
+    parser.add_argument("--program")
+    options = parser.parse_intermixed_args(words)
+    options.handed = handed
+    if options.summary and not options.out:
+        raise WrongWords("--summary wants --out")
+    if options.jobs_list and options.summary:
+        raise WrongWords("--jobs-list runs nothing, so there is no --summary")
+    if (options.seeds or options.effort) and options.from_blif is None:
+        raise WrongWords("--seeds and --effort are of the placer, and want --from-blif")
+    if options.job and (options.out or options.summary or options.jobs_list):
+        raise WrongWords("--job prints its line alone: without --out, --summary and --jobs-list")
+    return options
+
+
+def split_words(words):
+    """The architectures and the circuits that words name."""
+    architectures, circuits, at = [], [], 0
+    while at < len(words):
+        word, at = words[at], at + 1
+        if word.endswith(".arch"):
+            architectures.append(word)
+        elif word.endswith(".place"):
+            raise WrongWords(f"{word}: a placement stands right behind its netlist NAME.net")
+        elif word.endswith(".net") and at < len(words) and words[at].endswith(".place"):
+            circuits.append((word, words[at]))
+            at += 1
+        else:
+            stem = stem_of(word, ".net")
+            circuits.append((stem + ".net", stem + ".place"))
+    return architectures, circuits
+
+
+def split_designs(words):
+    """The architectures and the BLIFs that words name."""
+    architectures = [word for word in words if word.endswith(".arch")]
+    others = [word for word in words if not word.endswith(".arch")]
+    for word in others:
+        if word.endswith((".net", ".place")):
+            raise WrongWords(f"{word}: with --from-blif circuits are BLIFs, as uart.blif")
+    return architectures, [stem_of(word, ".blif") + ".blif" for word in others]
+
+
+def lines_in(path):
+    """The words of each line of a file that lists circuits, and the line's number."""
+    try:
+        lines = pathlib.Path(path).read_text(**TEXT).split("\n")
+    except OSError as fault:
+        raise WrongWords(f"{path}: {fault.strerror}") from fault
+    for number, line in enumerate(lines, 1):
+        try:
+            words = shlex.split(line, comments=True)
+        except ValueError as fault:
+            raise WrongWords(f"{path} line {number}: {fault}") from fault
+        if words:
+            yield number, words
+
+
+def circuits_in(path):
+    """The circuits that a file lists; their paths begin at its folder."""
+    folder = os.path.dirname(path)
+    for number, words in lines_in(path):
+        if len(words) > 2:
+            raise WrongWords(f"{path} line {number}: a netlist and a placement are two words")
+        stem = stem_of(words[0], ".net")
+        net, place = words if len(words) == 2 else (stem + ".net", stem + ".place")
+        yield os.path.join(folder, net), os.path.join(folder, place)
+
+
+def designs_in(path):
+    """The BLIFs that a file lists; their paths begin at its folder."""
+    folder = os.path.dirname(path)
+    for number, words in lines_in(path):
+        if len(words) > 1:
+            raise WrongWords(f"{path} line {number}: a BLIF is one word")
+        yield os.path.join(folder, split_designs(words)[1][0])
+
+
+def made_jobs_of(options, designs):
+    """Each BLIF with each architecture and each seed, once."""
+    architectures, blifs = split_designs(options.words)
+    if options.job and (len(architectures), len(blifs), len(designs.seeds)) != (1, 1, 1):
+        raise WrongWords("--job wants with --from-blif two words, ARCH BLIF, and one seed")
+    if options.job and (options.arch or options.circuits):
+        raise WrongWords("--job wants with --from-blif two words, ARCH BLIF, and one seed")
+    architectures += options.arch
+    for path in options.circuits:
+        blifs += designs_in(path)
+    if not architectures or not blifs:
+        raise WrongWords("it wants an architecture (NAME.arch) and a BLIF at least")
+    for path in [*architectures, *blifs]:
+        if path.startswith("-"):
+            raise WrongWords(f"{path}: the program takes this name for an option")
+    jobs = [designs.jobs(arch, blif) for arch in architectures for blif in blifs]
+    return list(dict.fromkeys(itertools.chain.from_iterable(jobs)))
+
+
+def jobs_of(options):
+    """Each circuit with each architecture, once."""
+    if options.job:
+        if len(options.words) != 3 or options.arch or options.circuits:
+            raise WrongWords("--job wants three words: ARCH NET PLACE")
+        jobs = [Job(*options.words)]
+    else:
+        architectures, circuits = split_words(options.words)
+        architectures += options.arch
+        for path in options.circuits:
+            circuits += circuits_in(path)
+        if not architectures or not circuits:
+            raise WrongWords("it wants an architecture (NAME.arch) and a circuit at least")
+        jobs = [Job(arch, *circuit) for arch in architectures for circuit in circuits]
+    for path in sum(jobs, ()):
+        if path.startswith("-"):
+            raise WrongWords(f"{path}: the program takes this name for an option")
+    return list(dict.fromkeys(jobs))
