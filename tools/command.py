@@ -72,9 +72,12 @@ def mode_of(path):
 
 
 def write_whole(path, text):
-    """Writes a file, all of it or nothing: a new file beside it takes its name at the end."""
+    """Writes a file, all of it or nothing: a new file beside it takes its name at the end.
+
+    It gets a text, or bytes.
+    """
     try:
-        data = text.encode(**vpr430.TEXT)
+        data = text if isinstance(text, bytes) else text.encode(**vpr430.TEXT)
         if os.path.exists(path) and not os.path.isfile(path):  # a device or a pipe
             with open(path, "wb") as file:
                 file.write(data)

@@ -7,6 +7,7 @@
     placement = vpr430.read_placement("uart.place", architecture, netlist)
     graph = vpr430.graph_of(listing)  # what `pathfinder graph k4n1.arch 11 11 6` prints
     sections = vpr430.read_routing("uart.route", netlist, placement, graph)
+    log = vpr430.read_log("run.log")  # what `pathfinder route .. --log run.log` writes
 
 Netlists and placements are written too. docs/FORMATS.md describes the files and their limits. A
 file that is refused raises `Fault`, whose text is `FILE:LINE: what is wrong`, and one that can't be
@@ -79,11 +80,8 @@ class Line:
             raise self.fault(f"it has not the form `{form}`")
 
 
-def read_lines(path):
-    """The lines of a file that have words, and one without words where the file ends.
-
-    A comment is cut first; a line whose last word then ends in a backslash goes on in the next one.
-    """
+def read_source(path):
+    """The bytes of a file."""
     try:
         with open(path, "rb") as file:
             source = file.read(MOST_BYTES + 1)
@@ -91,8 +89,16 @@ def read_lines(path):
         raise Unread(f"{path}: {getattr(fault, 'strerror', fault)}") from fault
     if len(source) > MOST_BYTES:
         raise Fault(f"{path}: it has more than {MOST_BYTES} bytes")
+    return source
+
+
+def read_lines(path):
+    """The lines of a file that have words, and one without words where the file ends.
+
+    A comment is cut first; a line whose last word then ends in a backslash goes on in the next one.
+    """
     lines, held, first = [], [], None
-    rows = source.split(b"\n")
+    rows = read_source(path).split(b"\n")
     for number, row in enumerate(rows, 1):
         if BAD_BYTE.search(row):
             raise Line(path, number, ()).fault("a control character stands here")
@@ -687,3 +693,83 @@ def read_routing(path, netlist, placement, graph):
             met.add(node)
             before = node
     return sections
+
+
+# ---- Logs ----------------------------------------------------------------------------------------
+
+
+class Iteration(typing.NamedTuple):
+    """What an iteration left: a row of a log, by its columns."""
+
+    width: int
+    iteration: int
+    present: float
+    overused: int
+    excess: int
+    unrouted: int
+    wirelength: int
+    seconds: float
+
+
+@dataclasses.dataclass
+class Log:
+    """What a log says of a run.
+
+    The head has the lines before the titles, by their first words: `head["acc"]` is `20 twentieths
+    of a wire`. A negotiation is the list of its iterations; a log of `width` has one for each width
+    that was tried.
+    """
+
+    head: dict
+    negotiations: list
+
+
+TITLES = Iteration._fields
+DECIMALS = ("present", "seconds")
+
+
+def _iteration_of(line):
+    """The iteration of a row."""
+    if len(line.words) != len(TITLES):
+        raise line.fault(f"it has not the {len(TITLES)} columns of a log")
+    values = []
+    for title, word in zip(TITLES, line.words):
+        if title not in DECIMALS:
+            least = 1 if title in ("width", "iteration") else 0
+            values.append(line.number_of(word, least, 2**64 - 1))
+        elif re.fullmatch(r"[0-9]{1,12}\.[0-9]{1,9}", word):
+            values.append(float(word))
+        else:
+            raise line.fault(f"`{word}` is no decimal number, as 0.5000")
+    return Iteration(*values)
+
+
+def log_of(source, name="log"):
+    """The log that a file has, by its bytes and its name."""
+    log, has_titles = Log({}, []), False
+    rows = source.decode(**TEXT).split("\n")
+    for number, row in enumerate(rows, 1):
+        line = Line(name, number, tuple(row.split()))
+        if row.startswith("#"):
+            key, _, rest = row[1:].strip().partition(" ")
+            if not has_titles:
+                log.head[key] = rest
+        elif line.words == TITLES:
+            has_titles = True
+        elif line.words and not has_titles:
+            raise line.fault("it is no log of `pathfinder`")
+        elif line.words:
+            new, last = _iteration_of(line), log.negotiations[-1][-1] if log.negotiations else None
+            if new.iteration == 1:
+                log.negotiations.append([])
+            elif last is None or new[:2] != (last.width, last.iteration + 1):
+                raise line.fault("it is not the row of the next iteration")
+            log.negotiations[-1].append(new)
+    if not has_titles:
+        raise Line(name, len(rows), ()).fault("the file ends without the titles of a log")
+    return log
+
+
+def read_log(path):
+    """The log of a file."""
+    return log_of(read_source(path), path)
