@@ -15,6 +15,7 @@ COLUMNS = (
     "architecture netlist placement options sum status bound least_width trials width iterations"
     " wirelength nets blocks array occupancy width_seconds route_seconds message"
 ).split()
+HEAD = "\t".join(COLUMNS) + "\n"
 # So many seconds a sweep may take to come to something, on a machine that has more to do.
 LONGEST = 60
 # The columns that differ from run to run.

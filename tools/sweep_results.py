@@ -13,18 +13,10 @@ import re
 import typing
 
 import vpr430
-from sweep_table import COLUMNS, HEAD, NAMES, name_part, no_table, stem_of
+from sweep_table import COLUMNS, HEAD, NAMES, fault_of, name_part, no_table, stem_of
 
-MOST_TRACKS = 256
 # The end of the name of a netlist that a sweep has packed, and what a placement of it adds.
 MADE_NET, MADE_PLACE = r"(?P<circuit>.+)\.[0-9a-f]{16}", r"\.s(?P<seed>[0-9]+)\.place"
-
-
-class Row(typing.NamedTuple):
-    """A line of a table: what columns have, by their names, and the line with its number."""
-
-    columns: dict
-    line: vpr430.Line
 
 
 class Series(typing.NamedTuple):
@@ -52,7 +44,7 @@ def is_table(source):
 
 
 def rows_of(source, name):
-    """The rows of a table, by its bytes and its name."""
+    """The rows of a table, by its bytes and its name: what each column has."""
     lines = source.decode(**vpr430.TEXT).split("\n")
     rows = []
     if lines[0] + "\n" != HEAD:
@@ -62,27 +54,26 @@ def rows_of(source, name):
         line = vpr430.Line(name, number, tuple(words))
         if number == len(lines) and not text or text + "\n" == HEAD:
             continue
-        if len(words) != len(COLUMNS):
-            raise line.fault(f"it has not {len(COLUMNS)} columns but {len(words)}")
-        if number == len(lines):
-            raise line.fault("the line is not whole")
-        rows.append(Row(dict(zip(COLUMNS, words)), line))
+        fault = "the line is not whole" if number == len(lines) else fault_of(words)
+        if fault:
+            raise line.fault(fault)
+        rows.append(dict(zip(COLUMNS, words)))
     return rows
 
 
-def circuit_of(columns):
+def circuit_of(row):
     """The circuit of a line, and what tells its placement from others.
 
     Where a sweep has packed and placed a BLIF, the circuit is the BLIF's name, and the placement is
     told by its seed. So one of a changed BLIF takes the place of the one before.
     """
-    stem = stem_of(os.path.basename(columns["netlist"]), ".net")
-    arch = re.escape(name_part(columns["architecture"], ".arch"))
+    stem = stem_of(os.path.basename(row["netlist"]), ".net")
+    arch = re.escape(name_part(row["architecture"], ".arch"))
     made = re.fullmatch(rf"{arch}\.{MADE_NET}", stem)
-    placed = re.fullmatch(re.escape(stem) + MADE_PLACE, os.path.basename(columns["placement"]))
+    placed = re.fullmatch(re.escape(stem) + MADE_PLACE, os.path.basename(row["placement"]))
     if made and placed:
         return made["circuit"], int(placed["seed"])
-    return stem_of(columns["netlist"], ".net"), columns["placement"]
+    return stem_of(row["netlist"], ".net"), row["placement"]
 
 
 def short_names(names):
@@ -101,9 +92,8 @@ class Results:
     def __init__(self, rows, tables=None):
         last = {}
         for row, table in zip(rows, tables or [""] * len(rows)):
-            columns = row.columns
-            series = Series(table, columns["architecture"], columns["options"])
-            circuit, placement = circuit_of(columns)
+            series = Series(table, row["architecture"], row["options"])
+            circuit, placement = circuit_of(row)
             last[series, circuit, placement] = row
         self.of = collections.defaultdict(Result)
         for (series, circuit, _), row in last.items():
@@ -115,14 +105,14 @@ class Results:
         """What stands for each circuit."""
         return short_names(self.circuits)
 
-    def series_names(self):
+    def series_names(self, with_options=True):
         """What stands for each series: its table among several, its architecture, and its options.
 
         Options that all have stand nowhere.
         """
         stems = {series: stem_of(series.architecture, ".arch") for series in self.series}
         short = short_names(list(dict.fromkeys(stems.values())))
-        differ = len({series.options for series in self.series}) > 1
+        differ = with_options and len({series.options for series in self.series}) > 1
         names = {}
         for series, stem in stems.items():
             parts = (series.table, short[stem], series.options if differ else "")
@@ -132,11 +122,10 @@ class Results:
 
 def add_row(result, row):
     """Adds what a row has to a circuit's result."""
-    columns, line = row
-    result.statuses.append(columns["status"])
-    if columns["least_width"]:
-        result.widths.append(line.number_of(columns["least_width"], 1, MOST_TRACKS))
-    if columns["bound"] not in ("", "none"):
-        result.bounds.append(line.number_of(columns["bound"], 1))
-    if columns["wirelength"]:
-        result.wirelengths.append(line.number_of(columns["wirelength"], 0, 2**64 - 1))
+    result.statuses.append(row["status"])
+    if row["least_width"]:
+        result.widths.append(int(row["least_width"]))
+    if row["bound"] not in ("", "none"):
+        result.bounds.append(int(row["bound"]))
+    if row["wirelength"]:
+        result.wirelengths.append(int(row["wirelength"]))

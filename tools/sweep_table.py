@@ -17,6 +17,13 @@ COLUMNS = [
 # The columns that tell one job from another.
 NAMES = COLUMNS[:5]
 HEAD = "\t".join(COLUMNS) + "\n"
+# The columns of which means are printed, and the forms of those that are counted with.
+MEANS = ["least_width", "wirelength", "occupancy", "width_seconds", "route_seconds"]
+FIGURES = {
+    "bound": r"none|[1-9][0-9]{0,8}", "least_width": r"[1-9][0-9]{0,2}",
+    "wirelength": r"[0-9]{1,18}", "occupancy": r"[0-9]{1,9}\.[0-9]{4}",
+    "width_seconds": r"[0-9]{1,12}\.[0-9]{3}", "route_seconds": r"[0-9]{1,12}\.[0-9]{3}",
+}
 # How many bytes a file's stem may have in the name of a kept routing, and how many of a longer one
 # stand there: a file system has names of 255 bytes.
 MOST_STEM, CUT_STEM = 100, 83
@@ -42,6 +49,18 @@ def no_table(head):
     if head.split("\t")[: len(NAMES)] == NAMES:
         return "it has the columns of another version; name another file"
     return "it is not a table of this command's"
+
+
+def fault_of(words):
+    """Why a table has no line of these words; nothing where it may have it."""
+    if len(words) != len(COLUMNS):
+        return f"it has not {len(COLUMNS)} columns but {len(words)}"
+    line = dict(zip(COLUMNS, words))
+    for name, form in FIGURES.items():
+        if line[name] and not re.fullmatch(form, line[name]):
+            return f"`{line[name]}` is no {name}"
+    lacking = [name for name in MEANS if line["status"] == "routed" and not line[name]]
+    return f"it is of a routed job, and has no {lacking[0]}" if lacking else ""
 
 
 class Table:
@@ -90,8 +109,9 @@ class Table:
             if line + "\n" == HEAD:
                 continue
             words = line.split("\t")
-            if len(words) != len(COLUMNS):
-                say(f"{self.path} line {number}: it has {len(words)} columns, and is passed over")
+            fault = fault_of(words)
+            if fault:
+                say(f"{self.path} line {number}: it is passed over, since {fault}")
                 continue
             self.keep(dict(zip(COLUMNS, words)))
 
@@ -106,12 +126,19 @@ class Table:
             return {"status": "not run"}
         return self.lines.get(tuple(names.values()), {"status": "not run"})
 
+    def rows_of(self, plan, jobs):
+        """Of each job all columns of its line."""
+        kept, empty = {}, dict.fromkeys(COLUMNS, "")
+        return [
+            {**empty, **plan.columns_of(job, ""), **self.line_of(plan, job, kept)} for job in jobs
+        ]
+
     def lacks(self, plan, job, kept):
         """Whether a job has no line, or one that could come to something else now."""
         line = self.line_of(plan, job, kept)
         if line["status"] != "timed out":
             return line["status"] == "not run"
-        had = re.search(r"after (\S+) s of the job$", line["message"])
+        had = re.search(r"after ([0-9.]+(?:e-[0-9]+)?) s of the job$", line["message"])
         return not (had and plan.timeout and float(had[1]) >= plan.timeout)
 
     def append(self, figures):
@@ -133,9 +160,6 @@ class Table:
                 self.fault = f"standard output: {fault.strerror}"
                 return
             raise NotRun(f"{self.path or 'standard output'}: {fault.strerror}") from fault
-
-
-MEANS = ["least_width", "wirelength", "occupancy", "width_seconds", "route_seconds"]
 
 
 def geometric_mean(values):

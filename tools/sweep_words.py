@@ -7,6 +7,7 @@ import pathlib
 import re
 import shlex
 
+import sweep_texts
 from sweep_plan import USUAL_RATIO, Job
 from sweep_streams import TEXT, WrongWords
 from sweep_table import stem_of
@@ -102,19 +103,24 @@ def read_words(words):
     parser.add_argument("-j", type=whole_number(MOST_JOBS), default=1, dest="jobs")
     parser.add_argument("--timeout", type=time_limit)
     parser.add_argument("--summary", action="store_true")
+    parser.add_argument("--table", choices=sweep_texts.FORMS)
     parser.add_argument("--jobs-list", action="store_true")
     parser.add_argument("--job", action="store_true")
     parser.add_argument("--program")
     options = parser.parse_intermixed_args(words)
     options.handed = handed
-    if options.summary and not options.out:
-        raise WrongWords("--summary wants --out")
-    if options.jobs_list and options.summary:
-        raise WrongWords("--jobs-list runs nothing, so there is no --summary")
+    if (options.summary or options.table) and not options.out:
+        raise WrongWords("--summary and --table want --out")
+    if options.jobs_list and (options.summary or options.table):
+        raise WrongWords("--jobs-list runs nothing, so there is no --summary and no --table")
     if (options.seeds or options.effort) and options.from_blif is None:
         raise WrongWords("--seeds and --effort are of the placer, and want --from-blif")
-    if options.job and (options.out or options.summary or options.jobs_list):
-        raise WrongWords("--job prints its line alone: without --out, --summary and --jobs-list")
+    # A table that is printed as it stands, with no job to run.
+    options.is_finished = bool(options.table) and not (
+        options.words or options.arch or options.circuits or options.from_blif or options.summary
+    )
+    if options.job and (options.out or options.jobs_list):
+        raise WrongWords("--job prints its line alone: without --out and --jobs-list")
     return options
 
 
