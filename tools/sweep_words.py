@@ -90,6 +90,7 @@ def read_words(words):
     parser.add_argument("-h", "--help", action="store_true")
     parser.add_argument("--arch", action="append", default=[])
     parser.add_argument("--circuits", action="append", default=[])
+    parser.add_argument("--jobs", action="append", default=[], dest="job_files")
     parser.add_argument("--from-blif")
     parser.add_argument("--seeds", type=seeds)
     parser.add_argument("--effort", type=effort)
@@ -100,7 +101,7 @@ def read_words(words):
     parser.add_argument("--upward", action="store_true")
     parser.add_argument("--global", action="store_true", dest="is_global")
     parser.add_argument("--workers", type=whole_number())
-    parser.add_argument("-j", type=whole_number(MOST_JOBS), default=1, dest="jobs")
+    parser.add_argument("-j", type=whole_number(MOST_JOBS), default=1, dest="at_once")
     parser.add_argument("--timeout", type=time_limit)
     parser.add_argument("--summary", action="store_true")
     parser.add_argument("--table", choices=sweep_texts.FORMS)
@@ -116,8 +117,9 @@ def read_words(words):
     if (options.seeds or options.effort) and options.from_blif is None:
         raise WrongWords("--seeds and --effort are of the placer, and want --from-blif")
     # A table that is printed as it stands, with no job to run.
+    options.lists = options.arch + options.circuits + options.job_files
     options.is_finished = bool(options.table) and not (
-        options.words or options.arch or options.circuits or options.from_blif or options.summary
+        options.words or options.lists or options.from_blif or options.summary
     )
     if options.job and (options.out or options.jobs_list):
         raise WrongWords("--job prints its line alone: without --out and --jobs-list")
@@ -167,60 +169,91 @@ def lines_in(path):
             yield number, words
 
 
+def circuit_of(words, folder):
+    """The circuit of a line's words, a stem or a netlist and its placement, in a folder."""
+    stem = stem_of(words[0], ".net")
+    files = words if len(words) == 2 else (stem + ".net", stem + ".place")
+    return tuple(os.path.join(folder, file) for file in files)
+
+
+def design_of(word, folder):
+    """The BLIF that a line's word names, in a folder."""
+    return os.path.join(folder, split_designs([word])[1][0])
+
+
 def circuits_in(path):
     """The circuits that a file lists; their paths begin at its folder."""
-    folder = os.path.dirname(path)
     for number, words in lines_in(path):
         if len(words) > 2:
             raise WrongWords(f"{path} line {number}: a netlist and a placement are two words")
-        stem = stem_of(words[0], ".net")
-        net, place = words if len(words) == 2 else (stem + ".net", stem + ".place")
-        yield os.path.join(folder, net), os.path.join(folder, place)
+        yield circuit_of(words, os.path.dirname(path))
 
 
 def designs_in(path):
     """The BLIFs that a file lists; their paths begin at its folder."""
-    folder = os.path.dirname(path)
     for number, words in lines_in(path):
         if len(words) > 1:
             raise WrongWords(f"{path} line {number}: a BLIF is one word")
-        yield os.path.join(folder, split_designs(words)[1][0])
+        yield design_of(words[0], os.path.dirname(path))
+
+
+def jobs_in(path):
+    """The jobs that a file lists: architectures with circuits. Their paths begin at its folder."""
+    folder = os.path.dirname(path)
+    for number, (arch, *circuit) in lines_in(path):
+        if not 1 <= len(circuit) <= 2:
+            raise WrongWords(f"{path} line {number}: a job is of three words, ARCH NET PLACE")
+        yield os.path.join(folder, arch), circuit_of(circuit, folder)
+
+
+def made_jobs_in(path):
+    """The architectures and BLIFs that a file lists; their paths begin at its folder."""
+    folder = os.path.dirname(path)
+    for number, words in lines_in(path):
+        if len(words) != 2:
+            raise WrongWords(f"{path} line {number}: of BLIFs a job is of two words, ARCH BLIF")
+        yield os.path.join(folder, words[0]), design_of(words[1], folder)
+
+
+def jobs_named(options, split, listed, listed_jobs, what):
+    """The jobs that words and files name, each an architecture and a circuit, without designs."""
+    architectures, circuits = split(options.words)
+    architectures += options.arch
+    for path in options.circuits:
+        circuits += listed(path)
+    jobs = [(arch, circuit) for arch in architectures for circuit in circuits]
+    if bool(architectures) != bool(circuits) or not (jobs or options.job_files):
+        raise WrongWords(f"it wants an architecture (NAME.arch) and {what} at least, or --jobs")
+    for path in options.job_files:
+        jobs += listed_jobs(path)
+    return jobs
+
+
+def refuse_options(paths):
+    """Refuses names of files that begin as an option does."""
+    for path in paths:
+        if path.startswith("-"):
+            raise WrongWords(f"{path}: the program takes this name for an option")
 
 
 def made_jobs_of(options, designs):
     """Each BLIF with each architecture and each seed, once."""
-    architectures, blifs = split_designs(options.words)
-    if options.job and (len(architectures), len(blifs), len(designs.seeds)) != (1, 1, 1):
+    jobs = jobs_named(options, split_designs, designs_in, made_jobs_in, "a BLIF")
+    if options.job and (options.lists or len(jobs) != 1 or len(designs.seeds) != 1):
         raise WrongWords("--job wants with --from-blif two words, ARCH BLIF, and one seed")
-    if options.job and (options.arch or options.circuits):
-        raise WrongWords("--job wants with --from-blif two words, ARCH BLIF, and one seed")
-    architectures += options.arch
-    for path in options.circuits:
-        blifs += designs_in(path)
-    if not architectures or not blifs:
-        raise WrongWords("it wants an architecture (NAME.arch) and a BLIF at least")
-    for path in [*architectures, *blifs]:
-        if path.startswith("-"):
-            raise WrongWords(f"{path}: the program takes this name for an option")
-    jobs = [designs.jobs(arch, blif) for arch in architectures for blif in blifs]
-    return list(dict.fromkeys(itertools.chain.from_iterable(jobs)))
+    refuse_options(itertools.chain.from_iterable(jobs))
+    made = [designs.jobs(arch, blif) for arch, blif in dict.fromkeys(jobs)]
+    return list(dict.fromkeys(itertools.chain.from_iterable(made)))
 
 
 def jobs_of(options):
     """Each circuit with each architecture, once."""
     if options.job:
-        if len(options.words) != 3 or options.arch or options.circuits:
+        if len(options.words) != 3 or options.lists:
             raise WrongWords("--job wants three words: ARCH NET PLACE")
         jobs = [Job(*options.words)]
     else:
-        architectures, circuits = split_words(options.words)
-        architectures += options.arch
-        for path in options.circuits:
-            circuits += circuits_in(path)
-        if not architectures or not circuits:
-            raise WrongWords("it wants an architecture (NAME.arch) and a circuit at least")
-        jobs = [Job(arch, *circuit) for arch in architectures for circuit in circuits]
-    for path in sum(jobs, ()):
-        if path.startswith("-"):
-            raise WrongWords(f"{path}: the program takes this name for an option")
+        named = jobs_named(options, split_words, circuits_in, jobs_in, "a circuit")
+        jobs = [Job(arch, *circuit) for arch, circuit in named]
+    refuse_options(itertools.chain.from_iterable(jobs))
     return list(dict.fromkeys(jobs))
