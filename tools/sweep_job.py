@@ -2,8 +2,8 @@
 import fractions
 import itertools
 import math
+import operator
 import os
-import pathlib
 import re
 import signal
 import subprocess
@@ -11,6 +11,7 @@ import tempfile
 import threading
 import time
 
+import vpr430
 from sweep_plan import message_of
 from sweep_streams import TEXT, Ended, NotRun, shown
 from sweep_table import name_part
@@ -73,52 +74,21 @@ class Running:
             signal_group(program, signal.SIGKILL)
 
 
-def words_in(path):
-    """The words of a file's lines, as docs/FORMATS.md has them."""
-    held = []
-    for line in pathlib.Path(path).read_bytes().split(b"\n"):
-        words = line.split(b"#", 1)[0].split()
-        goes_on = bool(words) and words[-1].endswith(b"\\")
-        if goes_on:
-            words[-1] = words[-1][:-1]
-        held += [word for word in words if word]
-        if held and not goes_on:
-            yield held
-            held = []
-    if held:
-        yield held
-
-
 def size_of(job):
     """The nets, blocks and array of a placed circuit that the program has read."""
-    nets, blocks = set(), 0
-    for words in words_in(job.net):
-        blocks += words[0] in (b".input", b".output", b".clb")
-        nets.update(words[1:] if words[0] == b"pinlist:" else ())
-    _, size = itertools.islice(words_in(job.place), 2)
+    design = vpr430.read_design(job.net, job.arch, job.place)
+    netlist, placement = design.netlist, design.placement
     return {
-        "nets": len(nets - {b"open"}), "blocks": blocks,
-        "array": f"{int(size[2])} x {int(size[4])}",
+        "nets": len(netlist.nets), "blocks": len(netlist.blocks),
+        "array": f"{placement.nx} x {placement.ny}",
     }
-
-
-WIRE = re.compile(r" *(CHAN[XY]) \((\d+),(\d+)\) (?:to \((\d+),(\d+)\) )? *Track: (\d+)$")
 
 
 def wirelength_of(path):
     """The places of the wires that a routing's nets use, each wire once a net."""
-    places, used = 0, set()
-    with open(path, newline="\n", **TEXT) as lines:
-        for line in lines:
-            if line.startswith("Net "):
-                used = set()
-                continue
-            wire = WIRE.match(line)
-            if wire and wire.groups() not in used:
-                used.add(wire.groups())
-                x, y = int(wire[2]), int(wire[3])
-                places += 1 + (int(wire[4]) - x + int(wire[5]) - y if wire[4] else 0)
-    return places
+    nets = itertools.groupby(vpr430.nodes_in(path), key=operator.itemgetter(0))
+    used = ({node for _, node in pairs if node.is_wire} for _, pairs in nets)
+    return sum(node.places for nodes in used for node in nodes)
 
 
 def places_of(array, width):

@@ -2,18 +2,17 @@
 
     import vpr430
 
-    architecture = vpr430.read_architecture("k4n1.arch")
-    netlist = vpr430.read_netlist("uart.net", architecture)
-    placement = vpr430.read_placement("uart.place", architecture, netlist)
+    design = vpr430.read_design("uart.net", "k4n1.arch", "uart.place")
     graph = vpr430.graph_of(listing)  # what `pathfinder graph k4n1.arch 11 11 6` prints
-    sections = vpr430.read_routing("uart.route", netlist, placement, graph)
+    sections = vpr430.read_routing("uart.route", design.netlist, design.placement, graph)
     log = vpr430.read_log("run.log")  # what `pathfinder route .. --log run.log` writes
 
-Netlists and placements are written too. docs/FORMATS.md describes the files and their limits. A
-file that is refused raises `Fault`, whose text is `FILE:LINE: what is wrong`, and one that can't be
-read raises `Unread`. Of an architecture only what packing, placing and drawing need is kept; the
-other lines are passed over. What `netlist_text` and `placement_text` answer is read again to the
-same blocks, nets and sites.
+Netlists, placements and routings are written too. docs/FORMATS.md describes the files and their
+limits, and has a table of this module ("In Python"). A file that is refused raises `Fault`, whose
+text is `FILE:LINE: what is wrong`, and one that can't be read raises `Unread`. Of an architecture
+only what packing, placing, routing and drawing need is kept; the other lines are passed over. What
+`netlist_text`, `placement_text` and `routing_text` answer is read again to the same blocks, nets,
+sites and nodes.
 
 Names are texts in which bytes that are no UTF-8 are kept (`surrogateescape`). This module needs
 Python 3.8 or later, and its standard library alone.
@@ -92,13 +91,12 @@ def read_source(path):
     return source
 
 
-def read_lines(path):
-    """The lines of a file that have words, and one without words where the file ends.
+def _lines_of(rows, path):
+    """The lines of rows of bytes that have words.
 
     A comment is cut first; a line whose last word then ends in a backslash goes on in the next one.
     """
-    lines, held, first = [], [], None
-    rows = read_source(path).split(b"\n")
+    held, first = [], None
     for number, row in enumerate(rows, 1):
         if BAD_BYTE.search(row):
             raise Line(path, number, ()).fault("a control character stands here")
@@ -108,11 +106,18 @@ def read_lines(path):
         if goes_on:
             words[-1] = words[-1][:-1]
         held += [word.decode(**TEXT) for word in words if word]
-        if not goes_on or number == len(rows):
+        if not goes_on:
             if held:
-                lines.append(Line(path, first, tuple(held)))
+                yield Line(path, first, tuple(held))
             held, first = [], None
-    return lines, Line(path, len(rows), ())
+    if held:
+        yield Line(path, first, tuple(held))
+
+
+def read_lines(path):
+    """The lines of a file that have words, and one without words where the file ends."""
+    rows = read_source(path).split(b"\n")
+    return list(_lines_of(rows, path)), Line(path, len(rows), ())
 
 
 def folded(words, indent="   "):
@@ -513,6 +518,47 @@ def placement_text(placement, netlist, net_name, arch_name):
     return "\n".join(rows) + "\n"
 
 
+# ---- Placed netlists -----------------------------------------------------------------------------
+
+
+@dataclasses.dataclass
+class Design:
+    """A netlist that is placed on an array of an architecture."""
+
+    architecture: Architecture
+    netlist: Netlist
+    placement: Placement
+
+    def end(self, terminal):
+        """The node of a terminal: a SOURCE where it drives its net, else a SINK."""
+        block = self.netlist.blocks[terminal.block]
+        site = self.placement.sites[terminal.block]
+        kind = "SOURCE" if drives(self.architecture, block, terminal.pin) else "SINK"
+        if block.is_pad:
+            label = ("Pad", site.position)
+        else:
+            label = ("Class", self.architecture.pins[terminal.pin].pin_class)
+        return Node(kind, site.x, site.y, site.x, site.y, *label)
+
+    def ends(self, net, graph):
+        """The number of the source of a net, and those of its sinks."""
+        source, *sinks = (graph.numbers[self.end(terminal)] for terminal in net.terminals())
+        return source, sinks
+
+    def block_text(self, terminal):
+        """The line of a terminal of a global net in a routing."""
+        block, site = self.netlist.blocks[terminal.block], self.placement.sites[terminal.block]
+        number = -1 if block.is_pad else self.architecture.pins[terminal.pin].pin_class
+        return f"Block {block.name} (#{terminal.block}) at ({site.x},{site.y}), pinclass {number}."
+
+
+def read_design(net_path, arch_path, place_path):
+    """The placed netlist of three files, in the order in which `pathfinder` takes them."""
+    architecture = read_architecture(arch_path)
+    netlist = read_netlist(net_path, architecture)
+    return Design(architecture, netlist, read_placement(place_path, architecture, netlist))
+
+
 # ---- Devices -------------------------------------------------------------------------------------
 
 
@@ -531,9 +577,19 @@ class Node(typing.NamedTuple):
         end = "" if self[1:3] == self[3:5] else f" to ({self.end_x},{self.end_y})"
         return f"{self.kind} ({self.x},{self.y}){end} {self.label}: {self.number}"
 
+    def routing_text(self):
+        """The node's line in a routing."""
+        place, label, number = str(self).split(" ", 1)[1].rsplit(" ", 2)
+        return f"{self.kind:>6} {place}  {label} {number}"
+
     @property
     def is_wire(self):
         return self.kind in WIRES
+
+    @property
+    def places(self):
+        """How many places it passes, which is the length of a wire."""
+        return 1 + self.end_x - self.x + self.end_y - self.y
 
 
 WIRES = ("CHANX", "CHANY")
@@ -617,8 +673,8 @@ NODE_LABELS = {
 BRACKETS = str.maketrans("(,)", "   ")
 
 
-def _node_of(line, graph):
-    """The number of the node that a line of a routing names."""
+def _named_node(line):
+    """The node that a line of a routing names, be it one of the device or not."""
     words = " ".join(line.words).translate(BRACKETS).split()
     has_ends = len(words) == 8 and words[0] in WIRES and words[3] == "to"
     if len(words) != 5 and not has_ends or words[-2] not in NODE_LABELS.get(words[0], ()):
@@ -626,7 +682,12 @@ def _node_of(line, graph):
     kind, label = words[0], words[-2]
     x, y, *end = (line.number_of(word) for word in (*words[1:3], *words[4:-2][: 2 * has_ends]))
     first, last = sorted([(x, y), tuple(end) or (x, y)])
-    node = Node(kind, *first, *last, label[:-1], line.number_of(words[-1]))
+    return Node(kind, *first, *last, label[:-1], line.number_of(words[-1]))
+
+
+def _node_of(line, graph):
+    """The number of the node that a line of a routing names."""
+    node = _named_node(line)
     if node not in graph.numbers:
         raise line.fault(f"the device has no node {node}")
     return graph.numbers[node]
@@ -693,6 +754,41 @@ def read_routing(path, netlist, placement, graph):
             met.add(node)
             before = node
     return sections
+
+
+def nodes_in(path):
+    """Each node that a routing names, behind the name of its net, as they stand in the file.
+
+    No device is wanted, and the file may be of any length.
+    """
+    name, is_global = None, False
+    try:
+        with open(path, "rb") as file:
+            for line in _lines_of(file, path):
+                if line.words[0] == "Net" and len(line.words) > 2:
+                    name, is_global = line.words[2].rstrip(":")[1:-1], len(line.words) > 3
+                elif name is not None and not is_global:
+                    yield name, _named_node(line)
+    except (OSError, ValueError) as fault:
+        raise Unread(f"{path}: {getattr(fault, 'strerror', fault)}") from fault
+
+
+def routing_text(design, graph, routes):
+    """The text of a routing, as `pathfinder` writes it.
+
+    The routes are those of the nets, by their numbers: None or the numbers of nodes, way by way,
+    each from the source, or from a node that stood before, to a sink. So are those of a section.
+    """
+    netlist, placement = design.netlist, design.placement
+    rows = [f"Array size: {placement.nx} x {placement.ny} logic blocks.", "", "Routing:"]
+    for number, (net, nodes) in enumerate(zip(netlist.nets, routes)):
+        if net.is_global:
+            ends = map(design.block_text, [net.driver, *net.sinks])
+            rows += ["", f"Net {number} ({net.name}): global net connecting:", "", *ends]
+        elif nodes:
+            lines = (graph.nodes[node].routing_text() for node in nodes)
+            rows += ["", f"Net {number} ({net.name})", "", *lines]
+    return "\n".join(rows) + "\n"
 
 
 # ---- Logs ----------------------------------------------------------------------------------------
