@@ -617,16 +617,19 @@ class Graph:
     @functools.cached_property
     def successors(self):
         """Of each node the numbers of the nodes to which it leads."""
-        successors = [[] for _ in self.nodes]
+        successors, many = [[] for _ in self.nodes], len(self.nodes)
         for edge in self.edges:
             start, _, end = edge.partition(" -> ")
+            are_numbers = start.isdecimal() and end.isdecimal()
+            if not are_numbers or max(int(start), int(end)) >= many:
+                raise Fault(f"graph: `{edge}` is no edge between two of its nodes")
             successors[int(start)].append(int(end))
         return successors
 
 
 def graph_of(listing, name="graph"):
     """The graph of the listing that `pathfinder graph` prints, by whatever name."""
-    head, *lines = listing.splitlines()
+    head, *lines = listing.splitlines() or [""]
     counts = re.fullmatch(r"(\d+) nodes, (\d+) edges", head)
     if not counts or int(counts[1]) + int(counts[2]) != len(lines):
         raise Fault(f"{name}:1: it is no listing of `pathfinder graph`")
