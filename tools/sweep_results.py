@@ -108,11 +108,12 @@ class Results:
     def series_names(self, with_options=True):
         """What stands for each series: its table among several, its architecture, and its options.
 
-        Options that all have stand nowhere.
+        Options stand there where a table has several.
         """
         stems = {series: stem_of(series.architecture, ".arch") for series in self.series}
         short = short_names(list(dict.fromkeys(stems.values())))
-        differ = with_options and len({series.options for series in self.series}) > 1
+        options = {(series.table, series.options) for series in self.series}
+        differ = with_options and len(options) > len({table for table, _ in options})
         names = {}
         for series, stem in stems.items():
             parts = (series.table, short[stem], series.options if differ else "")
