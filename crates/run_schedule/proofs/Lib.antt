@@ -1,0 +1,12 @@
+pub mod Printed
+pub mod Fronts
+pub mod Numbers
+pub mod Taken
+pub mod Notes
+pub mod Making
+pub mod Turning
+pub mod Listing
+pub mod Trying
+pub mod Heading
+pub mod Growing
+pub mod Following

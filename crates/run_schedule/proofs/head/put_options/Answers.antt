@@ -1,0 +1,11 @@
+use Rattle.vpr_text.proofs.Printing.{sends_then}
+use Rattle.run_schedule.specs.ScheduleTexts.{options_text}
+use Rattle.run_schedule.proofs.head.put_options.Goals as goal
+
+pub returns : goal.returns
+unfolding options_text
+returns g c =
+    let iterations = rw c.iterations.ensures.exact at c.put_amount.ensures in
+    let acc = rw (c.from-acc.ensures, c.acc.ensures) at c.put_amount-2.ensures in
+    let bb = rw c.bb.ensures.exact at c.put_amount-3.ensures in
+    sends_then iterations (sends_then c.put_factors.ensures (sends_then acc bb))

@@ -1,0 +1,9 @@
+pub mod Faults
+pub mod Follows
+pub mod Heads
+pub mod Lines
+pub mod Runs
+pub mod ScheduleTexts
+pub mod Schedules
+pub mod Writes
+pub mod kept

@@ -1,0 +1,117 @@
+//! A schedule is followed.
+
+use crate::description::{RunDescription, Sums};
+use crate::fault::{FaultKind, ScheduleFault};
+use crate::head::head_lines;
+use crate::misfit::head_misfit;
+use crate::progress::Progress;
+use crate::schedule::RunSchedule;
+use gates::{Gate, Schedule, ScheduledTurn};
+use routing_problem::Problem;
+use std::alloc::Global;
+use std::sync::{Mutex, Wait};
+
+/// A gate that has the workers make the turns of a schedule, which has to be one of the same run.
+/// Where it isn't, there are no turns to make, and the negotiation has no outcome.
+#[derive(Drop)]
+pub struct Follower<'a, R> {
+    rt: &'a R,
+    alloc: Global,
+    schedule: &'a RunSchedule<'a>,
+    run: &'a RunDescription<'a>,
+    is_alone: bool,
+    progress: Mutex<Progress>,
+}
+
+impl<'a, R: Wait> Follower<'a, R> {
+    /// One that has followed nothing yet. Where one thread makes all turns, the run is taken to
+    /// have as many workers as the schedule.
+    pub fn new(
+        rt: &'a R,
+        alloc: Global,
+        schedule: &'a RunSchedule<'a>,
+        run: &'a RunDescription<'a>,
+        is_alone: bool,
+    ) -> Follower<'a, R> {
+        Follower {
+            rt,
+            alloc,
+            schedule,
+            run,
+            is_alone,
+            progress: Mutex::new(Progress::new()),
+        }
+    }
+
+    /// What the schedule tells otherwise than the run, as far as this has come: the first of it.
+    pub fn misfit(&self) -> Option<ScheduleFault> {
+        let progress = self.progress.lock(self.rt);
+        progress.misfit()
+    }
+
+    /// Whether the run was all that the schedule tells.
+    pub fn is_spent(&self) -> bool {
+        let progress = self.progress.lock(self.rt);
+        progress.is_spent(self.schedule)
+    }
+
+    /// How many workers the run is taken to have.
+    fn workers(&self) -> u32 {
+        if self.is_alone {
+            self.schedule.workers()
+        } else {
+            self.run.workers
+        }
+    }
+
+    /// The first line of the head that isn't that of the run, of problems with so many nets.
+    fn head_misfit(&self, nets: u32) -> Option<ScheduleFault> {
+        let run = RunDescription {
+            workers: self.workers(),
+            ..*self.run
+        };
+        let sums = Sums::of(self.rt, &run);
+        match head_lines(self.alloc, &run.head(&sums, nets)) {
+            Ok(lines) => head_misfit(self.schedule.head(), &lines),
+            Err(_) => Some(ScheduleFault {
+                line: 1,
+                kind: FaultKind::Memory,
+            }),
+        }
+    }
+}
+
+impl<R: Wait> Gate for Follower<'_, R> {
+    ghost use Rattle.run_schedule.specs.Follows.{HasTurns};
+
+    ghost accepted = { λ gate iteration turns. HasTurns gate.schedule.now iteration turns };
+
+    fn begins(&self, problem: &Problem) {
+        let mut progress = self.progress.lock(self.rt);
+        if progress.is_fresh()
+            && let Some(misfit) = self.head_misfit(problem.nets())
+        {
+            progress.note(misfit);
+        }
+        if progress.misfit().is_none() {
+            progress.begin(self.schedule, problem.device().width());
+        }
+    }
+
+    fn schedule(&self, iteration: u32) -> Option<Schedule<'_>> {
+        let mut progress = self.progress.lock(self.rt);
+        Some(Schedule {
+            turns: progress.next_turns(self.schedule, iteration),
+            is_alone: self.is_alone,
+        })
+    }
+
+    fn between(&self, _worker: u32, _net: u32) {}
+
+    fn searched(&self, _worker: u32, _net: u32) {}
+
+    fn accepts(&self, iteration: u32, turns: &[ScheduledTurn]) -> bool {
+        let mut progress = self.progress.lock(self.rt);
+        progress.accept(self.schedule, iteration, turns)
+    }
+}
