@@ -33,11 +33,11 @@ fn cut_of(
     least_possible(alloc, arch, netlist, placement)
 }
 
-/// Finds a bound of a placed netlist: a cut, and the figures by which no routing of the netlist is
-/// legal at a width that they rule out, in either mode. No other cut is promised to show more.
+/// Finds a bound of a placed netlist: a cut and its figures. No routing of the netlist is legal at
+/// a width that the figures rule out, in either mode. Another cut may show more.
 ///
 /// # Errors
-/// Where memory ran out.
+/// If memory ran out.
 pub fn find_bound(alloc: Global, placed: &PlacedNetlist<'_>) -> Result<FoundCut, AllocError>
     ensures figures { IfOk result (λ b. b.figures ≡ figures_of placed.now b.cut) }
     ensures sound { IfOk result (λ b. IsTrueOf placed.now b.figures) }

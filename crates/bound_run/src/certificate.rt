@@ -1,4 +1,4 @@
-//! The text of a cut: its figures, and what it is made of.
+//! The text of a cut: its figures, its region, its places and its pins.
 
 ghost use Rattle.std.specs.Prelude.{◌≡◌};
 ghost use Rattle.vpr_text.specs.Output.{SendsTo};
@@ -13,7 +13,7 @@ use run_inputs::PlacedNetlist;
 use text_output::{ByteSink, OutputBuffer, Piece, put_number, put_pieces};
 use width_bound::{Cut, CutFigures};
 
-/// Prints the width below which there is no routing, or `none` where there is none at any width.
+/// Prints the width below which there is no routing, or `none` if there is no routing at any width.
 pub fn put_width_text<W: ByteSink>(out: &mut OutputBuffer, sink: &mut W, figures: CutFigures)
     ensures { SendsTo W.taken W.failed sink.old sink.new out.old out.new (width_text figures) }
 {

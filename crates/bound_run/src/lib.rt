@@ -1,5 +1,5 @@
-//! The `bound` command over any sources and sinks: below which width a placed design has no
-//! routing, by a cut of its array.
+//! The `bound` command over any sources and sinks. It shows by a cut of the array below which width
+//! a placed design has no routing.
 #![tactic(auto)]
 
 mod bound;

@@ -7,21 +7,21 @@ ghost use Rattle.bound_run.specs.Bounds.{below_line, bound_lines, count_line, ha
 use text_output::{ByteSink, OutputBuffer, Piece, put_pieces};
 use width_bound::CutFigures;
 
-/// Whether more nets are cut than pins are given up, with no place for the others.
+/// Returns whether more nets are cut than pins are given up, and there is no place for the others.
 pub fn has_no_way(figures: CutFigures) -> bool
     ensures { result ≡ has_no_way figures }
 {
     figures.places == 0 && figures.pins < figures.nets
 }
 
-/// The width below which there is no routing: at least 1, which is true of any design.
+/// Returns the width below which there is no routing. It is at least 1, which holds for any design.
 pub fn printed_width(figures: CutFigures) -> usize
     ensures { result ≡ printed_width figures }
 {
     figures.width.max(1)
 }
 
-/// Prints below which width there is no routing.
+/// Prints the width below which there is no routing.
 #[tactic(auto, unfolding(crate::specs::Bounds::below_line))]
 fn put_below<W: ByteSink>(out: &mut OutputBuffer, sink: &mut W, width: usize)
     ensures { SendsTo W.taken W.failed sink.old sink.new out.old out.new (below_line width) }
@@ -37,8 +37,8 @@ fn put_below<W: ByteSink>(out: &mut OutputBuffer, sink: &mut W, width: usize)
     );
 }
 
-/// Prints at which widths there is no routing, as `no routing below width 4`, or that there is none
-/// at any width.
+/// Prints at which widths there is no routing, as in `no routing below width 4`, or that there is
+/// no routing at any width.
 pub fn put_width_line<W: ByteSink>(out: &mut OutputBuffer, sink: &mut W, figures: CutFigures)
     ensures { SendsTo W.taken W.failed sink.old sink.new out.old out.new (width_line figures) }
 {
@@ -49,7 +49,7 @@ pub fn put_width_line<W: ByteSink>(out: &mut OutputBuffer, sink: &mut W, figures
     }
 }
 
-/// Prints how many nets are cut, and by what.
+/// Prints how many nets are cut, and by how many places and pins.
 #[tactic(auto, unfolding(crate::specs::Bounds::count_line))]
 fn put_counts<W: ByteSink>(out: &mut OutputBuffer, sink: &mut W, figures: CutFigures)
     ensures { SendsTo W.taken W.failed sink.old sink.new out.old out.new (count_line figures) }

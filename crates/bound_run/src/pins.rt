@@ -21,7 +21,7 @@ fn is_logic_block(kind: BlockKind) -> bool
     matches!(kind, BlockKind::LogicBlock)
 }
 
-/// The kind of a block; past the last one that of no block.
+/// Returns the kind of a block, or that of `no_block` past the last block.
 fn kind_at(netlist: &Netlist<'_>, block: usize) -> BlockKind
     ensures { result ≡ kind_at netlist.now.blocks block }
 {
@@ -31,7 +31,7 @@ fn kind_at(netlist: &Netlist<'_>, block: usize) -> BlockKind
     }
 }
 
-/// The name of a block; past the last one none.
+/// Returns the name of a block, or an empty name past the last block.
 fn name_of<'a>(netlist: &Netlist<'a>, block: usize) -> &'a [u8]
     ensures { result.now ≡ (slice_index_or netlist.now.blocks block no_block).name }
 {
@@ -41,14 +41,14 @@ fn name_of<'a>(netlist: &Netlist<'a>, block: usize) -> &'a [u8]
     }
 }
 
-/// Whether a block of this kind, at this site, has the pin.
+/// Returns whether a block of this kind, at this site, has the pin.
 fn has_pin(kind: BlockKind, site: Site, pin: Node) -> bool
     ensures { result ≡ has_pin kind site pin }
 {
     (site.x == pin.x && site.y == pin.y) && (is_logic_block(kind) || site.subblk == pin.number)
 }
 
-/// Whether the block has the pin.
+/// Returns whether the block has the pin.
 fn is_block_of(placed: &PlacedNetlist<'_>, pin: Node, block: usize) -> bool
     ensures { result ≡ is_block_of placed.now pin block }
 {
@@ -58,7 +58,7 @@ fn is_block_of(placed: &PlacedNetlist<'_>, pin: Node, block: usize) -> bool
     }
 }
 
-/// The block that has the pin.
+/// Returns the block that has the pin, if there is one.
 fn block_of(placed: &PlacedNetlist<'_>, pin: Node) -> Option<usize>
     ensures { result ≡ block_of placed.now pin }
 {

@@ -1,4 +1,4 @@
-//! The places that a cut has itself.
+//! The places that a cut lists itself.
 
 ghost use Rattle.std.specs.Prelude.{◌≡◌};
 ghost use Rattle.std.specs.List.{flat_map};

@@ -11,14 +11,14 @@ ghost use Rattle.bound_run.specs.CutTexts.{begins_run, corner_text, ends_run, ha
 use text_output::{ByteSink, OutputBuffer, put_number};
 use width_bound::Cut;
 
-/// Whether the corner is among these.
+/// Returns whether the corner is among these.
 fn is_among(corners: &[(u32, u32)], x: u32, y: u32) -> bool
     ensures { result ≡ list_any (is_same_corner (x, y)) corners.now }
 {
     corners.iter().any(|corner| x == corner.0 && y == corner.1)
 }
 
-/// Whether the corner is in the region.
+/// Returns whether the corner is in the region.
 #[tactic(auto, unfolding(width_bound::specs::Cuts::has_corner))]
 fn has_corner(cut: &Cut, x: u32, y: u32) -> bool
     ensures { result ≡ has_corner cut.now (x, y) }
@@ -26,28 +26,28 @@ fn has_corner(cut: &Cut, x: u32, y: u32) -> bool
     is_among(cut.corners(), x, y)
 }
 
-/// Whether the corner left of it, if there is one, is in the region.
+/// Returns whether there is a corner on the left, and it is in the region.
 fn has_left(cut: &Cut, x: u32, y: u32) -> bool
     ensures { result ≡ (nat_lt 0 x && has_corner cut.now (x - 1, y)) }
 {
     x > 0 && has_corner(cut, x - 1, y)
 }
 
-/// Whether the corner right of it, if there is one, is in the region.
+/// Returns whether there is a corner on the right, and it is in the region.
 fn has_right(nx: u32, cut: &Cut, x: u32, y: u32) -> bool
     ensures { result ≡ (nat_lt x nx && has_corner cut.now (x + 1, y)) }
 {
     x < nx && has_corner(cut, x + 1, y)
 }
 
-/// Whether a run of the row begins at the corner.
+/// Returns whether a run of the row begins at the corner.
 fn begins_run(cut: &Cut, x: u32, y: u32) -> bool
     ensures { result ≡ begins_run cut.now x y }
 {
     has_corner(cut, x, y) && !has_left(cut, x, y)
 }
 
-/// Whether a run of the row ends at the corner.
+/// Returns whether a run of the row ends at the corner.
 fn ends_run(nx: u32, cut: &Cut, x: u32, y: u32) -> bool
     ensures { result ≡ ends_run nx cut.now x y }
 {
@@ -63,7 +63,7 @@ fn put_marked<W: ByteSink>(out: &mut OutputBuffer, sink: &mut W, mark: &[u8], nu
     put_number(out, sink, number);
 }
 
-/// Prints a number after a mark, if there is one to print.
+/// Prints a number after a mark, if it is to be printed.
 fn put_if<W: ByteSink>(
     out: &mut OutputBuffer,
     sink: &mut W,
@@ -79,7 +79,7 @@ fn put_if<W: ByteSink>(
     }
 }
 
-/// Prints the begin or the end of a run at a corner of a row.
+/// Prints the beginning or the end of a run at a corner of a row.
 fn put_corner<W: ByteSink>(out: &mut OutputBuffer, sink: &mut W, nx: u32, cut: &Cut, y: u32, x: u32)
     ensures { SendsTo W.taken W.failed sink.old sink.new out.old out.new
         (corner_text nx cut.now y x) }
@@ -110,7 +110,7 @@ fn put_row_line<W: ByteSink>(out: &mut OutputBuffer, sink: &mut W, nx: u32, cut:
     out.push(sink, b"\n");
 }
 
-/// Whether some corner of the row is in the region.
+/// Returns whether some corner of the row is in the region.
 fn has_row(nx: u32, cut: &Cut, y: u32) -> bool
     requires { nx ≤ longest_side }
     ensures { result ≡ has_row nx cut.now y }

@@ -65,7 +65,7 @@ fn print_both<C: ByteSink, W: ByteSink>(
     print_cut(placed, found, figures, cut)
 }
 
-/// Prints the lines on a cut of a placed netlist, and then its text, where that is wanted.
+/// Prints the lines on a cut of a placed netlist, and then its text if that is wanted.
 fn print_found<C: ByteSink, W: ByteSink>(
     placed: &PlacedNetlist<'_>,
     found: &Cut,
@@ -110,15 +110,16 @@ fn bound_placed<C: ByteSink, W: ByteSink>(
     print_found(placed, &found.cut, found.figures, cut, out, is_wanted)
 }
 
-/// Reads an architecture, a netlist and its placement, in this order and each only where those
-/// before it are without fault; finds a cut of the array; prints below which width there is no
-/// routing by it, and what it cuts by what; and then writes the text of the cut to `cut`, where
-/// that is wanted. The caller puts what was written there into its place.
+/// Reads an architecture, a netlist and its placement in this order, each only if those before it
+/// have no fault. Finds a cut of the array. Prints the width below which the cut leaves no routing,
+/// and how many nets it cuts by how many places and pins. Then writes the text of the cut to `cut`,
+/// if that is wanted. The caller moves what was written there to its place.
 ///
 /// # Errors
-/// Memory aside, exactly the first fault of the files by the order of reading, and then neither
-/// sink took anything; else Unwritten exactly where writing failed: of `out`, which then took a
-/// front of the lines, and `cut` took nothing; or of `cut`, which took a front of the cut's text.
+/// Each fault exactly when it comes first; only `Memory` is unspecified. The faults of the files
+/// come in reading order, and then neither sink took anything. After them comes `Unwritten`, if
+/// writing failed: to `out`, which then took a front of the lines while `cut` took nothing; or to
+/// `cut`, which took a front of the cut's text.
 pub fn bound_run<N: ByteSource, A: ByteSource, P: ByteSource, C: ByteSink, W: ByteSink>(
     alloc: Global,
     net: &mut N,
@@ -128,20 +129,20 @@ pub fn bound_run<N: ByteSource, A: ByteSource, P: ByteSource, C: ByteSink, W: By
     out: &mut W,
     is_wanted: bool,
 ) -> Result<(), AppFault>
-    // What the files say decides; where they say a placed netlist, the lines of some cut of it are
-    // printed, and there is no routing of it at a width that these rule out.
+    // The files decide. If they give a placed netlist, the lines of some cut of it are printed, and
+    // it has no routing at a width that these rule out.
     ensures runs { result ≢ Err AppFault.Memory
         → MeetsDesign (reading (A.remaining arch.old) (A.failed arch.new))
         (reading (N.remaining net.old) (N.failed net.new))
         (reading (P.remaining place.old) (P.failed place.new))
         (λ files. RunsBound is_wanted (writing_to C.taken C.failed cut.old cut.new)
         (writing_to W.taken W.failed out.old out.new) (placed_in files) result) }
-    // Nothing is written where memory runs out.
+    // Nothing is written if memory runs out.
     ensures cut { result ≡ Err AppFault.Memory
         → TakesNothing (writing_to C.taken C.failed cut.old cut.new) }
     ensures out { result ≡ Err AppFault.Memory
         → TakesNothing (writing_to W.taken W.failed out.old out.new) }
-    // A file is not read where the run ended at one before it.
+    // A file is not read if the run ended at one before it.
     ensures net { ends_before InputFile.Net result ≡ true → net.new ≡ net.old }
     ensures place { ends_before InputFile.Place result ≡ true → place.new ≡ place.old }
 {

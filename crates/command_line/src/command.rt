@@ -1,4 +1,4 @@
-//! The words of the command line.
+//! The commands and options of the command line, and the values that were given.
 
 ghost use Rattle.std.specs.Prelude.{◌≤◌, IfSome};
 ghost use Rattle.rr_graph.specs.Fabric.{longest_side, most_tracks};
@@ -15,7 +15,7 @@ const GREATEST_SIDE: u32 = 100;
 /// The greatest channel width, in tracks.
 const MOST_TRACKS: u32 = 256;
 
-/// The most workers of a negotiation.
+/// The greatest number of workers of a negotiation.
 const MOST_WORKERS: u32 = 16;
 
 /// The greatest present-congestion factor.
@@ -39,7 +39,7 @@ fn global_flag<'a>(alloc: Global) -> Arg<'a> {
         .help("Global routing: each place of a channel is one node with room for W nets")
 }
 
-/// The option of explanations on standard error.
+/// Returns the `--explain` option with this help.
 fn explain_flag<'a>(alloc: Global, help: &'a str) -> Arg<'a> {
     Arg::new(alloc, "explain")
         .long("explain")
@@ -58,7 +58,7 @@ fn width<'a>(alloc: Global) -> Arg<'a> {
     .value_name("W")
 }
 
-/// A number of a negotiation, which need not be given.
+/// Returns an option with a number for negotiations. It has a default.
 fn setting<'a>(
     alloc: Global,
     name: &'a str,
@@ -75,7 +75,7 @@ fn setting<'a>(
         .default_value(standard)
 }
 
-/// A command with the numbers of a negotiation.
+/// Adds the options for negotiations to a command.
 fn with_settings<'a>(alloc: Global, command: Command<'a>) -> Result<Command<'a>, AllocError> {
     command
         .arg(setting(alloc, "workers", 1, MOST_WORKERS, "1", help::WORKERS))?
@@ -106,10 +106,12 @@ fn with_settings<'a>(alloc: Global, command: Command<'a>) -> Result<Command<'a>,
         .arg(setting(alloc, "mult", 16, 256, "32", help::MULT))?
         .arg(setting(alloc, "acc", 0, 65_535, "20", help::ACC))?
         .arg(setting(alloc, "bb", 1, 255, "3", help::BB))?
-        .arg(side_file(alloc, "log", "FILE", help::LOG))
+        .arg(side_file(alloc, "log", "FILE", help::LOG))?
+        .arg(side_file(alloc, "schedule", "FILE", help::SCHEDULE))?
+        .arg(side_file(alloc, "follow", "FILE", help::FOLLOW))
 }
 
-/// What is written beside ROUTE, where it is named.
+/// Returns an option that names a further file of a run.
 fn side_file<'a>(alloc: Global, name: &'a str, value: &'a str, help: &'a str) -> Arg<'a> {
     Arg::new(alloc, name)
         .long(name)
@@ -117,7 +119,7 @@ fn side_file<'a>(alloc: Global, name: &'a str, value: &'a str, help: &'a str) ->
         .help(help)
 }
 
-/// A command with the three files of a placed design.
+/// Adds the three files of a placed design to a command.
 fn with_design<'a>(alloc: Global, command: Command<'a>) -> Result<Command<'a>, AllocError> {
     command
         .arg(input(alloc, "NET", "The netlist, a .net file of VPR 4.30"))?
@@ -142,7 +144,8 @@ fn route_command<'a>(alloc: Global) -> Result<Command<'a>, AllocError> {
     with_settings(alloc, command)
 }
 
-/// The option of a search from the bound on, in which there is no lesser width to verify.
+/// Returns the `--upward` option: a search from the bound on, in which there is no lesser width to
+/// verify.
 fn upward_flag<'a>(alloc: Global) -> Result<Arg<'a>, AllocError> {
     Arg::new(alloc, "upward")
         .long("upward")
@@ -244,7 +247,7 @@ fn graph_command<'a>(alloc: Global) -> Result<Command<'a>, AllocError> {
         .arg(explain_flag(alloc, help::EXPLAIN))
 }
 
-/// The command line of the program.
+/// Returns the command line of the program.
 #[inline(never)]
 pub fn command<'a>(alloc: Global) -> Result<Command<'a>, AllocError> {
     Command::new(alloc, "pathfinder")
@@ -261,7 +264,7 @@ pub fn command<'a>(alloc: Global) -> Result<Command<'a>, AllocError> {
         .subcommand(graph_command(alloc)?)
 }
 
-/// What the `route` command was given.
+/// The values given to the `route` command.
 #[derive(Clone, Copy)]
 pub struct RouteWords<'a> {
     pub net: &'a str,
@@ -273,13 +276,17 @@ pub struct RouteWords<'a> {
     pub explain: bool,
     pub workers: u32,
     pub settings: Settings,
-    /// The file of the log, where one is wanted; `-` is standard error.
+    /// The file of the log, if one is wanted; `-` is standard error.
     pub log: Option<&'a str>,
-    /// The file of the trees that were left, where it is wanted.
+    /// The file of the schedule, if one is wanted.
+    pub schedule: Option<&'a str>,
+    /// The file of the schedule that is followed, if there is one.
+    pub follow: Option<&'a str>,
+    /// The file of the trees that were left, if one is wanted.
     pub rest: Option<&'a str>,
 }
 
-/// What the `width` command was given.
+/// The values given to the `width` command.
 #[derive(Clone, Copy)]
 pub struct WidthWords<'a> {
     pub net: &'a str,
@@ -291,11 +298,15 @@ pub struct WidthWords<'a> {
     pub explain: bool,
     pub workers: u32,
     pub settings: Settings,
-    /// The file of the log, where one is wanted; `-` is standard error.
+    /// The file of the log, if one is wanted; `-` is standard error.
     pub log: Option<&'a str>,
-    /// What the names of the files of trials begin with, where they are wanted.
+    /// The file of the schedule, if one is wanted.
+    pub schedule: Option<&'a str>,
+    /// The file of the schedule that is followed, if there is one.
+    pub follow: Option<&'a str>,
+    /// The prefix of the names of the trials' files, if they are wanted.
     pub keep: Option<&'a str>,
-    /// How many widths below the least are tried too.
+    /// How many widths below the least are also tried.
     pub verify: u32,
     /// Whether each width from the bound on is tried, upward.
     pub upward: bool,
@@ -303,7 +314,7 @@ pub struct WidthWords<'a> {
     pub no_bound: bool,
 }
 
-/// What the `check` command was given.
+/// The values given to the `check` command.
 #[derive(Clone, Copy)]
 pub struct CheckWords<'a> {
     pub net: &'a str,
@@ -315,7 +326,7 @@ pub struct CheckWords<'a> {
     pub explain: bool,
 }
 
-/// What the `report` command was given.
+/// The values given to the `report` command.
 #[derive(Clone, Copy)]
 pub struct ReportWords<'a> {
     pub net: &'a str,
@@ -328,18 +339,18 @@ pub struct ReportWords<'a> {
     pub map: bool,
 }
 
-/// What the `bound` command was given.
+/// The values given to the `bound` command.
 #[derive(Clone, Copy)]
 pub struct BoundWords<'a> {
     pub net: &'a str,
     pub arch: &'a str,
     pub place: &'a str,
-    /// The file of the certificate, where one is wanted.
+    /// The file of the certificate, if one is wanted.
     pub cut: Option<&'a str>,
     pub explain: bool,
 }
 
-/// What the `graph` command was given.
+/// The values given to the `graph` command.
 #[derive(Clone, Copy)]
 pub struct GraphWords<'a> {
     pub arch: &'a str,
@@ -350,7 +361,8 @@ pub struct GraphWords<'a> {
     pub explain: bool,
 }
 
-/// A number of the command line; None where it isn't in 1 to `most`, which the parser refuses.
+/// Returns a number of the command line, or `None` if it isn't in 1 to `most`. The parser refuses
+/// such a number.
 fn number_within(matches: &ArgMatches<'_>, name: &str, most: u32) -> Option<u32>
     ensures { IfSome result (λ n. (1 ≤ n) × (n ≤ most)) }
 {
@@ -362,7 +374,8 @@ fn number_within(matches: &ArgMatches<'_>, name: &str, most: u32) -> Option<u32>
     }
 }
 
-/// The numbers of a negotiation; None where one is out of its range, which the parser refuses.
+/// Returns the numbers of a negotiation, or `None` if one is out of its range. The parser refuses
+/// such a number.
 fn settings(matches: &ArgMatches<'_>) -> Option<Settings> {
     let first = matches.get_one::<u32>("first-pres")?;
     let init = matches.get_one::<u32>("init-pres")?;
@@ -373,7 +386,7 @@ fn settings(matches: &ArgMatches<'_>) -> Option<Settings> {
     Settings::new(first, init, mult, acc, bb, iterations).ok()
 }
 
-/// The words of the `route` command; None where one is out of its range.
+/// Returns the values given to the `route` command, or `None` if one is out of its range.
 pub fn route_words<'a>(matches: &ArgMatches<'a>) -> Option<RouteWords<'a>>
     ensures tracks { IfSome result (λ r. (1 ≤ r.width) × (r.width ≤ most_tracks)) }
     ensures workers { IfSome result (λ r. (1 ≤ r.workers) × (r.workers ≤ most_workers)) }
@@ -389,11 +402,13 @@ pub fn route_words<'a>(matches: &ArgMatches<'a>) -> Option<RouteWords<'a>>
         workers: number_within(matches, "workers", MOST_WORKERS)?,
         settings: settings(matches)?,
         log: matches.get_str("log"),
+        schedule: matches.get_str("schedule"),
+        follow: matches.get_str("follow"),
         rest: matches.get_str("rest"),
     })
 }
 
-/// The words of the `width` command; None where one is out of its range.
+/// Returns the values given to the `width` command, or `None` if one is out of its range.
 pub fn width_words<'a>(matches: &ArgMatches<'a>) -> Option<WidthWords<'a>>
     ensures start { IfSome result (λ w. (1 ≤ w.start) × (w.start ≤ most_tracks)) }
     ensures workers { IfSome result (λ w. (1 ≤ w.workers) × (w.workers ≤ most_workers)) }
@@ -409,6 +424,8 @@ pub fn width_words<'a>(matches: &ArgMatches<'a>) -> Option<WidthWords<'a>>
         workers: number_within(matches, "workers", MOST_WORKERS)?,
         settings: settings(matches)?,
         log: matches.get_str("log"),
+        schedule: matches.get_str("schedule"),
+        follow: matches.get_str("follow"),
         keep: matches.get_str("keep"),
         verify: matches.get_one::<u32>("verify")?,
         upward: matches.get_flag("upward"),
@@ -416,7 +433,7 @@ pub fn width_words<'a>(matches: &ArgMatches<'a>) -> Option<WidthWords<'a>>
     })
 }
 
-/// The words of the `check` command; None where one is out of its range.
+/// Returns the values given to the `check` command, or `None` if one is out of its range.
 pub fn check_words<'a>(matches: &ArgMatches<'a>) -> Option<CheckWords<'a>>
     ensures { IfSome result (λ c. (1 ≤ c.width) × (c.width ≤ most_tracks)) }
 {
@@ -431,7 +448,7 @@ pub fn check_words<'a>(matches: &ArgMatches<'a>) -> Option<CheckWords<'a>>
     })
 }
 
-/// The words of the `report` command; None where one is out of its range.
+/// Returns the values given to the `report` command, or `None` if one is out of its range.
 pub fn report_words<'a>(matches: &ArgMatches<'a>) -> Option<ReportWords<'a>>
     ensures { IfSome result (λ r. (1 ≤ r.width) × (r.width ≤ most_tracks)) }
 {
@@ -447,7 +464,7 @@ pub fn report_words<'a>(matches: &ArgMatches<'a>) -> Option<ReportWords<'a>>
     })
 }
 
-/// The words of the `bound` command; None where one of its files is not named.
+/// Returns the values given to the `bound` command, or `None` if one of its files is not named.
 pub fn bound_words<'a>(matches: &ArgMatches<'a>) -> Option<BoundWords<'a>> {
     Some(BoundWords {
         net: matches.get_str("NET")?,
@@ -458,7 +475,7 @@ pub fn bound_words<'a>(matches: &ArgMatches<'a>) -> Option<BoundWords<'a>> {
     })
 }
 
-/// The words of the `graph` command; None where one is out of its range.
+/// Returns the values given to the `graph` command, or `None` if one is out of its range.
 pub fn graph_words<'a>(matches: &ArgMatches<'a>) -> Option<GraphWords<'a>>
     ensures columns { IfSome result (λ g. (1 ≤ g.nx) × (g.nx ≤ longest_side)) }
     ensures rows { IfSome result (λ g. (1 ≤ g.ny) × (g.ny ≤ longest_side)) }

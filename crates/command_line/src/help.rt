@@ -1,6 +1,6 @@
-//! What the helps and the version say in more than a line.
+//! The parts of the helps and of the version that are longer than a line.
 
-/// What `--version` prints after the name: the version, and what the program routes by.
+/// The text that `--version` prints after the name: the version, and what the program routes by.
 pub const VERSION: &str = "1.3.0 (formats of VPR 4.30, negotiated congestion)";
 
 /// The end of the program's help.
@@ -177,7 +177,7 @@ where a file is refused the line, the word and what to do";
 /// The help of `--workers`.
 pub const WORKERS: &str = "\
 Threads that route at once, 1 to 16; with more than one the routing
-differs from run to run";
+differs from run to run, unless --follow repeats a run";
 
 /// The help of `--first-pres`.
 pub const FIRST_PRES: &str = "\
@@ -198,6 +198,16 @@ net too many: 20 is what one wire costs at first; 0 to 65535";
 pub const LOG: &str = "\
 Also a line for each iteration and each width tried, as it ends, to
 this file; - is standard error";
+
+/// The help of `--schedule`.
+pub const SCHEDULE: &str = "\
+Also which worker made which turn, and after how many others, to this
+file, by which --follow repeats the run";
+
+/// The help of `--follow`.
+pub const FOLLOW: &str = "\
+Repeat the run that wrote this schedule, by as many workers or by one:
+the same routing, byte for byte";
 
 /// The help of `--rest`.
 pub const REST: &str = "\

@@ -1,4 +1,5 @@
-//! The command line of the program: its commands and options, their helps, and what was given.
+//! The command line of the program: its commands and options, their helps, and the values that were
+//! given.
 #![tactic(auto)]
 
 pub mod command;

@@ -1,12 +1,15 @@
 //! Two onlookers.
 
 use crate::gate::Gate;
+use crate::schedule::{Schedule, ScheduledTurn};
 use crate::trial::TrialEnd;
 use congestion_book::Book;
 use route_tree::Routing;
 use routing_problem::Problem;
 
-/// Two gates as one: each call comes to the first, and then to the second.
+/// Two gates as one: each call comes to the first, and then to the second. The schedule is the
+/// first's, where it has one. Turns are accepted where both accept them; contracts see what the
+/// first accepts.
 #[derive(Clone, Copy, Debug)]
 pub struct BothGates<'a, A, B> {
     pub first: &'a A,
@@ -14,6 +17,8 @@ pub struct BothGates<'a, A, B> {
 }
 
 impl<A: Gate, B: Gate> Gate for BothGates<'_, A, B> {
+    ghost accepted = { λ gates k turns. A.accepted gates.first.now k turns };
+
     fn begins(&self, problem: &Problem) {
         self.first.begins(problem);
         self.second.begins(problem);
@@ -22,6 +27,13 @@ impl<A: Gate, B: Gate> Gate for BothGates<'_, A, B> {
     fn opened(&self, iteration: u32, nets: u32) {
         self.first.opened(iteration, nets);
         self.second.opened(iteration, nets);
+    }
+
+    fn schedule(&self, iteration: u32) -> Option<Schedule<'_>> {
+        match self.first.schedule(iteration) {
+            None => self.second.schedule(iteration),
+            schedule => schedule,
+        }
     }
 
     fn between(&self, worker: u32, net: u32) {
@@ -42,6 +54,11 @@ impl<A: Gate, B: Gate> Gate for BothGates<'_, A, B> {
     fn looked(&self, worker: u32, net: u32) {
         self.first.looked(worker, net);
         self.second.looked(worker, net);
+    }
+
+    fn accepts(&self, iteration: u32, turns: &[ScheduledTurn]) -> bool {
+        let is_first = self.first.accepts(iteration, turns);
+        self.second.accepts(iteration, turns) && is_first
     }
 
     fn closed(&self, iteration: u32, book: &Book) {

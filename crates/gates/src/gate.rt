@@ -1,5 +1,9 @@
-//! What workers, the driver of a negotiation and a search of widths tell an onlooker.
+//! What workers, the driver of a negotiation and a search of widths tell an onlooker, and what they
+//! ask it.
 
+ghost use Rattle.std.specs.Prelude.{IsTrue};
+
+use crate::schedule::{Schedule, ScheduledTurn};
 use crate::trial::TrialEnd;
 use congestion_book::Book;
 use route_tree::Routing;
@@ -7,11 +11,22 @@ use routing_problem::Problem;
 
 /// What is called between the steps of an iteration, with no lock held.
 pub trait Gate {
+    ghost use Rattle.std.specs.Prelude.{ℕ, List};
+    ghost use Rattle.gates.specs.declared.schedule.ScheduledTurn.{ScheduledTurn};
+
+    /// The turns that it accepts of an iteration, which is counted from 1.
+    ghost accepted: { Self → ℕ → List ScheduledTurn → Type 0 };
+
     /// Before the first iteration of a negotiation of this problem.
     fn begins(&self, _problem: &Problem) {}
 
     /// Before the first draw of an iteration, in which each of so many nets has its turn.
     fn opened(&self, _iteration: u32, _nets: u32) {}
+
+    /// The turns that the workers have to make in an iteration; none where they are free to.
+    fn schedule(&self, _iteration: u32) -> Option<Schedule<'_>> {
+        None
+    }
 
     /// After the draw of a net, before it is searched for.
     fn between(&self, worker: u32, net: u32);
@@ -26,6 +41,11 @@ pub trait Gate {
 
     /// After the first search for a net, before the worker comes to make its turn.
     fn searched(&self, worker: u32, net: u32);
+
+    /// After the last turn of an iteration, before it is closed: its turns in order. Whether the
+    /// gate accepts them: if not, the negotiation has no outcome.
+    fn accepts(&self, iteration: u32, turns: &[ScheduledTurn]) -> bool
+        ensures { IsTrue result → accepted self.now iteration turns.now };
 
     /// After an iteration was closed, with the book that it left: what is asked of it is looked up
     /// then, and nothing where nothing is asked.
@@ -49,7 +69,13 @@ pub trait Gate {
 pub struct OpenGate;
 
 impl Gate for OpenGate {
+    ghost accepted = { λ gate k turns. Unit {0} };
+
     fn between(&self, _worker: u32, _net: u32) {}
 
     fn searched(&self, _worker: u32, _net: u32) {}
+
+    fn accepts(&self, _iteration: u32, _turns: &[ScheduledTurn]) -> bool {
+        true
+    }
 }

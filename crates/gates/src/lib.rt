@@ -3,8 +3,11 @@
 
 mod both;
 mod gate;
+mod maybe;
+mod schedule;
 mod trial;
 
 pub use both::BothGates;
 pub use gate::{Gate, OpenGate};
+pub use schedule::{Schedule, ScheduledTurn};
 pub use trial::TrialEnd;

@@ -10,6 +10,7 @@ use Rattle.congestion_book.specs.Histories.{row_of}
 use Rattle.congestion_book.specs.Contents.{Content, IsSound, IsFresh, opening}
 use Rattle.congestion_book.proofs.Soundness.{opening_sound}
 use Rattle.net_workers.specs.Searches.{IsStuckNet}
+use Rattle.net_workers.specs.Schedules.{TurnRule}
 use Rattle.net_workers.proofs.Reports.{stuck_net}
 use Rattle.route_check.specs.Routed.{IsRouted}
 use Rattle.iteration.specs.declared.outcome.Outcome.{Outcome}
@@ -25,7 +26,7 @@ pub all_done : (nets : ℕ) (turns : List Turn) → NameEachOnce nets turns → 
 all_done nets turns once i low = let one = once i in grind (arith, nat_tests, one)
 
 -- ---- an iteration
-module _ (o : RouterOptions) (workers : ℕ) (old new : Content) (made : IsIteration o workers old new) where
+module _ (o : RouterOptions) (workers : ℕ) (allows : TurnRule) (old new : Content) (made : IsIteration o workers allows old new) where
   pub fresh_after : IsFresh new
   fresh_after = ap (λ (k : Content). k.drawn) made.closed
 
@@ -57,18 +58,18 @@ module _ (o : RouterOptions) (workers : ℕ) (old new : Content) (made : IsItera
       (sym (ap (λ ls. list_in ls i) lists_after) ∙ none)
 
 -- ---- where a negotiation may stand
-module _ (p : RoutingProblem) (o : RouterOptions) (workers : ℕ) where
-  pub book_reached : (s : Content) → IsReached p o workers s → IsBookAfter p o (length s.rows) s
+module _ (p : RoutingProblem) (o : RouterOptions) (workers : ℕ) (allows : TurnRule) where
+  pub book_reached : (s : Content) → IsReached p o workers allows s → IsBookAfter p o (length s.rows) s
   book_reached _ begun = record { problem = refl; acc = refl; rows = refl }
   book_reached _ (followed old new reached on follows) =
       let before = book_reached old reached in
       record {
-        problem = problem_after o workers old new follows ∙ before.problem;
-        acc = acc_after o workers old new follows ∙ before.acc;
+        problem = problem_after o workers allows old new follows ∙ before.problem;
+        acc = acc_after o workers allows old new follows ∙ before.acc;
         rows = refl;
       }
 
-  sound_reached : (s : Content) → IsReached p o workers s → IsSound s
+  sound_reached : (s : Content) → IsReached p o workers allows s → IsSound s
   sound_reached _ begun = opening_sound p o.acc
   sound_reached _ (followed old new reached on follows) = follows.sound
 
@@ -84,20 +85,20 @@ module _ (p : RoutingProblem) (o : RouterOptions) (workers : ℕ) where
   -- the last iteration of a negotiation that ended
   record LastOf (s : Content) : Type 0 where
     before : Content
-    reached : IsReached p o workers before
+    reached : IsReached p o workers allows before
     on : goes_on o before ≡ true
-    follows : IsIteration o workers before s
+    follows : IsIteration o workers allows before s
 
-  last_of : (s : Content) → IsReached p o workers s → goes_on o s ≡ false → LastOf s
+  last_of : (s : Content) → IsReached p o workers allows s → goes_on o s ≡ false → LastOf s
   last_of _ begun ended = cc
   last_of _ (followed old new reached on follows) ended = record { before = old; reached = reached; on = on; follows = follows }
 
-  module _ (some : 1 ≤ o.iterations) (s : Content) (reached : IsReached p o workers s) (ended : goes_on o s ≡ false) where
+  module _ (some : 1 ≤ o.iterations) (s : Content) (reached : IsReached p o workers allows s) (ended : goes_on o s ≡ false) where
     last : LastOf s
     last = last_of s reached ended
 
     more_rows : length s.rows ≡ length last.before.rows + 1
-    more_rows = rows_after o workers last.before s last.follows
+    more_rows = rows_after o workers allows last.before s last.follows
 
     within : length s.rows ≤ o.iterations
     within = omega (arith, more_rows, few_rows last.before some last.on)
@@ -131,18 +132,18 @@ module _ (p : RoutingProblem) (o : RouterOptions) (workers : ℕ) where
           sound = last.follows.sound;
           closed = last.follows.closed;
           row =
-              row_after o workers last.before s last.follows
+              row_after o workers allows last.before s last.follows
               ∙ ap (λ (q : RoutingProblem). last.before.rows ++ row_of q s.lists ∷ []) was.problem;
           without = sym reported.0;
           over = sym reported.1;
           stuck = λ i low none.
               subst (λ n. IsStuckNet last.before last.follows.between (present_of o n) o.bb i) now
-              (stuck_after o workers last.before s last.follows i (omega (arith, low, nets)) none);
+              (stuck_after o workers allows last.before s last.follows i (omega (arith, low, nets)) none);
         }
 
     tells_outcome : (out : Outcome) → IsOutcomeOf s out → IsOutcome p o out
     tells_outcome (Success lists k) reported = routes lists k reported
     tells_outcome (NotRouted u v k) reported = leaves u v k reported
 
-  pub outcome_of : (out : Outcome) → 1 ≤ o.iterations → EndsNegotiation p o workers out → IsOutcome p o out
+  pub outcome_of : (out : Outcome) → 1 ≤ o.iterations → EndsNegotiation p o workers allows out → IsOutcome p o out
   outcome_of out some ends = tells_outcome some ends.last ends.reached ends.ended out ends.reported

@@ -8,6 +8,7 @@ use Rattle.congestion_book.specs.Histories.{row_of}
 use Rattle.congestion_book.specs.Contents.{Content, IsSound}
 use Rattle.congestion_book.specs.Steps.{after_close}
 use Rattle.net_workers.specs.Searches.{IsStuckNet}
+use Rattle.net_workers.specs.Schedules.{TurnRule}
 use Rattle.iteration.specs.declared.outcome.Outcome.{Outcome}
 use Rattle.iteration.specs.declared.outcome.Outcome.TheVariants.{Success, NotRouted}
 use Rattle.iteration.specs.Progress.{IsReached, goes_on, unrouted_of, overused_of}
@@ -20,10 +21,11 @@ IsOutcomeOf c (Success lists iterations) = (lists ≡ c.lists) × (iterations �
 IsOutcomeOf c (NotRouted unrouted overused iterations) =
     (unrouted ≡ unrouted_of c) × (overused ≡ overused_of c) × (iterations ≡ length c.rows) × (1 ≤ unrouted + overused)
 
--- the outcome is that of the first book of a negotiation with which it doesn't go on
-pub record EndsNegotiation (p : RoutingProblem) (o : RouterOptions) (workers : ℕ) (outcome : Outcome) : Type 0 where
+-- the outcome is that of the first book of a negotiation, by these rules, with which it doesn't go
+-- on
+pub record EndsNegotiation (p : RoutingProblem) (o : RouterOptions) (workers : ℕ) (allows : TurnRule) (outcome : Outcome) : Type 0 where
   pub last : Content
-  pub reached : IsReached p o workers last
+  pub reached : IsReached p o workers allows last
   pub ended : goes_on o last ≡ false
   pub reported : IsOutcomeOf last outcome
 

@@ -8,6 +8,7 @@ use Rattle.congestion_book.specs.Contents.{Content, IsSound, opening}
 use Rattle.congestion_book.specs.Steps.{after_close}
 use Rattle.net_workers.specs.declared.report.ReportEntry.{ReportEntry}
 use Rattle.net_workers.specs.Agreement.{Agrees}
+use Rattle.net_workers.specs.Schedules.{TurnRule, AreAllowed}
 
 -- how many nets of a book have no tree, and how many nodes are overused
 abbrev pub unrouted_of : Content → ℕ
@@ -16,12 +17,13 @@ unrouted_of c = unrouted_in c.lists
 abbrev pub overused_of : Content → ℕ
 overused_of c = overused_in c.problem c.lists
 
--- One iteration, by so many workers: their reports agree with the book that they leave, which is
--- then closed.
-pub record IsIteration (o : RouterOptions) (workers : ℕ) (old new : Content) : Type 0 where
+-- One iteration, by so many workers: their reports agree with the book that they leave, its turns
+-- are such as the rule allows, and it is then closed.
+pub record IsIteration (o : RouterOptions) (workers : ℕ) (allows : TurnRule) (old new : Content) : Type 0 where
   pub between : Content
   pub reports : List (List ReportEntry)
   pub agrees : Agrees old between (present_of o (length old.rows + 1)) o.bb workers reports
+  pub allowed : AreAllowed allows (length old.rows + 1) between reports
   pub closed : new ≡ after_close between
   pub sound : IsSound new
 
@@ -32,6 +34,6 @@ goes_on o c = length c.rows == 0 || ((unrouted_of c == 0) && nat_lt 0 (overused_
 
 -- where the negotiation of a problem may stand: at its beginning, or after one iteration more, by
 -- all workers, where it goes on
-pub data IsReached (p : RoutingProblem) (o : RouterOptions) (workers : ℕ) : Content → Type 0 where
-  begun : IsReached p o workers (opening p o.acc)
-  followed : (old new : Content) → IsReached p o workers old → goes_on o old ≡ true → IsIteration o workers old new → IsReached p o workers new
+pub data IsReached (p : RoutingProblem) (o : RouterOptions) (workers : ℕ) (allows : TurnRule) : Content → Type 0 where
+  begun : IsReached p o workers allows (opening p o.acc)
+  followed : (old new : Content) → IsReached p o workers allows old → goes_on o old ≡ true → IsIteration o workers allows old new → IsReached p o workers allows new

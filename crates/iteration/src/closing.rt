@@ -25,13 +25,13 @@ fn close(alloc: Global, book: &mut Book) -> Result<(), WorkFault>
 {
     match book.close(alloc) {
         Ok(()) => Ok(()),
-        // with a turn at each net and room for a row, a close lacks nothing but memory
+        // with a turn for each net and room for a row, a close can lack only memory
         Err(_) => Err(WorkFault::Memory),
     }
 }
 
-/// Makes the next iteration of a book by so many workers, which search in the workspace, and closes
-/// it. The gate is reported before and after.
+/// Makes the next iteration of a book by this many workers, which search in the workspace, and
+/// closes it. The gate is called before and after.
 pub(crate) fn make_iteration<R: Threads + Wait + Sync, G: Gate + Sync>(
     rt: &R,
     alloc: Global,
@@ -45,7 +45,7 @@ pub(crate) fn make_iteration<R: Threads + Wait + Sync, G: Gate + Sync>(
     requires fresh { IsFresh book }
     requires few { length book.rows < most_iterations }
     requires workers { (1 ≤ workers) × (workers ≤ most_workers) }
-    ensures made { IfOk result (IsIteration settings.now workers book) }
+    ensures made { IfOk result (IsIteration settings.now workers (G.accepted gate.now) book) }
     ensures workspace { workspace.new ≡ workspace.old }
 {
     let iteration = book.rows().len() as u32 + 1;

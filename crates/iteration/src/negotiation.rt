@@ -21,8 +21,8 @@ use std::marker::Model;
 use std::sync::Wait;
 use std::thread::Threads;
 
-/// Where a negotiation stands between two iterations: its book, and what the workers of all its
-/// iterations search with, which is of the same problem. Contracts see the content of its book.
+/// The state of a negotiation between two iterations: its book, and the workspace of the same
+/// problem in which the workers of all iterations search. Contracts see the content of the book.
 #[derive(Drop)]
 struct Negotiation {
     book: Book,
@@ -40,7 +40,7 @@ impl Model for Negotiation {
     ghost invariant = { λ n. IsFresh n.book × (n.workspace ≡ n.book.problem) };
 }
 
-/// A workspace of a copy of the problem.
+/// Returns a workspace of a copy of the problem.
 fn workspace_of(alloc: Global, problem: &Problem) -> Result<Workspace, AllocError>
     ensures { IfOk result (λ workspace. workspace ≡ problem.now) }
 {
@@ -49,7 +49,7 @@ fn workspace_of(alloc: Global, problem: &Problem) -> Result<Workspace, AllocErro
 }
 
 impl Negotiation {
-    /// Before the first iteration.
+    /// Returns the state before the first iteration.
     #[tactic(auto, using(crate::proofs::Advancing::fresh_opening))]
     fn begin(
         alloc: Global,
@@ -65,7 +65,7 @@ impl Negotiation {
         })
     }
 
-    /// Whether another iteration follows.
+    /// Returns whether another iteration follows.
     fn goes_on(&self, settings: &Settings) -> bool
         ensures goes_on { result ≡ goes_on settings.now self.now }
         ensures limits { AreWithinLimits settings.now }
@@ -87,7 +87,7 @@ impl Negotiation {
     ) -> Result<Negotiation, WorkFault>
         requires workers { (1 ≤ workers) × (workers ≤ most_workers) }
         requires few { length self.rows < most_iterations }
-        ensures { IfOk result (IsIteration settings.now workers self) }
+        ensures { IfOk result (IsIteration settings.now workers (G.accepted gate.now) self) }
     {
         let Negotiation {
             book,
@@ -97,7 +97,7 @@ impl Negotiation {
         Ok(Negotiation { book, workspace })
     }
 
-    /// What it comes to where it ends here.
+    /// Returns the outcome of a negotiation that ends here.
     fn outcome<R: Threads + Wait + Sync>(&self, rt: &R, alloc: Global) -> Result<Outcome, WorkFault>
         ensures reported { IfOk result (IsOutcomeOf self.now) }
         ensures memory { IfErr result (λ fault. fault ≡ Memory) }
@@ -118,7 +118,7 @@ impl Negotiation {
 }
 
 impl Negotiation {
-    /// Tells the gate what it came to.
+    /// Calls the gate with the outcome.
     fn tell<G: Gate>(&self, outcome: &Outcome, gate: &G) {
         match outcome {
             Outcome::Success(routing, _) => gate.found(self.workspace.problem(), routing),
@@ -126,7 +126,7 @@ impl Negotiation {
         }
     }
 
-    /// What it comes to where it ends here, told to the gate.
+    /// Returns the outcome of a negotiation that ends here, and calls the gate with it.
     fn end<R: Threads + Wait + Sync, G: Gate>(
         &self,
         rt: &R,
@@ -141,8 +141,8 @@ impl Negotiation {
     }
 }
 
-/// The routing of a book in which each net has a tree and no node is overused, judged anew on a
-/// copy of its problem.
+/// Returns the routing of a book in which each net has a tree and no node is overused, judged again
+/// on a copy of the book's problem.
 fn success<R: Threads + Wait + Sync>(
     rt: &R,
     alloc: Global,
@@ -171,7 +171,8 @@ fn run<R: Threads + Wait + Sync, G: Gate + Sync>(
     gate: &G,
 ) -> Result<Negotiation, WorkFault>
     requires { (1 ≤ workers) × (workers ≤ most_workers) }
-    ensures reached { IfOk result (IsReached problem settings.now workers) }
+    ensures reached { IfOk result
+        (IsReached problem settings.now workers (G.accepted gate.now)) }
     ensures ended { IfOk result (λ n. goes_on settings.now n ≡ false) }
     ensures limit { OnOk result (1 ≤ settings.now.iterations) }
 {
@@ -182,7 +183,7 @@ fn run<R: Threads + Wait + Sync, G: Gate + Sync>(
     Ok(negotiation)
 }
 
-/// Makes iterations until none follows, and tells what they come to.
+/// Makes iterations until none follows, and returns the outcome.
 fn outcome_of<R: Threads + Wait + Sync, G: Gate + Sync>(
     rt: &R,
     alloc: Global,
@@ -192,7 +193,8 @@ fn outcome_of<R: Threads + Wait + Sync, G: Gate + Sync>(
     gate: &G,
 ) -> Result<Outcome, WorkFault>
     requires { (1 ≤ workers) × (workers ≤ most_workers) }
-    ensures run { IfOk result (EndsNegotiation problem settings.now workers) }
+    ensures run { IfOk result
+        (EndsNegotiation problem settings.now workers (G.accepted gate.now)) }
     ensures limit { OnOk result (1 ≤ settings.now.iterations) }
 {
     gate.begins(&problem);
@@ -200,14 +202,15 @@ fn outcome_of<R: Threads + Wait + Sync, G: Gate + Sync>(
     negotiation.end(rt, alloc, gate)
 }
 
-/// Negotiates a routing of the problem. Iteration by iteration each net is routed anew by so many
-/// workers, on one congestion book, and the iteration is closed: nodes that stay overused cost more
-/// from then on. It ends where each net has a tree and no node is overused; else after the
-/// iteration in which a net found no path, and after the last one that the settings allow. The gate
-/// is reported before the first iteration, before each, after its close, and at the end.
+/// Negotiates a routing of the problem, on one congestion book. In each iteration this many workers
+/// route each net anew, and then the iteration is closed: nodes that stay overused cost more from
+/// then on. The negotiation ends when each net has a tree and no node is overused. Otherwise it
+/// ends after the iteration in which a net found no path, or after the last one that the settings
+/// allow. The gate is called before the first iteration, before each iteration, after its close,
+/// and at the end.
 ///
-/// `NoThread`, `Memory` and `Astray` as `iterate` answers them; `Memory` also where a copy, a close
-/// or the last check found none. The call waits for the workers.
+/// `NoThread`, `Memory` and `Astray` as `iterate` returns them. `Memory` also if it runs out for a
+/// copy, a close or the last check. The call waits for the workers.
 pub fn negotiate<R: Threads + Wait + Sync, G: Gate + Sync>(
     rt: &R,
     alloc: Global,
@@ -217,10 +220,11 @@ pub fn negotiate<R: Threads + Wait + Sync, G: Gate + Sync>(
     gate: &G,
 ) -> Result<Outcome, WorkFault>
     requires workers { (1 ≤ workers) × (workers ≤ most_workers) }
-    // A success routes the problem; else what is left of it is reported.
+    // A success routes the problem. Otherwise the outcome reports what is left.
     ensures outcome { IfOk result (IsOutcome problem settings.now) }
-    // It is where iterations by these rules first end.
-    ensures run { IfOk result (EndsNegotiation problem settings.now workers) }
+    // The outcome is that of the first state at which iterations by these rules end.
+    ensures run { IfOk result
+        (EndsNegotiation problem settings.now workers (G.accepted gate.now)) }
 {
     let outcome = outcome_of(rt, alloc, problem, settings, workers, gate)?;
     Ok(outcome)

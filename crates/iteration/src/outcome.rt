@@ -1,13 +1,14 @@
-//! What a negotiation comes to.
+//! The outcome of a negotiation.
 
 use route_tree::Routing;
 
-/// What a negotiation comes to.
+/// The outcome of a negotiation.
 #[derive(Debug, Drop)]
 pub enum Outcome {
-    /// A routing, in which each net has a tree and no node is overused, after so many iterations.
+    /// A routing in which each net has a tree and no node is overused, after this many iterations.
     Success(Routing, u32),
-    /// After so many iterations, so many nets have no tree, or so many nodes are overused.
+    /// No routing after `iterations` iterations: `unrouted` nets have no tree, or `overused` nodes
+    /// are overused.
     NotRouted {
         unrouted: u32,
         overused: u32,

@@ -9,7 +9,7 @@ use congestion_book::Book;
 use route_tree::{Routing, Tree};
 use std::alloc::{AllocError, Global};
 
-/// A copy of the recorded tree of a net, or none.
+/// Returns a copy of the recorded tree of a net, if it has one.
 fn tree_of(alloc: Global, book: &Book, net: u32) -> Result<Option<Tree>, AllocError>
     ensures { IfOk result (λ t. list_of_tree t ≡ list_in book.now.lists net) }
 {
@@ -19,7 +19,8 @@ fn tree_of(alloc: Global, book: &Book, net: u32) -> Result<Option<Tree>, AllocEr
     }
 }
 
-/// The recorded trees of a book as a routing: of each net the pairs, or none where it has no tree.
+/// Returns the recorded trees of a book as a routing: the pairs of each net, or none if it has no
+/// tree.
 #[tactic(auto, using(crate::proofs::Routings::trees_more, crate::proofs::Routings::trees_all))]
 pub fn routing_of(alloc: Global, book: &Book) -> Result<Routing, AllocError>
     ensures trees { IfOk result (λ r. r ≡ book.now.lists) }

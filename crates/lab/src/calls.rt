@@ -1,4 +1,4 @@
-//! All calls, by their names.
+//! Finds the code of a call by its name, and makes the call.
 
 use lab_book::{book_calls, event_calls, search_calls, settings_calls, view_calls};
 use lab_explain::explain_calls;
@@ -13,17 +13,19 @@ use lab_trees::{
     other_calls, problem_calls, reading_back, report_calls, route_text_calls, routing_calls,
     tree_calls,
 };
-use lab_workers::{desk_calls, iteration_calls, work_calls};
+use lab_workers::{desk_calls, iteration_calls, repeated_calls, work_calls};
 use std::alloc::Global;
 use std::rt::Runtime;
 use std::sync::Wait;
 use std::thread::Threads;
 use std::time::{Duration, Instant};
 
-/// How a call that is made many times is written.
+/// The syntax of a call that is made many times.
 const MANY: &str = "time N CALL .. or repeat N CALL .., and CALL is another one";
 
-/// Makes a call, and adds its answer. Where there is none, the session is as it was.
+/// Makes a call and adds its answer to `out`. If there is no answer, the session is as it was
+/// before the call that failed. There are two exceptions: a list of events that runs out of memory
+/// keeps the events that were run, and an iteration or a desk that fails drops the book.
 pub fn make_call(
     rt: &(impl Runtime + Threads + Wait + Sync + AllocGlobal),
     session: &mut Session,
@@ -36,7 +38,8 @@ pub fn make_call(
     }
 }
 
-/// Makes a call so many times, and tells how long that took, or its last answer.
+/// Makes a call a given number of times. The answer is how long that took (`time`) or the last
+/// answer (`repeat`).
 fn make_many(
     rt: &(impl Runtime + Threads + Wait + Sync + AllocGlobal),
     session: &mut Session,
@@ -64,7 +67,7 @@ fn make_many(
     added(writeln!(out, "{count} times, {} us", time.as_micros()))
 }
 
-/// How long a call takes that is made so many times.
+/// Makes a call `count` times, and returns how long that took.
 fn time_of(
     rt: &(impl Runtime + Threads + Wait + Sync + AllocGlobal),
     session: &mut Session,
@@ -85,7 +88,7 @@ fn time_of(
     }
 }
 
-/// Whether a call reads a text that stands below it.
+/// Returns whether a call can read a text below it.
 fn reads_text(name: &str) -> bool {
     matches!(
         name,
@@ -109,7 +112,7 @@ fn reads_text(name: &str) -> bool {
     )
 }
 
-/// Makes a call once, unless a text stands below it that it doesn't read.
+/// Makes a call once. Refuses it if there is a text below it that it doesn't read.
 fn make_one(
     rt: &(impl Runtime + Threads + Wait + Sync + AllocGlobal),
     session: &mut Session,
@@ -122,7 +125,7 @@ fn make_one(
     dispatch(rt, session, call, out)
 }
 
-/// Makes a call of a text or a file, or another one.
+/// Makes a call that concerns texts or files, or passes it on to `call_workers`.
 fn dispatch(
     rt: &(impl Runtime + Threads + Wait + Sync + AllocGlobal),
     session: &mut Session,
@@ -152,7 +155,7 @@ fn dispatch(
     call_workers(rt, session, call, out)
 }
 
-/// Makes a call of what has threads, a clock or a lock, or another one.
+/// Makes a call that needs threads, a clock or a lock, or passes it on to `call_devices`.
 fn call_workers(
     rt: &(impl Runtime + Threads + Wait + Sync + AllocGlobal),
     session: &mut Session,
@@ -176,6 +179,10 @@ fn call_workers(
         Err(Unanswered::NoCall) => (),
         made => return made,
     }
+    match repeated_calls::call(rt, session, &settings, call, out) {
+        Err(Unanswered::NoCall) => (),
+        made => return made,
+    }
     match run_calls::call(rt, &session.files, &settings, call, out) {
         Err(Unanswered::NoCall) => (),
         made => return made,
@@ -195,7 +202,7 @@ fn call_workers(
     call_devices(rt.alloc(), session, call, out)
 }
 
-/// Makes a call of devices and what stands on them, or another one.
+/// Makes a call that concerns devices or what is built on them, or passes it on to `call_nets`.
 fn call_devices(
     alloc: Global,
     session: &mut Session,
@@ -229,7 +236,7 @@ fn call_devices(
     call_nets(alloc, session, call, out)
 }
 
-/// Makes a call of what nets see and cost, of the book, or of another value.
+/// Makes a call that concerns the book, what nets see and cost, or another value.
 fn call_nets(
     alloc: Global,
     session: &mut Session,

@@ -1,5 +1,4 @@
-//! `lab`: makes the calls of the router's libraries that a script asks for, and prints their
-//! answers.
+//! `lab` runs a script of calls to the router's libraries, and prints their answers.
 #![tactic(auto)]
 
 mod calls;
@@ -18,13 +17,13 @@ use std::thread::Threads;
 use std::{env, fs, io};
 use usage::USAGE;
 
-/// The status where an answer was not the one that was wanted, or a script could not be read.
+/// The exit status if an answer was not as expected, or a script could not be read.
 const NOT_AS_WANTED: u8 = 1;
 
-/// The status of words that the command line may not have.
+/// The exit status of an invalid command line.
 const BAD_WORDS: u8 = 2;
 
-/// How the script of standard input is named.
+/// The name of the script of standard input in messages.
 const STDIN: &str = "stdin";
 
 fn main(rt: HostRuntime) -> ExitCode {
@@ -38,8 +37,8 @@ fn main(rt: HostRuntime) -> ExitCode {
     }
 }
 
-/// Does what the command line asks for, and answers the exit status. Standard output is watched
-/// where it is a terminal.
+/// Runs the command line and returns the exit status. `is_watched` is whether standard output is a
+/// terminal.
 fn run(
     rt: &(impl Runtime + Threads + Wait + Sync + AllocGlobal),
     is_watched: bool,
@@ -54,12 +53,13 @@ fn run(
     }
 }
 
-/// The words of the command line.
+/// Returns the words of the command line, beginning with the program's name.
 fn words(rt: &(impl Runtime + AllocGlobal)) -> io::Result<Vec<String>> {
     Ok(env::args(rt)?.collect(rt.alloc())?)
 }
 
-/// Does what the words behind the program's name ask for, and answers the exit status.
+/// Runs the scripts or the option that the words after the program's name give, and returns the
+/// exit status.
 fn run_words(
     rt: &(impl Runtime + Threads + Wait + Sync + AllocGlobal),
     words: &[String],
@@ -71,12 +71,12 @@ fn run_words(
     }
 }
 
-/// The exit status, by whether all answers were as wanted.
+/// Returns the exit status. `is_good` is whether all answers were as expected.
 fn status_of(is_good: bool) -> u8 {
     if is_good { 0 } else { NOT_AS_WANTED }
 }
 
-/// Prints the usage, or says that the option is unknown; answers the exit status.
+/// Prints the usage, or reports an unknown option, and returns the exit status.
 fn answer_option(rt: &impl Runtime, option: &str) -> io::Result<u8> {
     if option == "--help" {
         print!(rt; "{USAGE}")?;
@@ -87,8 +87,8 @@ fn answer_option(rt: &impl Runtime, option: &str) -> io::Result<u8> {
     Ok(BAD_WORDS)
 }
 
-/// Runs the scripts of these files, each from nothing, or that of standard input where there are
-/// none; whether all answers were as wanted.
+/// Runs the scripts of these files, each in a new session, or the script of standard input if there
+/// are no files. Returns whether all answers were as expected.
 fn run_scripts(
     rt: &(impl Runtime + Threads + Wait + Sync + AllocGlobal),
     names: &[String],
@@ -104,7 +104,8 @@ fn run_scripts(
     Ok(is_good)
 }
 
-/// Runs the script of a file; false where it can't be opened, which is said.
+/// Runs the script of a file, and returns whether all answers were as expected. If the file can't
+/// be opened, reports that and returns false.
 fn run_file(
     rt: &(impl Runtime + Threads + Wait + Sync + AllocGlobal),
     name: &str,

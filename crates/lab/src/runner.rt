@@ -1,4 +1,5 @@
-//! Runs a script: reads its lines, makes its calls, prints their answers and compares them.
+//! Runs a script: reads its lines, makes its calls, prints their answers and compares them with the
+//! expected ones.
 
 use crate::calls::make_call;
 use crate::shown::Shown;
@@ -13,16 +14,17 @@ use std::rt::Runtime;
 use std::sync::Wait;
 use std::thread::Threads;
 
-/// How many bytes of lines and of answers need no further memory.
+/// The number of bytes that are reserved for each line and each answer before the script runs.
 const ROOM: usize = 65_536;
 
 /// The line that ends a text below a call.
 const END_OF_TEXT: &[u8] = b">>";
 
-/// The line that has calls made again, and stands before all calls.
+/// The line that makes calls that lack memory or a thread be made again. It must come before all
+/// calls.
 const AGAIN: &str = "again";
 
-/// Where that line doesn't stand before all calls.
+/// The answer to that line after a call.
 const LATE_AGAIN: Unanswered = Unanswered::Misread("again as the first line");
 
 /// The lines of a script.
@@ -35,7 +37,7 @@ struct Script<'a, I> {
 }
 
 impl<I: BufRead> Script<'_, I> {
-    /// Reads a line; false at the end.
+    /// Reads the next line. Returns false at the end.
     fn read(&mut self, line: &mut Vec<u8>) -> IoResult<bool> {
         line.clear();
         self.line = self.line.saturating_add(1);
@@ -43,7 +45,7 @@ impl<I: BufRead> Script<'_, I> {
         Ok(count > 0)
     }
 
-    /// Reads the text up to the line that ends it; false where the script ends before.
+    /// Reads the text up to the line that ends it. Returns false if the script ends first.
     fn read_text(&mut self, below: &mut Below) -> IoResult<bool> {
         below.text.clear();
         for _ in 0..u64::MAX {
@@ -59,7 +61,7 @@ impl<I: BufRead> Script<'_, I> {
     }
 }
 
-/// The text that stands below a call, and the line of it that was read last.
+/// The text below a call, and the line of it that was read last.
 #[derive(Drop)]
 struct Below {
     text: Vec<u8>,
@@ -67,7 +69,7 @@ struct Below {
 }
 
 impl Below {
-    /// Of no line.
+    /// Returns an empty text.
     fn new(alloc: Global) -> IoResult<Below> {
         let text = Vec::with_capacity(alloc, ROOM)?;
         let line = Vec::with_capacity(alloc, ROOM)?;
@@ -75,17 +77,17 @@ impl Below {
     }
 }
 
-/// What the last call answered, and how far it was compared.
+/// The answer to the last call, and how far it was compared.
 #[derive(Drop)]
 struct Answer {
     text: String,
-    /// So many bytes of it were compared.
+    /// Where in `text` the next line to compare begins.
     compared: usize,
-    /// Whether a line said what is wanted.
+    /// Whether the script has an expected line for it.
     is_asked: bool,
 }
 
-/// The line at a place of a text, and where the next one begins; none at the end.
+/// Returns the line at a position of a text, and the position of the next line; `None` at the end.
 fn line_at(text: &[u8], place: usize) -> Option<(&[u8], usize)> {
     let rest = text.get(place..)?;
     if rest.is_empty() {
@@ -100,7 +102,8 @@ fn line_at(text: &[u8], place: usize) -> Option<(&[u8], usize)> {
 }
 
 impl Answer {
-    /// Whether the next line is the one that is wanted.
+    /// Returns whether the next line of the answer is the expected one, apart from blanks at its
+    /// end, and moves on to the line after it.
     fn goes_on_with(&mut self, wanted: &str) -> bool {
         self.is_asked = true;
         let Some((line, next)) = line_at(self.text.as_bytes(), self.compared) else {
@@ -111,26 +114,26 @@ impl Answer {
         is_same
     }
 
-    /// Whether something is left that was to be compared.
+    /// Returns whether lines are left that had to be compared.
     fn is_left(&self) -> bool {
         self.is_asked && self.compared < self.text.len()
     }
 
-    /// Makes room for another answer.
+    /// Clears the answer for another one.
     fn begin(&mut self) {
         self.text.clear();
         self.compared = 0;
         self.is_asked = false;
     }
 
-    /// Tells why there is none.
+    /// Replaces the answer with the reason why there is none.
     fn refuse(&mut self, why: &Unanswered) -> Result<(), Unanswered> {
         self.begin();
         added(writeln!(self.text, "{why}"))
     }
 }
 
-/// A script that is run.
+/// A script that is being run.
 #[derive(Drop)]
 struct ScriptRun<'a, R, I> {
     rt: &'a R,
@@ -139,16 +142,16 @@ struct ScriptRun<'a, R, I> {
     answer: Answer,
     /// The line of the last call; 0 before the first one.
     call_line: u64,
-    /// Whether a call that lacked memory is made again.
+    /// Whether a call that lacked memory or a thread is made again.
     repeats: bool,
     /// Whether standard output is a terminal.
     is_watched: bool,
-    /// Whether all answers were as wanted.
+    /// Whether all answers were as expected.
     is_good: bool,
 }
 
 impl<R: Runtime + Threads + Wait + Sync + AllocGlobal, I: BufRead> ScriptRun<'_, R, I> {
-    /// Runs the script to its end; whether all answers were as wanted.
+    /// Runs the script to its end, and returns whether all answers were as expected.
     fn run(&mut self) -> IoResult<bool> {
         let mut line = Vec::with_capacity(self.rt.alloc(), ROOM)?;
         let mut below = Below::new(self.rt.alloc())?;
@@ -159,7 +162,7 @@ impl<R: Runtime + Threads + Wait + Sync + AllocGlobal, I: BufRead> ScriptRun<'_,
         Ok(self.is_good)
     }
 
-    /// Does what all lines say.
+    /// Processes all lines.
     fn run_lines(&mut self, line: &mut Vec<u8>, below: &mut Below) -> IoResult<()> {
         for _ in 0..u64::MAX {
             if !self.script.read(line)? {
@@ -170,20 +173,20 @@ impl<R: Runtime + Threads + Wait + Sync + AllocGlobal, I: BufRead> ScriptRun<'_,
         Ok(())
     }
 
-    /// Says that something is not as wanted, in the line that was read last.
+    /// Reports an error in the line that was read last.
     fn complain(&mut self, what: impl Display + Drop) {
         let line = self.script.line;
         self.complain_at(line, what);
     }
 
-    /// Says that something is not as wanted in a line.
+    /// Reports an error in the given line.
     fn complain_at(&mut self, line: u64, what: impl Display + Drop) {
         self.is_good = false;
         let name = Shown::within_line(self.script.name);
         let _ = eprintln!(self.rt; "{name}:{line}: {what}");
     }
 
-    /// Says so where an answer had more lines than were wanted, and makes room for another one.
+    /// Reports an answer with more lines than expected, and clears it for another one.
     fn settle(&mut self) {
         if self.answer.is_left() {
             self.complain("more was answered above than is wanted");
@@ -191,7 +194,7 @@ impl<R: Runtime + Threads + Wait + Sync + AllocGlobal, I: BufRead> ScriptRun<'_,
         self.answer.begin();
     }
 
-    /// Does what a line says.
+    /// Processes a line.
     fn step(&mut self, line: &[u8], below: &mut Below) -> IoResult<()> {
         let Ok(read) = str::from_utf8(line) else {
             self.complain("the line is no text");
@@ -205,7 +208,7 @@ impl<R: Runtime + Threads + Wait + Sync + AllocGlobal, I: BufRead> ScriptRun<'_,
         self.call(read, below)
     }
 
-    /// Compares the next line of the answer with the one that is wanted.
+    /// Compares the next line of the answer with the expected one, and reports a difference.
     fn compare(&mut self, wanted: &str) {
         if !self.answer.goes_on_with(wanted) {
             self.complain("the answer is not the one that is wanted");
@@ -228,7 +231,8 @@ impl<R: Runtime + Threads + Wait + Sync + AllocGlobal, I: BufRead> ScriptRun<'_,
         }
     }
 
-    /// From now on a call that lacks memory is made again, if no call was made before.
+    /// Makes calls that lack memory or a thread be made again from now on. Refuses that after
+    /// another call.
     fn begin_again(&mut self, is_first: bool) -> IoResult<()> {
         if !is_first {
             return self.refuse(&LATE_AGAIN);
@@ -237,7 +241,7 @@ impl<R: Runtime + Threads + Wait + Sync + AllocGlobal, I: BufRead> ScriptRun<'_,
         Ok(())
     }
 
-    /// Makes a call with the text below it, unless that has no end.
+    /// Makes a call with the text below it. Reports a text that has no end.
     fn call_with_text(&mut self, code: &str, below: &mut Below) -> IoResult<()> {
         if self.read_below(code, below)? {
             self.call_words(code, below.text.as_slice())
@@ -248,7 +252,8 @@ impl<R: Runtime + Threads + Wait + Sync + AllocGlobal, I: BufRead> ScriptRun<'_,
         }
     }
 
-    /// Reads the text below a line, if one stands there; false where it has no end.
+    /// Reads the text below a line if the line announces one. Returns false if that text has no
+    /// end.
     fn read_below(&mut self, code: &str, below: &mut Below) -> IoResult<bool> {
         if has_text(code) {
             self.script.read_text(below)
@@ -258,7 +263,7 @@ impl<R: Runtime + Threads + Wait + Sync + AllocGlobal, I: BufRead> ScriptRun<'_,
         }
     }
 
-    /// Makes the call that a line asks for.
+    /// Splits a line into words and makes its call.
     fn call_words(&mut self, code: &str, text: &[u8]) -> IoResult<()> {
         match self.words_of(code)? {
             Some(words) => self.answer_words(words.as_slice(), text),
@@ -266,7 +271,8 @@ impl<R: Runtime + Threads + Wait + Sync + AllocGlobal, I: BufRead> ScriptRun<'_,
         }
     }
 
-    /// The words of a line; none where memory lacked, which is told.
+    /// Returns the words of a line. If memory runs out, prints that, and tries once more if calls
+    /// are made again; `None` if there are still no words.
     fn words_of<'b>(&mut self, line: &'b str) -> IoResult<Option<Vec<&'b str>>> {
         match words(self.rt.alloc(), line) {
             Ok(words) => return Ok(Some(words)),
@@ -278,7 +284,7 @@ impl<R: Runtime + Threads + Wait + Sync + AllocGlobal, I: BufRead> ScriptRun<'_,
         Ok(words(self.rt.alloc(), line).ok())
     }
 
-    /// Makes the call that the words of a line ask for.
+    /// Makes the call that the words of a line form.
     fn answer_words(&mut self, words: &[&str], text: &[u8]) -> IoResult<()> {
         let [name, given @ ..] = words else {
             return Ok(());
@@ -286,8 +292,8 @@ impl<R: Runtime + Threads + Wait + Sync + AllocGlobal, I: BufRead> ScriptRun<'_,
         self.answer(Call { name, given, text })
     }
 
-    /// Answers a call, and where it lacked memory, answers it once more. No event of a list stands
-    /// before.
+    /// Makes a call, and makes it again if it lacked memory or a thread and calls are made again.
+    /// The first attempt begins a list of events with its first event.
     fn answer(&mut self, call: Call<'_>) -> IoResult<()> {
         self.session.books.standing = 0;
         let lacked = self.answer_once(call)?;
@@ -297,7 +303,7 @@ impl<R: Runtime + Threads + Wait + Sync + AllocGlobal, I: BufRead> ScriptRun<'_,
         Ok(())
     }
 
-    /// Makes a call and prints its answer; whether it lacked memory.
+    /// Makes a call and prints its answer. Returns whether it lacked memory or a thread.
     fn answer_once(&mut self, call: Call<'_>) -> IoResult<bool> {
         self.answer.begin();
         match make_call(self.rt, &mut self.session, call, &mut self.answer.text) {
@@ -312,7 +318,7 @@ impl<R: Runtime + Threads + Wait + Sync + AllocGlobal, I: BufRead> ScriptRun<'_,
         }
     }
 
-    /// Prints why there is no answer. That the line is no call is said beside it.
+    /// Prints why there is no answer. If the line is no valid call, also reports it as an error.
     fn refuse(&mut self, why: &Unanswered) -> IoResult<()> {
         if matches!(why, Unanswered::NoCall | Unanswered::Misread(_)) {
             let line = self.call_line;
@@ -322,7 +328,8 @@ impl<R: Runtime + Threads + Wait + Sync + AllocGlobal, I: BufRead> ScriptRun<'_,
         self.print()
     }
 
-    /// Prints the answer, with no control character of a name where it goes to a terminal.
+    /// Prints the answer. If it goes to a terminal, each control character other than a line feed
+    /// is replaced with `?`.
     fn print(&mut self) -> IoResult<()> {
         let text = self.answer.text.as_str();
         if self.is_watched {
@@ -333,8 +340,8 @@ impl<R: Runtime + Threads + Wait + Sync + AllocGlobal, I: BufRead> ScriptRun<'_,
     }
 }
 
-/// Runs a script in a session; whether all answers were as wanted. Standard output is watched where
-/// it is a terminal.
+/// Runs a script in a session, and returns whether all answers were as expected. `is_watched` is
+/// whether standard output is a terminal.
 pub fn run_script<R: Runtime + Threads + Wait + Sync + AllocGlobal, I: Read + Drop>(
     rt: &R,
     name: &str,

@@ -1,18 +1,18 @@
-//! Texts as they are shown: no character of theirs steers a terminal.
+//! Texts that are safe to show on a terminal.
 
 use std::fmt;
 use std::fmt::Write;
 
-/// A text with `?` for each control character.
+/// A text that is shown with `?` in place of each control character.
 #[derive(Clone, Copy, Debug)]
 pub struct Shown<'a> {
     text: &'a str,
-    /// Whether line feeds stay.
+    /// Whether line feeds are kept.
     has_lines: bool,
 }
 
 impl Shown<'_> {
-    /// A text within a line.
+    /// Returns a text to show within a line.
     pub fn within_line(text: &str) -> Shown<'_> {
         Shown {
             text,
@@ -20,7 +20,7 @@ impl Shown<'_> {
         }
     }
 
-    /// A text of lines, each with its line feed.
+    /// Returns a text of lines to show, which keeps its line feeds.
     pub fn lines(text: &str) -> Shown<'_> {
         Shown {
             text,
@@ -28,7 +28,7 @@ impl Shown<'_> {
         }
     }
 
-    /// What is shown for a letter of the text.
+    /// Returns the character that is shown for one of the text.
     fn shown_as(&self, letter: char) -> char {
         if !letter.is_control() || (self.has_lines && letter == '\n') {
             letter

@@ -1,6 +1,6 @@
-//! How `lab` is called.
+//! The usage of `lab`.
 
-/// What `--help` prints.
+/// The text that `--help` prints.
 pub const USAGE: &str = "\
 Makes the calls of the router's libraries that a script asks for, and prints their answers.
 

@@ -13,7 +13,7 @@ use route_tree::Tree;
 use rr_graph::Problem;
 use std::alloc::Global;
 
-/// How a commit is written.
+/// The syntax of a commit.
 pub const COMMIT: &str = "commit WORKER NET, or with the words of a tree behind it";
 
 /// Makes a call, and adds its answer.
@@ -84,7 +84,7 @@ fn read_all(book: &Option<Book>, call: Call<'_>, out: &mut String) -> Result<(),
     }
 }
 
-/// Adds all that look-ups answer.
+/// Adds the answers of all look-ups.
 fn put_book(book: &Option<Book>, given: &[&str], out: &mut String) -> Result<(), Unanswered> {
     if !given.is_empty() {
         return Err(NO_WORDS);
@@ -120,7 +120,7 @@ fn close(
     }
 }
 
-/// Makes a book of the problem, and tells of how many nets.
+/// Makes a book of the problem, and adds its number of nets.
 fn make(
     alloc: Global,
     session: &mut Session,
@@ -137,7 +137,7 @@ fn make(
     }
 }
 
-/// Keeps a book of a problem, and tells of how many nets it is.
+/// Keeps a new book of a problem, and adds its number of nets.
 fn keep_new(
     alloc: Global,
     problem: &Problem,
@@ -149,7 +149,7 @@ fn keep_new(
     added(writeln!(out, "{} nets", problem.nets()))
 }
 
-/// By how much a history grows, as a word says.
+/// Reads `acc`, the factor by which histories grow.
 fn history_factor(given: &[&str]) -> Result<u16, Unanswered> {
     let [acc] = numbers::<1>(given)?;
     match u16::try_from(acc) {
@@ -158,13 +158,13 @@ fn history_factor(given: &[&str]) -> Result<u16, Unanswered> {
     }
 }
 
-/// A book of a copy of a problem.
+/// Returns a book of a copy of a problem.
 fn new_book(alloc: Global, problem: &Problem, acc: u16) -> Result<Book, Unanswered> {
     let problem = problem.copy(alloc)?;
     Ok(Book::new(alloc, problem, acc)?)
 }
 
-/// Draws a net with the view.
+/// Draws a net, and fills the session's view with what the net sees.
 fn draw(
     book: &mut Option<Book>,
     view: &mut Option<View>,
@@ -179,7 +179,7 @@ fn draw(
     }
 }
 
-/// The view becomes that of a net.
+/// Fills the session's view with what a net sees.
 fn look(
     book: &Option<Book>,
     view: &mut Option<View>,
@@ -194,7 +194,7 @@ fn look(
     }
 }
 
-/// A view becomes that of a net.
+/// Fills a view with what a net sees.
 fn look_with(book: &Book, view: &mut View, net: u32, out: &mut String) -> Result<(), Unanswered> {
     if net >= book.problem().nets() {
         return Err(Unanswered::Refused("there is no such net"));
@@ -205,7 +205,8 @@ fn look_with(book: &Book, view: &mut View, net: u32, out: &mut String) -> Result
     }
 }
 
-/// Adds whether others have filled a node of the session's tree since the view was seen.
+/// Adds whether other nets now fill a node of the session's tree that they don't fill in the
+/// session's view.
 fn put_filled(
     book: &Option<Book>,
     tree: &Option<Tree>,
@@ -222,7 +223,7 @@ fn put_filled(
     }
 }
 
-/// Adds whether others have filled a node of a net's tree since a view was seen.
+/// Adds whether other nets now fill a node of a net's tree that they don't fill in a view.
 fn put_whether_filled(
     book: &Book,
     net: u32,
@@ -239,7 +240,7 @@ fn put_whether_filled(
     put(out, book.has_filled(net, tree, view))
 }
 
-/// Commits the tree that words tell, or the session's.
+/// Commits the tree that words give, or else the session's.
 fn commit(
     alloc: Global,
     book: &mut Option<Book>,
@@ -257,7 +258,7 @@ fn commit(
     commit_tree(alloc, book, worker, net, tree, out)
 }
 
-/// The tree that words tell, or a copy of the one that is kept.
+/// Returns the tree that words give, or else a copy of the kept one.
 fn given_tree(alloc: Global, kept: &Option<Tree>, words: &[&str]) -> Result<Tree, Unanswered> {
     match (words, kept) {
         ([], Some(tree)) => Ok(tree.copy(alloc)?),
@@ -285,7 +286,7 @@ fn commit_tree(
     }
 }
 
-/// Adds why a commit was refused; its tree comes back.
+/// Adds why a commit was refused, or that it returned another tree than the given one.
 fn put_refused(
     fault: CommitFault,
     back: &Tree,

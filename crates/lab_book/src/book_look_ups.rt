@@ -28,7 +28,7 @@ pub fn look_at(book: &Book, name: &str, index: u32, out: &mut String) -> Result<
     }
 }
 
-/// Whether there is such a node.
+/// Returns whether a node exists.
 fn has_node(book: &Book, id: u32) -> bool {
     id < book.problem().device().node_count()
 }
@@ -66,7 +66,7 @@ fn put_rows(rows: &[OveruseRow], out: &mut String) -> Result<(), Unanswered> {
     Ok(())
 }
 
-/// Adds the nodes of a row, each with by how many nets it was overused.
+/// Adds the nodes of a row, each with its overuse.
 fn put_row(row: &OveruseRow, out: &mut String) -> Result<(), Unanswered> {
     for (node, amount) in row.amounts.as_slice() {
         write!(out, " {node} {amount}")?;
@@ -87,7 +87,7 @@ fn put_turns_of(book: &Book, iteration: usize, out: &mut String) -> Result<(), U
     put_turns(book.turns(iteration), out)
 }
 
-/// Adds turns: each its worker and net, and whether the net was passed.
+/// Adds the worker and the net of each turn, and whether the net was passed.
 fn put_turns(turns: &[Turn], out: &mut String) -> Result<(), Unanswered> {
     for turn in turns {
         let end = if turn.passed { " passed" } else { "" };
@@ -96,7 +96,7 @@ fn put_turns(turns: &[Turn], out: &mut String) -> Result<(), Unanswered> {
     added(out.push('\n'))
 }
 
-/// Adds all that look-ups answer.
+/// Adds the answers of all look-ups.
 pub fn dump(book: &Book, out: &mut String) -> Result<(), Unanswered> {
     dump_trees(book, out)?;
     dump_nodes(book, out)?;
@@ -136,7 +136,7 @@ fn dump_node(book: &Book, id: u32, out: &mut String) -> Result<(), Unanswered> {
     Ok(())
 }
 
-/// How many nets use a node, and its history.
+/// Returns the number of nets that use a node, and its history.
 fn use_of(book: &Book, id: u32) -> Result<(u32, u64), Unanswered> {
     if id < book.problem().device().node_count() {
         Ok((book.occupancy(id), book.history(id)))

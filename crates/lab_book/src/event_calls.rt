@@ -13,11 +13,11 @@ use std::alloc::Global;
 use std::rt::{Clock, Runtime};
 use std::time::Instant;
 
-/// How a line of events is written.
+/// The syntax of a line with an event.
 const EVENT: &str = "draw WORKER, commit WORKER NET TREE, pass WORKER NET or close";
 
-/// How many bytes the line of a reply has at most: the longest ones name a fault with a number or
-/// another fault in it.
+/// The greatest number of bytes in the line of a reply. The longest lines name a fault that
+/// contains a number or another fault.
 const LONGEST_REPLY: usize = 64;
 
 /// Makes a call, and adds its answer.
@@ -37,15 +37,15 @@ pub fn call(
     }
 }
 
-/// Lets the events happen that a text tells, and adds the reply to each. There is room for the
-/// replies before one happens.
+/// Runs the events that a text lists, and adds the reply to each. Reserves memory for the replies
+/// before the first event.
 fn run(alloc: Global, books: &mut Books, text: &[u8], out: &mut String) -> Result<(), Unanswered> {
     let events = events(alloc, text_of(text)?)?;
     out.reserve(events.len().saturating_mul(LONGEST_REPLY))?;
     run_events(alloc, books, events.as_slice(), out)
 }
 
-/// Lets events happen, and adds the reply to each.
+/// Runs events, and adds the reply to each.
 fn run_events(
     alloc: Global,
     books: &mut Books,
@@ -56,8 +56,7 @@ fn run_events(
     put_replies(replies.as_slice(), out)
 }
 
-/// Lets the events happen that a text tells, and tells how many replies there are and how long that
-/// took.
+/// Runs the events that a text lists, and adds the number of replies and the time taken.
 fn run_timed(
     rt: &(impl Runtime + AllocGlobal),
     books: &mut Books,
@@ -68,7 +67,7 @@ fn run_timed(
     time_events(rt, books, events.as_slice(), out)
 }
 
-/// Lets events happen, and tells how many replies there are and how long that took.
+/// Runs events, and adds the number of replies and the time taken.
 fn time_events(
     rt: &(impl Clock + AllocGlobal),
     books: &mut Books,
@@ -90,7 +89,8 @@ fn count_replies(alloc: Global, books: &mut Books, events: &[Event]) -> Result<u
     Ok(replies.len())
 }
 
-/// Lets events happen but those that stand, since memory ran out behind them before; the replies.
+/// Runs events, and returns the replies. Skips the events that were run before memory ran out in an
+/// earlier attempt.
 fn replies(alloc: Global, books: &mut Books, events: &[Event]) -> Result<Vec<Reply>, Unanswered> {
     let stood = books.standing.min(events.len());
     let Some(book) = &mut books.book else {
@@ -129,7 +129,7 @@ impl EventList {
         }
     }
 
-    /// Adds the event that the words of a line tell.
+    /// Adds the event that the words of a line give.
     fn add(&mut self, name: &str, given: &[&str]) -> Result<(), Unanswered> {
         let event = event(self.alloc, name, given)?;
         Ok(self.events.push(event)?)
@@ -144,7 +144,7 @@ impl EventList {
     }
 }
 
-/// The events that a text tells, one a line.
+/// Reads events from a text, one a line.
 fn events(alloc: Global, text: &str) -> Result<Vec<Event>, Unanswered> {
     let mut list = EventList {
         alloc,
@@ -154,7 +154,7 @@ fn events(alloc: Global, text: &str) -> Result<Vec<Event>, Unanswered> {
     Ok(list.events)
 }
 
-/// The event that the words of a line tell.
+/// Reads an event from the words of a line.
 fn event(alloc: Global, name: &str, given: &[&str]) -> Result<Event, Unanswered> {
     match name {
         "draw" => {

@@ -39,12 +39,13 @@ pub fn call(
     }
 }
 
-/// Adds a fault's name, and what it says.
+/// Adds the name and the message of a fault.
 fn put_fault(fault: SearchFault, out: &mut String) -> Result<(), Unanswered> {
     added(writeln!(out, "{fault:?}: {fault}"))
 }
 
-/// What is searched for: a net, at a present-congestion factor, so far from its terminals at most.
+/// A search: the net, the present-congestion factor, and the margin by which the bounding box of
+/// its terminals is widened.
 #[derive(Clone, Copy)]
 struct Asked {
     net: u32,
@@ -52,8 +53,8 @@ struct Asked {
     bb: u32,
 }
 
-/// Searches for the tree of a net by the session's view, and keeps and tells it, or the sink that
-/// isn't reached.
+/// Searches for a tree of a net in the session's view. Keeps and adds the tree, or adds the sink
+/// that no path leads to.
 fn search(
     alloc: Global,
     session: &mut Session,
@@ -67,14 +68,14 @@ fn search(
     }
 }
 
-/// Tells the tree that was found, and keeps it.
+/// Adds a tree that was found, and keeps it.
 fn keep_tree(kept: &mut Option<Tree>, tree: Tree, out: &mut String) -> Result<(), Unanswered> {
     put_tree(&tree, out)?;
     *kept = Some(tree);
     Ok(())
 }
 
-/// Prepares the session's problem for searches, unless that is done.
+/// Prepares the session's problem for searches, unless it is prepared already.
 fn prepare(
     alloc: Global,
     problem: &Option<Problem>,
@@ -90,14 +91,14 @@ fn prepare(
     Ok(())
 }
 
-/// What searches of a problem go over and work in.
+/// Returns a copy of a problem that is prepared for searches, and the memory that they work in.
 fn searching_of(alloc: Global, problem: &Problem) -> Result<Searching, AllocError> {
     let prepared = PreparedProblem::new(alloc, problem.copy(alloc)?)?;
     let scratch = Scratch::new(alloc, &prepared)?;
     Ok(Searching { prepared, scratch })
 }
 
-/// What the search of a net by the session's view finds.
+/// Returns what the search of a net in the session's view finds.
 fn found(
     alloc: Global,
     view: &Option<View>,
@@ -115,7 +116,7 @@ fn found(
     }
 }
 
-/// Searches for the tree of a net.
+/// Searches for a tree of a net. Refuses a net, a factor or a margin that is out of range.
 fn search_in(
     alloc: Global,
     prepared: &PreparedProblem,

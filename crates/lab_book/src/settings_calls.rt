@@ -9,20 +9,20 @@ use node_cost::{
 };
 use std::alloc::Global;
 
-/// How many nodes the greatest device has: 2 for each of 64 pins, each of a class of its own, of
-/// 10,000 blocks; 4 for each of 16 pads at 400 places; and 256 wires at each of the 100 places of
-/// 202 channels.
+/// The number of nodes of the greatest device. 10,000 blocks have 64 pins each, every pin in a
+/// class of its own, with 2 nodes for each pin. 400 places have 16 pads each, with 4 nodes for each
+/// pad. 202 channels have 100 places each, with 256 wires at each place.
 const MOST_NODES: u32 = 6_476_800;
 
-/// The number of a node that stands at a place.
+/// Converts a position in a list of nodes to the number of the node.
 pub fn index_of(place: usize) -> u32 {
     u32::try_from(place).unwrap_or(u32::MAX)
 }
 
-/// Where a word is to be a history.
+/// The answer to a word that should be a history and isn't.
 pub const NO_HISTORY: Unanswered = Unanswered::Misread("a number below 2^64 for a history");
 
-/// What a node's number must be.
+/// The refusal of a node that doesn't exist.
 pub const NO_NODE: Unanswered = Unanswered::Refused("there is no such node");
 
 /// Makes a call, and adds its answer.
@@ -114,7 +114,7 @@ fn call_histories(
     }
 }
 
-/// Adds how many nets use a node.
+/// Adds the number of nets that use a node.
 fn put_count(counts: &Option<Counts>, given: &[&str], out: &mut String) -> Result<(), Unanswered> {
     let [id] = numbers::<1>(given)?;
     match counts {
@@ -136,7 +136,7 @@ fn look_at_history(
     }
 }
 
-/// Copies all histories, or adds them.
+/// Makes a look-up of all histories.
 fn look_at_histories(
     alloc: Global,
     histories: &Histories,
@@ -149,7 +149,8 @@ fn look_at_histories(
     }
 }
 
-/// The settings that six words give, or the standard ones; without words the old ones.
+/// Returns the choice that words give: six numbers, or `standard`. Without words, returns the old
+/// choice.
 fn chosen(old: Choice, given: &[&str]) -> Result<Choice, Unanswered> {
     match given {
         [] => Ok(old),
@@ -159,7 +160,7 @@ fn chosen(old: Choice, given: &[&str]) -> Result<Choice, Unanswered> {
     }
 }
 
-/// The choice that numbers give.
+/// Reads a choice from six numbers.
 fn choice_of(given: &[&str]) -> Result<Choice, Unanswered> {
     let [first, init, mult, acc, bb, iterations] = numbers::<6>(given)?;
     Ok(Choice {
@@ -172,7 +173,7 @@ fn choice_of(given: &[&str]) -> Result<Choice, Unanswered> {
     })
 }
 
-/// The choice, as the settings have it that it makes.
+/// Returns the choice as its settings have it, or refuses a number that is out of range.
 fn within_ranges(choice: Choice) -> Result<Choice, Unanswered> {
     let settings = choice.settings()?;
     Ok(Choice::of(&settings))
@@ -193,7 +194,7 @@ fn put_present(settings: Settings, iteration: u32, out: &mut String) -> Result<(
     put(out, settings.present(iteration))
 }
 
-/// The number of up to 64 bits that a word is.
+/// Returns the number that a word gives, if there is one below 2^64.
 pub fn long_number(word: &str) -> Option<u64> {
     match word.parse::<u64>() {
         Ok(number) => Some(number),
@@ -201,7 +202,7 @@ pub fn long_number(word: &str) -> Option<u64> {
     }
 }
 
-/// Adds what it costs to enter a node.
+/// Adds the cost of entering a node.
 fn put_cost(given: &[&str], out: &mut String) -> Result<(), Unanswered> {
     let [base, history, capacity, others, present] = given else {
         return Err(Unanswered::Misread("cost BASE HISTORY CAPACITY OTHERS PRESENT"));
@@ -228,7 +229,7 @@ fn put_cost(given: &[&str], out: &mut String) -> Result<(), Unanswered> {
     put(out, cost(base, history, capacity, others, present))
 }
 
-/// How many nodes a value is made for: no more than the greatest device has.
+/// Reads the number of nodes that a value is made for, at most `MOST_NODES`.
 pub fn number_of_nodes(given: &[&str]) -> Result<usize, Unanswered> {
     let [nodes] = numbers::<1>(given)?;
     if nodes > MOST_NODES {
@@ -259,7 +260,7 @@ fn make_histories(
     added(writeln!(out, "{nodes} nodes"))
 }
 
-/// How many nets use a node.
+/// Returns the number of nets that use a node.
 fn count(counts: &Counts, id: u32) -> Result<u32, Unanswered> {
     if (id as usize) < counts.len() {
         Ok(counts.get(id))
@@ -268,7 +269,7 @@ fn count(counts: &Counts, id: u32) -> Result<u32, Unanswered> {
     }
 }
 
-/// The history of a node.
+/// Returns the history of a node.
 fn history(histories: &Histories, id: u32) -> Result<u64, Unanswered> {
     if (id as usize) < histories.len() {
         Ok(histories.get(id))
@@ -277,7 +278,7 @@ fn history(histories: &Histories, id: u32) -> Result<u64, Unanswered> {
     }
 }
 
-/// Whether the history of a node is 0.
+/// Returns whether the history of a node is 0.
 fn is_none(histories: &Histories, id: u32) -> Result<bool, Unanswered> {
     if (id as usize) < histories.len() {
         Ok(histories.is_none(id))
@@ -286,7 +287,7 @@ fn is_none(histories: &Histories, id: u32) -> Result<bool, Unanswered> {
     }
 }
 
-/// Changes how many nets use a node, and tells how many do.
+/// Changes the count of a node, and adds the new count.
 fn change_count(
     counts: &mut Counts,
     name: &str,
@@ -297,7 +298,7 @@ fn change_count(
     put(out, count(counts, id)?)
 }
 
-/// Changes how many nets use a node; the node.
+/// Changes the count of a node, and returns the node.
 fn changed(counts: &mut Counts, name: &str, given: &[&str]) -> Result<u32, Unanswered> {
     match name {
         "set_count" => set_count(counts, given),
@@ -340,7 +341,7 @@ fn take_one(counts: &mut Counts, given: &[&str]) -> Result<u32, Unanswered> {
     Ok(id)
 }
 
-/// Gives a node a history, and tells it.
+/// Sets the history of a node, and adds it.
 fn set_history(
     histories: &mut Histories,
     given: &[&str],
@@ -365,7 +366,7 @@ fn set_history(
     put(out, value)
 }
 
-/// The other counts become these, of as many nodes.
+/// Copies the counts into the other counts, which must be of as many nodes.
 fn copy_counts(
     counts: &Option<Counts>,
     other: &mut Option<Counts>,
@@ -406,7 +407,8 @@ fn dump_histories(histories: &Histories, out: &mut String) -> Result<(), Unanswe
     Ok(())
 }
 
-/// Whether a copy and other histories become these.
+/// Copies the histories by `copy` and that copy by `copy_from`, and adds whether the last copy is
+/// equal to the histories.
 fn copy_histories(
     alloc: Global,
     histories: &Histories,
@@ -417,7 +419,7 @@ fn copy_histories(
     put(out, are_equal(histories, &other))
 }
 
-/// Others that become these histories.
+/// Returns new histories that `copy_from` made equal to these.
 fn copied(alloc: Global, histories: &Histories) -> Result<Histories, Unanswered> {
     let mut other = Histories::new(alloc, histories.len())?;
     if other.len() == histories.len() {
@@ -426,7 +428,7 @@ fn copied(alloc: Global, histories: &Histories) -> Result<Histories, Unanswered>
     Ok(other)
 }
 
-/// Whether all nodes have the same histories in both.
+/// Returns whether all nodes have the same histories in both.
 fn are_equal(one: &Histories, other: &Histories) -> bool {
     let nodes = one.len().max(other.len());
     (0..nodes).all(|id| match (history(one, index_of(id)), history(other, index_of(id))) {

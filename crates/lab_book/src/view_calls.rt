@@ -64,7 +64,7 @@ pub fn call(
     }
 }
 
-/// Makes a view of the problem's nodes, or of so many, and tells how many they are.
+/// Makes a view of the problem's nodes or of a given number of nodes, and adds the number.
 fn make(
     alloc: Global,
     problem: &Option<Problem>,
@@ -77,7 +77,7 @@ fn make(
     added(writeln!(out, "{nodes} nodes"))
 }
 
-/// How many nodes the problem has, or as many as a word says.
+/// Returns the number of nodes that a word gives, or else that of the problem.
 fn nodes(problem: &Option<Problem>, given: &[&str]) -> Result<usize, Unanswered> {
     match (given, problem) {
         ([], Some(problem)) => Ok(problem.device().node_count() as usize),
@@ -94,7 +94,7 @@ fn look_up(view: &View, name: &str, id: u32, out: &mut String) -> Result<(), Una
     }
 }
 
-/// Adds how many other nets use a node, and its history.
+/// Adds the number of other nets that use a node, and its history.
 fn put_seen(view: &View, id: u32, out: &mut String) -> Result<(), Unanswered> {
     if id as usize >= view.len() {
         return Err(NO_NODE);
@@ -102,7 +102,7 @@ fn put_seen(view: &View, id: u32, out: &mut String) -> Result<(), Unanswered> {
     added(writeln!(out, "{} {}", view.others(id), view.history(id)))
 }
 
-/// Whether no other net uses a node, and its history is 0.
+/// Returns whether no other net uses a node and its history is 0.
 fn is_free(view: &View, id: u32) -> Result<bool, Unanswered> {
     if (id as usize) < view.len() {
         Ok(view.is_free(id))
@@ -111,7 +111,7 @@ fn is_free(view: &View, id: u32) -> Result<bool, Unanswered> {
     }
 }
 
-/// Changes what is seen of a node, and tells it.
+/// Changes what the view shows of a node, and adds it.
 fn change(view: &mut View, name: &str, given: &[&str], out: &mut String) -> Result<(), Unanswered> {
     let [id, rest @ ..] = given else {
         return Err(Unanswered::Misread("set ID: OTHERS HISTORY, or leave_out ID"));
@@ -131,7 +131,7 @@ fn change(view: &mut View, name: &str, given: &[&str], out: &mut String) -> Resu
     put_seen(view, id, out)
 }
 
-/// Gives a node so many other nets and a history.
+/// Sets the number of other nets that use a node, and its history.
 fn set(view: &mut View, id: u32, rest: &[&str]) -> Result<(), Unanswered> {
     let [others, history] = rest else {
         return Err(Unanswered::Misread("set ID: OTHERS HISTORY"));
@@ -152,7 +152,7 @@ fn set(view: &mut View, id: u32, rest: &[&str]) -> Result<(), Unanswered> {
     Ok(())
 }
 
-/// One net less uses a node.
+/// Lowers the number of other nets that use a node by one.
 fn leave_out(view: &mut View, id: u32) -> Result<(), Unanswered> {
     if id as usize >= view.len() {
         return Err(NO_NODE);
@@ -164,7 +164,7 @@ fn leave_out(view: &mut View, id: u32) -> Result<(), Unanswered> {
     Ok(())
 }
 
-/// Makes the view one of the counts and histories, and tells how many nodes there are.
+/// Fills the view from the counts and histories, and adds the number of nodes.
 fn look_at(
     alloc: Global,
     counts: &Option<Counts>,
@@ -180,7 +180,7 @@ fn look_at(
     }
 }
 
-/// Makes a view one of these counts and histories.
+/// Fills a view from these counts and histories, and adds the number of nodes.
 fn look_with(
     counts: &Counts,
     histories: &Arc<Histories, Global>,

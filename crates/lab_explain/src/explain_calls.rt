@@ -23,10 +23,10 @@ use std::rt::Runtime;
 use std::thread::Threads;
 use vpr_text::{Lines, lines};
 
-/// What explanations call the file of a routing.
+/// The name of a routing's file in explanations.
 const ROUTE: &[u8] = b"route";
 
-/// How a call of a report is written.
+/// The answer to a call of `report_run` with other words.
 const REPORT: Unanswered = Unanswered::Misread(
     "report_run W, or with `global`, and then `map`, behind it",
 );
@@ -46,7 +46,7 @@ pub fn call(
     }
 }
 
-/// Whether words ask for a map.
+/// Returns whether words ask for a map.
 fn is_map(given: &[&str]) -> Result<bool, Unanswered> {
     match given {
         [] => Ok(false),
@@ -72,7 +72,7 @@ fn run_report(
     report_design(alloc, files, design, route, width, mode, is_map, out)
 }
 
-/// Runs `report` over the files of a design and a routing.
+/// Runs `report` on the files of a design and a routing.
 fn report_design(
     alloc: Global,
     files: &RunFiles,
@@ -115,8 +115,8 @@ fn run_explain(
     explain_design(rt, files, design, route, width, mode, out)
 }
 
-/// Runs `check` with explanations over the files of a design and a routing. An explanation has a
-/// line at least: one that a sink would have taken, and of which there is none, lacked memory.
+/// Runs `check` with explanations on the files of a design and a routing. An explanation has at
+/// least one line. If there is none although the sink has room, memory ran out.
 fn explain_design(
     rt: &(impl Threads + Sync + AllocGlobal),
     files: &RunFiles,

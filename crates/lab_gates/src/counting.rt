@@ -9,8 +9,8 @@ use std::alloc::Global;
 use std::sync::Wait;
 use std::sync::atomic::{AtomicU32, Ordering};
 
-/// Counts how many nets came after their draws and after their searches, keeps which workers came
-/// with them, and what the driver told.
+/// Counts the nets that were drawn and those that were searched for. Records which workers did so,
+/// and the calls that the driver made.
 #[derive(Drop)]
 pub struct Counting<'a, R: Wait> {
     drawn: AtomicU32,
@@ -23,7 +23,7 @@ pub struct Counting<'a, R: Wait> {
 }
 
 impl<'a, R: Wait> Counting<'a, R> {
-    /// One that counted nothing.
+    /// Returns a gate that has counted nothing.
     pub fn new(rt: &'a R, alloc: Global) -> Counting<'a, R> {
         Counting {
             drawn: AtomicU32::new(0),
@@ -34,7 +34,7 @@ impl<'a, R: Wait> Counting<'a, R> {
         }
     }
 
-    /// Tells what it counted and kept.
+    /// Adds what the gate counted and recorded.
     pub fn put(&self, out: &mut String) -> Result<(), Unanswered> {
         let drawn = self.drawn.load(Ordering::SeqCst);
         let searched = self.searched.load(Ordering::SeqCst);
@@ -60,7 +60,7 @@ fn put_flags(flags: u32, out: &mut String) -> Result<(), Unanswered> {
     added(out.push('\n'))
 }
 
-/// What it does when it is called.
+/// The calls of the gate.
 impl<R: Wait> Counting<'_, R> {
     pub fn opened(&self, iteration: u32, nets: u32) {
         self.told.add(Told::Opened { iteration, nets });

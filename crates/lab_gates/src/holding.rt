@@ -4,27 +4,27 @@ use crate::patience::Patience;
 use lab_session::unanswered::Unanswered;
 use std::sync::atomic::{AtomicBool, AtomicU32, Ordering};
 
-/// Holds a worker at its first net, after its search, until all other nets were searched for. The
-/// other workers wait behind their draws until that worker has drawn. It does so in the first
-/// iteration of a negotiation alone, which all workers make.
+/// Holds a worker after the search of its first net until all other nets were searched for. The
+/// other workers wait after their draws until that worker has drawn. The gate does so only in the
+/// first iteration of a negotiation, which all workers make.
 #[derive(Drop)]
 pub struct Holding {
     worker: u32,
     nets: AtomicU32,
     is_awake: AtomicBool,
-    /// 1 as soon as the worker has drawn.
+    /// 1 once the worker has drawn.
     drawn: AtomicU32,
-    /// 1 as soon as the worker was held.
+    /// 1 once the worker was held.
     held: AtomicU32,
-    /// How many nets were searched for.
+    /// The number of nets that were searched for.
     searched: AtomicU32,
-    /// In how many iterations the worker was held.
+    /// The number of iterations in which the worker was held to the end.
     rounds: AtomicU32,
     patience: Patience,
 }
 
 impl Holding {
-    /// That of a worker, in an iteration of so many nets.
+    /// Returns the gate that holds a worker in an iteration of `nets` nets.
     pub fn of(worker: u32, nets: u32) -> Holding {
         Holding {
             worker,
@@ -46,7 +46,7 @@ impl Holding {
         }
     }
 
-    /// Tells whether the worker was held, or one gave up.
+    /// Adds whether the worker was held, or whether a worker gave up waiting.
     pub fn put(&self, out: &mut String) -> Result<(), Unanswered> {
         let worker = self.worker;
         if self.patience.is_gone() {
@@ -60,7 +60,7 @@ impl Holding {
     }
 }
 
-/// What it does when it is called.
+/// The calls of the gate.
 impl Holding {
     pub fn opened(&self, iteration: u32, nets: u32) {
         self.nets.store(nets, Ordering::SeqCst);

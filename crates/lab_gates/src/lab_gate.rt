@@ -7,28 +7,28 @@ use crate::timing::Timing;
 use congestion_book::Book;
 use lab_session::unanswered::Unanswered;
 use lab_session::words::{NO_NUMBER, number};
-use net_workers::{Gate, TrialEnd};
+use net_workers::{Gate, ScheduledTurn, TrialEnd};
 use std::alloc::AllocError;
 use std::sync::Wait;
 use std::time::Clock;
 
-/// How a gate is written.
+/// The syntax of a gate.
 const GATES: &str =
     "the call and no gate, or `open`, `meeting N`, `holding W`, `counting` or `timing` behind it";
 
-/// What the last words of a call say of its gate.
+/// The gate that the last words of a call name.
 #[derive(Clone, Copy)]
 pub enum GateWords {
     Open,
-    /// So many nets meet.
+    /// The number of nets that meet.
     Meeting(u32),
-    /// This worker is held.
+    /// The worker that is held.
     Holding(u32),
     Counting,
     Timing,
 }
 
-/// The gate that words name, of a call with so many workers.
+/// Reads the gate that the last words of a call name. The call has this many workers.
 pub fn gate_words(given: &[&str], workers: u32) -> Result<GateWords, Unanswered> {
     match given {
         [] => Ok(GateWords::Open),
@@ -41,7 +41,7 @@ pub fn gate_words(given: &[&str], workers: u32) -> Result<GateWords, Unanswered>
     }
 }
 
-/// A gate that is named by one word.
+/// Reads a gate that is named by one word.
 fn plain_gate(word: &str) -> Result<GateWords, Unanswered> {
     match word {
         "open" => Ok(GateWords::Open),
@@ -51,7 +51,7 @@ fn plain_gate(word: &str) -> Result<GateWords, Unanswered> {
     }
 }
 
-/// A gate that is named by a word and a number.
+/// Reads a gate that is named by a word and a number.
 fn numbered_gate(word: &str, number: u32, workers: u32) -> Result<GateWords, Unanswered> {
     match word {
         "meeting" if number < 1 || number > 32 => { Err(Unanswered::Refused("1 to 32 nets meet")) }
@@ -75,7 +75,7 @@ pub enum LabGate<'a, R: Wait + Clock> {
 }
 
 impl<'a, R: Wait + Clock + AllocGlobal> LabGate<'a, R> {
-    /// The gate that a call names, for so many nets.
+    /// Makes the gate that a call names, for a problem of `nets` nets.
     pub fn new(rt: &'a R, words: GateWords, nets: u32) -> Result<LabGate<'a, R>, AllocError> {
         match words {
             GateWords::Open => Ok(LabGate::Open),
@@ -99,6 +99,8 @@ impl<'a, R: Wait + Clock + AllocGlobal> LabGate<'a, R> {
 }
 
 impl<R: Wait + Clock> Gate for LabGate<'_, R> {
+    ghost accepted = { λ gate k turns. Unit {0} };
+
     fn opened(&self, iteration: u32, nets: u32) {
         match self {
             LabGate::Open => (),
@@ -133,6 +135,10 @@ impl<R: Wait + Clock> Gate for LabGate<'_, R> {
         if let LabGate::Meeting(gate) = self {
             gate.looked();
         }
+    }
+
+    fn accepts(&self, _iteration: u32, _turns: &[ScheduledTurn]) -> bool {
+        true
     }
 
     fn closed(&self, iteration: u32, book: &Book) {

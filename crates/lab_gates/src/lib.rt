@@ -1,7 +1,8 @@
-//! The gates that a call can name: at which nets meet, that hold a worker, count or tell the time.
+//! The gates that a call can name: they let nets meet, hold a worker, count, or measure times.
 #![tactic(auto)]
 
 pub mod counting;
+pub mod delaying;
 pub mod holding;
 pub mod lab_gate;
 pub mod meeting;

@@ -5,21 +5,21 @@ use lab_session::answer::put;
 use lab_session::unanswered::Unanswered;
 use std::sync::atomic::{AtomicBool, AtomicU32, Ordering};
 
-/// The flag of a net, or of a worker; none from 32 on.
+/// Returns the flag of a net or of a worker, or 0 from number 32 on.
 pub fn flag(number: u32) -> u32 {
     1u32.checked_shl(number).unwrap_or(0)
 }
 
-/// Holds each of the first nets until all of them came as far: after their draws, and again after
-/// their searches. It does so in the first iteration of a negotiation alone, which all workers
-/// make.
+/// Holds each of the first nets after its draw until all of them were drawn, and after its search
+/// until all of them were searched for. The gate does so only in the first iteration of a
+/// negotiation, which all workers make.
 #[derive(Drop)]
 pub struct Meeting {
     nets: u32,
     is_awake: AtomicBool,
     drawn: AtomicU32,
     searched: AtomicU32,
-    /// In how many iterations they met.
+    /// The number of iterations in which they met.
     met: AtomicU32,
     /// How often a worker looked again at a net.
     looked: AtomicU32,
@@ -27,7 +27,7 @@ pub struct Meeting {
 }
 
 impl Meeting {
-    /// That of so many nets, at most 32.
+    /// Returns the gate at which the first `nets` nets meet, at most 32.
     pub fn of(nets: u32) -> Meeting {
         Meeting {
             nets,
@@ -40,7 +40,7 @@ impl Meeting {
         }
     }
 
-    /// The flags of all nets that meet.
+    /// Returns the flags of all nets that meet.
     fn all(&self) -> u32 {
         match 1u32.checked_shl(self.nets) {
             Some(above) => above.saturating_sub(1),
@@ -48,19 +48,19 @@ impl Meeting {
         }
     }
 
-    /// Whether a net is held.
+    /// Returns whether a net is held.
     fn holds(&self, net: u32) -> bool {
         net < self.nets && self.is_awake.load(Ordering::SeqCst)
     }
 
-    /// Sets the flag of a net; whether all stand there by this one.
+    /// Sets the flag of a net. Returns whether this completes the flags of all nets.
     fn completes(&self, seen: &AtomicU32, net: u32) -> bool {
         let before = seen.fetch_or(flag(net), Ordering::SeqCst);
         before != self.all() && before | flag(net) == self.all()
     }
 
-    /// Tells in how many iterations the nets met, how often a worker looked again in these, if one
-    /// did, and whether one gave up.
+    /// Adds in how many iterations the nets met, how often a worker looked again in these, if one
+    /// did, and whether a worker gave up waiting.
     pub fn put(&self, out: &mut String) -> Result<(), Unanswered> {
         write!(out, "gate: met {} times", self.met.load(Ordering::SeqCst))?;
         let looked = self.looked.load(Ordering::SeqCst);
@@ -74,7 +74,7 @@ impl Meeting {
     }
 }
 
-/// What it does when it is called.
+/// The calls of the gate.
 impl Meeting {
     pub fn opened(&self, iteration: u32) {
         self.drawn.store(0, Ordering::SeqCst);

@@ -1,12 +1,13 @@
-//! Waiting that ends.
+//! Waits that end.
 
 use std::hint;
 use std::sync::atomic::{AtomicBool, AtomicU32, Ordering};
 
-/// How often a waiting thread looks before it gives up.
+/// The number of times that a waiting thread looks before it gives up.
 const LOOKS: u32 = 20_000_000;
 
-/// Who waits looks so many times, and where one gave up, none waits again.
+/// A limit on waits: each waiting thread looks at most `LOOKS` times, and once one gave up, none
+/// waits any more.
 #[derive(Drop)]
 pub struct Patience {
     is_gone: AtomicBool,
@@ -19,7 +20,7 @@ impl Patience {
         }
     }
 
-    /// Looks until the number is the one that is awaited; whether it came to that.
+    /// Waits until `seen` is the awaited number. Returns whether it is.
     pub fn await_number(&self, seen: &AtomicU32, awaited: u32) -> bool {
         for _ in 0..LOOKS {
             if seen.load(Ordering::SeqCst) == awaited {
@@ -34,7 +35,7 @@ impl Patience {
         false
     }
 
-    /// Whether one gave up.
+    /// Returns whether a thread gave up.
     pub fn is_gone(&self) -> bool {
         self.is_gone.load(Ordering::SeqCst)
     }

@@ -1,4 +1,4 @@
-//! A gate that looks at the clock.
+//! A gate that measures times.
 
 use crate::told::{Told, ToldList};
 use lab_session::answer::added;
@@ -8,12 +8,12 @@ use std::sync::Wait;
 use std::sync::atomic::{AtomicU64, Ordering};
 use std::time::{Clock, Duration};
 
-/// How many workers there are at most.
+/// The greatest number of workers.
 const WORKERS: usize = 16;
 
-/// Adds up what the parts of iterations take: the searches of all workers; their turns, from the
-/// iteration's begin or the search before up to the next draw; and the end, from the last search to
-/// the close. Times are microseconds since it was made.
+/// Adds up the times that the parts of iterations take: the searches of all workers; their turns,
+/// each from the beginning of the iteration or the search before to the next draw; and the end,
+/// from the last search to the close. Times are in microseconds since the gate was made.
 #[derive(Drop)]
 pub struct Timing<'a, R: Wait + Clock> {
     rt: &'a R,
@@ -22,9 +22,9 @@ pub struct Timing<'a, R: Wait + Clock> {
     tried: AtomicU64,
     /// When the iteration began.
     opened: AtomicU64,
-    /// When each worker came last.
+    /// When each worker last called the gate.
     latest: Vec<AtomicU64>,
-    /// When the last worker came from its search.
+    /// When the last search ended.
     last: AtomicU64,
     searches: AtomicU64,
     turns: AtomicU64,
@@ -32,7 +32,7 @@ pub struct Timing<'a, R: Wait + Clock> {
     told: ToldList<'a, R>,
 }
 
-/// So many times, each 0.
+/// Returns `count` times, each 0.
 fn times(alloc: Global, count: usize) -> Result<Vec<AtomicU64>, AllocError> {
     let mut times = Vec::with_capacity(alloc, count)?;
     for _ in 0..count {
@@ -42,7 +42,7 @@ fn times(alloc: Global, count: usize) -> Result<Vec<AtomicU64>, AllocError> {
 }
 
 impl<'a, R: Wait + Clock> Timing<'a, R> {
-    /// One that begins now.
+    /// Returns a gate whose clock starts now.
     pub fn new(rt: &'a R, alloc: Global) -> Result<Timing<'a, R>, AllocError> {
         Ok(Timing {
             rt,
@@ -58,14 +58,14 @@ impl<'a, R: Wait + Clock> Timing<'a, R> {
         })
     }
 
-    /// How long ago it was made.
+    /// Returns the time since the gate was made.
     fn now(&self) -> u64 {
         let now = self.rt.monotonic().unwrap_or(self.begin);
         let elapsed = now.saturating_sub(self.begin);
         u64::try_from(elapsed.as_micros()).unwrap_or(u64::MAX)
     }
 
-    /// How long ago a worker came, which comes again now.
+    /// Returns the time since a worker's last call, and sets the time of that call to `now`.
     fn come(&self, worker: u32, now: u64) -> u64 {
         match self.latest.get(worker as usize) {
             Some(time) => now.saturating_sub(time.swap(now, Ordering::SeqCst)),
@@ -80,7 +80,8 @@ impl<'a, R: Wait + Clock> Timing<'a, R> {
         }
     }
 
-    /// Tells what was added up.
+    /// Adds a line for each record, and one with the number of searches and the time since the gate
+    /// was made.
     pub fn put(&self, out: &mut String) -> Result<(), Unanswered> {
         self.told.put(out)?;
         let nets = self.nets.load(Ordering::SeqCst);
@@ -88,7 +89,7 @@ impl<'a, R: Wait + Clock> Timing<'a, R> {
     }
 }
 
-/// What it does when it is called.
+/// The calls of the gate.
 impl<R: Wait + Clock> Timing<'_, R> {
     pub fn opened(&self) {
         let now = self.now();

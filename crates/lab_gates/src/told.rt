@@ -1,4 +1,4 @@
-//! What a gate is told by the driver of a negotiation, in its order.
+//! The records of a gate, in the order of the driver's calls.
 
 use lab_session::unanswered::Unanswered;
 use net_workers::TrialEnd;
@@ -7,8 +7,8 @@ use std::fmt;
 use std::sync::atomic::{AtomicU32, Ordering};
 use std::sync::{Mutex, Wait};
 
-/// A call of a gate by the driver, or what the parts of an iteration or a trial took, in
-/// microseconds.
+/// A call of a gate by the driver of a negotiation, or the times that the parts of an iteration or
+/// a trial took, in microseconds.
 #[derive(Clone, Copy, Debug)]
 pub enum Told {
     Opened {
@@ -40,7 +40,7 @@ pub enum Told {
 }
 
 impl Told {
-    /// That the trial of a width came to this.
+    /// Returns the record of a trial at a width that ended so.
     pub fn tried(width: u32, end: TrialEnd) -> Told {
         match end {
             TrialEnd::Routed { iterations } => Told::Routed { width, iterations },
@@ -82,17 +82,17 @@ impl fmt::Display for Told {
     }
 }
 
-/// What a gate was told, in its order.
+/// The records of a gate, in order.
 #[derive(Drop)]
 pub struct ToldList<'a, R: Wait> {
     rt: &'a R,
     list: Mutex<Vec<Told>>,
-    /// For how many there was no memory.
+    /// The number of records for which there was no memory.
     lost: AtomicU32,
 }
 
 impl<'a, R: Wait> ToldList<'a, R> {
-    /// An empty one.
+    /// Returns an empty list.
     pub fn new(rt: &'a R, alloc: Global) -> ToldList<'a, R> {
         ToldList {
             rt,
@@ -101,14 +101,14 @@ impl<'a, R: Wait> ToldList<'a, R> {
         }
     }
 
-    /// Adds what was told.
+    /// Adds a record, or counts it as lost if memory runs out.
     pub fn add(&self, told: Told) {
         if self.list.lock(self.rt).push(told).is_err() {
             self.lost.fetch_add(1, Ordering::SeqCst);
         }
     }
 
-    /// Adds a line for each.
+    /// Adds a line for each record, and one if records were lost.
     pub fn put(&self, out: &mut String) -> Result<(), Unanswered> {
         let list = self.list.lock(self.rt);
         for told in list.as_slice() {

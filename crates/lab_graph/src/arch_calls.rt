@@ -43,7 +43,7 @@ pub fn call(
     }
 }
 
-/// Reads an architecture. What was read for the one before is dropped.
+/// Reads an architecture. Drops the netlist and the placement that were read for the one before.
 fn read(
     rt: &(impl Runtime + AllocGlobal),
     design: &mut Design,
@@ -69,7 +69,7 @@ fn read_text(
     Ok(())
 }
 
-/// Adds how many entries of each kind an architecture has.
+/// Adds the number of entries of each kind in an architecture.
 fn put_counts(arch: &Arch, out: &mut String) -> Result<(), Unanswered> {
     let (pins, classes) = (arch.pins().len(), arch.class_count());
     let (segments, switches) = (arch.segments().len(), arch.switches().len());
@@ -111,7 +111,7 @@ fn look_at(arch: &Arch, name: &str, class: u32, out: &mut String) -> Result<(), 
     }
 }
 
-/// Copies the architecture, and tells whether the copy is equal.
+/// Copies the architecture, and adds whether the copy is equal.
 fn copy(alloc: Global, arch: &Arch, out: &mut String) -> Result<(), Unanswered> {
     let copy = arch.copy(alloc)?;
     put(out, copy == *arch)

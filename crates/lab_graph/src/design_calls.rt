@@ -45,7 +45,7 @@ fn look_into(
     look_up(&netlist, call, out)
 }
 
-/// Reads a netlist. The placement of the one before is dropped.
+/// Reads a netlist. Drops the placement that was read for the one before.
 fn read_netlist(
     rt: &(impl Runtime + AllocGlobal),
     design: &mut Design,
@@ -60,7 +60,7 @@ fn read_netlist(
     Ok(())
 }
 
-/// Adds how many blocks and nets a netlist has.
+/// Adds the numbers of blocks and nets of a netlist.
 fn put_counts(alloc: Global, arch: &Arch, text: &[u8], out: &mut String) -> Result<(), Unanswered> {
     let netlist = net_file::parse(alloc, text, arch)?;
     put_counts_of(&netlist, out)
@@ -106,7 +106,7 @@ fn put_array_for(
     added(writeln!(out, "{} x {}", placement.nx(), placement.ny()))
 }
 
-/// The site of a block.
+/// Adds the site of a block.
 fn put_site_of(
     alloc: Global,
     design: &Design,
@@ -215,7 +215,7 @@ fn put_block(block: &Block<'_>, out: &mut String) -> Result<(), Unanswered> {
     added(out.push('\n'))
 }
 
-/// Adds a net: its name, `global` where it is, its driver and its sinks.
+/// Adds a net: its name, `global` if it is, its driver and its sinks.
 fn put_net(net: &Net<'_>, out: &mut String) -> Result<(), Unanswered> {
     put_name(out, net.name())?;
     if net.is_global() {
@@ -229,7 +229,7 @@ fn put_net(net: &Net<'_>, out: &mut String) -> Result<(), Unanswered> {
     added(out.push('\n'))
 }
 
-/// Adds a terminal: the number of its block, and of the class at a logic block.
+/// Adds a terminal: the number of its block, and that of its class if the block is a logic block.
 fn put_terminal(terminal: Terminal, out: &mut String) -> Result<(), Unanswered> {
     let block = terminal.block;
     match terminal.class {
@@ -239,7 +239,7 @@ fn put_terminal(terminal: Terminal, out: &mut String) -> Result<(), Unanswered> 
     Ok(())
 }
 
-/// Whether the netlist and the placement suit the device.
+/// Returns whether the netlist and the placement suit the device.
 pub fn suits(alloc: Global, design: &Design, device: &Option<Device>) -> Result<bool, Unanswered> {
     let design = design.texts()?;
     let Some(device) = device else {

@@ -1,4 +1,4 @@
-//! Calls of `rr_graph`: devices, made and copied.
+//! Calls of `rr_graph` that make a device or compare it with a design.
 
 use crate::design_calls::suits;
 use crate::node_calls::call as node_call;
@@ -34,7 +34,7 @@ pub fn call(
     }
 }
 
-/// Whether the device is one of the design's architecture.
+/// Returns whether the device has the design's architecture.
 fn has_architecture(device: &Option<Device>, design: &Design) -> Result<bool, Unanswered> {
     match device {
         Some(device) => Ok(*device.architecture() == *design.arch()?),
@@ -42,7 +42,7 @@ fn has_architecture(device: &Option<Device>, design: &Design) -> Result<bool, Un
     }
 }
 
-/// Makes a device, and tells how many nodes it has.
+/// Makes a device, and adds its number of nodes.
 fn make(
     alloc: Global,
     session: &mut Session,

@@ -35,7 +35,7 @@ pub fn call(
     }
 }
 
-/// Keeps the text of the file of a call's name.
+/// Keeps the text of a file. The name of the call decides which file.
 fn keep(files: &mut RunFiles, name: &str, text: RunText) {
     let file = match name {
         "run_arch" => &mut files.arch,
@@ -46,7 +46,7 @@ fn keep(files: &mut RunFiles, name: &str, text: RunText) {
     *file = Some(text);
 }
 
-/// Keeps behind how many bytes the sink of a call's name fails.
+/// Keeps the number of bytes after which a sink fails. The name of the call decides which sink.
 fn keep_room(files: &mut RunFiles, name: &str, room: Option<usize>) {
     match name {
         "route_sink" => files.route_room = room,
@@ -66,7 +66,8 @@ fn dump(files: &RunFiles, out: &mut String) -> Result<(), Unanswered> {
     put_room("words sink", files.words_room, out)
 }
 
-/// Adds how many bytes a file has, or `none`, and behind how many its source fails.
+/// Adds the number of bytes of a file, and after how many its source fails, or `none` if there is
+/// no file.
 fn put_file(name: &str, file: &Option<RunText>, out: &mut String) -> Result<(), Unanswered> {
     match file {
         Some(text) => {
@@ -77,7 +78,7 @@ fn put_file(name: &str, file: &Option<RunText>, out: &mut String) -> Result<(), 
     }
 }
 
-/// Adds behind how many bytes a source or sink fails.
+/// Adds after how many bytes a source or sink fails, or that it doesn't.
 fn put_room(name: &str, room: Option<usize>, out: &mut String) -> Result<(), Unanswered> {
     match room {
         Some(count) => writeln!(out, "{name} failing {count}")?,
@@ -86,7 +87,7 @@ fn put_room(name: &str, room: Option<usize>, out: &mut String) -> Result<(), Una
     Ok(())
 }
 
-/// Behind how many bytes a sink is to fail, if it is.
+/// Reads the number of bytes after which a sink is to fail, if it is, and adds `ok`.
 fn room(given: &[&str], out: &mut String) -> Result<Option<usize>, Unanswered> {
     let room = match given {
         [word] if *word == "whole" => None,

@@ -60,7 +60,7 @@ pub fn call(
     }
 }
 
-/// Looks for a node, or for edges.
+/// Looks up the number of a node, or edges.
 fn look_for(
     alloc: Global,
     device: &Device,
@@ -75,7 +75,7 @@ fn look_for(
     }
 }
 
-/// Makes a look-up of the node, or the track, of a number.
+/// Makes a look-up of a node or a track by its number.
 fn look_up(
     alloc: Global,
     device: &Device,
@@ -120,7 +120,7 @@ fn look_at_all(
     }
 }
 
-/// Copies the device, and tells whether the copy is equal.
+/// Copies the device, and adds whether the copy is equal.
 fn copy(alloc: Global, device: &Device, out: &mut String) -> Result<(), Unanswered> {
     let copy = device.copy(alloc)?;
     put(out, copy == *device)
@@ -142,7 +142,8 @@ fn put_span(span: Option<Span>, out: &mut String) -> Result<(), Unanswered> {
     }
 }
 
-/// Adds a wire: its kind, its span, and how many places the wires of its track pass at most.
+/// Adds a wire: its kind, the greatest number of places that a wire of its track passes, and its
+/// span.
 fn put_wire(device: &Device, id: u32, out: &mut String) -> Result<(), Unanswered> {
     match device.wire(id) {
         Some((kind, span, reach)) => {
@@ -177,7 +178,7 @@ fn put_parts(device: &Device, out: &mut String) -> Result<(), Unanswered> {
     added(writeln!(out, "{nx} x {ny}, W {width}, {mode:?}"))
 }
 
-/// The kind that a word names.
+/// Returns the kind that a word names.
 fn kind(word: &str) -> Result<Kind, Unanswered> {
     match word {
         "Source" => Ok(Kind::Source),
@@ -217,7 +218,7 @@ fn put_lacks_edge(
     put(out, device.lacks_edge(pairs.as_slice()))
 }
 
-/// Adds, for each pair, whether one finder says that they join.
+/// Adds for each pair of nodes whether an edge joins them. One finder answers for all pairs.
 fn put_joins(
     alloc: Global,
     device: &Device,
@@ -240,7 +241,7 @@ fn put_each_join(
     Ok(())
 }
 
-/// Adds the numbers of all nodes to which a node leads.
+/// Adds the numbers of all nodes that an edge leads to from a node.
 pub fn put_successors(
     alloc: Global,
     device: &Device,
@@ -252,7 +253,7 @@ pub fn put_successors(
     put_numbers(out, list.as_slice())
 }
 
-/// Adds a line for each node: its number, what look-ups say of it, and where it leads.
+/// Adds a line for each node: its number, the answers of its look-ups, and its successors.
 fn dump(alloc: Global, device: &Device, out: &mut String) -> Result<(), Unanswered> {
     for id in 0..device.node_count() {
         write!(out, "{id} ")?;
@@ -262,7 +263,7 @@ fn dump(alloc: Global, device: &Device, out: &mut String) -> Result<(), Unanswer
     Ok(())
 }
 
-/// Adds what look-ups say of a node: kind, place, number, label, capacity and span.
+/// Adds the answers of a node's look-ups: kind, place, number, label, capacity and span.
 fn dump_node(device: &Device, id: u32, out: &mut String) -> Result<(), Unanswered> {
     if let (Some(node), Some(label), Some(room)) = (
         device.node(id),

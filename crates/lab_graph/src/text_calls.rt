@@ -24,7 +24,7 @@ pub fn call(
     }
 }
 
-/// Adds how many bytes a text has, or its lines.
+/// Adds the number of bytes of a text, or its lines.
 fn put_text(alloc: Global, name: &str, text: &[u8], out: &mut String) -> Result<(), Unanswered> {
     match name {
         "read" => put(out, text.len()),
@@ -32,7 +32,7 @@ fn put_text(alloc: Global, name: &str, text: &[u8], out: &mut String) -> Result<
     }
 }
 
-/// Adds the number that a word is.
+/// Adds the number that a word gives, or whether it is a decimal.
 fn look_up(name: &str, word: &[u8], out: &mut String) -> Result<(), Unanswered> {
     match name {
         "number" => put_maybe(out, number(word)),
@@ -41,7 +41,7 @@ fn look_up(name: &str, word: &[u8], out: &mut String) -> Result<(), Unanswered> 
     }
 }
 
-/// Adds the lines of a text, each its number and its words.
+/// Adds the lines of a text, each with its number and its words.
 fn put_lines(alloc: Global, text: &[u8], out: &mut String) -> Result<(), Unanswered> {
     let lines = lines(alloc, text)?;
     for i in 0..lines.len() {
@@ -50,7 +50,7 @@ fn put_lines(alloc: Global, text: &[u8], out: &mut String) -> Result<(), Unanswe
     Ok(())
 }
 
-/// Adds line `i` of a text; nothing where there is none.
+/// Adds line `i` of a text, or nothing if there is none.
 fn put_line(lines: &Lines<'_>, i: usize, out: &mut String) -> Result<(), Unanswered> {
     if i >= lines.len() {
         return Ok(());

@@ -1,4 +1,4 @@
-//! Calls of `rr_graph` that walk over a device: so many look-ups that they can be timed.
+//! Calls of `rr_graph` that walk over a device. They make enough look-ups to be timed.
 
 use lab_session::answer::added;
 use lab_session::session::NO_DEVICE;
@@ -8,16 +8,16 @@ use rr_graph::{Device, EdgeFinder};
 use smallvec::SmallVec;
 use std::alloc::{AllocError, Global};
 
-/// A prime above any count of nodes, so that as many steps of it come to each number below the
-/// count once.
+/// A prime above any number of nodes. For `n` nodes, its first `n` multiples modulo `n` are each
+/// number below `n` once.
 const STRIDE: u64 = 8_388_617;
 
-/// What is looked up in a walk.
+/// The look-ups of a walk.
 #[derive(Clone, Copy)]
 enum Walk {
     /// All nodes.
     Nodes,
-    /// All nodes, and of each its number.
+    /// All nodes, and the number of each.
     Numbers,
     /// The successors of all nodes.
     Successors,
@@ -29,7 +29,7 @@ enum Walk {
     Joins,
 }
 
-/// What a walk found, and the sum of a number of each.
+/// The number of things that a walk found, and the sum of one number of each.
 #[derive(Clone, Copy)]
 struct Walked {
     found: u64,
@@ -39,7 +39,7 @@ struct Walked {
 impl Walked {
     const NOTHING: Walked = Walked { found: 0, sum: 0 };
 
-    /// Adds what was found once more.
+    /// Adds a thing that was found, with its number.
     fn add(&mut self, number: u32) {
         self.found = self.found.saturating_add(1);
         self.sum = self.sum.saturating_add(u64::from(number));
@@ -66,7 +66,7 @@ pub fn call(
     }
 }
 
-/// The walk of a call's name.
+/// Returns the walk that a call's name means.
 fn walk_named(name: &str) -> Option<Walk> {
     match name {
         "walk_nodes" => Some(Walk::Nodes),
@@ -79,7 +79,7 @@ fn walk_named(name: &str) -> Option<Walk> {
     }
 }
 
-/// How often a walk is made.
+/// Reads the number of times that a walk is made.
 fn rounds(given: &[&str]) -> Result<u32, Unanswered> {
     match given {
         [word] => match number(word) {
@@ -90,7 +90,7 @@ fn rounds(given: &[&str]) -> Result<u32, Unanswered> {
     }
 }
 
-/// Walks as often as the words say, and tells what was found.
+/// Walks as often as the words say, and adds what was found.
 fn put_walk(
     alloc: Global,
     device: &Device,
@@ -103,7 +103,7 @@ fn put_walk(
     added(writeln!(out, "{found}, sum {sum}"))
 }
 
-/// Walks so many times.
+/// Walks `rounds` times, and returns what was found in all rounds.
 fn walk_again(
     alloc: Global,
     device: &Device,
@@ -128,12 +128,13 @@ fn walk_once(alloc: Global, device: &Device, walk: Walk) -> Result<Walked, Alloc
     }
 }
 
-/// The number below `count` at a turn of a walk that jumps about; 0 where there is none.
+/// Returns the number below `count` that a turn of a walk visits, or 0 if there is none. The walk
+/// jumps about.
 fn spread(turn: u32, count: u32) -> u32 {
     (u64::from(turn) * STRIDE % u64::from(count.max(1))) as u32
 }
 
-/// Looks all nodes up; the sum is that of their numbers at their places.
+/// Looks up all nodes. The sum is that of their numbers at their places.
 fn walk_nodes(device: &Device) -> Walked {
     let count = device.node_count();
     let mut walked = Walked::NOTHING;
@@ -145,7 +146,7 @@ fn walk_nodes(device: &Device) -> Walked {
     walked
 }
 
-/// Looks all nodes up, and the number of each; the sum is that of these.
+/// Looks up all nodes, and the number of each. The sum is that of these numbers.
 fn walk_numbers(device: &Device) -> Walked {
     let count = device.node_count();
     let mut walked = Walked::NOTHING;
@@ -157,7 +158,7 @@ fn walk_numbers(device: &Device) -> Walked {
     walked
 }
 
-/// The number of the node of a number.
+/// Looks up the node of a number, and returns the number of that node.
 fn number_again(device: &Device, id: u32) -> Option<u32> {
     match device.node(id) {
         Some(node) => device.id(node),
@@ -165,7 +166,7 @@ fn number_again(device: &Device, id: u32) -> Option<u32> {
     }
 }
 
-/// Lists where nodes lead that jump about, all in one list that is used again; the sum is that of
+/// Lists the successors of all nodes, jumping about, in one list that is reused. The sum is that of
 /// all numbers in it.
 fn walk_successors(alloc: Global, device: &Device) -> Result<Walked, AllocError> {
     let count = device.node_count();
@@ -178,8 +179,8 @@ fn walk_successors(alloc: Global, device: &Device) -> Result<Walked, AllocError>
     Ok(walked)
 }
 
-/// Lists where wires lead, one after another, all in one list that is used again; the sum is that
-/// of all numbers in it.
+/// Lists the successors of all wires, one wire after another, in one list that is reused. The sum
+/// is that of all numbers in it.
 fn walk_wires(alloc: Global, device: &Device) -> Result<Walked, AllocError> {
     let mut list: SmallVec<u32, 8> = SmallVec::new(alloc);
     let mut walked = Walked::NOTHING;
@@ -196,7 +197,8 @@ fn add_each(walked: &mut Walked, list: &[u32]) {
     }
 }
 
-/// Asks for each edge, from nodes that jump about; the sum is that of the nodes in which they end.
+/// Looks up each edge, from nodes that jump about. The sum is that of the nodes that the edges lead
+/// to.
 fn walk_edges(alloc: Global, device: &Device) -> Result<Walked, AllocError> {
     let count = device.node_count();
     let mut list: SmallVec<u32, 8> = SmallVec::new(alloc);
@@ -209,7 +211,7 @@ fn walk_edges(alloc: Global, device: &Device) -> Result<Walked, AllocError> {
     Ok(walked)
 }
 
-/// Adds each node to which an edge leads from this one.
+/// Adds each node of a list that an edge leads to from this node.
 fn add_edges(walked: &mut Walked, device: &Device, from: u32, list: &[u32]) {
     for to in list {
         if device.edge(from, *to) {
@@ -218,8 +220,8 @@ fn add_edges(walked: &mut Walked, device: &Device, from: u32, list: &[u32]) {
     }
 }
 
-/// Asks one finder for each edge, from nodes that jump about; the sum is that of the nodes in which
-/// they end.
+/// Asks one finder for each edge, from nodes that jump about. The sum is that of the nodes that the
+/// edges lead to.
 fn walk_joins(alloc: Global, device: &Device) -> Result<Walked, AllocError> {
     let count = device.node_count();
     let mut finder = EdgeFinder::new(device);
@@ -233,7 +235,7 @@ fn walk_joins(alloc: Global, device: &Device) -> Result<Walked, AllocError> {
     Ok(walked)
 }
 
-/// Adds each node that a finder joins to this one.
+/// Adds each node of a list that an edge leads to from this node, as a finder answers.
 fn add_joins(walked: &mut Walked, finder: &mut EdgeFinder<'_>, from: u32, list: &[u32]) {
     for to in list {
         if finder.joins(from, *to) {

@@ -1,4 +1,4 @@
-//! Calls of `runs`: the lines of faults, and the statuses that they give.
+//! Calls of `runs`: the lines of faults, and their exit statuses.
 
 use crate::run_calls::put_taken;
 use lab_session::answer::put;
@@ -8,7 +8,7 @@ use lab_session::words::Call;
 use run_inputs::{AppFault, InputFile, print_fault, status};
 use std::alloc::Global;
 
-/// How the call is written.
+/// The syntax of the call.
 const FAULT: &str = "fault_line unwritten, memory, no_thread, astray, or unread and a file's kind";
 
 /// Makes a call, and adds its answer.
@@ -24,7 +24,7 @@ pub fn call(
     }
 }
 
-/// The fault that the words name.
+/// Reads a fault from words.
 fn fault(given: &[&str]) -> Result<AppFault, Unanswered> {
     match given {
         [word, file] if *word == "unread" => Ok(AppFault::Unread(input_file(*file)?)),
@@ -33,7 +33,7 @@ fn fault(given: &[&str]) -> Result<AppFault, Unanswered> {
     }
 }
 
-/// The fault that a word names.
+/// Reads a fault from one word.
 fn other_fault(word: &str) -> Result<AppFault, Unanswered> {
     match word {
         "unwritten" => Ok(AppFault::Unwritten),
@@ -44,7 +44,7 @@ fn other_fault(word: &str) -> Result<AppFault, Unanswered> {
     }
 }
 
-/// The file of a kind.
+/// Returns the file that a word names.
 fn input_file(kind: &str) -> Result<InputFile, Unanswered> {
     match kind {
         "arch" => Ok(InputFile::Arch),
@@ -55,7 +55,7 @@ fn input_file(kind: &str) -> Result<InputFile, Unanswered> {
     }
 }
 
-/// Adds the status of a fault, what a sink took of its line, and whether that is all.
+/// Adds the status of a fault, what a sink took of its line, and `broken` if that isn't all.
 fn put_line(
     alloc: Global,
     room: Option<usize>,
@@ -67,7 +67,7 @@ fn put_line(
     put_printed(&fault, answer.is_ok(), &printed.into_inner(), out)
 }
 
-/// Adds the status of a fault, what a sink took of its line, and whether that isn't all.
+/// Adds the status of a fault, what a sink took of its line, and `broken` if that isn't all.
 fn put_printed(
     fault: &AppFault,
     is_whole: bool,

@@ -1,5 +1,5 @@
-//! Calls of `runs`: the progress of a negotiation, on a terminal that keeps what is written and by
-//! a clock that a script sets.
+//! Calls of `run_log`: the progress of a negotiation. The terminal keeps what is written to it, and
+//! the script sets the clock.
 
 use lab_session::answer::{added, put};
 use lab_session::sources::BELOW;
@@ -16,14 +16,15 @@ use std::sync::atomic::{AtomicBool, AtomicU32, AtomicU64, Ordering};
 use std::sync::{Mutex, Wait};
 use std::time::{Clock, Duration};
 
-/// How the call is written.
+/// The syntax of the call.
 const PROGRESS: &str =
     "progress << or progress unwanted <<, with a time or a gate's call on each line, or end";
 
-/// Where the clock stands at first, in milliseconds: progress is made at any time.
+/// The time of the clock at the beginning, in milliseconds. Progress can begin at any time, so it
+/// isn't 0.
 const BEGIN: u64 = 3_600_000;
 
-/// Takes text, and shows what moves on a terminal as `\r`, `\e` and `\n`.
+/// Takes text, and shows what moves the cursor of a terminal as `\r`, `\e` and `\n`.
 #[derive(Drop)]
 struct Shown<'a> {
     text: &'a mut String,
@@ -46,7 +47,7 @@ impl fmt::Write for Shown<'_> {
     }
 }
 
-/// Adds a line with what the line of a script wrote.
+/// Adds a line with what a line of the script wrote.
 fn put_write<D: Display + Drop>(
     line: u32,
     value: D,
@@ -61,20 +62,20 @@ fn put_write<D: Display + Drop>(
     put(out, "")
 }
 
-/// A terminal that keeps what is written to it, a line for each write, and a clock that stands.
+/// A terminal that keeps each write to it as a line, with a clock that moves only when it is set.
 #[derive(Drop)]
 struct Screen<'a, R> {
     rt: &'a R,
-    /// The line of the script that is at work.
+    /// The number of the script's line that is being processed.
     line: AtomicU32,
     milliseconds: AtomicU64,
     written: Mutex<String>,
-    /// Whether there was no memory for a write.
+    /// Whether memory ran out for a write.
     lacked: AtomicBool,
 }
 
 impl<'a, R: Wait> Screen<'a, R> {
-    /// One to which nothing was written.
+    /// Returns a terminal that nothing was written to.
     fn new(rt: &'a R, alloc: Global) -> Screen<'a, R> {
         Screen {
             rt,
@@ -85,7 +86,7 @@ impl<'a, R: Wait> Screen<'a, R> {
         }
     }
 
-    /// Sets the clock to so many milliseconds.
+    /// Sets the clock to this many milliseconds after its beginning.
     fn set_clock(&self, time: u32) {
         let time = BEGIN.saturating_add(time as u64);
         self.milliseconds.store(time, Ordering::SeqCst);
@@ -151,7 +152,7 @@ pub fn call(
     }
 }
 
-/// Makes progress of what the lines of a text tell, and adds what it wrote.
+/// Makes the calls of a progress that a text lists, and adds what it wrote.
 fn show(
     rt: &(impl Wait + AllocGlobal),
     is_wanted: bool,
@@ -167,7 +168,7 @@ fn show(
     terminal.put(out)
 }
 
-/// Tells the progress what some lines say.
+/// Makes the calls that some lines give.
 fn show_lines<R: Wait>(
     alloc: Global,
     terminal: &Screen<'_, R>,
@@ -181,7 +182,7 @@ fn show_lines<R: Wait>(
     Ok(())
 }
 
-/// Sets the clock, or tells the progress what a line says.
+/// Sets the clock or makes a call of the progress, as a line says.
 fn show_line<R: Wait>(
     alloc: Global,
     terminal: &Screen<'_, R>,
@@ -196,7 +197,7 @@ fn show_line<R: Wait>(
     }
 }
 
-/// Sets the clock to the milliseconds that a word is.
+/// Sets the clock to the milliseconds that a word gives.
 fn set_clock<R: Wait>(terminal: &Screen<'_, R>, word: &str) -> Result<(), Unanswered> {
     match number(word) {
         Some(time) => {
@@ -207,7 +208,7 @@ fn set_clock<R: Wait>(terminal: &Screen<'_, R>, word: &str) -> Result<(), Unansw
     }
 }
 
-/// Tells the progress what a line says.
+/// Makes the call that a line gives.
 fn step<T: Eprint + Clock>(
     progress: &Progress<'_, T>,
     name: &str,
@@ -235,7 +236,7 @@ fn step<T: Eprint + Clock>(
     }
 }
 
-/// Tells the progress what a line says of a negotiation.
+/// Makes the call within a negotiation that a line gives.
 fn step_of_negotiation<T: Eprint + Clock>(
     progress: &Progress<'_, T>,
     name: &str,
@@ -263,7 +264,7 @@ fn step_of_negotiation<T: Eprint + Clock>(
     Ok(())
 }
 
-/// A width, and what its trial came to.
+/// Reads a width, and how its trial ended.
 fn tried(given: &[&str]) -> Result<(u32, TrialEnd), Unanswered> {
     let [width, word, rest @ ..] = given else {
         return Err(Unanswered::Misread(PROGRESS));

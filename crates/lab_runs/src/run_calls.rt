@@ -1,4 +1,4 @@
-//! Calls of `runs`: what the commands of the program do, over the files that are kept.
+//! Calls of `runs`: the commands of the program, run on the kept files.
 
 ghost use Rattle.std.specs.Prelude.{◌≤◌};
 ghost use Rattle.rr_graph.specs.Fabric.{most_tracks};
@@ -49,7 +49,7 @@ pub fn call(
     }
 }
 
-/// What a run reads a file from.
+/// Returns the source that a run reads a file from.
 pub fn source_of(file: &RunText) -> Adapted<Failing<&[u8]>> {
     failing_source(file.bytes.as_slice(), file.failing)
 }
@@ -90,7 +90,7 @@ pub struct DesignFiles<'a> {
     pub place: &'a RunText,
 }
 
-/// The files of the design, where all are kept.
+/// Returns the files of the design, if all of them are kept.
 pub fn kept_design(files: &RunFiles) -> Result<DesignFiles<'_>, Unanswered> {
     match (&files.arch, &files.net, &files.place) {
         (Some(arch), Some(net), Some(place)) => Ok(DesignFiles { arch, net, place }),
@@ -100,7 +100,7 @@ pub fn kept_design(files: &RunFiles) -> Result<DesignFiles<'_>, Unanswered> {
     }
 }
 
-/// The file of a routing, where it is kept.
+/// Returns the file of a routing, if it is kept.
 pub fn kept_route(files: &RunFiles) -> Result<&RunText, Unanswered> {
     match &files.route {
         Some(route) => Ok(route),
@@ -130,7 +130,7 @@ fn run_route(
     )
 }
 
-/// Runs `route` over the files of a design, under a gate.
+/// Runs `route` on the files of a design, under a gate.
 fn route_design<R: Runtime + Threads + Wait + Sync + AllocGlobal>(
     rt: &R,
     files: &RunFiles,
@@ -194,7 +194,7 @@ fn run_width(
     )
 }
 
-/// Runs `width` over the files of a design, under a gate.
+/// Runs `width` on the files of a design, under a gate.
 fn search_design<R: Runtime + Threads + Wait + Sync + AllocGlobal>(
     rt: &R,
     files: &RunFiles,
@@ -256,7 +256,7 @@ fn run_check(
     check_design(rt, files, design, route, width, mode, out)
 }
 
-/// Runs `check` over the files of a design and a routing.
+/// Runs `check` on the files of a design and a routing.
 fn check_design(
     rt: &(impl Runtime + Threads + Sync + AllocGlobal),
     files: &RunFiles,
@@ -283,7 +283,7 @@ fn check_design(
     put_print(rt.alloc(), answer, printed.into_inner(), out)
 }
 
-/// Adds the end of a run that prints, and what it printed.
+/// Adds how a run that prints ended, and what it printed.
 pub fn put_print(
     alloc: Global,
     answer: Result<u8, AppFault>,
@@ -294,7 +294,7 @@ pub fn put_print(
     put_taken("out", &printed, out)
 }
 
-/// Adds the end of a run that prints and writes, and what it printed and wrote.
+/// Adds how a run that prints and writes ended, and what it printed and wrote.
 fn put_run(
     alloc: Global,
     answer: Result<u8, AppFault>,
@@ -305,7 +305,7 @@ fn put_run(
     put_ran(alloc, answer, &printed, &written, out)
 }
 
-/// Adds the end of a run, and what two sinks took.
+/// Adds how a run ended, and what two sinks took.
 fn put_ran(
     alloc: Global,
     answer: Result<u8, AppFault>,
@@ -318,8 +318,9 @@ fn put_ran(
     put_taken("route", written, out)
 }
 
-/// Adds the status of a run, and the line of its fault. Memory that a sink lacked is told as such,
-/// and so is a run without memory or a thread of which no sink took anything.
+/// Adds the status of a run, and the line of its fault. Instead it answers that memory was lacking
+/// if a sink lacked it, and that memory or a thread was lacking if that is the run's fault and no
+/// sink took anything.
 pub fn put_end(
     alloc: Global,
     answer: Result<u8, AppFault>,
@@ -348,8 +349,8 @@ fn put_fault(alloc: Global, fault: &AppFault, out: &mut String) -> Result<(), Un
     put_name(out, line.into_inner().as_slice())
 }
 
-/// Adds the lines that a sink took, each behind the sink's name, and where the last one isn't whole
-/// that it breaks off.
+/// Adds the lines that a sink took, each after the sink's name. If the last line isn't whole, also
+/// adds that it breaks off.
 pub fn put_taken(name: &str, taken: &ShortSink, out: &mut String) -> Result<(), Unanswered> {
     let bytes = taken.bytes.as_slice();
     let Ok(text) = str::from_utf8(bytes) else {

@@ -1,10 +1,10 @@
-//! What a call answers, in lines of text.
+//! The answers of calls, in lines of text.
 
 use crate::unanswered::Unanswered;
 use std::alloc::AllocError;
 use std::fmt::{Debug, Display};
 
-/// Whether something was added.
+/// Converts the result of adding to an answer: an `AllocError` becomes `Unanswered::Memory`.
 pub fn added(answer: Result<(), AllocError>) -> Result<(), Unanswered> {
     match answer {
         Ok(()) => Ok(()),
@@ -12,12 +12,12 @@ pub fn added(answer: Result<(), AllocError>) -> Result<(), Unanswered> {
     }
 }
 
-/// Adds a line.
+/// Adds a line with a value.
 pub fn put(out: &mut String, value: impl Display + Drop) -> Result<(), Unanswered> {
     added(writeln!(out, "{value}"))
 }
 
-/// Adds a line with a value as the libraries name it.
+/// Adds a line with a value in its `Debug` form, which has the libraries' names.
 pub fn put_named(out: &mut String, value: impl Debug + Drop) -> Result<(), Unanswered> {
     added(writeln!(out, "{value:?}"))
 }
@@ -30,7 +30,7 @@ pub fn put_maybe(out: &mut String, value: Option<impl Display + Drop>) -> Result
     }
 }
 
-/// Adds a line with a value as the libraries name it, or with `none`.
+/// Adds a line with a value in its `Debug` form, or with `none`.
 pub fn put_maybe_named(
     out: &mut String,
     value: Option<impl Debug + Drop>,
@@ -41,7 +41,7 @@ pub fn put_maybe_named(
     }
 }
 
-/// Adds a line with numbers, or with `none`.
+/// Adds a line with numbers, or with `none` if there are none.
 pub fn put_numbers(out: &mut String, numbers: &[u32]) -> Result<(), Unanswered> {
     let [first, rest @ ..] = numbers else {
         return put(out, "none");
@@ -53,7 +53,7 @@ pub fn put_numbers(out: &mut String, numbers: &[u32]) -> Result<(), Unanswered> 
     added(out.push('\n'))
 }
 
-/// Adds a name to a line; bytes that are no text are told as such.
+/// Adds a name to a line. A name that isn't UTF-8 is added as a list of bytes.
 pub fn put_name(out: &mut String, name: &[u8]) -> Result<(), Unanswered> {
     match str::from_utf8(name) {
         Ok(name) => out.push_str(name)?,

@@ -1,4 +1,4 @@
-//! Numbers within the bounds that the libraries want.
+//! Numbers within the bounds that the libraries require.
 
 ghost use Rattle.std.specs.Prelude.{◌≤◌, IfOk};
 ghost use Rattle.place_file.specs.Placement.{longest_side};
@@ -8,7 +8,7 @@ ghost use Rattle.node_cost.specs.Options.{most_iterations, most_workers};
 use crate::unanswered::Unanswered;
 use crate::words::{NO_NUMBER, number};
 
-/// How many workers there are.
+/// Reads a number of workers: 1 to `most_workers`.
 pub fn worker_count(word: &str) -> Result<u32, Unanswered>
     ensures { IfOk result (λ n. (1 ≤ n) × (n ≤ most_workers)) }
 {
@@ -21,7 +21,7 @@ pub fn worker_count(word: &str) -> Result<u32, Unanswered>
     Ok(count)
 }
 
-/// The number of an iteration.
+/// Reads the number of an iteration: 1 to `most_iterations`.
 pub fn iteration_number(word: &str) -> Result<u32, Unanswered>
     ensures { IfOk result (λ n. (1 ≤ n) × (n ≤ most_iterations)) }
 {
@@ -34,7 +34,7 @@ pub fn iteration_number(word: &str) -> Result<u32, Unanswered>
     Ok(iteration)
 }
 
-/// The width of channels.
+/// Reads a channel width: 1 to `most_tracks`.
 pub fn channel_width(word: &str) -> Result<u32, Unanswered>
     ensures { IfOk result (λ n. (1 ≤ n) × (n ≤ most_tracks)) }
 {
@@ -47,7 +47,7 @@ pub fn channel_width(word: &str) -> Result<u32, Unanswered>
     Ok(width)
 }
 
-/// How many columns, or rows, an array has.
+/// Reads a number of columns or rows of an array: 1 to `longest_side`.
 pub fn array_side(word: &str) -> Result<u32, Unanswered>
     ensures { IfOk result (λ n. (1 ≤ n) × (n ≤ longest_side)) }
 {

@@ -1,4 +1,4 @@
-//! Designs as they are read again.
+//! Designs that are read again from their texts.
 
 ghost use Rattle.std.specs.Prelude.{IfOk};
 ghost use Rattle.place_file.specs.Placement.{IsPlaced};
@@ -10,7 +10,7 @@ use place_file::Placement;
 use rr_graph::{Device, SuitsDesigns};
 use std::alloc::Global;
 
-/// The placement of a design, as it is read for a netlist.
+/// Reads the placement of a design again, for a netlist.
 pub fn placement_of(
     alloc: Global,
     design: DesignTexts<'_>,
@@ -22,7 +22,8 @@ pub fn placement_of(
     Ok(placement)
 }
 
-/// Whether a device suits a netlist, and the placement of a design as it is read for a netlist.
+/// Returns whether a device suits a netlist and the placement of a design. The placement is read
+/// again for the netlist `placed`.
 pub fn are_suited(
     alloc: Global,
     design: DesignTexts<'_>,

@@ -1,4 +1,4 @@
-//! The values of a session: of each kind the last one.
+//! The values of a session: the last one of each kind.
 
 use crate::unanswered::Unanswered;
 use arch_file::Arch;
@@ -10,37 +10,37 @@ use route_tree::{Marks, Routing, Tree};
 use rr_graph::{Device, Problem};
 use wave_ground::PreparedProblem;
 
-/// Where a call wants an architecture.
+/// The refusal of a call that needs an architecture.
 pub const NO_ARCHITECTURE: Unanswered = Unanswered::Refused("there is no architecture");
 
-/// Where a call wants a netlist.
+/// The refusal of a call that needs a netlist.
 pub const NO_NETLIST: Unanswered = Unanswered::Refused("there is no netlist");
 
-/// Where a call wants a device.
+/// The refusal of a call that needs a device.
 pub const NO_DEVICE: Unanswered = Unanswered::Refused("there is no device");
 
-/// Where a call wants a problem.
+/// The refusal of a call that needs a problem.
 pub const NO_PROBLEM: Unanswered = Unanswered::Refused("there is no problem");
 
-/// Where a call wants a tree.
+/// The refusal of a call that needs a tree.
 pub const NO_TREE: Unanswered = Unanswered::Refused("there is no tree");
 
-/// Where a call wants a routing.
+/// The refusal of a call that needs a routing.
 pub const NO_ROUTING: Unanswered = Unanswered::Refused("there is no routing");
 
-/// Where a call wants counts.
+/// The refusal of a call that needs counts.
 pub const NO_COUNTS: Unanswered = Unanswered::Refused("there are no counts");
 
-/// Where a call wants histories.
+/// The refusal of a call that needs histories.
 pub const NO_HISTORIES: Unanswered = Unanswered::Refused("there are no histories");
 
-/// Where a call wants a view.
+/// The refusal of a call that needs a view.
 pub const NO_VIEW: Unanswered = Unanswered::Refused("there is no view");
 
-/// Where a call wants a book.
+/// The refusal of a call that needs a book.
 pub const NO_BOOK: Unanswered = Unanswered::Refused("there is no book");
 
-/// What was chosen of the settings, in the order of `Settings::new`.
+/// The numbers that were chosen for settings, in the order of `Settings::new`.
 #[derive(Clone, Copy, Drop)]
 pub struct Choice {
     pub first: u32,
@@ -52,12 +52,12 @@ pub struct Choice {
 }
 
 impl Choice {
-    /// That of the standard settings.
+    /// Returns the choice of the standard settings.
     pub fn standard() -> Choice {
         Choice::of(&Settings::standard())
     }
 
-    /// That of these settings.
+    /// Returns the choice that gives these settings.
     pub fn of(settings: &Settings) -> Choice {
         Choice {
             first: settings.first(),
@@ -69,7 +69,7 @@ impl Choice {
         }
     }
 
-    /// These settings, or the first of them that is out of range.
+    /// Returns the settings of the choice, or the first number that is out of range.
     pub fn settings(self) -> Result<Settings, Range> {
         Settings::new(
             self.first,
@@ -82,14 +82,16 @@ impl Choice {
     }
 }
 
-/// The text of a file of a run of the program, and behind how many bytes its source fails.
+/// The text of a file for a run of the program, and the number of bytes after which its source
+/// fails, if it does.
 #[derive(Drop)]
 pub struct RunText {
     pub bytes: Vec<u8>,
     pub failing: Option<usize>,
 }
 
-/// The files of a run of the program, and behind how many bytes its sinks fail.
+/// The files for a run of the program, and for each sink the number of bytes after which it fails,
+/// if it does.
 #[derive(Drop)]
 pub struct RunFiles {
     pub arch: Option<RunText>,
@@ -101,7 +103,7 @@ pub struct RunFiles {
     pub words_room: Option<usize>,
 }
 
-/// The other values, which take the places of those of the session.
+/// The other values, which `other` exchanges with those of the session.
 #[derive(Drop)]
 pub struct Others {
     pub arch: Option<Arch>,
@@ -121,8 +123,8 @@ pub struct DesignTexts<'a> {
     pub place: &'a [u8],
 }
 
-/// What a design is made of. A netlist and a placement are kept as the texts that they were read
-/// from, and are read again where a call looks into them.
+/// The parts of a design. A netlist and a placement are kept as the texts that they were read from.
+/// Each call that needs one reads it again.
 #[derive(Drop)]
 pub struct Design {
     pub arch: Option<Arch>,
@@ -138,7 +140,7 @@ impl Design {
         }
     }
 
-    /// The architecture, the netlist and the placement.
+    /// Returns the architecture, the netlist and the placement, or the refusal if one is missing.
     pub fn texts(&self) -> Result<DesignTexts<'_>, Unanswered> {
         match (&self.arch, &self.net, &self.place) {
             (Some(arch), Some(net), Some(place)) => Ok(DesignTexts {
@@ -153,23 +155,24 @@ impl Design {
     }
 }
 
-/// The book, what is seen of it, and how far a list of events came.
+/// The book, a view of it, and how far a list of events got.
 #[derive(Drop)]
 pub struct Books {
     pub book: Option<Book>,
     pub view: Option<View>,
-    /// How many events of a list stand that memory ran out for.
+    /// The number of events of a list that were run before memory ran out.
     pub standing: usize,
 }
 
-/// What searches of the session's problem go over and work in, made for the first of them.
+/// What searches need of the session's problem, and the memory that they work in. The first search
+/// makes both.
 #[derive(Drop)]
 pub struct Searching {
     pub prepared: PreparedProblem,
     pub scratch: Scratch,
 }
 
-/// The values that calls made and later calls use.
+/// The values that calls have made for later calls.
 #[derive(Drop)]
 pub struct Session {
     pub design: Design,
@@ -232,7 +235,7 @@ impl Session {
         }
     }
 
-    /// The settings that were chosen, else the standard ones.
+    /// Returns the settings that were chosen, or else the standard ones.
     pub fn settings(&self) -> Settings {
         match self.choice.settings() {
             Ok(settings) => settings,

@@ -1,15 +1,15 @@
-//! What the texts of calls are written to.
+//! The sinks that calls write texts to.
 
 use std::alloc::Global;
 use std::io::{Error, ErrorKind, Result as IoResult, Write};
 use vpr_text::Adapted;
 
-/// What a text is written to: it fails behind so many bytes, or never.
+/// A sink that fails after a number of bytes, or never.
 #[derive(Drop)]
 pub struct ShortSink {
     pub bytes: Vec<u8>,
     left: Option<usize>,
-    /// Whether it failed since memory ran out.
+    /// Whether it failed because memory ran out.
     pub lacked: bool,
 }
 
@@ -32,7 +32,7 @@ impl Write for ShortSink {
     }
 }
 
-/// A sink that took nothing, and fails behind so many bytes, or never.
+/// Returns an empty sink that fails after `left` bytes, or never.
 pub fn sink(alloc: Global, left: Option<usize>) -> Adapted<ShortSink> {
     Adapted::new(ShortSink {
         bytes: Vec::new(alloc),

@@ -1,4 +1,4 @@
-//! What the texts of values are read from.
+//! The sources that calls read texts from.
 
 use crate::unanswered::Unanswered;
 use crate::words::{Call, NO_NUMBER, number};
@@ -8,10 +8,10 @@ use std::io::{Error, ErrorKind, Read, Result as IoResult};
 use std::rt::Runtime;
 use vpr_text::{Adapted, read_all};
 
-/// The word for the text that stands below the line of a call.
+/// The word for the text below the line of a call.
 pub const BELOW: &str = "<<";
 
-/// A reader that fails behind so many bytes, or never.
+/// A reader that fails after a number of bytes, or never.
 #[derive(Drop)]
 pub struct Failing<R> {
     inner: R,
@@ -33,7 +33,7 @@ impl<R: Read> Read for Failing<R> {
     }
 }
 
-/// Behind how many bytes a source fails, by the last words of a call.
+/// Returns the number of bytes after which a source fails, if the last words of a call give one.
 pub fn bytes_before_failing(given: &[&str]) -> Result<Option<usize>, Unanswered> {
     match given {
         [] => Ok(None),
@@ -45,7 +45,7 @@ pub fn bytes_before_failing(given: &[&str]) -> Result<Option<usize>, Unanswered>
     }
 }
 
-/// All bytes of a source.
+/// Returns all bytes of a source that fails after `left` bytes, or never.
 fn bytes_of<R: Read + Drop>(
     alloc: Global,
     inner: R,
@@ -55,13 +55,13 @@ fn bytes_of<R: Read + Drop>(
     Ok(read_all(alloc, &mut source)?)
 }
 
-/// A source of bytes that fails behind so many, or never.
+/// Returns a source of these bytes that fails after `left` of them, or never.
 pub fn failing_source(bytes: &[u8], left: Option<usize>) -> Adapted<Failing<&[u8]>> {
     Adapted::new(Failing { inner: bytes, left })
 }
 
-/// The bytes of the file of this name, or of the text below a call, from a source that fails behind
-/// so many, or never.
+/// Returns the bytes of the file of this name, or of the text below a call. The source that they
+/// are read from fails after `left` bytes, or never.
 fn named_source(
     rt: &(impl Runtime + AllocGlobal),
     name: &str,
@@ -77,7 +77,8 @@ fn named_source(
     }
 }
 
-/// The bytes of the file that a call names, or of the text below it.
+/// Returns the bytes of the file that a call names, or of the text below it. If the last words of
+/// the call give a number of bytes, the source fails after so many.
 pub fn source(rt: &(impl Runtime + AllocGlobal), call: Call<'_>) -> Result<Vec<u8>, Unanswered> {
     let [name, rest @ ..] = call.given else {
         return Err(Unanswered::Misread("NAME FILE"));
@@ -85,8 +86,8 @@ pub fn source(rt: &(impl Runtime + AllocGlobal), call: Call<'_>) -> Result<Vec<u
     named_source(rt, *name, call.text, bytes_before_failing(rest)?)
 }
 
-/// All bytes of the file that a call names, or of the text below it, and behind how many of them a
-/// source is to fail.
+/// Returns all bytes of the file that a call names, or of the text below it, and the number of
+/// bytes after which a source of them is to fail, if it is.
 pub fn whole_source(
     rt: &(impl Runtime + AllocGlobal),
     call: Call<'_>,

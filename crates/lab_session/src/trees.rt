@@ -1,4 +1,4 @@
-//! Trees, as words tell them.
+//! Trees in the words of a script.
 
 use crate::answer::added;
 use crate::unanswered::Unanswered;
@@ -6,10 +6,10 @@ use crate::words::{NO_NUMBER, number};
 use route_tree::{Row, Tree};
 use std::alloc::{AllocError, Global};
 
-/// How a tree is written: chains of nodes, those behind the first one each behind its row.
+/// The syntax of a tree: chains of nodes, each but the first after the row that it starts from.
 const TREE: &str = "SOURCE NODE .., and for each further way ROW: NODE ..";
 
-/// The tree that words tell.
+/// Reads a tree from words.
 pub fn tree_of_words(alloc: Global, given: &[&str]) -> Result<Tree, Unanswered> {
     let [source, rest @ ..] = given else {
         return Err(Unanswered::Misread(TREE));
@@ -22,17 +22,17 @@ pub fn tree_of_words(alloc: Global, given: &[&str]) -> Result<Tree, Unanswered> 
     Ok(growing.tree)
 }
 
-/// A tree that grows way by way.
+/// A tree that grows path by path.
 #[derive(Drop)]
 struct Growing {
     tree: Tree,
-    /// The row to which the way at hand is to be attached.
+    /// The row that the current path is to be attached to.
     row: u32,
     way: Vec<u32>,
 }
 
 impl Growing {
-    /// One with the source alone.
+    /// Returns a tree of the source only.
     fn new(alloc: Global, source: u32) -> Result<Growing, AllocError> {
         let tree = Tree::start(alloc, source)?;
         Ok(Growing {
@@ -42,7 +42,7 @@ impl Growing {
         })
     }
 
-    /// Grows by all ways that words tell.
+    /// Adds all paths that words give.
     fn take_words(&mut self, words: &[&str]) -> Result<(), Unanswered> {
         for word in words {
             self.take(*word)?;
@@ -50,7 +50,7 @@ impl Growing {
         self.attach_way()
     }
 
-    /// Takes a word: the row of another way, or the next node of the one at hand.
+    /// Takes a word: the row of another path, or the next node of the current one.
     fn take(&mut self, word: &str) -> Result<(), Unanswered> {
         let (row, node) = (word.strip_suffix(':'), number(word));
         match (row, node) {
@@ -60,7 +60,7 @@ impl Growing {
         }
     }
 
-    /// Begins another way, which is to be attached to a row.
+    /// Attaches the current path, and begins another one, which is to be attached to a row.
     fn begin_way(&mut self, row: &str) -> Result<(), Unanswered> {
         let Some(row) = number(row) else {
             return Err(NO_NUMBER);
@@ -75,13 +75,13 @@ impl Growing {
         Ok(self.way.push(node)?)
     }
 
-    /// Attaches the way at hand.
+    /// Attaches the current path.
     fn attach_way(&mut self) -> Result<(), Unanswered> {
         attach_at(&mut self.tree, self.row, self.way.as_slice())
     }
 }
 
-/// Attaches a way to a row of a tree.
+/// Attaches a path to a row of a tree.
 pub fn attach_at(tree: &mut Tree, row: u32, way: &[u32]) -> Result<(), Unanswered> {
     let row = row as usize;
     if row >= tree.rows() {
@@ -90,7 +90,8 @@ pub fn attach_at(tree: &mut Tree, row: u32, way: &[u32]) -> Result<(), Unanswere
     Ok(tree.attach(row, way)?)
 }
 
-/// Adds a tree as it is written for `tree`: chains, those behind the first one each behind its row.
+/// Adds a tree in the syntax of `tree`: chains of nodes, each but the first after the row that it
+/// starts from.
 pub fn put_tree(tree: &Tree, out: &mut String) -> Result<(), Unanswered> {
     for (index, row) in tree.as_slice().iter().enumerate() {
         put_tree_row(*row, index, out)?;
@@ -98,7 +99,8 @@ pub fn put_tree(tree: &Tree, out: &mut String) -> Result<(), Unanswered> {
     added(out.push('\n'))
 }
 
-/// Adds the node of a row, behind the row of the one before where that is not the last one.
+/// Adds the node of a row. If its parent is not the preceding row, adds the number of the parent
+/// before it.
 fn put_tree_row(row: Row, index: usize, out: &mut String) -> Result<(), Unanswered> {
     let Row { node, parent } = row;
     if index == 0 {

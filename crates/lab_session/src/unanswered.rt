@@ -13,13 +13,13 @@ use thiserror::Error;
 use vpr_text::{ReadFault, TextFault};
 use wavefront::SearchFault;
 
-/// Why a call has no answer. Memory is told in one way, whichever library lacked it.
+/// The reason why a call has no answer. Lack of memory is reported the same way for all libraries.
 #[derive(Debug, Drop, Error)]
 pub enum Unanswered {
     /// The first word names no call.
     #[error("there is no such call")]
     NoCall,
-    /// The other words are none that the call takes.
+    /// The other words are not those of the call.
     #[error("the call is wanted as: {0}")]
     Misread(&'static str),
     /// The call was not made.
@@ -49,7 +49,7 @@ pub enum Unanswered {
     Settings(Range),
     #[error("fault: search: {0:?}")]
     Search(SearchFault),
-    /// So many events of a list stand.
+    /// Memory ran out after this many events of a list.
     #[error("memory after {0} events")]
     Stopped(usize),
     #[error("fault: work: {0:?}")]
@@ -59,7 +59,8 @@ pub enum Unanswered {
 }
 
 impl Unanswered {
-    /// Whether it is for want of memory or of a thread: then the same call may be answered later.
+    /// Returns whether memory or a thread was lacking. In that case the same call may succeed
+    /// later.
     pub fn is_for_want(&self) -> bool {
         match self {
             Unanswered::Memory | Unanswered::Stopped(_) => true,

@@ -1,17 +1,17 @@
-//! The words of a line, and the values that they are.
+//! The words of a line, and the values that they give.
 
 use crate::sources::BELOW;
 use crate::unanswered::Unanswered;
 use rr_graph::Mode;
 use std::alloc::Global;
 
-/// Where a call takes no words.
+/// The answer to a call with words that takes none.
 pub const NO_WORDS: Unanswered = Unanswered::Misread("the call with no word behind it");
 
-/// Where a word is to be a number.
+/// The answer to a call with a word that should be a number and isn't.
 pub const NO_NUMBER: Unanswered = Unanswered::Misread("a number below 2^32 in each place of one");
 
-/// A call of a script: its name, the words behind it, and the text that stands below its line.
+/// A call of a script: its name, the words after it, and the text below its line.
 #[derive(Clone, Copy)]
 pub struct Call<'a> {
     pub name: &'a str,
@@ -19,7 +19,7 @@ pub struct Call<'a> {
     pub text: &'a [u8],
 }
 
-/// A line up to a comment.
+/// Returns a line up to its comment.
 pub fn code_of(line: &str) -> &str {
     match line.split_once('#') {
         Some((code, _)) => code,
@@ -27,17 +27,17 @@ pub fn code_of(line: &str) -> &str {
     }
 }
 
-/// The words of a line, up to a comment.
+/// Returns the words of a line up to its comment.
 pub fn words(alloc: Global, line: &str) -> Result<Vec<&str>, Unanswered> {
     Ok(code_of(line).split_whitespace().collect(alloc)?)
 }
 
-/// Whether a word of a line says that a text stands below it.
+/// Returns whether a word of a line announces a text below it.
 pub fn has_text(line: &str) -> bool {
     code_of(line).split_whitespace().any(|word| word == BELOW)
 }
 
-/// The number that a word is.
+/// Returns the number that a word gives, if there is one below 2^32.
 pub fn number(word: &str) -> Option<u32> {
     match word.parse::<u32>() {
         Ok(number) => Some(number),
@@ -45,7 +45,7 @@ pub fn number(word: &str) -> Option<u32> {
     }
 }
 
-/// The numbers that the words are, so many.
+/// Returns the numbers that `N` words give.
 pub fn numbers<const N: usize>(given: &[&str]) -> Result<[u32; N], Unanswered> {
     if given.len() != N {
         return Err(Unanswered::Misread("the call with another number of numbers"));
@@ -60,7 +60,7 @@ pub fn numbers<const N: usize>(given: &[&str]) -> Result<[u32; N], Unanswered> {
     Ok(found)
 }
 
-/// The numbers that the words are, as many as there are.
+/// Returns the numbers that words give, however many there are.
 pub fn number_list(alloc: Global, given: &[&str]) -> Result<Vec<u32>, Unanswered> {
     let mut found = Vec::with_capacity(alloc, given.len())?;
     for word in given {
@@ -72,7 +72,7 @@ pub fn number_list(alloc: Global, given: &[&str]) -> Result<Vec<u32>, Unanswered
     Ok(found)
 }
 
-/// The lines of the text below a call to which nothing else is given.
+/// Returns the text below a call that has no words but `<<`.
 pub fn text_below<'a>(call: Call<'a>) -> Result<&'a str, Unanswered> {
     match call.given {
         [word] if *word == BELOW => text_of(call.text),
@@ -80,7 +80,7 @@ pub fn text_below<'a>(call: Call<'a>) -> Result<&'a str, Unanswered> {
     }
 }
 
-/// The lines of a text.
+/// Returns the text below a call as a string, if it is UTF-8.
 pub fn text_of(text: &[u8]) -> Result<&str, Unanswered> {
     match str::from_utf8(text) {
         Ok(text) => Ok(text),
@@ -88,7 +88,7 @@ pub fn text_of(text: &[u8]) -> Result<&str, Unanswered> {
     }
 }
 
-/// The one word that is given.
+/// Returns the only word that is given.
 pub fn one<'a>(given: &[&'a str]) -> Result<&'a str, Unanswered> {
     match given {
         [word] => Ok(*word),
@@ -96,7 +96,7 @@ pub fn one<'a>(given: &[&'a str]) -> Result<&'a str, Unanswered> {
     }
 }
 
-/// The mode that the last words name: `global`, or none for `detailed`.
+/// Returns the mode that the last words name: `global`, or no word for `detailed`.
 pub fn mode(given: &[&str]) -> Result<Mode, Unanswered> {
     match given {
         [] => Ok(Mode::Detailed),
@@ -105,7 +105,8 @@ pub fn mode(given: &[&str]) -> Result<Mode, Unanswered> {
     }
 }
 
-/// The mode that stands before other words, and those: `global`, or none for `detailed`.
+/// Returns the mode, and the words after it. The mode is global if the first word is `global`, and
+/// otherwise detailed.
 pub fn mode_before<'a, 'b>(given: &'a [&'b str]) -> (Mode, &'a [&'b str]) {
     match given {
         [word, rest @ ..] if *word == "global" => (Mode::Global, rest),
@@ -113,7 +114,7 @@ pub fn mode_before<'a, 'b>(given: &'a [&'b str]) -> (Mode, &'a [&'b str]) {
     }
 }
 
-/// Numbers two by two.
+/// Reads numbers as pairs.
 pub fn pairs(alloc: Global, given: &[&str]) -> Result<Vec<(u32, u32)>, Unanswered> {
     let numbers = number_list(alloc, given)?;
     two_by_two(alloc, numbers.as_slice())

@@ -11,7 +11,7 @@ use net_file::Netlist;
 use rr_graph::Device;
 use std::alloc::Global;
 
-/// The kinds of which there is another value.
+/// The syntax of the calls, with the kinds that have another value.
 const KINDS: &str = "other or same, and arch, net, device, problem, tree, counts or view";
 
 /// Makes a call, and adds its answer.
@@ -40,7 +40,7 @@ pub fn call(
     }
 }
 
-/// Exchanges two values; whether there is one in the first place then.
+/// Exchanges two values, and returns whether the first one is there afterwards.
 fn swap<T: Drop>(one: &mut Option<T>, other: &mut Option<T>) -> bool {
     let held = one.take();
     *one = other.take();
@@ -48,7 +48,8 @@ fn swap<T: Drop>(one: &mut Option<T>, other: &mut Option<T>) -> bool {
     one.is_some()
 }
 
-/// Exchanges the value of a kind with the other one; whether there is one then.
+/// Exchanges the value of a kind with the other one, and returns whether there is a value
+/// afterwards.
 fn exchange(session: &mut Session, kind: &str) -> Result<bool, Unanswered> {
     let others = &mut session.others;
     match kind {
@@ -66,7 +67,7 @@ fn exchange(session: &mut Session, kind: &str) -> Result<bool, Unanswered> {
     }
 }
 
-/// Whether the value of a kind and the other one are equal, either way round.
+/// Returns whether the value of a kind and the other one are equal, compared both ways round.
 fn are_same(session: &Session, kind: &str) -> Result<bool, Unanswered> {
     let others = &session.others;
     match kind {
@@ -78,7 +79,8 @@ fn are_same(session: &Session, kind: &str) -> Result<bool, Unanswered> {
     }
 }
 
-/// Whether two values are equal, either way round. Where the first one is missing that is told.
+/// Returns whether two values are equal, compared both ways round. If the first one is missing,
+/// returns `missing`.
 fn same<T: PartialEq>(
     one: &Option<T>,
     other: &Option<T>,
@@ -91,7 +93,8 @@ fn same<T: PartialEq>(
     }
 }
 
-/// Whether the device suits the netlist, and the placement as it is read for the other netlist.
+/// Returns whether the device suits the netlist, and the placement as it is read for the other
+/// netlist.
 fn suits_other(
     alloc: Global,
     design: &Design,
@@ -109,8 +112,8 @@ fn suits_other(
     suits_both(alloc, design, device, &netlist, other.as_slice())
 }
 
-/// Whether a device suits a netlist, and the placement of a design as it is read for the netlist of
-/// a text.
+/// Returns whether a device suits a netlist, and the placement of a design as it is read for the
+/// netlist of a text.
 fn suits_both(
     alloc: Global,
     design: DesignTexts<'_>,

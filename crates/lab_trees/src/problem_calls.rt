@@ -17,7 +17,7 @@ use net_file::Netlist;
 use rr_graph::{Device, MadeOfDesigns, Mode, Problem, Terminals};
 use std::alloc::Global;
 
-/// How a line of a problem's parts is written.
+/// The syntax of a line with a net of a problem.
 const NET_LINE: &str = "net NUMBER: SOURCE -> SINK ..";
 
 /// Makes a call, and adds its answer.
@@ -63,7 +63,7 @@ fn look_at_all(
     }
 }
 
-/// Makes a problem, and tells how many nets it has.
+/// Makes a problem, and adds its number of nets.
 fn make(
     alloc: Global,
     session: &mut Session,
@@ -77,7 +77,7 @@ fn make(
     added(writeln!(out, "{nets} nets"))
 }
 
-/// The problem for which a call asks.
+/// Returns the problem that a call asks for.
 fn made(
     alloc: Global,
     design: &Design,
@@ -91,7 +91,7 @@ fn made(
     }
 }
 
-/// The problem of the netlist and the placement on the device.
+/// Returns the problem of the netlist and the placement on the device.
 fn of_design(
     alloc: Global,
     design: &Design,
@@ -105,7 +105,7 @@ fn of_design(
     of_netlist(alloc, design, device, &netlist)
 }
 
-/// The problem of a design with this netlist on a device.
+/// Returns the problem of a design with this netlist on a device.
 fn of_netlist(
     alloc: Global,
     design: DesignTexts<'_>,
@@ -116,7 +116,7 @@ fn of_netlist(
     problem_of(alloc, device, netlist, &placement)
 }
 
-/// The problem of the netlist and the placement on the device of their array.
+/// Returns the problem of the netlist and the placement on the device of their array at a width.
 fn at_width(alloc: Global, design: &Design, width: u32, mode: Mode) -> Result<Problem, Unanswered>
     requires width { (1 ≤ width) × (width ≤ most_tracks) }
 {
@@ -125,7 +125,7 @@ fn at_width(alloc: Global, design: &Design, width: u32, mode: Mode) -> Result<Pr
     of_netlist_at(alloc, design, &netlist, width, mode)
 }
 
-/// The problem of a design with this netlist on the device of its array.
+/// Returns the problem of a design with this netlist on the device of its array at a width.
 fn of_netlist_at(
     alloc: Global,
     design: DesignTexts<'_>,
@@ -141,7 +141,7 @@ fn of_netlist_at(
     Ok(Problem::from_design(alloc, arch, netlist, &placement, width, mode)?)
 }
 
-/// The problem of the nets that a text tells, on a device.
+/// Returns the problem of the nets that a text lists, on a device.
 fn of_parts(alloc: Global, device: &Option<Device>, text: &[u8]) -> Result<Problem, Unanswered> {
     let Some(device) = device else {
         return Err(NO_DEVICE);
@@ -150,7 +150,7 @@ fn of_parts(alloc: Global, device: &Option<Device>, text: &[u8]) -> Result<Probl
     Ok(Problem::from_parts(device.copy(alloc)?, nets)?)
 }
 
-/// The nets that a text tells, one a line.
+/// Reads nets from a text, one a line.
 fn net_lines(alloc: Global, text: &str) -> Result<Vec<Terminals>, Unanswered> {
     let mut nets = Vec::new(alloc);
     for line in text.lines() {
@@ -169,7 +169,7 @@ fn add_net(alloc: Global, nets: &mut Vec<Terminals>, line: &str) -> Result<(), U
     Ok(nets.push(net)?)
 }
 
-/// The net that the words of a line tell.
+/// Reads a net from the words of a line.
 fn net_line(alloc: Global, words: &[&str]) -> Result<Terminals, Unanswered> {
     let [_, name, source, _, sinks @ ..] = words else {
         return Err(Unanswered::Misread(NET_LINE));
@@ -200,7 +200,7 @@ fn look_up(problem: &Problem, name: &str, net: u32, out: &mut String) -> Result<
     }
 }
 
-/// Copies the problem, and tells whether the copy is equal.
+/// Copies the problem, and adds whether the copy is equal.
 fn copy(alloc: Global, problem: &Problem, out: &mut String) -> Result<(), Unanswered> {
     let copy = problem.copy(alloc)?;
     put(out, copy == *problem)

@@ -1,4 +1,4 @@
-//! A call of `route_file` and its laws: that a routing's text is read as the routing.
+//! A call of `route_file` and its laws: the text of a routing is read back as the routing.
 
 ghost use Rattle.std.specs.Prelude.{◌≡◌, IfOk, map, true};
 ghost use Rattle.net_file.specs.Routed.{routed_numbers};
@@ -43,8 +43,8 @@ pub fn call(
     }
 }
 
-/// Whether the text of the design's routing on the device, which must be legal, is read as the
-/// routing.
+/// Returns whether the text of the design's routing on the device is read as the routing. The
+/// routing must be legal.
 fn is_read_back(
     rt: &(impl Runtime + Threads + Sync + AllocGlobal),
     design: &Design,
@@ -62,7 +62,7 @@ fn is_read_back(
     is_read_back_on(rt, design, device, &netlist, routing)
 }
 
-/// The same of a design with this netlist.
+/// Does the same for a design with this netlist.
 fn is_read_back_on(
     rt: &(impl Runtime + Threads + Sync + AllocGlobal),
     design: DesignTexts<'_>,
@@ -74,7 +74,7 @@ fn is_read_back_on(
     is_placed_read_back(rt, device, netlist, &placement, routing)
 }
 
-/// The same of a placed design.
+/// Does the same for a placed design.
 fn is_placed_read_back(
     rt: &(impl Runtime + Threads + Sync + AllocGlobal),
     device: &Device,
@@ -86,7 +86,7 @@ fn is_placed_read_back(
     is_legal_read_back(rt, netlist, placement, &problem, routing)
 }
 
-/// The same of a problem of the design.
+/// Does the same for a problem of the design.
 fn is_legal_read_back(
     rt: &(impl Runtime + Threads + Sync + AllocGlobal),
     netlist: &Netlist<'_>,
@@ -114,7 +114,7 @@ fn is_legal_read_back(
     )
 }
 
-/// The text of a routing.
+/// Returns the text of a routing.
 fn text_again(
     alloc: Global,
     netlist: &Netlist<'_>,
@@ -134,7 +134,8 @@ fn text_again(
     Ok(sink.into_inner())
 }
 
-/// Whether the text of a legal routing is read as the routing, by law and when run.
+/// Returns whether the text of a legal routing is read as the routing. The laws say that it is, and
+/// the code also reads and compares.
 #[tactic(auto, using(route_file::proofs::RoutesReported::reported_routing))]
 fn is_again(
     alloc: Global,
@@ -162,7 +163,7 @@ fn is_again(
     Ok(are_same(routing, &again))
 }
 
-/// Whether two routings have the same lists.
+/// Returns whether two routings have the same lists.
 fn are_same(one: &Routing, other: &Routing) -> bool {
     one.lists.len() == other.lists.len()
         && one.lists.iter().zip(&other.lists).all(|(one, other)| match (one, other) {

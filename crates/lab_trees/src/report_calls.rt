@@ -118,7 +118,7 @@ fn put_nodes(nodes: &[OverusedNode], out: &mut String) -> Result<(), Unanswered>
     Ok(())
 }
 
-/// Adds a node: by how many nets it is used, how many it has room for, and which nets cover it.
+/// Adds a node: the number of nets that use it, its capacity, and the nets that cover it.
 fn put_node(node: &OverusedNode, out: &mut String) -> Result<(), Unanswered> {
     let (id, used, capacity) = (node.node, node.used, node.capacity);
     write!(out, "{id}: {used} of {capacity}, nets")?;
@@ -174,7 +174,8 @@ fn put_each_channel(channels: &[ChannelUse], out: &mut String) -> Result<(), Una
     Ok(())
 }
 
-/// Adds a channel: what is occupied at each place, the most and the sum.
+/// Adds a channel: how much of it is occupied at each place, the greatest of these numbers, and
+/// their sum.
 fn put_channel(channel: &ChannelUse, out: &mut String) -> Result<(), Unanswered> {
     write!(out, "{:?} {}:", channel.kind, channel.number)?;
     for occupied in channel.occupied.as_slice() {

@@ -41,7 +41,7 @@ pub fn call(
     }
 }
 
-/// The routing problem of a design that suits the device.
+/// Returns the routing problem of a design that suits the device.
 #[tactic(auto, using(route_file::proofs::DesignProblems::design_made))]
 fn problem_on(
     alloc: Global,
@@ -57,7 +57,7 @@ fn problem_on(
     Problem::new(alloc, device, netlist, placement)
 }
 
-/// The problem of a design on a device, where it suits.
+/// Returns the problem of a design on a device, if the design suits the device.
 pub fn problem_of(
     alloc: Global,
     device: &Device,
@@ -76,7 +76,7 @@ pub fn problem_of(
     Ok(problem)
 }
 
-/// Reads the file or the text that a call names.
+/// Reads a routing from the file or the text that a call names.
 fn read_source(
     rt: &(impl Runtime + AllocGlobal),
     design: &Design,
@@ -179,7 +179,7 @@ fn put_on(
     put_written(&taken.into_inner(), is_whole, out)
 }
 
-/// Adds what was written, or tells how much of it was before the sink failed.
+/// Adds what was written, or the number of bytes that were taken before the sink failed.
 fn put_written(sink: &ShortSink, is_whole: bool, out: &mut String) -> Result<(), Unanswered> {
     let bytes = sink.bytes.as_slice();
     if sink.lacked {

@@ -51,7 +51,7 @@ pub fn call(
     }
 }
 
-/// Keeps a routing, and tells how many entries it has.
+/// Keeps a routing, and adds its number of lists.
 pub fn keep(
     kept: &mut Option<Routing>,
     routing: Routing,
@@ -62,7 +62,7 @@ pub fn keep(
     added(writeln!(out, "{lists} lists"))
 }
 
-/// The pairs that the words of a line tell, or none.
+/// Reads pairs from the words of a line, or `none`.
 fn list_of_words(alloc: Global, words: &[&str]) -> Result<Option<Pairs>, Unanswered> {
     match words {
         [word] if *word == "none" => Ok(None),
@@ -75,7 +75,7 @@ fn list_of_words(alloc: Global, words: &[&str]) -> Result<Option<Pairs>, Unanswe
     }
 }
 
-/// The tree that the words of a line tell, or none.
+/// Reads a tree from the words of a line, or `none`.
 fn tree_or_none(alloc: Global, words: &[&str]) -> Result<Option<Tree>, Unanswered> {
     match words {
         [word] if *word == "none" => Ok(None),
@@ -83,7 +83,7 @@ fn tree_or_none(alloc: Global, words: &[&str]) -> Result<Option<Tree>, Unanswere
     }
 }
 
-/// The routing whose lists a text tells, one a line.
+/// Reads a routing from a text with the pairs of a net on each line.
 fn of_pairs(alloc: Global, text: &str) -> Result<Routing, Unanswered> {
     let mut lists = Vec::new(alloc);
     for line in text.lines() {
@@ -102,13 +102,13 @@ fn add_list(alloc: Global, lists: &mut Vec<Option<Pairs>>, line: &str) -> Result
     Ok(lists.push(list)?)
 }
 
-/// The routing whose trees a text tells, one a line.
+/// Reads a routing from a text with the tree of a net on each line.
 fn of_trees(alloc: Global, text: &str) -> Result<Routing, Unanswered> {
     let trees = trees(alloc, text)?;
     Ok(Routing::of_trees(alloc, trees.as_slice())?)
 }
 
-/// The trees that a text tells, one a line.
+/// Reads trees from a text, one a line.
 fn trees(alloc: Global, text: &str) -> Result<Vec<Option<Tree>>, Unanswered> {
     let mut trees = Vec::new(alloc);
     for line in text.lines() {
@@ -127,7 +127,7 @@ fn add_tree(alloc: Global, trees: &mut Vec<Option<Tree>>, line: &str) -> Result<
     Ok(trees.push(tree)?)
 }
 
-/// Adds whether a routing fits a problem, or what is wrong with it.
+/// Adds whether a routing fits a problem, or its first fault.
 fn judge(
     rt: &(impl Runtime + Threads + Sync + AllocGlobal),
     problem: &Problem,
@@ -141,7 +141,7 @@ fn judge(
     }
 }
 
-/// Judges a routing.
+/// Checks a routing, and adds `legal` or its first fault.
 fn check(
     rt: &(impl Runtime + Threads + Sync + AllocGlobal),
     problem: &Problem,
@@ -154,7 +154,7 @@ fn check(
     }
 }
 
-/// Adds a line for each entry: the pairs, or `none`.
+/// Adds a line for each list: its pairs, or `none`.
 fn dump(routing: &Routing, out: &mut String) -> Result<(), Unanswered> {
     for list in routing.lists.as_slice() {
         match list {
@@ -165,7 +165,7 @@ fn dump(routing: &Routing, out: &mut String) -> Result<(), Unanswered> {
     Ok(())
 }
 
-/// Adds pairs to one line.
+/// Adds a line with pairs.
 fn put_pairs(pairs: &Pairs, out: &mut String) -> Result<(), Unanswered> {
     out.push_str("pairs")?;
     for (from, to) in pairs.items.as_slice() {

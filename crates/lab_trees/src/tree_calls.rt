@@ -53,7 +53,7 @@ pub fn call(
     }
 }
 
-/// Makes a tree, and tells how many rows it has.
+/// Makes a tree, and adds its number of rows.
 fn make(
     alloc: Global,
     kept: &mut Option<Tree>,
@@ -66,7 +66,7 @@ fn make(
     added(writeln!(out, "{rows} rows"))
 }
 
-/// Attaches a way to a row of the tree, and tells how many rows it has.
+/// Attaches a path to a row of the tree, and adds the tree's number of rows.
 fn attach(
     alloc: Global,
     tree: &mut Option<Tree>,
@@ -109,8 +109,8 @@ fn put_marks_fit(
     }
 }
 
-/// Tells whether the tree routes a net of the problem. The marks of a check serve the next one,
-/// where they fit its problem.
+/// Adds whether the tree routes a net of the problem. The next check uses the marks of this one
+/// again if they fit its problem.
 fn check(
     alloc: Global,
     problem: &Option<Problem>,
@@ -126,7 +126,7 @@ fn check(
     }
 }
 
-/// Tells whether a tree routes a net of a problem, by the marks of the last check where they fit.
+/// Adds whether a tree routes a net of a problem, with the marks of the last check if they fit.
 fn check_with(
     alloc: Global,
     problem: &Problem,
@@ -141,7 +141,7 @@ fn check_with(
     }
 }
 
-/// Tells whether a tree routes a net, by new marks, which are kept when that is told.
+/// Adds whether a tree routes a net, with new marks. Keeps the marks once that is added.
 fn check_anew(
     alloc: Global,
     problem: &Problem,
@@ -194,7 +194,7 @@ fn look_at(tree: &Tree, name: &str, index: u32, out: &mut String) -> Result<(), 
     }
 }
 
-/// The node of a row.
+/// Returns the node of a row, if there is such a row.
 fn row_node(tree: &Tree, row: usize) -> Option<u32> {
     if row < tree.rows() {
         Some(tree.node(row))

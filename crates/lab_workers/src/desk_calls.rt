@@ -19,10 +19,10 @@ use std::alloc::Global;
 use std::marker::Brand;
 use std::sync::ledger::Blank;
 
-/// How the call is written.
+/// The syntax of the call.
 const DESK: &str = "desk WORKERS <<, with lines draw W, commit W NET TREE or pass W NET";
 
-/// What a worker does at a desk.
+/// An act of a worker at a desk.
 #[derive(Drop)]
 enum Act {
     Draw,
@@ -30,7 +30,7 @@ enum Act {
     Pass(u32),
 }
 
-/// A worker, and what it does.
+/// A worker and its act.
 #[derive(Drop)]
 struct Step {
     worker: u32,
@@ -53,7 +53,7 @@ pub fn call(
     }
 }
 
-/// Lets workers do at a desk what a text tells, with a view of the book's nodes.
+/// Takes the steps of a text at a desk of the book, with a view of the book's nodes.
 fn begin_desk(
     alloc: Global,
     book: &mut Option<Book>,
@@ -66,7 +66,7 @@ fn begin_desk(
     share_desk(alloc, book, workers, steps, &mut view, out)
 }
 
-/// A view of the book's nodes.
+/// Returns a view of the book's nodes.
 fn view_of(alloc: Global, book: &Option<Book>) -> Result<View, Unanswered> {
     match book {
         Some(book) => Ok(View::new(alloc, book.problem().device().node_count() as usize)?),
@@ -74,7 +74,7 @@ fn view_of(alloc: Global, book: &Option<Book>) -> Result<View, Unanswered> {
     }
 }
 
-/// Lets workers take steps at a desk. Where memory runs out, the book is let go.
+/// Takes workers' steps at a desk. If memory runs out, the book is dropped.
 fn share_desk(
     alloc: Global,
     book: &mut Option<Book>,
@@ -90,7 +90,7 @@ fn share_desk(
     Ok(())
 }
 
-/// The steps of so many workers that a text tells, one a line.
+/// Reads the steps of `workers` workers from a text, one a line.
 fn steps_of_text(alloc: Global, workers: u32, text: &str) -> Result<Vec<Step>, Unanswered> {
     let mut steps = Vec::new(alloc);
     for line in text.lines() {
@@ -114,7 +114,7 @@ fn add_step(
     Ok(steps.push(step)?)
 }
 
-/// The step of one of so many workers that the words of a line tell.
+/// Reads a step of one of `workers` workers from the words of a line.
 fn step_of_words(alloc: Global, workers: u32, words: &[&str]) -> Result<Step, Unanswered> {
     let [name, worker, given @ ..] = words else {
         return Err(Unanswered::Misread(DESK));
@@ -129,7 +129,7 @@ fn step_of_words(alloc: Global, workers: u32, words: &[&str]) -> Result<Step, Un
     Ok(Step { worker, act })
 }
 
-/// What a worker does by the words behind it.
+/// Reads an act from its name and the words after the worker.
 fn act_of_words(alloc: Global, name: &str, given: &[&str]) -> Result<Act, Unanswered> {
     match (name, given) {
         ("draw", []) => Ok(Act::Draw),
@@ -145,8 +145,8 @@ fn act_of_words(alloc: Global, name: &str, given: &[&str]) -> Result<Act, Unansw
     }
 }
 
-/// Lets so many workers take steps at a desk of a book, and tells how many turns each share counts;
-/// the book.
+/// Takes the steps of `workers` workers at a desk of a book, adds the number of turns that each
+/// share counts, and returns the book.
 fn at_desk<L: Round>(
     alloc: Global,
     book: Book,
@@ -168,7 +168,7 @@ fn at_desk<L: Round>(
     Ok(desk.end())
 }
 
-/// Takes steps, and tells how many turns each share counts then.
+/// Takes steps, and adds the number of turns that each share counts after them.
 fn take_and_tell<L: Round>(
     desk: &mut Desk<L>,
     shares: &mut Vec<Share<L>>,
@@ -196,7 +196,7 @@ fn take_steps<L: Round>(
     Ok(())
 }
 
-/// Lets a worker do something, and adds the desk's answer.
+/// Lets a worker act, and adds the desk's answer.
 fn take_step<L: Round>(
     desk: &mut Desk<L>,
     share: &mut Share<L>,

@@ -41,7 +41,7 @@ pub fn call(
     }
 }
 
-/// Takes the book, where nothing was drawn in its open iteration; else it stays.
+/// Takes the book if no net was drawn in its open iteration. Otherwise the book stays.
 pub fn take_fresh(kept: &mut Option<Book>) -> Result<Book, Unanswered>
     ensures { IfOk result IsFresh }
 {
@@ -56,8 +56,8 @@ pub fn take_fresh(kept: &mut Option<Book>) -> Result<Book, Unanswered>
     }
 }
 
-/// Makes an iteration of the book by several workers, and tells their reports, worker by worker or
-/// net by net. A fault lets the book go.
+/// Makes an iteration of the book by several workers, and adds their reports, worker by worker or
+/// net by net. If it fails, the book is dropped.
 fn make_iteration(
     rt: &(impl Runtime + Threads + Wait + Sync + AllocGlobal),
     book: &mut Option<Book>,
@@ -78,7 +78,7 @@ fn make_iteration(
     )
 }
 
-/// How many nets the book's problem has.
+/// Returns the number of nets of the book's problem.
 fn net_count(book: &Option<Book>) -> Result<u32, Unanswered> {
     match book {
         Some(book) => Ok(book.problem().nets()),
@@ -86,8 +86,8 @@ fn net_count(book: &Option<Book>) -> Result<u32, Unanswered> {
     }
 }
 
-/// Makes an iteration of the book under a gate, and tells what was done. The book is back when all
-/// is told.
+/// Makes an iteration of the book under a gate, and adds what was done. Puts the book back once all
+/// is added.
 fn iterate_under<R: Runtime + Threads + Wait + Sync + AllocGlobal>(
     rt: &R,
     kept: &mut Option<Book>,
@@ -107,7 +107,7 @@ fn iterate_under<R: Runtime + Threads + Wait + Sync + AllocGlobal>(
     Ok(())
 }
 
-/// The book behind an iteration, of which is told what was done.
+/// Makes an iteration of a book, adds what was done, and returns the book.
 fn iterated<R: Runtime + Threads + Wait + Sync + AllocGlobal>(
     rt: &R,
     book: Book,
@@ -127,7 +127,7 @@ fn iterated<R: Runtime + Threads + Wait + Sync + AllocGlobal>(
     Ok(book)
 }
 
-/// Makes a workspace of the book's problem, and tells how many nets it has.
+/// Makes a workspace of the book's problem, and adds its number of nets.
 fn make_workspace(
     alloc: Global,
     session: &mut Session,
@@ -143,7 +143,7 @@ fn make_workspace(
     added(writeln!(out, "{nets} nets"))
 }
 
-/// A workspace of the problem of the book that is kept.
+/// Returns a workspace of the problem of the kept book.
 fn workspace_of(alloc: Global, book: &Option<Book>) -> Result<Workspace, Unanswered> {
     let Some(book) = book else {
         return Err(NO_BOOK);
@@ -152,8 +152,8 @@ fn workspace_of(alloc: Global, book: &Option<Book>) -> Result<Workspace, Unanswe
     Ok(Workspace::new(alloc, problem)?)
 }
 
-/// Makes an iteration of the book by several workers in the workspace, and tells their reports,
-/// worker by worker or net by net. A fault lets the book go.
+/// Makes an iteration of the book by several workers in the workspace, and adds their reports,
+/// worker by worker or net by net. If it fails, the book is dropped.
 fn make_iteration_in(
     rt: &(impl Runtime + Threads + Wait + Sync + AllocGlobal),
     book: &mut Option<Book>,
@@ -175,15 +175,15 @@ fn make_iteration_in(
     )
 }
 
-/// Whether a workspace is of the problem of a book.
+/// Returns whether a workspace is of a book's problem.
 fn is_of(workspace: &Workspace, book: &Book) -> bool
     ensures { IsTrue result → workspace.now ≡ book.now.problem }
 {
     *workspace.problem() == *book.problem()
 }
 
-/// Makes an iteration of the book in the workspace under a gate, and tells what was done. The book
-/// is back when all is told.
+/// Makes an iteration of the book in the workspace under a gate, and adds what was done. Puts the
+/// book back once all is added.
 fn iterate_in_under<R: Runtime + Threads + Wait + Sync + AllocGlobal>(
     rt: &R,
     kept: &mut Option<Book>,
@@ -213,7 +213,7 @@ fn iterate_in_under<R: Runtime + Threads + Wait + Sync + AllocGlobal>(
     Ok(())
 }
 
-/// The book after an iteration in the workspace, of which is told what was done.
+/// Makes an iteration of a book in the workspace, adds what was done, and returns the book.
 fn iterated_in<R: Runtime + Threads + Wait + Sync + AllocGlobal>(
     rt: &R,
     workspace: &mut Workspace,
@@ -277,7 +277,7 @@ fn put_entries(entries: &[ReportEntry], out: &mut String) -> Result<(), Unanswer
     Ok(())
 }
 
-/// Adds the turn at each net, whoever made it.
+/// Adds the turn of each net, whichever worker made it.
 fn put_nets(reports: &[Report], nets: u32, out: &mut String) -> Result<(), Unanswered> {
     for net in 0..nets {
         match reports.iter().find_map(|report| entry_of(report, net)) {
@@ -288,7 +288,7 @@ fn put_nets(reports: &[Report], nets: u32, out: &mut String) -> Result<(), Unans
     Ok(())
 }
 
-/// The turn of a worker at a net.
+/// Returns the turn of a worker at a net, if the worker made one.
 fn entry_of(report: &Report, net: u32) -> Option<&ReportEntry> {
     report.entries().iter().find(|entry| entry.net == net)
 }

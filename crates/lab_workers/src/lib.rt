@@ -3,4 +3,5 @@
 
 pub mod desk_calls;
 pub mod iteration_calls;
+pub mod repeated_calls;
 pub mod work_calls;

@@ -66,7 +66,7 @@ fn negotiate_routing(
     negotiate_under(rt, problem, routing, settings, workers, &gate, out)
 }
 
-/// Negotiates a routing of a copy of the problem under a gate, and keeps it when all is told.
+/// Negotiates a routing of a copy of the problem under a gate, and keeps it once all is added.
 fn negotiate_under<R: Runtime + Threads + Wait + Sync + AllocGlobal>(
     rt: &R,
     problem: &Problem,
@@ -85,14 +85,14 @@ fn negotiate_under<R: Runtime + Threads + Wait + Sync + AllocGlobal>(
     Ok(())
 }
 
-/// Keeps the routing of a negotiation that has one.
+/// Keeps the routing of an outcome that has one.
 fn keep_routed(kept: &mut Option<Routing>, outcome: Outcome) {
     if let Outcome::Success(routing, _) = outcome {
         *kept = Some(routing);
     }
 }
 
-/// Adds what a negotiation came to, and the gate's own lines.
+/// Adds the outcome of a negotiation, and the gate's own lines.
 fn put_negotiation<R: Wait + Clock + AllocGlobal>(
     outcome: &Outcome,
     gate: &LabGate<'_, R>,
@@ -102,8 +102,8 @@ fn put_negotiation<R: Wait + Clock + AllocGlobal>(
     gate.put(out)
 }
 
-/// Adds what a negotiation came to.
-fn put_outcome(outcome: &Outcome, out: &mut String) -> Result<(), Unanswered> {
+/// Adds the outcome of a negotiation.
+pub(crate) fn put_outcome(outcome: &Outcome, out: &mut String) -> Result<(), Unanswered> {
     match outcome {
         Outcome::Success(_, iterations) => writeln!(out, "routed, iterations {iterations}")?,
         Outcome::NotRouted {
@@ -141,7 +141,7 @@ fn search_widths(
     )
 }
 
-/// Searches for the least width under a gate, and keeps the routing when all is told.
+/// Searches for the least width under a gate, and keeps the routing once all is added.
 fn search_under<R: Runtime + Threads + Wait + Sync + AllocGlobal>(
     rt: &R,
     design: &Design,
@@ -161,7 +161,7 @@ fn search_under<R: Runtime + Threads + Wait + Sync + AllocGlobal>(
     keep_least(rt.alloc(), routing, &report)
 }
 
-/// Adds what a search of widths came to, and the gate's own lines.
+/// Adds the results of a search of widths, and the gate's own lines.
 fn put_widths<R: Wait + Clock + AllocGlobal>(
     report: &WidthReport,
     gate: &LabGate<'_, R>,
@@ -184,7 +184,7 @@ fn keep_least(
     Ok(())
 }
 
-/// What a search of widths for the design comes to.
+/// Searches for the least width of the design, and returns the report.
 fn width_report<R: Runtime + Threads + Wait + Sync + AllocGlobal>(
     rt: &R,
     design: &Design,
@@ -202,7 +202,7 @@ fn width_report<R: Runtime + Threads + Wait + Sync + AllocGlobal>(
     report_of(rt, design, &netlist, settings, start, mode, workers, gate)
 }
 
-/// What a search of widths for a design with this netlist comes to.
+/// Searches for the least width of a design with this netlist, and returns the report.
 fn report_of<R: Runtime + Threads + Wait + Sync + AllocGlobal>(
     rt: &R,
     design: DesignTexts<'_>,
@@ -242,7 +242,7 @@ fn put_least(report: &WidthReport, out: &mut String) -> Result<(), Unanswered> {
     }
 }
 
-/// A copy of a routing.
+/// Returns a copy of a routing.
 fn copy_of(alloc: Global, routing: &Routing) -> Result<Routing, AllocError> {
     let mut lists = Vec::with_capacity(alloc, routing.lists.len())?;
     for list in routing.lists.as_slice() {

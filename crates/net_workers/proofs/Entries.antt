@@ -18,8 +18,10 @@ use Rattle.net_workers.specs.declared.made_turn.MadeTurn.{MadeTurn}
 use Rattle.net_workers.specs.declared.report.ReportEntry.{ReportEntry}
 use Rattle.net_workers.specs.WorkerParts.{IsOfIteration}
 use Rattle.net_workers.specs.Agreement.{Agrees, IsReportOf, IsRecorded, reported_turn}
+use Rattle.gates.specs.declared.schedule.ScheduledTurn.{ScheduledTurn}
+use Rattle.net_workers.specs.Schedules.{IsScheduleOf, scheduled_turn}
 use Rattle.net_workers.specs.Searches.{IsFoundIn, IsFound, AreFound, lists_turned}
-use Rattle.net_workers.specs.kept.TurnLogs.{Plan, plan_of, lists_after, turns_for, turn_in_book, entries_of, IsLegal, IsFoundAfter}
+use Rattle.net_workers.specs.kept.TurnLogs.{Plan, plan_of, lists_after, turns_for, turn_in_book, turn_in_schedule, entries_of, IsLegal, IsFoundAfter}
 use Rattle.net_workers.proofs.TurnLogs.{lists_len, kept_list, one_first, own_first, none_first, fewer, turns_are}
 
 -- the lists have what each turn gave to its net
@@ -60,22 +62,32 @@ none_sooner (t ∷ ts) (suc m) (suc k) net less none =
     omega (arith, none, one_first t (take k ts) net, one_first t (take m ts) net, rest)
 
 -- ---- what a worker reports
-pub reports_turns : (w : ℕ) (log : List MadeTurn) → filter (λ t. t.worker == w) (map turn_in_book log) ≡ map (reported_turn w) (entries_of w log)
-reports_turns w [] = refl
-reports_turns w (t ∷ ts) =
-    let rest = reports_turns w ts in
-    let turns = filter (λ (u : Turn). u.worker == w) (map turn_in_book ts) in
+
+-- the turns of a worker among those of all, as something has them that says whose they are
+turns_of_worker : {T : Type 0} (worker : T → ℕ) (kept : ℕ → ReportEntry → T) → ((v : ℕ) (e : ReportEntry) → worker (kept v e) ≡ v) →
+    (w : ℕ) (log : List MadeTurn) → filter (λ u. worker u == w) (map (λ t. kept t.worker t.entry) log) ≡ map (kept w) (entries_of w log)
+turns_of_worker worker kept own w [] = refl
+turns_of_worker {T} worker kept own w (t ∷ ts) =
+    let rest = turns_of_worker worker kept own w ts in
+    let turns = filter (λ (u : T). worker u == w) (map (λ (v : MadeTurn). kept v.worker v.entry) ts) in
     let made = filter (λ (u : MadeTurn). u.worker == w) ts in
+    let first = ap (λ (n : ℕ). n == w) (own t.worker t.entry) in
     elim (cases_eq t.worker w) [
       | inl is ↦
           let yes : (t.worker == w) ≡ true = eq-eqb t.worker w is in
-          ap (λ b. cond b (turn_in_book t ∷ turns) turns) yes
-          ∙ (ap (λ (n : ℕ). reported_turn n t.entry ∷ turns) is ∙ ap (λ us. reported_turn w t.entry ∷ us) rest)
-          ∙ sym (ap (λ b. map (reported_turn w) (map (λ u. u.entry) (cond b (t ∷ made) made))) yes)
+          ap (λ b. cond b (kept t.worker t.entry ∷ turns) turns) (first ∙ yes)
+          ∙ (ap (λ (n : ℕ). kept n t.entry ∷ turns) is ∙ ap (λ us. kept w t.entry ∷ us) rest)
+          ∙ sym (ap (λ b. map (kept w) (map (λ u. u.entry) (cond b (t ∷ made) made))) yes)
       | inr apart ↦
           let no : (t.worker == w) ≡ false = ne_eqb t.worker w apart in
-          ap (λ b. cond b (turn_in_book t ∷ turns) turns) no ∙ rest ∙ sym (ap (λ b. map (reported_turn w) (map (λ u. u.entry) (cond b (t ∷ made) made))) no)
+          ap (λ b. cond b (kept t.worker t.entry ∷ turns) turns) (first ∙ no) ∙ rest ∙ sym (ap (λ b. map (kept w) (map (λ u. u.entry) (cond b (t ∷ made) made))) no)
     ]
+
+pub reports_turns : (w : ℕ) (log : List MadeTurn) → filter (λ t. t.worker == w) (map turn_in_book log) ≡ map (reported_turn w) (entries_of w log)
+reports_turns w log = turns_of_worker (λ (t : Turn). t.worker) reported_turn (λ v e. refl) w log
+
+schedules_turns : (w : ℕ) (log : List MadeTurn) → filter (λ t. t.worker == w) (map turn_in_schedule log) ≡ map (scheduled_turn w) (entries_of w log)
+schedules_turns w log = turns_of_worker (λ (t : ScheduledTurn). t.worker) scheduled_turn (λ v e. refl) w log
 
 -- one turn more is an entry more of its worker
 pub entries_more : (w : ℕ) (log : List MadeTurn) (t : MadeTurn) → entries_of w (log ++ t ∷ []) ≡ entries_of w log ++ cond (t.worker == w) (t.entry ∷ []) []
@@ -160,3 +172,22 @@ agrees_by opening new present bb workers log reports legal sound within lists tu
           let here : get_or reports k d ≡ entries_of k log = sym (get_or_default reports k [] d low) ∙ each k (omega (arith, low, count)) in
           subst (AreFound opening new present bb) (sym here) (are_found p log legal new sound within lists turns once k);
     }
+
+-- ---- the schedule of an iteration
+
+-- the turns as a schedule has them are those of the book
+schedules_workers : (log : List MadeTurn) → map (λ t. t.worker) (map turn_in_schedule log) ≡ map (λ t. t.worker) (map turn_in_book log)
+schedules_workers [] = refl
+schedules_workers (t ∷ ts) = ap (λ us. t.worker ∷ us) (schedules_workers ts)
+
+schedules_nets : (log : List MadeTurn) → map (λ t. t.net) (map turn_in_schedule log) ≡ map (λ t. t.net) (map turn_in_book log)
+schedules_nets [] = refl
+schedules_nets (t ∷ ts) = ap (λ us. t.entry.net ∷ us) (schedules_nets ts)
+
+pub schedule_by : (new : Content) (workers : ℕ) (log : List MadeTurn) (reports : List (List ReportEntry)) → new.turns ≡ map turn_in_book log →
+    length reports ≡ workers → ((w : ℕ) → w < workers → get_or reports w [] ≡ entries_of w log) → IsScheduleOf new reports (map turn_in_schedule log)
+schedule_by new workers log reports turns count each = record {
+  workers = schedules_workers log ∙ sym (ap (map (λ (t : Turn). t.worker)) turns);
+  nets = schedules_nets log ∙ sym (ap (map (λ (t : Turn). t.net)) turns);
+  reported = λ w low. schedules_turns w log ∙ sym (ap (map (scheduled_turn w)) (each w (omega (arith, low, count))));
+}

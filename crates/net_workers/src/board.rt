@@ -1,4 +1,4 @@
-//! What the workers of an iteration share with no lock.
+//! What the workers of an iteration share without a lock.
 
 ghost use Rattle.std.specs.Prelude.{◌≡◌, ◌<◌, length, vec_len, IfOk};
 ghost use Rattle.routing_problem.specs.Nodes.{node_count_of};
@@ -12,6 +12,7 @@ ghost use Rattle.wavefront.specs.Growth.{space_of};
 use crate::fault::WorkFault;
 use crate::history::{Head, Logged};
 use crate::page::{Cell, Page, open_row};
+use crate::portion::Portions;
 use crate::search::{SearchOptions, search};
 use gates::Gate;
 use group_wave::Scratch;
@@ -21,15 +22,30 @@ use std::alloc::{AllocError, Global};
 use std::marker::Model;
 use wave_ground::PreparedProblem;
 
-/// The problem and the options of an iteration, the trees with which it opens, the head of its
-/// history, and a cell for each turn. Contracts see nothing but what its type says.
+/// The board of an iteration: the problem and the options, the trees with which it opens, how many
+/// nets are drawn at once, the head of its history, and a cell for each turn. Contracts see only
+/// what its type guarantees.
 #[derive(Drop)]
 pub(crate) struct Board<'a, L: Logged> {
     prepared: &'a PreparedProblem,
     options: SearchOptions,
     opening: Vec<Option<Tree>>,
+    portions: Portions,
     head: Head<L>,
     row: Vec<Cell<L>>,
+}
+
+/// Returns how many nets are drawn at once: several from the second iteration on, if several
+/// workers draw them, and otherwise one.
+fn portions_of(
+    alloc: Global,
+    options: &SearchOptions,
+    opening: &[Option<Tree>],
+) -> Result<Portions, AllocError> {
+    if options.looks == 0 {
+        return Ok(Portions::single(alloc));
+    }
+    Portions::new(alloc, opening, options.workers)
 }
 
 impl<'a, L: Logged> Model for Board<'a, L> {
@@ -44,7 +60,7 @@ impl<'a, L: Logged> Model for Board<'a, L> {
 }
 
 impl<'a, L: Logged> Board<'a, L> {
-    /// The board of an iteration that opens with these trees.
+    /// Returns the board of an iteration that opens with these trees.
     pub(crate) fn new(
         alloc: Global,
         prepared: &'a PreparedProblem,
@@ -57,33 +73,45 @@ impl<'a, L: Logged> Board<'a, L> {
         requires opening { lists_of_trees opening.items ≡ L.plan.opening.lists }
     {
         let row = open_row(alloc, prepared.problem().nets())?;
+        let portions = portions_of(alloc, &options, &opening)?;
         Ok(Board {
             prepared,
             options,
             opening,
+            portions,
             head,
             row,
         })
     }
 
-    /// The head of the history.
+    /// Returns the head of the history.
     pub(crate) fn head(&self) -> &Head<L> {
         &self.head
     }
 
-    /// How many times a worker may look again at a net that it holds.
+    /// Returns how many nets are drawn at once, from this one on.
+    pub(crate) fn portion(&self, net: u32) -> u32 {
+        self.portions.count(net)
+    }
+
+    /// Returns the number of the iteration, counted from 1.
+    pub(crate) fn iteration(&self) -> u32 {
+        self.options.iteration
+    }
+
+    /// Returns how many times a worker may look again at a net that it holds.
     pub(crate) fn looks(&self) -> u32 {
         self.options.looks
     }
 
-    /// The problem, prepared for searches.
+    /// Returns the problem, prepared for searches.
     pub(crate) fn prepared(&self) -> &PreparedProblem
         ensures { result.now ≡ L.plan.opening.problem }
     {
         self.prepared
     }
 
-    /// The tree with which the iteration opens for a net, or none.
+    /// Returns the tree with which the iteration opens for a net, or none.
     pub(crate) fn opening_tree(&self, net: u32) -> &Option<Tree>
         requires { net < length L.plan.opening.lists }
         ensures { list_in L.plan.opening.lists net ≡ list_of_tree result.now }
@@ -91,7 +119,7 @@ impl<'a, L: Logged> Board<'a, L> {
         &self.opening[net as usize]
     }
 
-    /// A search for the tree of a net that sees this view.
+    /// Searches for the tree of a net in this view.
     pub(crate) fn search<G: Gate>(
         &self,
         alloc: Global,
@@ -110,12 +138,12 @@ impl<'a, L: Logged> Board<'a, L> {
         search(alloc, self.prepared, net, view, self.options, scratch, gate)
     }
 
-    /// The page in a cell, if there is one by now.
+    /// Returns the page in a cell, if there is one by now.
     pub(crate) fn page(&self, number: u64) -> Option<&Page<L>> {
         self.row.get(number as usize)?.get()
     }
 
-    /// Writes a page into its cell. False where there is none, or it is full.
+    /// Writes a page into its cell. Returns false if there is no such cell, or it is full.
     pub(crate) fn write(&self, number: u64, page: Page<L>) -> bool {
         match self.row.get(number as usize) {
             Some(cell) => cell.set_written(page).is_ok(),
@@ -123,7 +151,7 @@ impl<'a, L: Logged> Board<'a, L> {
         }
     }
 
-    /// The cells, and the trees with which the iteration opened.
+    /// Returns the cells, and the trees with which the iteration opened.
     pub(crate) fn into_parts(self) -> (Vec<Cell<L>>, Vec<Option<Tree>>) {
         let Board { row, opening, .. } = self;
         (row, opening)

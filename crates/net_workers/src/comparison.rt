@@ -7,7 +7,7 @@ ghost use Rattle.congestion_book.specs.Contents.{net_count};
 use crate::desk::open_turns;
 use congestion_book::Book;
 
-/// Whether each net had its turn.
+/// Returns whether each net had its turn.
 pub(crate) fn is_done(book: &Book) -> bool
     ensures once { IsTrue result → NameEachOnce (net_count book.now) book.now.turns }
     ensures free { IsTrue result → (i : ℕ) → holder_in book.now.holders i ≡ None }

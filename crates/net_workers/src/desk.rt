@@ -1,4 +1,4 @@
-//! What lies under the lock of an iteration: the book, and the total of the turns that the workers
+//! What the lock of an iteration protects: the book, and the total of the turns that the workers
 //! made.
 
 ghost use Rattle.std.specs.Prelude.{◌≡◌, ◌+◌, ◌<◌, ◌↔◌, true, if◌then◌else◌, [], length, vec_len, sum_by, All, Some, IfOk, IfErr, IsOk, OnOk, OnErr};
@@ -24,10 +24,10 @@ use std::marker::Model;
 use std::sync::ledger;
 use std::sync::ledger::Blank;
 
-/// The book of an iteration, with the total of its shares. Contracts see the book's content. That
-/// each open turn is a worker's of the round, that the total is the number of open turns, and that
-/// the book is one of the iteration that opens with the book handed in, are facts of the type, and
-/// so is the congestion invariant, by the book's.
+/// The book of an iteration, with the total of its shares. Contracts see the book's content. The
+/// type guarantees that each open turn is one of a worker of the round, that the total is the
+/// number of open turns, and that the book is one of the iteration that opens with the book handed
+/// in. Through the type of the book it also guarantees the congestion invariant.
 #[derive(Drop)]
 pub struct Desk<L: Round> {
     book: Book,
@@ -48,7 +48,7 @@ impl<L: Round> Model for Desk<L> {
         × (d.rest.parts ≡ 0) × (d.rest.amount ≡ 0) };
 }
 
-/// The turns of the open iteration.
+/// Returns the turns of the open iteration.
 pub(crate) fn open_turns(book: &Book) -> &[Turn]
     ensures { result.now ≡ book.now.turns }
 {
@@ -56,7 +56,8 @@ pub(crate) fn open_turns(book: &Book) -> &[Turn]
 }
 
 impl<L: Round> Desk<L> {
-    /// The desk of a book in whose open iteration nothing was drawn, and a share for each worker.
+    /// Returns the desk of a book in whose open iteration nothing was drawn, and a share for each
+    /// worker.
     pub fn new(
         alloc: Global,
         book: Book,
@@ -82,7 +83,7 @@ impl<L: Round> Desk<L> {
         Ok((Desk { book, total, rest }, shares))
     }
 
-    /// The book.
+    /// Returns the book.
     pub fn book(&self) -> &Book
         ensures exact { result.now ≡ self.now }
         ensures sound { IsSound self.now }
@@ -93,7 +94,7 @@ impl<L: Round> Desk<L> {
         &self.book
     }
 
-    /// The book, in which the turns stand that were made.
+    /// Returns the book, with the turns that were made.
     pub fn end(self) -> Book
         ensures exact { result ≡ self }
         ensures sound { IsSound result }
@@ -105,7 +106,7 @@ impl<L: Round> Desk<L> {
         book
     }
 
-    /// Gives the share's worker the least net that was not drawn, with its view.
+    /// Gives the share's worker the least net that was not drawn, and its view.
     pub fn draw(&mut self, share: &mut Share<L>, view: &mut View) -> Result<Option<u32>, DrawFault>
         ensures step { Draws self.old view.old share.old.worker result self.new view.new }
         ensures share { share.new ≡ share.old }
@@ -141,9 +142,10 @@ impl<L: Round> Desk<L> {
         }
     }
 
-    /// Comes to commit the tree of a net, which was found with this view. Where a node of the tree
-    /// is full now by the other nets, and was not by those in the view, the view becomes that of
-    /// the net as the book is now, and the tree is let go; else it is committed as `commit` does.
+    /// Commits the tree of a net, which was found with this view, or looks again. If the other nets
+    /// now fill a node of the tree that they don't fill in the view, the view becomes that of the
+    /// net as the book is now, and the tree is dropped. Otherwise the tree is committed as by
+    /// `commit`.
     pub fn commit_or_look(
         &mut self,
         share: &mut Share<L>,
@@ -166,8 +168,8 @@ impl<L: Round> Desk<L> {
         }
     }
 
-    /// Fills the view of a net anew where the others have filled a node of its tree. Whether it
-    /// did.
+    /// Fills the view of a net anew if the others have filled a node of its tree. Returns whether
+    /// it did.
     fn looks_again(&self, net: u32, tree: &Tree, view: &mut View) -> bool
         ensures exact { result ≡ looks_again self.now net view.old tree.now }
         ensures view { view.new ≡
@@ -208,7 +210,7 @@ impl<L: Round> Desk<L> {
         self.book.draw_net(share.worker())
     }
 
-    /// Whether the share's worker holds a net, which then had no turn.
+    /// Returns whether the share's worker holds a net. If so, the net had no turn.
     pub(crate) fn holds(&self, share: &Share<L>, net: u32) -> bool
         ensures { result ≡ true → turns_at self.now.turns net ≡ 0 }
     {
@@ -223,8 +225,8 @@ impl<L: Round> Desk<L> {
         self.book.look_at_all(view)
     }
 
-    /// Ends the turn of the share's worker at a net that it holds, with a tree of which it is known
-    /// that it routes the net, or with none. The tree becomes the one that the net had before.
+    /// Ends the turn of the share's worker for a net that it holds, with a tree that is known to
+    /// route the net, or with none. `tree` becomes the one that the net had before.
     pub(crate) fn exchange(
         &mut self,
         share: &mut Share<L>,
@@ -248,7 +250,7 @@ impl<L: Round> Desk<L> {
         }
     }
 
-    /// The book, whose open turns are as many as all shares together have counted.
+    /// Returns the book, whose open turns are as many as all shares together have counted.
     pub fn gather(self, shares: Vec<Share<L>>) -> Book
         requires { vec_len shares ≡ L.parts }
         ensures exact { result ≡ self }

@@ -6,7 +6,8 @@ ghost use Rattle.net_workers.specs.declared.fault.WorkFault.TheVariants.{Memory}
 use std::alloc::{AllocError, AllocFailed};
 use thiserror::Error;
 
-/// Why an iteration has no result. Of several the first that stands here is answered.
+/// The reason why an iteration has no result. If there are several, the one that is listed first
+/// here is returned.
 #[derive(Clone, Copy, Debug, PartialEq, Eq, PartialOrd, Ord, Error)]
 pub enum WorkFault {
     /// A thread could not be started.
@@ -15,7 +16,8 @@ pub enum WorkFault {
     /// Memory ran out.
     #[error("memory ran out")]
     Memory,
-    /// A report disagrees with the book, or the book refused a call.
+    /// A report disagrees with the book, the book refused a call, a schedule can't be followed, or
+    /// the gate didn't accept the turns.
     #[error("a report disagrees with the book")]
     Astray,
 }

@@ -2,16 +2,17 @@
 
 ghost use Rattle.std.specs.Prelude.{◌≡◌, ℕ, ◌<◌, ◌==◌, [], length, vec_len, map, get_or, All, IfOk};
 ghost use Rattle.std.specs.List.{filter};
-ghost use Rattle.net_workers.specs.kept.TurnLogs.{entries_of};
+ghost use Rattle.net_workers.specs.kept.TurnLogs.{entries_of, turn_in_schedule};
 
 use crate::fault::WorkFault;
 use crate::history::{Front, Logged};
 use crate::made_turn::MadeTurn;
 use crate::page::Cell;
 use crate::report::{Report, ReportEntry};
+use gates::ScheduledTurn;
 use std::alloc::{AllocError, Global};
 
-/// The turns of the history, from the cells.
+/// Returns the turns of the history, from the cells.
 pub(crate) fn gather<L: Logged>(
     alloc: Global,
     row: Vec<Cell<L>>,
@@ -36,7 +37,25 @@ pub(crate) fn gather<L: Logged>(
     Ok(turns)
 }
 
-/// A list of entries for each worker, without any.
+/// Returns the turns as a schedule has them.
+pub(crate) fn schedule_of(
+    alloc: Global,
+    turns: &[MadeTurn],
+) -> Result<Vec<ScheduledTurn>, AllocError>
+    ensures { IfOk result (λ all. all.items ≡ map turn_in_schedule turns.now) }
+{
+    let mut all = Vec::with_capacity(alloc, turns.len())?;
+    for turn in turns {
+        all.push_reserved(ScheduledTurn {
+            worker: turn.worker,
+            net: turn.entry.net,
+            seen: turn.entry.seen,
+        });
+    }
+    Ok(all)
+}
+
+/// Returns an empty list of entries for each worker.
 fn empty_lists(alloc: Global, workers: u32) -> Result<Vec<Report>, AllocError>
     ensures count { IfOk result (λ all. vec_len all ≡ workers) }
     ensures none { IfOk result (λ all. (w : ℕ) → get_or all.items w [] ≡ []) }
@@ -48,7 +67,7 @@ fn empty_lists(alloc: Global, workers: u32) -> Result<Vec<Report>, AllocError>
     Ok(all)
 }
 
-/// The reports of so many workers, each with the worker's turns in their order.
+/// Returns the reports of this many workers, each with the worker's turns in order.
 pub(crate) fn reports_of(
     alloc: Global,
     turns: Vec<MadeTurn>,

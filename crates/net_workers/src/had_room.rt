@@ -1,4 +1,4 @@
-//! At which nodes of a tree there was room when it was found.
+//! At which nodes of a tree there was room when the tree was found.
 
 use crate::board::Board;
 use crate::history::Logged;
@@ -7,13 +7,13 @@ use route_tree::{Row, Tree};
 use routing_problem::Device;
 use std::alloc::{AllocError, Global};
 
-/// Of each row of a tree, whether its node had room when the tree was found.
+/// For each row of a tree, whether its node had room when the tree was found.
 #[derive(Drop)]
 pub(crate) struct HadRoom {
     rows: Vec<bool>,
 }
 
-/// Whether the other nets of a view leave no room at a node.
+/// Returns whether the other nets of a view leave no room at a node.
 fn is_full(device: &Device, view: &View, id: u32) -> bool {
     if id >= device.node_count() || id as usize >= view.len() {
         return false;
@@ -25,14 +25,14 @@ fn is_full(device: &Device, view: &View, id: u32) -> bool {
 }
 
 impl HadRoom {
-    /// Of no row.
+    /// Returns an empty list.
     pub(crate) fn new(alloc: Global) -> HadRoom {
         HadRoom {
             rows: Vec::new(alloc),
         }
     }
 
-    /// Notes where the other nets of a view leave room to what was found, if the worker may look
+    /// Records where the other nets of a view leave room for what was found, if the worker may look
     /// again.
     pub(crate) fn note<L: Logged>(
         &mut self,
@@ -56,7 +56,7 @@ impl HadRoom {
         Ok(())
     }
 
-    /// Whether a node that had room has none now by the other nets of a view.
+    /// Returns whether a node that had room has none now, because of the other nets of a view.
     pub(crate) fn is_filled<L: Logged>(
         &self,
         board: &Board<'_, L>,

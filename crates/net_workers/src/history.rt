@@ -1,5 +1,5 @@
-//! The one history of an iteration's turns. It exists in proofs alone: what the threads share is
-//! its length.
+//! The one history of an iteration's turns. It exists only in proofs. What the threads share is its
+//! length.
 
 ghost use Rattle.std.specs.Prelude.{◌↔◌, ◌≡◌, ◌+◌, ◌<◌, ◌≤◌, ◌^◌, ◌++◌, ◌∷◌, [], length, MatchBool, IsTrue};
 ghost use mathlib.Core.List.{IsPrefix};
@@ -31,7 +31,7 @@ impl Logged for Brand {
     ghost history = { no_history };
 }
 
-/// The rule of the history: the word that is shared is its length.
+/// The rule of the history: the shared word is its length.
 pub(crate) struct Law;
 
 impl Rule<MadeTurn, u64> for Law {
@@ -96,7 +96,7 @@ impl Opened {
         }
     }
 
-    /// The history's word under a name, and the front that has seen nothing.
+    /// Returns the history's word under a name, and the front that has seen nothing.
     pub(crate) fn named<L: Logged>(self) -> (Head<L>, Front<L>)
         requires { self.seen.book ≡ L.history }
         ensures { result.1 ≡ [] }
@@ -124,7 +124,7 @@ pub(crate) struct Head<L: Logged> {
     ghost head_is: { head ≡ head_of L.history },
 }
 
-/// The first turns of the history, which were seen. Contracts see these turns.
+/// The first turns of the history, as far as they were seen. Contracts see these turns.
 #[derive(Drop)]
 pub(crate) struct Front<L: Logged> {
     turns: u64,
@@ -146,7 +146,7 @@ impl<L: Logged> Model for Front<L> {
 }
 
 impl<L: Logged> Front<L> {
-    /// How many turns it has.
+    /// Returns the number of its turns.
     pub(crate) fn len(&self) -> u64
         ensures length { result ≡ length self.now }
         ensures legal { IsLegal L.plan self.now }
@@ -154,7 +154,7 @@ impl<L: Logged> Front<L> {
         self.turns
     }
 
-    /// A copy.
+    /// Returns a copy.
     pub(crate) fn again(&self) -> Front<L>
         ensures { result ≡ self.now }
     {
@@ -165,7 +165,7 @@ impl<L: Logged> Front<L> {
         }
     }
 
-    /// Whether the other has as many turns or more. Then it begins with these.
+    /// Returns whether the other one has at least as many turns. If so, it begins with these.
     pub(crate) fn begins(&self, other: &Front<L>) -> bool
         ensures exactly { IsTrue result ↔ (length self.now ≤ length other.now) }
         ensures begun { IsTrue result → IsPrefix self.now other.now }
@@ -175,8 +175,8 @@ impl<L: Logged> Front<L> {
         self.turns <= other.turns
     }
 
-    /// Adds a turn to all that was seen, and says whether it did. It did not where the history is
-    /// longer.
+    /// Adds a turn after all that were seen, and returns whether it did. It doesn't if the history
+    /// is longer.
     pub(crate) fn add(&mut self, head: &Head<L>, turn: &MadeTurn) -> bool
         requires room { length self.old < 2 ^ 62 }
         requires legal { Follows L.plan self.old turn.now }

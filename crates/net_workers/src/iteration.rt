@@ -1,28 +1,32 @@
 //! An iteration of several workers on one book.
 
-ghost use Rattle.std.specs.Prelude.{◌≡◌, ◌<◌, ◌≤◌, IfOk};
+ghost use Rattle.std.specs.Prelude.{◌≡◌, ◌<◌, ◌≤◌, true, map, IfOk};
 ghost use Rattle.node_cost.specs.Options.{present_of, most_iterations, most_workers};
 ghost use Rattle.congestion_book.specs.Contents.{IsSound, IsFresh};
 ghost use Rattle.net_workers.specs.Agreement.{Agrees};
-ghost use Rattle.net_workers.specs.kept.TurnLogs.{plan_of};
+ghost use Rattle.net_workers.specs.Schedules.{AreAllowed};
+ghost use Rattle.net_workers.specs.kept.TurnLogs.{plan_of, turn_in_schedule};
 
 use crate::board::Board;
 use crate::comparison::is_done;
+use crate::course::Course;
 use crate::desk::Desk;
 use crate::fault::WorkFault;
-use crate::gathering::{gather, reports_of};
+use crate::gathering::{gather, reports_of, schedule_of};
 use crate::history::{Logged, Opened};
+use crate::made_turn::MadeTurn;
 use crate::opening::trees_of;
 use crate::page::Cell;
 use crate::report::Report;
+use crate::scheduled::{draw_all, follow_alone};
 use crate::search::SearchOptions;
-use crate::staff::{dismiss_all, hire_all};
+use crate::staff::{dismiss_all, hire_all, leave_tools};
 use crate::threads::run_all;
 use crate::turn_desk::TurnDesk;
 use crate::worker::Worker;
 use crate::workspace::{Tools, Workspace};
 use congestion_book::Book;
-use gates::Gate;
+use gates::{Gate, Schedule};
 use node_cost::Settings;
 use route_tree::Tree;
 use std::alloc::{AllocError, Global};
@@ -33,28 +37,112 @@ use std::sync::{Mutex, Wait};
 use std::thread::Threads;
 use wave_ground::PreparedProblem;
 
-/// The book and the reports, where each net had its turn.
-fn settle<L: Logged>(
+/// Returns whether the gate accepts the turns of an iteration.
+fn are_accepted<G: Gate>(
+    alloc: Global,
+    turns: &[MadeTurn],
+    iteration: u32,
+    gate: &G,
+) -> Result<bool, AllocError>
+    ensures { IfOk result (λ are. are ≡ true
+        → G.accepted gate.now iteration (map turn_in_schedule turns.now)) }
+{
+    let schedule = schedule_of(alloc, turns)?;
+    Ok(gate.accepts(iteration, &schedule))
+}
+
+/// Returns the book and the reports, if each net had its turn and the gate accepts the turns.
+fn settle<L: Logged, G: Gate>(
     alloc: Global,
     desk: TurnDesk<L>,
     row: Vec<Cell<L>>,
+    iteration: u32,
     workers: u32,
+    gate: &G,
 ) -> Result<(Book, Vec<Report>), WorkFault>
     requires workers { workers ≡ L.workers }
     ensures sound { IfOk result (λ r. IsSound r.0) }
     ensures agrees { IfOk result (λ r. Agrees L.opening r.0 L.present L.bb L.workers r.1.items) }
+    ensures allowed { IfOk result
+        (λ r. AreAllowed (G.accepted gate.now) iteration r.0 r.1.items) }
 {
     let (book, front) = desk.into_parts();
     if !is_done(&book) {
         return Err(WorkFault::Astray);
     }
     let turns = gather(alloc, row, &front)?;
+    if !are_accepted(alloc, &turns, iteration, gate)? {
+        return Err(WorkFault::Astray);
+    }
     let reports = reports_of(alloc, turns, workers)?;
     Ok((book, reports))
 }
 
-/// The workers of a round at a desk, until no net is left. They take the tools that were left, and
-/// leave theirs.
+/// Lets the workers of a round work at a desk, each in a thread, until no net is left or the turns
+/// of the course are made. They leave their tools.
+fn work_together<L: Logged + Send + Sync, R: Threads + Wait + Sync, G: Gate + Sync>(
+    rt: &R,
+    alloc: Global,
+    desk: TurnDesk<L>,
+    board: &Board<'_, L>,
+    course: Option<&Course<'_>>,
+    workers: Vec<Worker<L>>,
+    tools: &mut Vec<Tools>,
+    gate: &G,
+) -> Result<TurnDesk<L>, WorkFault> {
+    let all = workers.len();
+    let desk = Mutex::new(desk);
+    let results = run_all(rt, alloc, &desk, board, course, workers, gate)?;
+    if results.len() != all {
+        return Err(WorkFault::NoThread);
+    }
+    dismiss_all(results, tools)?;
+    Ok(desk.into_inner())
+}
+
+/// Lets the workers of a round work at a desk, in one thread, until the turns of a course are made.
+/// They leave their tools.
+fn work_alone<L: Logged, R: Wait, G: Gate>(
+    rt: &R,
+    alloc: Global,
+    desk: TurnDesk<L>,
+    board: &Board<'_, L>,
+    course: &Course<'_>,
+    workers: Vec<Worker<L>>,
+    tools: &mut Vec<Tools>,
+    gate: &G,
+) -> Result<TurnDesk<L>, WorkFault> {
+    let desk = Mutex::new(desk);
+    let mut workers = workers;
+    follow_alone(rt, alloc, &desk, board, course, &mut workers, gate)?;
+    leave_tools(workers, tools)?;
+    Ok(desk.into_inner())
+}
+
+/// Lets the workers of a round work at a desk until the turns of a schedule are made. They leave
+/// their tools.
+fn work_by<L: Logged + Send + Sync, R: Threads + Wait + Sync, G: Gate + Sync>(
+    rt: &R,
+    alloc: Global,
+    desk: TurnDesk<L>,
+    board: &Board<'_, L>,
+    schedule: Schedule<'_>,
+    workers: Vec<Worker<L>>,
+    tools: &mut Vec<Tools>,
+    gate: &G,
+) -> Result<TurnDesk<L>, WorkFault> {
+    let (mut desk, mut workers) = (desk, workers);
+    draw_all(alloc, board, &mut desk, &mut workers, schedule.turns)?;
+    let course = Course::new(schedule.turns);
+    if schedule.is_alone {
+        work_alone(rt, alloc, desk, board, &course, workers, tools, gate)
+    } else {
+        work_together(rt, alloc, desk, board, Some(&course), workers, tools, gate)
+    }
+}
+
+/// Lets the workers of a round work at a desk until no net is left, or until the turns of the
+/// gate's schedule are made. They leave their tools.
 fn work_at<L: Logged + Send + Sync, R: Threads + Wait + Sync, G: Gate + Sync>(
     rt: &R,
     alloc: Global,
@@ -64,18 +152,14 @@ fn work_at<L: Logged + Send + Sync, R: Threads + Wait + Sync, G: Gate + Sync>(
     tools: &mut Vec<Tools>,
     gate: &G,
 ) -> Result<TurnDesk<L>, WorkFault> {
-    let all = workers.len();
-    let desk = Mutex::new(desk);
-    let results = run_all(rt, alloc, &desk, board, workers, gate)?;
-    if results.len() != all {
-        return Err(WorkFault::NoThread);
+    match gate.schedule(board.iteration()) {
+        None => work_together(rt, alloc, desk, board, None, workers, tools, gate),
+        Some(schedule) => work_by(rt, alloc, desk, board, schedule, workers, tools, gate),
     }
-    dismiss_all(results, tools)?;
-    Ok(desk.into_inner())
 }
 
-/// An iteration in a round that names its workers, its options and its book. The workers take the
-/// tools that were left, and leave theirs; the trees are some that may be recorded, and become
+/// Makes an iteration in a round that names its workers, its options and its book. The workers take
+/// the tools that were left, and leave theirs. `trees` are some that may be recorded, and become
 /// those with which the iteration opened.
 fn iterate_as<L: Logged + Send + Sync, R: Threads + Wait + Sync, G: Gate + Sync>(
     rt: &R,
@@ -103,6 +187,8 @@ fn iterate_as<L: Logged + Send + Sync, R: Threads + Wait + Sync, G: Gate + Sync>
     requires one_each { blank.parts ≡ workers }
     ensures sound { IfOk result (λ r. IsSound r.0) }
     ensures agrees { IfOk result (λ r. Agrees L.opening r.0 L.present L.bb L.workers r.1.items) }
+    ensures allowed { IfOk result
+        (λ r. AreAllowed (G.accepted gate.now) options.iteration r.0 r.1.items) }
 {
     let (head, front) = opened.named::<L>();
     let opening = trees_of(alloc, &book, mem::replace(trees, Vec::new(alloc)))?;
@@ -113,23 +199,24 @@ fn iterate_as<L: Logged + Send + Sync, R: Threads + Wait + Sync, G: Gate + Sync>
     let desk = work_at(rt, alloc, desk, &board, staff, tools, gate)?;
     let (row, opening) = board.into_parts();
     *trees = opening;
-    settle(alloc, desk, row, workers)
+    settle(alloc, desk, row, options.iteration, workers, gate)
 }
 
-/// Iteration k of a negotiation: so many workers draw the nets of the book, in whose open iteration
-/// nothing was drawn yet, search for their trees and make a turn at each. After the first iteration
-/// a worker that comes to commit a tree of which the others have filled a node looks and searches
-/// again, up to four times. The workers wait for one another at the book's lock, and the call waits
-/// for them all. The book comes back sound, with the iteration still open, and a report of each
-/// worker, whose turns and trees are those of the book.
+/// Makes an iteration of a negotiation. This many workers draw the nets of the book, in whose open
+/// iteration nothing was drawn yet, search for their trees, and make a turn for each. If the gate
+/// has a schedule for the iteration, they make its turns. After the first iteration, a worker that
+/// is about to commit a tree looks and searches again if the others have filled a node of the tree,
+/// up to four times. The workers wait for one another at the book's lock, and the call waits for
+/// all of them. The book comes back sound, with the iteration still open, and with a report of each
+/// worker. The turns and trees of the reports are those of the book.
 ///
-/// The workers search in the workspace, which is of the book's problem, and leave there what they
-/// searched with, so that the next iteration needn't make it anew. Contracts see no more of it than
-/// its problem.
+/// The workers search in the workspace, which is of the book's problem. They leave there what they
+/// searched with, so that the next iteration needn't make it again. Contracts see only its problem.
 ///
-/// `NoThread` where a thread couldn't be started, `Memory` where memory ran out, `Astray` where the
-/// book refused a call or a report disagrees with it. Of several the first is answered, and the
-/// book is let go.
+/// `NoThread` if a thread couldn't be started, `Memory` if memory ran out, `Astray` if the book
+/// refused a call, a report disagrees with it, a schedule can't be followed or the gate didn't
+/// accept the turns. If there are several, the first of these is returned. The book is then
+/// dropped.
 pub fn iterate_in<R: Threads + Wait + Sync, G: Gate + Sync>(
     rt: &R,
     alloc: Global,
@@ -147,6 +234,8 @@ pub fn iterate_in<R: Threads + Wait + Sync, G: Gate + Sync>(
     ensures sound { IfOk result (λ r. IsSound r.0) }
     ensures agrees { IfOk result (λ r. Agrees book r.0 (present_of settings.now iteration)
         settings.now.bb workers r.1.items) }
+    ensures allowed { IfOk result
+        (λ r. AreAllowed (G.accepted gate.now) iteration r.0 r.1.items) }
     ensures workspace { workspace.new ≡ workspace.old }
 {
     let options = SearchOptions::of(settings, iteration, workers);
@@ -162,7 +251,7 @@ pub fn iterate_in<R: Threads + Wait + Sync, G: Gate + Sync>(
     )
 }
 
-/// A workspace of the book's problem, of which it makes a copy.
+/// Returns a workspace of a copy of the book's problem.
 fn workspace_of(alloc: Global, book: &Book) -> Result<Workspace, AllocError>
     ensures { IfOk result (λ workspace. workspace ≡ book.now.problem) }
 {
@@ -170,11 +259,11 @@ fn workspace_of(alloc: Global, book: &Book) -> Result<Workspace, AllocError>
     Workspace::new(alloc, problem)
 }
 
-/// An iteration as `iterate_in` makes it, in a workspace of its own: for a caller that makes no
-/// further one of the book.
+/// Makes an iteration like `iterate_in`, in a workspace of its own. This is for a caller that makes
+/// no further iteration of the book.
 ///
-/// `NoThread`, `Memory` and `Astray` as `iterate_in` answers them; `Memory` also where there was
-/// none for the workspace.
+/// `NoThread`, `Memory` and `Astray` as `iterate_in` returns them. `Memory` also if it runs out for
+/// the workspace.
 pub fn iterate<R: Threads + Wait + Sync, G: Gate + Sync>(
     rt: &R,
     alloc: Global,
@@ -190,6 +279,8 @@ pub fn iterate<R: Threads + Wait + Sync, G: Gate + Sync>(
     ensures sound { IfOk result (λ r. IsSound r.0) }
     ensures agrees { IfOk result (λ r. Agrees book r.0 (present_of settings.now iteration)
         settings.now.bb workers r.1.items) }
+    ensures allowed { IfOk result
+        (λ r. AreAllowed (G.accepted gate.now) iteration r.0 r.1.items) }
 {
     let mut workspace = workspace_of(alloc, &book)?;
     iterate_in(

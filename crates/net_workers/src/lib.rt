@@ -4,6 +4,7 @@
 
 mod board;
 mod comparison;
+mod course;
 mod desk;
 mod fault;
 mod gathering;
@@ -13,8 +14,10 @@ mod iteration;
 mod made_turn;
 mod opening;
 mod page;
+mod portion;
 mod replica;
 mod report;
+mod scheduled;
 mod search;
 mod share;
 mod staff;
@@ -26,7 +29,7 @@ mod workspace;
 
 pub use desk::Desk;
 pub use fault::WorkFault;
-pub use gates::{BothGates, Gate, OpenGate, TrialEnd};
+pub use gates::{BothGates, Gate, OpenGate, Schedule, ScheduledTurn, TrialEnd};
 pub use iteration::{iterate, iterate_in};
 pub use report::{Report, ReportEntry};
 pub use share::{Round, Share};

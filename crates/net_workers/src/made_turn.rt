@@ -2,7 +2,7 @@
 
 use crate::report::ReportEntry;
 
-/// A turn: the worker that made it, and what it reports of it.
+/// A turn: the worker that made it, and the entry of the worker's report.
 #[derive(Drop)]
 pub(crate) struct MadeTurn {
     pub(crate) worker: u32,

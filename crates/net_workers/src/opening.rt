@@ -1,4 +1,4 @@
-//! The trees with which an iteration opens, for those who read them with no lock.
+//! The trees with which an iteration opens, for those who read them without a lock.
 
 ghost use Rattle.std.specs.Prelude.{◌≡◌, ◌<◌, true, length, IfOk};
 ghost use Rattle.route_tree.specs.TreeLists.{list_of_tree, lists_of_trees};
@@ -9,7 +9,7 @@ use congestion_book::Book;
 use route_tree::Tree;
 use std::alloc::{AllocError, Global};
 
-/// Whether a tree is the one that the book records for a net.
+/// Returns whether a tree is the one that the book records for a net.
 fn is_recorded(book: &Book, net: u32, tree: &Option<Tree>) -> bool
     ensures { result ≡ true → list_in book.now.lists net ≡ list_of_tree tree.now }
 {
@@ -20,7 +20,7 @@ fn is_recorded(book: &Book, net: u32, tree: &Option<Tree>) -> bool
     }
 }
 
-/// A copy of the tree that the book records for a net, or none.
+/// Returns a copy of the tree that the book records for a net, or none.
 fn copy_recorded(alloc: Global, book: &Book, net: u32) -> Result<Option<Tree>, AllocError>
     ensures { IfOk result (λ tree. list_in book.now.lists net ≡ list_of_tree tree) }
 {
@@ -30,7 +30,8 @@ fn copy_recorded(alloc: Global, book: &Book, net: u32) -> Result<Option<Tree>, A
     }
 }
 
-/// The tree of a net, which is that at hand where the book still records it.
+/// Returns the tree of a net: the kept one if the book still records it, and otherwise a copy of
+/// the recorded one.
 fn tree_of(
     alloc: Global,
     book: &Book,
@@ -45,8 +46,8 @@ fn tree_of(
     copy_recorded(alloc, book, net)
 }
 
-/// The trees that the book records, net by net, of which those are taken from the kept ones that
-/// are among them.
+/// Returns the trees that the book records, net by net. A kept tree is used if the book still
+/// records it for its net.
 pub(crate) fn trees_of(
     alloc: Global,
     book: &Book,

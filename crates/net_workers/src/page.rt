@@ -1,4 +1,4 @@
-//! What a cell holds of a turn, for the workers that read it with no lock.
+//! What a cell holds of a turn, for the workers that read it without a lock.
 
 ghost use Rattle.std.specs.Prelude.{◌≡◌, ◌+◌, ◌++◌, ◌∷◌, [], take, IsTrue, IfSome};
 ghost use Rattle.net_workers.specs.kept.Pages.{IsNext};
@@ -27,7 +27,7 @@ impl<L: Logged> Model for Page<L> {
     ghost invariant = { λ p. IsPage p.front p.turn };
 }
 
-/// Nothing but what its type says holds of a page.
+/// The rule of the cells. It promises nothing of a page but what the page's type guarantees.
 pub(crate) struct Free;
 
 impl<L: Logged> SlotRule<Page<L>> for Free {
@@ -37,7 +37,7 @@ impl<L: Logged> SlotRule<Page<L>> for Free {
 /// A cell, written once and then read by any thread.
 pub(crate) type Cell<L> = OnceSlot<Page<L>, Free>;
 
-/// A row of empty cells, one for the turn at each net.
+/// Returns a row of empty cells, one for the turn of each net.
 pub(crate) fn open_row<L: Logged>(alloc: Global, nets: u32) -> Result<Vec<Cell<L>>, AllocError> {
     let mut row = Vec::with_capacity(alloc, nets as usize)?;
     for _ in 0..nets {
@@ -47,7 +47,7 @@ pub(crate) fn open_row<L: Logged>(alloc: Global, nets: u32) -> Result<Vec<Cell<L
 }
 
 impl<L: Logged> Page<L> {
-    /// The page of a turn that was added to a history.
+    /// Returns the page of a turn that was added to a history.
     pub(crate) fn new(turn: MadeTurn, before: &Front<L>, front: Front<L>) -> Page<L>
         requires { front ≡ before.now ++ turn ∷ [] }
         ensures { result.log ≡ front }
@@ -56,21 +56,21 @@ impl<L: Logged> Page<L> {
         Page { turn, front }
     }
 
-    /// The turn.
+    /// Returns the turn.
     pub(crate) fn turn(&self) -> &MadeTurn
         ensures { result.now ≡ self.now.turn }
     {
         &self.turn
     }
 
-    /// The history that ends with the turn.
+    /// Returns the history that ends with the turn.
     pub(crate) fn front(&self) -> &Front<L>
         ensures { result.now ≡ self.now.log }
     {
         &self.front
     }
 
-    /// Whether its turn comes next after these.
+    /// Returns whether its turn is the next one after these.
     pub(crate) fn is_next(&self, front: &Front<L>) -> bool
         ensures { IsTrue result → IsNext L.plan front.now self.now.turn self.now.log }
     {
@@ -85,7 +85,7 @@ impl<L: Logged> Page<L> {
         front.begins(&self.front)
     }
 
-    /// The turn, where it is the one with this number in the history.
+    /// Returns the turn, if it is the one with this number in the history.
     pub(crate) fn into_turn(self, number: usize, all: &Front<L>) -> Option<MadeTurn>
         ensures { IfSome result (λ t.
             take (number + 1) all.now ≡ take number all.now ++ t ∷ []) }

@@ -1,5 +1,5 @@
-//! A worker's replica of what all nets use, which it brings up to date by reading turns with no
-//! lock.
+//! A worker's replica of what all nets use. The worker brings it up to date by reading turns
+//! without a lock.
 
 ghost use Rattle.std.specs.Prelude.{◌↔◌, ◌≡◌, ◌<◌, ◌++◌, ◌∷◌, [], false, length, replicate, slice_index_or, IfOk, IsTrue, MatchBool};
 ghost use Rattle.congestion_book.specs.Contents.{net_count, node_total};
@@ -23,10 +23,10 @@ use route_tree::Tree;
 use std::alloc::{AllocError, Global};
 use std::marker::Model;
 
-/// How many turns a replica reads at most.
+/// The greatest number of turns that a replica reads.
 pub(crate) const MOST_TURNS: u64 = 1 << 32;
 
-/// What a search found for a net, a tree or none, and the turns that it had seen.
+/// What a search found for a net, a tree or none, and the turns that the search had seen.
 #[derive(Drop)]
 pub(crate) struct FoundTree<L: Logged> {
     net: u32,
@@ -52,21 +52,21 @@ impl<L: Logged> FoundTree<L> {
         FoundTree { net, tree, seen }
     }
 
-    /// The net.
+    /// Returns the net.
     pub(crate) fn net(&self) -> u32
         ensures { result ≡ self.now.net }
     {
         self.net
     }
 
-    /// The turns that were seen.
+    /// Returns the turns that were seen.
     pub(crate) fn seen(&self) -> &Front<L>
         ensures { result.now ≡ self.now.log }
     {
         &self.seen
     }
 
-    /// A copy of the tree.
+    /// Returns a copy of the tree.
     pub(crate) fn copy_tree(&self, alloc: Global) -> Result<Option<Tree>, AllocError>
         ensures { IfOk result (λ tree. tree ≡ self.now.tree) }
     {
@@ -76,7 +76,7 @@ impl<L: Logged> FoundTree<L> {
         }
     }
 
-    /// The tree, which is what a search finds after the turns that were seen.
+    /// Returns the tree, which is what a search finds after the turns that were seen.
     pub(crate) fn into_tree(self) -> Option<Tree>
         ensures tree { result ≡ self.tree }
         ensures found { IsSearched L.plan self.net self.tree self.log }
@@ -86,8 +86,8 @@ impl<L: Logged> FoundTree<L> {
     }
 }
 
-/// The view of all nets after the first turns of the history, and which nets had one of them.
-/// Contracts see these turns.
+/// The view of all nets after the first turns of the history, and which nets had one of these
+/// turns. Contracts see the turns.
 #[derive(Drop)]
 pub(crate) struct Replica<L: Logged> {
     view: View,
@@ -107,7 +107,7 @@ impl<L: Logged> Model for Replica<L> {
     ghost invariant = { λ r. IsReplica L.plan r.view r.turned.items r.front };
 }
 
-/// Whether the net is there, and had none of the turns.
+/// Returns whether the net exists and had none of the turns.
 fn is_open(turned: &[bool], net: u32) -> bool
     ensures { IsTrue result ↔ (net < length turned.now)
         × (slice_index_or turned.now net false ≡ false) }
@@ -115,8 +115,8 @@ fn is_open(turned: &[bool], net: u32) -> bool
     turned.get(net as usize) == Some(&false)
 }
 
-/// A search for the tree of a net that sees this view. It notes at which nodes of the tree the
-/// others leave room.
+/// Searches for the tree of a net in this view. Records at which nodes of the tree the others leave
+/// room.
 fn search_noting<L: Logged, G: Gate>(
     alloc: Global,
     board: &Board<'_, L>,
@@ -139,7 +139,7 @@ fn search_noting<L: Logged, G: Gate>(
 }
 
 impl<L: Logged> Replica<L> {
-    /// A replica that has seen no turn, with a view of all nets as the iteration opens.
+    /// Returns a replica that has seen no turn, with a view of all nets as the iteration opens.
     pub(crate) fn new(view: View, turned: Vec<bool>, front: Front<L>) -> Replica<L>
         requires none { front ≡ [] }
         requires shows { ShowsAll L.plan.opening view }
@@ -153,14 +153,14 @@ impl<L: Logged> Replica<L> {
         }
     }
 
-    /// How many turns it has seen.
+    /// Returns the number of turns that it has seen.
     pub(crate) fn len(&self) -> u64
         ensures { result ≡ length self.now }
     {
         self.front.len()
     }
 
-    /// Replays a turn, where it comes next, and says whether it did.
+    /// Replays a turn if it comes next, and returns whether it did.
     fn replay(&mut self, board: &Board<'_, L>, page: &Page<L>) -> bool
         ensures { MatchBool result (self.new ≡ self.old ++ page.now.turn ∷ [])
             (self.new ≡ self.old) }
@@ -179,7 +179,7 @@ impl<L: Logged> Replica<L> {
         true
     }
 
-    /// Replays the turns that it has not seen, up to so many in all or an empty cell.
+    /// Replays the turns that it has not seen, up to this many in all or up to an empty cell.
     pub(crate) fn catch_up(&mut self, board: &Board<'_, L>, turns: u64) {
         for number in self.front.len()..turns {
             let Some(page) = board.page(number) else {
@@ -191,8 +191,8 @@ impl<L: Logged> Replica<L> {
         }
     }
 
-    /// What a search finds for a net that sees the turns of the replica, and which nodes of it the
-    /// others leave room at. Astray where the net had a turn.
+    /// Returns what a search finds for a net after the turns of the replica, and records at which
+    /// nodes of it the others leave room. Returns `Astray` if the net had a turn.
     pub(crate) fn search<G: Gate>(
         &mut self,
         alloc: Global,
@@ -216,8 +216,8 @@ impl<L: Logged> Replica<L> {
         Ok(FoundTree::new(net, found?, self.front.again()))
     }
 
-    /// Whether the others have filled a node that was found for a net since the search, which noted
-    /// where there was room.
+    /// Returns whether the others have filled a node of what was found for a net since the search,
+    /// which recorded where there was room.
     pub(crate) fn is_filled(
         &mut self,
         board: &Board<'_, L>,
@@ -237,7 +237,7 @@ impl<L: Logged> Replica<L> {
         is_filled
     }
 
-    /// The view and the flags, for another iteration.
+    /// Returns the view and the flags, for another iteration.
     pub(crate) fn into_parts(self) -> (View, Vec<bool>) {
         let Replica { view, turned, .. } = self;
         (view, turned)

@@ -1,4 +1,4 @@
-//! What a worker tells of its turns.
+//! The report of a worker on its turns.
 
 ghost use Rattle.std.specs.Prelude.{◌≡◌, ◌++◌, ◌∷◌, [], OnOk};
 
@@ -6,8 +6,8 @@ use route_tree::Tree;
 use std::alloc::AllocError;
 use std::marker::Model;
 
-/// One turn: the net, how many turns of the iteration the worker had seen when it searched, and a
-/// copy of the tree that was committed, or none where the net was passed.
+/// A turn: the net, how many turns of the iteration the worker had seen when it searched, and a
+/// copy of the tree that was committed, or none if the net was passed.
 #[derive(Debug, Drop)]
 pub struct ReportEntry {
     pub net: u32,
@@ -31,7 +31,7 @@ impl Model for Report {
 }
 
 impl Report {
-    /// The report of these turns.
+    /// Returns the report of these turns.
     pub(crate) fn of(entries: Vec<ReportEntry>) -> Report
         ensures { result ≡ entries.items }
     {
@@ -47,7 +47,7 @@ impl Report {
         Ok(())
     }
 
-    /// The turns, taken apart.
+    /// Takes the report apart, and returns the turns.
     pub(crate) fn into_entries(self) -> Vec<ReportEntry>
         ensures { result.items ≡ self }
     {
@@ -55,7 +55,7 @@ impl Report {
         entries
     }
 
-    /// The turns.
+    /// Returns the turns.
     pub fn entries(&self) -> &[ReportEntry]
         ensures { result.now ≡ self.now }
     {

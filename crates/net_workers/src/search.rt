@@ -17,13 +17,15 @@ use std::alloc::Global;
 use wave_ground::PreparedProblem;
 use wavefront::{Found, SearchFault};
 
-/// How many times a worker may look again at a net that it holds.
+/// The number of times that a worker may look again at a net that it holds.
 const MOST_LOOKS: u32 = 4;
 
-/// The present-congestion factor of an iteration, by how much the boxes of nets are widened, and
-/// how many times a worker may look again at a net.
+/// The number of an iteration and that of its workers, its present-congestion factor, by how much
+/// the boxes of nets are widened, and how many times a worker may look again at a net.
 #[derive(Clone, Copy)]
 pub(crate) struct SearchOptions {
+    pub(crate) iteration: u32,
+    pub(crate) workers: u32,
     pub(crate) present: u32,
     pub(crate) bb: u32,
     pub(crate) looks: u32,
@@ -32,14 +34,17 @@ pub(crate) struct SearchOptions {
 }
 
 impl SearchOptions {
-    /// Those of an iteration, counted from 1, by so many workers.
+    /// Returns the options of an iteration, counted from 1, by this many workers.
     pub(crate) fn of(settings: &Settings, iteration: u32, workers: u32) -> SearchOptions
         requires { (1 ≤ iteration) × (iteration ≤ most_iterations) }
+        ensures iteration { result.iteration ≡ iteration }
         ensures present { result.present ≡ present_of settings.now iteration }
         ensures bb { result.bb ≡ settings.now.bb }
         ensures looks { result.looks ≡ most_looks iteration workers }
     {
         SearchOptions {
+            iteration,
+            workers,
             present: settings.present(iteration),
             bb: settings.bb(),
             looks: if iteration == 1 || workers == 1 {
@@ -51,8 +56,8 @@ impl SearchOptions {
     }
 }
 
-/// A search for the tree of a net: the tree, or none where the net is stuck, of which the gate is
-/// told.
+/// Searches for the tree of a net. Returns the tree, or none if the net is stuck. In that case the
+/// gate is called.
 pub(crate) fn search<G: Gate>(
     alloc: Global,
     prepared: &PreparedProblem,

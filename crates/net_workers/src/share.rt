@@ -30,8 +30,8 @@ impl Round for Brand {
     ghost opening = { no_book };
 }
 
-/// A worker's part in an iteration: its number, and how many turns it made. Contracts see the
-/// record of both.
+/// A worker's part in an iteration: its number, and how many turns it made. Contracts see a record
+/// of both.
 #[derive(Drop)]
 pub struct Share<L: Round> {
     worker: u32,
@@ -52,7 +52,7 @@ impl<L: Round> Model for Share<L> {
 }
 
 impl<L: Round> Share<L> {
-    /// The share of a worker that made no turn.
+    /// Returns the share of a worker that made no turn.
     pub(crate) fn new(worker: u32, part: ledger::Share<L>) -> Share<L>
         requires part { (part.parts ≡ 1) × (part.amount ≡ 0) }
         requires known { worker < L.workers }
@@ -65,7 +65,7 @@ impl<L: Round> Share<L> {
         }
     }
 
-    /// The worker's number.
+    /// Returns the worker's number.
     pub fn worker(&self) -> u32
         ensures exact { result ≡ self.now.worker }
         ensures known { self.now.worker < L.workers }
@@ -73,14 +73,14 @@ impl<L: Round> Share<L> {
         self.worker
     }
 
-    /// How many turns it made.
+    /// Returns the number of turns that it made.
     pub fn turns(&self) -> usize
         ensures { result ≡ self.now.turns }
     {
         self.turns
     }
 
-    /// Counts a turn, of which there are now so many.
+    /// Counts a turn. `all` is the number of turns that all workers have made, with this one.
     pub(crate) fn count_turn(&mut self, total: &mut ledger::Book<L>, all: usize)
         requires { total.old.total + 1 ≡ all }
         ensures share { self.new ≡ one_more self.old }

@@ -14,7 +14,7 @@ use crate::worker::Worker;
 use crate::workspace::Tools;
 use std::alloc::{AllocError, Global};
 
-/// That none of so many nets had a turn.
+/// Records that none of this many nets had a turn.
 fn set_none_turned(turned: &mut Vec<bool>, nets: u32) -> Result<(), AllocError>
     ensures { IfOk result (λ done. turned.new.items ≡ replicate nets false) }
 {
@@ -22,8 +22,8 @@ fn set_none_turned(turned: &mut Vec<bool>, nets: u32) -> Result<(), AllocError>
     turned.resize(nets as usize, false)
 }
 
-/// The worker of a share, which sees the desk's book as the iteration opens, with the tools that
-/// another worker left, if there are any.
+/// Returns the worker of a share. It sees the desk's book as the iteration opens, and takes the
+/// tools that another worker left, if there are any.
 fn hire<L: Logged>(
     alloc: Global,
     board: &Board<'_, L>,
@@ -46,10 +46,11 @@ fn hire<L: Logged>(
         return Err(WorkFault::Astray);
     }
     let replica = Replica::new(view, turned, front.again());
-    Ok(Worker::new(share, replica, room, scratch))
+    Ok(Worker::new(alloc, share, replica, room, scratch))
 }
 
-/// The workers of these shares. They take the tools that were left, as long as there are any.
+/// Returns the workers of these shares. They take the tools that were left, as long as there are
+/// any.
 pub(crate) fn hire_all<L: Logged>(
     alloc: Global,
     board: &Board<'_, L>,
@@ -70,7 +71,7 @@ pub(crate) fn hire_all<L: Logged>(
     Ok(all)
 }
 
-/// The first of a fault and those that were met before.
+/// Returns the first of a fault and those that were met before.
 fn first_of(met: Option<WorkFault>, fault: WorkFault) -> WorkFault
     ensures { result ≡ first_of met fault }
 {
@@ -80,7 +81,7 @@ fn first_of(met: Option<WorkFault>, fault: WorkFault) -> WorkFault
     }
 }
 
-/// The first of the workers' faults, if there are any.
+/// Returns the first of the workers' faults, if there are any.
 fn first_fault(results: &[Result<Tools, WorkFault>]) -> Option<WorkFault>
     ensures { result ≡ first_met None results.now }
 {
@@ -94,7 +95,7 @@ fn first_fault(results: &[Result<Tools, WorkFault>]) -> Option<WorkFault>
     met
 }
 
-/// Takes back what the workers searched with, or answers the first of their faults.
+/// Takes back what the workers searched with, or returns the first of their faults.
 pub(crate) fn dismiss_all(
     results: Vec<Result<Tools, WorkFault>>,
     tools: &mut Vec<Tools>,
@@ -107,6 +108,18 @@ pub(crate) fn dismiss_all(
     tools.reserve(results.len())?;
     for result in results {
         tools.push_reserved(result?);
+    }
+    Ok(())
+}
+
+/// Takes back what workers searched with.
+pub(crate) fn leave_tools<L: Logged>(
+    workers: Vec<Worker<L>>,
+    tools: &mut Vec<Tools>,
+) -> Result<(), AllocError> {
+    tools.reserve(workers.len())?;
+    for worker in workers {
+        tools.push_reserved(worker.into_tools());
     }
     Ok(())
 }

@@ -1,4 +1,4 @@
-//! What lies under the lock of an iteration: the desk, and the history of the turns.
+//! What the lock of an iteration protects: the desk, and the history of the turns.
 
 ghost use Rattle.std.specs.Prelude.{◌≡◌, ◌+◌, ◌<◌, ◌++◌, ◌∷◌, [], length, map, All, IsTrue};
 ghost use Rattle.congestion_book.specs.Contents.{IsSound};
@@ -39,7 +39,7 @@ impl<L: Logged> Model for TurnDesk<L> {
         IsLogged L.plan (plan_of L.opening L.present L.bb L.workers) d.desk d.front };
 }
 
-/// The turn of a worker with what it found.
+/// Returns the turn of a worker with what it found.
 fn turn_of<L: Logged>(worker: u32, found: FoundTree<L>) -> MadeTurn
     ensures worker { result.worker ≡ worker }
     ensures net { result.entry.net ≡ found.net }
@@ -57,7 +57,7 @@ fn turn_of<L: Logged>(worker: u32, found: FoundTree<L>) -> MadeTurn
 }
 
 impl<L: Logged> TurnDesk<L> {
-    /// A desk at which no turn was made.
+    /// Returns a desk at which no turn was made.
     pub(crate) fn new(desk: Desk<L>, front: Front<L>) -> TurnDesk<L>
         requires plan { L.plan ≡ plan_of L.opening L.present L.bb L.workers }
         requires none { front ≡ [] }
@@ -68,15 +68,15 @@ impl<L: Logged> TurnDesk<L> {
         TurnDesk { desk, front }
     }
 
-    /// How many turns were made.
+    /// Returns the number of turns that were made.
     pub(crate) fn len(&self) -> u64
         ensures { result ≡ length self.now }
     {
         self.front.len()
     }
 
-    /// Gives the share's worker the least net that was not drawn, and says how many turns were made
-    /// by now.
+    /// Gives the share's worker the least net that was not drawn. Returns it with the number of
+    /// turns that were made by now.
     pub(crate) fn draw(&mut self, share: &mut Share<L>) -> Option<(u32, u64)>
         ensures turns { self.new ≡ self.old }
         ensures share { share.new ≡ share.old }
@@ -85,9 +85,9 @@ impl<L: Logged> TurnDesk<L> {
         Some((net, self.front.len()))
     }
 
-    /// Makes the turn of the share's worker with what it found, and writes it into its cell. The
-    /// tree is a copy of that which was found, and becomes the one that the net had before. Whether
-    /// it did: it doesn't where the worker doesn't hold the net, or the cell is full.
+    /// Makes the turn of the share's worker with what it found, and writes it into its cell. `tree`
+    /// is a copy of the tree that was found, and becomes the one that the net had before. Returns
+    /// whether it did. It doesn't if the worker doesn't hold the net, or the cell is full.
     pub(crate) fn make_turn(
         &mut self,
         board: &Board<'_, L>,
@@ -121,7 +121,7 @@ impl<L: Logged> TurnDesk<L> {
         board.write(number, page)
     }
 
-    /// The book and the history.
+    /// Returns the book and the history.
     pub(crate) fn into_parts(self) -> (Book, Front<L>)
         ensures history { result.1 ≡ self }
         ensures plan { L.plan ≡ plan_of L.opening L.present L.bb L.workers }

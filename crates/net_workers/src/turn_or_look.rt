@@ -1,6 +1,6 @@
-//! What a worker makes that comes to commit a tree.
+//! What a worker does that is about to commit a tree.
 
-/// What a worker makes that comes to commit a tree and may look again.
+/// What a worker does that is about to commit a tree and may look again.
 #[derive(Clone, Copy, Debug, PartialEq, Eq)]
 pub enum TurnOrLook {
     /// Its turn: the tree is committed.

@@ -1,9 +1,10 @@
-//! A worker: it draws nets, searches for their trees and makes a turn at each.
+//! A worker: it draws nets, searches for their trees, and makes a turn for each.
 
 ghost use Rattle.std.specs.Prelude.{◌≡◌, ◌<◌, [], false, replicate, IfOk};
 ghost use Rattle.congestion_book.specs.Contents.{node_total};
 
 use crate::board::Board;
+use crate::course::Course;
 use crate::fault::WorkFault;
 use crate::had_room::HadRoom;
 use crate::history::{Front, Logged};
@@ -11,17 +12,17 @@ use crate::replica::{FoundTree, MOST_TURNS, Replica};
 use crate::share::Share;
 use crate::turn_desk::TurnDesk;
 use crate::workspace::Tools;
-use gates::Gate;
+use gates::{Gate, ScheduledTurn};
 use group_wave::Scratch;
 use std::alloc::Global;
-use std::hint;
 use std::marker::Model;
 use std::sync::{Mutex, MutexGuard, Wait};
+use std::{hint, mem};
 
-/// How often a worker looks whether the lock is free before it may sleep.
+/// The number of times that a worker tries before it may sleep.
 const MOST_TRIES: u32 = 300;
 
-/// The desk, once the lock is got.
+/// Locks the desk.
 fn hold<'a, L: Logged, R: Wait>(
     rt: &R,
     desk: &'a Mutex<TurnDesk<L>>,
@@ -35,13 +36,34 @@ fn hold<'a, L: Logged, R: Wait>(
     desk.lock(rt)
 }
 
-/// A worker: its share, its replica, and what it searches with.
+/// Waits until this many turns were made. Returns `Astray` if a worker stopped before.
+fn await_turns<L: Logged, R: Wait>(
+    rt: &R,
+    board: &Board<'_, L>,
+    course: &Course<'_>,
+    turns: u64,
+) -> Result<(), WorkFault> {
+    for _ in 0..MOST_TRIES {
+        if turns == 0 || board.page(turns - 1).is_some() {
+            return Ok(());
+        }
+        hint::spin_loop();
+    }
+    if course.wait_for(rt, turns) {
+        Ok(())
+    } else {
+        Err(WorkFault::Astray)
+    }
+}
+
+/// A worker: its share, its replica, what it searches with, and the nets that it drew.
 #[derive(Drop)]
 pub(crate) struct Worker<L: Logged> {
     share: Share<L>,
     replica: Replica<L>,
     room: HadRoom,
     scratch: Scratch,
+    held: Vec<u32>,
 }
 
 impl<L: Logged> Model for Worker<L> {
@@ -56,8 +78,9 @@ impl<L: Logged> Model for Worker<L> {
 }
 
 impl<L: Logged> Worker<L> {
-    /// The worker of a share, which has seen no turn.
+    /// Returns the worker of a share, which has seen no turn.
     pub(crate) fn new(
+        alloc: Global,
         share: Share<L>,
         replica: Replica<L>,
         room: HadRoom,
@@ -70,10 +93,22 @@ impl<L: Logged> Worker<L> {
             replica,
             room,
             scratch,
+            held: Vec::new(alloc),
         }
     }
 
-    /// Searches for the tree of a net, by the turns that the replica has.
+    /// Returns its number.
+    pub(crate) fn number(&self) -> u32 {
+        self.share.worker()
+    }
+
+    /// Draws the least net that was not drawn. Returns it with the number of turns that were made
+    /// by now.
+    pub(crate) fn draw(&mut self, desk: &mut TurnDesk<L>) -> Option<(u32, u64)> {
+        desk.draw(&mut self.share)
+    }
+
+    /// Searches for the tree of a net, after the turns that the replica has seen.
     fn search<G: Gate>(
         &mut self,
         alloc: Global,
@@ -90,7 +125,7 @@ impl<L: Logged> Worker<L> {
         replica.search(alloc, board, net, scratch, room, gate)
     }
 
-    /// Whether the others have filled a node of what was found, by the turns up to now.
+    /// Returns whether the others have filled a node of what was found, by the turns up to now.
     fn is_filled(&mut self, board: &Board<'_, L>, found: &FoundTree<L>) -> bool {
         let Worker { replica, room, .. } = self;
         let seen = replica.len();
@@ -98,8 +133,8 @@ impl<L: Logged> Worker<L> {
         replica.len() != seen && replica.is_filled(board, found, room)
     }
 
-    /// Makes the turn with what was found. Where it may look and the others have filled a node of
-    /// it, it makes none: then what was found.
+    /// Makes the turn with what was found. If it may look and the others have filled a node of what
+    /// was found, makes no turn and returns what was found.
     fn try_turn<R: Wait>(
         &mut self,
         rt: &R,
@@ -118,7 +153,7 @@ impl<L: Logged> Worker<L> {
             return Ok(Some(found));
         }
         let made = desk.make_turn(board, &mut self.share, found, &mut tree);
-        // the tree that the net had before is freed after the lock
+        // the tree that the net had before is freed after the lock is released
         drop(desk);
         if made {
             Ok(None)
@@ -127,7 +162,7 @@ impl<L: Logged> Worker<L> {
         }
     }
 
-    /// Makes its turn at a net with what it found. Where the others have filled a node of the tree,
+    /// Makes its turn for a net with what it found. If the others have filled a node of the tree,
     /// it looks and searches again, as often as the board allows.
     fn settle<R: Wait, G: Gate>(
         &mut self,
@@ -150,9 +185,50 @@ impl<L: Logged> Worker<L> {
         Ok(())
     }
 
-    /// Draws a net, searches for its tree and makes a turn at it. False where there was none to
-    /// draw.
-    fn make_turn<R: Wait, G: Gate>(
+    /// Searches for the tree of a net that it drew, after this many turns.
+    fn search_drawn<G: Gate>(
+        &mut self,
+        alloc: Global,
+        board: &Board<'_, L>,
+        net: u32,
+        turns: u64,
+        gate: &G,
+    ) -> Result<FoundTree<L>, WorkFault> {
+        let worker = self.number();
+        gate.between(worker, net);
+        self.replica.catch_up(board, turns);
+        let found = self.search(alloc, board, net, gate)?;
+        gate.searched(worker, net);
+        Ok(found)
+    }
+
+    /// Draws a net, or several at once, and holds them. Returns how many turns were made by now, or
+    /// `None` if there was no net to draw.
+    fn draw_portion<R: Wait>(
+        &mut self,
+        rt: &R,
+        desk: &Mutex<TurnDesk<L>>,
+        board: &Board<'_, L>,
+    ) -> Result<Option<u64>, WorkFault> {
+        let Worker { share, held, .. } = self;
+        held.clear();
+        let mut desk = hold(rt, desk);
+        let Some((net, turns)) = desk.draw(share) else {
+            return Ok(None);
+        };
+        held.push(net)?;
+        for _ in 1..board.portion(net) {
+            let Some((net, _)) = desk.draw(share) else {
+                break;
+            };
+            held.push(net)?;
+        }
+        Ok(Some(turns))
+    }
+
+    /// Draws a net, or several, searches for the tree of each, and makes a turn for it. Returns
+    /// false if there was none to draw.
+    fn make_turns<R: Wait, G: Gate>(
         &mut self,
         rt: &R,
         alloc: Global,
@@ -160,21 +236,43 @@ impl<L: Logged> Worker<L> {
         board: &Board<'_, L>,
         gate: &G,
     ) -> Result<bool, WorkFault> {
-        let worker = self.share.worker();
-        let drawn = hold(rt, desk).draw(&mut self.share);
-        let Some((net, turns)) = drawn else {
+        let Some(made) = self.draw_portion(rt, desk, board)? else {
             return Ok(false);
         };
-        gate.between(worker, net);
-        self.replica.catch_up(board, turns);
-        let found = self.search(alloc, board, net, gate)?;
-        gate.searched(worker, net);
-        self.settle(rt, alloc, desk, board, found, gate)?;
+        let mut seen = made;
+        let held = mem::replace(&mut self.held, Vec::new(alloc));
+        for net in held.iter() {
+            let found = self.search_drawn(alloc, board, *net, seen, gate)?;
+            self.settle(rt, alloc, desk, board, found, gate)?;
+            seen = MOST_TURNS;
+        }
+        self.held = held;
         Ok(true)
     }
 
-    /// What it searched with.
-    fn into_tools(self) -> Tools {
+    /// Makes a turn of a schedule in its place, for a net that it drew: waits for the turns that it
+    /// has to see, and for those that come before its own. It doesn't look again.
+    pub(crate) fn make_scheduled<R: Wait, G: Gate>(
+        &mut self,
+        rt: &R,
+        alloc: Global,
+        desk: &Mutex<TurnDesk<L>>,
+        board: &Board<'_, L>,
+        course: &Course<'_>,
+        place: u64,
+        turn: &ScheduledTurn,
+        gate: &G,
+    ) -> Result<(), WorkFault> {
+        await_turns(rt, board, course, turn.seen)?;
+        let found = self.search_drawn(alloc, board, turn.net, turn.seen, gate)?;
+        await_turns(rt, board, course, place)?;
+        self.try_turn(rt, alloc, desk, board, found, false)?;
+        course.count(rt);
+        Ok(())
+    }
+
+    /// Returns what it searched with.
+    pub(crate) fn into_tools(self) -> Tools {
         let Worker {
             replica,
             room,
@@ -191,7 +289,7 @@ impl<L: Logged> Worker<L> {
     }
 }
 
-/// Draws nets until there is none, and makes a turn at each. It stops at a refusal. What it
+/// Draws nets until there is none, and makes a turn for each. Stops at a refusal. Returns what it
 /// searched with.
 pub(crate) fn work_through<L: Logged, R: Wait, G: Gate>(
     rt: &R,
@@ -203,7 +301,7 @@ pub(crate) fn work_through<L: Logged, R: Wait, G: Gate>(
 ) -> Result<Tools, WorkFault> {
     let mut worker = worker;
     for _ in rt.forever() {
-        if !worker.make_turn(rt, alloc, desk, board, gate)? {
+        if !worker.make_turns(rt, alloc, desk, board, gate)? {
             return Ok(worker.into_tools());
         }
     }

@@ -23,7 +23,7 @@ pub(crate) struct Tools {
 }
 
 impl Tools {
-    /// For the nets of a problem.
+    /// Returns tools for the nets of a problem.
     fn new(alloc: Global, prepared: &PreparedProblem) -> Result<Tools, AllocError>
         ensures { IfOk result (λ tools. tools.scratch ≡ node_count_of prepared.now.device) }
     {
@@ -36,14 +36,14 @@ impl Tools {
         })
     }
 
-    /// Whether they are for as many nodes as the problem's device has.
+    /// Returns whether they are for as many nodes as the problem's device has.
     fn fits(&self, problem: &Problem) -> bool
         ensures { IsTrue result → self.now.scratch ≡ node_count_of problem.now.device }
     {
         self.scratch.fits(problem) && self.view.len() == problem.device().node_count() as usize
     }
 
-    /// Those that a worker left, where they fit the problem, else new ones.
+    /// Returns the tools that a worker left, if they fit the problem, and otherwise new ones.
     pub(crate) fn fitting(
         alloc: Global,
         prepared: &PreparedProblem,
@@ -61,8 +61,8 @@ impl Tools {
 }
 
 /// What the workers of a problem's iterations search with: the problem, prepared for searches; the
-/// tools that workers left, kept for those of the next iteration; and trees with which an iteration
-/// opened. Contracts see the problem.
+/// tools that workers left, kept for those of the next iteration; and the trees with which an
+/// iteration opened. Contracts see the problem.
 #[derive(Drop)]
 pub struct Workspace {
     pub(crate) prepared: PreparedProblem,
@@ -89,11 +89,11 @@ fn keep_entries(trees: &mut Vec<Option<Tree>>, report: Report) {
 }
 
 impl Workspace {
-    /// That of a problem, with which nobody worked yet.
+    /// Returns a workspace of a problem, in which nobody has worked yet.
     ///
     /// # Errors
     ///
-    /// Where memory runs out.
+    /// If memory ran out.
     pub fn new(alloc: Global, problem: Problem) -> Result<Workspace, AllocError>
         ensures { IfOk result (λ workspace. workspace ≡ problem) }
     {
@@ -115,7 +115,7 @@ impl Workspace {
         }
     }
 
-    /// The problem.
+    /// Returns the problem.
     pub fn problem(&self) -> &Problem
         ensures { result.now ≡ self.now }
     {

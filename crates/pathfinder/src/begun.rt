@@ -1,4 +1,4 @@
-//! How the runs with a design begin, and how a fault ends any run.
+//! The beginning of the runs with a design, and the end of any run by a fault.
 
 use crate::names::ShownNames;
 use crate::opened::{Input, OpenedDesign, open, open_design};
@@ -14,7 +14,7 @@ pub type Begun = (ShownNames, OpenedDesign<File>);
 /// Opens the files of a design: NET, ARCH and PLACE, before ROUTE.
 ///
 /// # Errors
-/// The status of the fault, which is printed.
+/// The exit status of the fault, which is printed.
 #[inline(never)]
 pub fn begin(
     rt: &HostRuntime,
@@ -35,7 +35,7 @@ pub fn begin(
 /// Opens the files of a design and then ROUTE, all before one is read.
 ///
 /// # Errors
-/// As of `begin`.
+/// As for `begin`.
 #[inline(never)]
 pub fn begin_with_route(
     rt: &HostRuntime,
@@ -50,7 +50,7 @@ pub fn begin_with_route(
     }
 }
 
-/// The files of a run with what was read of them.
+/// Returns the files of a run with what was read of them.
 pub fn read_of<'a>(
     names: &'a ShownNames,
     design: &'a OpenedDesign<File>,
@@ -64,15 +64,15 @@ pub fn read_of<'a>(
     )
 }
 
-/// Prints a fault's line, and answers its status, also where the line can't be printed.
+/// Prints a fault's line, and returns the fault's exit status, even if the line can't be printed.
 #[inline(never)]
 pub fn refused(rt: &HostRuntime, fault: AppFault) -> u8 {
     let _ = print_fault(&fault, &mut Adapted::new(io::writer(rt)));
     status(&fault)
 }
 
-/// Prints a fault's line, and explains it on standard error where that is wanted; answers its
-/// status.
+/// Prints a fault's line, and explains the fault on standard error if that is wanted. Returns the
+/// exit status.
 pub fn refused_with(rt: &HostRuntime, fault: AppFault, explain: bool, files: FilesRead<'_>) -> u8 {
     let status = refused(rt, fault);
     if explain {

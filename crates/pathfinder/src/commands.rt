@@ -1,4 +1,4 @@
-//! What each command does with its words: it connects files and streams to a run.
+//! The commands. Each connects files and streams to a run, as its words say.
 
 ghost use Rattle.std.specs.Prelude.{◌≤◌};
 ghost use Rattle.rr_graph.specs.Fabric.{longest_side, most_tracks};
@@ -9,8 +9,11 @@ use crate::files::{BehindProgress, RunFile};
 use crate::identity::{STANDARD_ERROR, STANDARD_OUTPUT, is_name_of, leads_to};
 use crate::names::ShownNames;
 use crate::opened::{Input, OpenedDesign};
+use crate::schedule::{
+    InputSums, RunFault, ScheduleGates, route_text, schedule_in, width_text, workers_of,
+};
 use crate::shown::{Plain, PlainWriter};
-use crate::side::{RestFile, TrialFiles, log_of, others_of, rest_name};
+use crate::side::{RestFile, TrialFiles, free_name, log_of, others_of};
 use crate::warning::hindrance_of;
 use bound_run::bound_run;
 use command_line::command::{
@@ -24,6 +27,7 @@ use route_explain::explain_run;
 use rr_graph::Mode;
 use run_inputs::AppFault;
 use run_log::Progress;
+use run_schedule::Summed;
 use runs::{WidthPlan, check_run, graph_run, route_run, width_run};
 use std::fs::{File, Files};
 use std::io;
@@ -34,35 +38,37 @@ use std::thread::Threads;
 use vpr_text::Adapted;
 use width_search::WidthReport;
 
-/// Whether somebody watches the standard streams: whether they are terminals.
+/// Whether standard output and standard error are terminals, which somebody may watch.
 #[derive(Clone, Copy)]
 pub struct Watched {
     pub output: bool,
     pub errors: bool,
 }
 
-/// Standard output; on a terminal without control characters.
+/// Returns standard output, without control characters if it is a terminal.
 pub fn output(rt: &HostRuntime, watched: Watched) -> PlainWriter<Printer<'_, HostRuntime>> {
     PlainWriter::new(io::writer(rt), watched.output)
 }
 
-/// The mode in which nets are routed.
+/// Returns the mode in which nets are routed.
 fn mode_of(global: bool) -> Mode {
     if global { Mode::Global } else { Mode::Detailed }
 }
 
-/// Which input ROUTE is too, if it is one.
+/// Returns which input the name ROUTE also leads to, if it leads to one.
 #[inline(never)]
 fn input_at(
     rt: &HostRuntime,
     route: &str,
     files: [&str; 4],
+    schedule: Option<&str>,
 ) -> Result<Option<&'static str>, AppFault> {
     let [net, arch, place, _] = files;
     for (input, name) in [
         (net, "the netlist"),
         (arch, "the architecture"),
         (place, "the placement"),
+        (schedule.unwrap_or(net), "the schedule"),
     ] {
         match is_name_of(rt, route, input) {
             Ok(false) => {}
@@ -76,7 +82,7 @@ fn input_at(
     Ok(None)
 }
 
-/// Whether ROUTE leads to the file that a standard stream goes to.
+/// Returns whether ROUTE leads to the file that a standard stream goes to.
 #[inline(never)]
 fn is_stream(rt: &HostRuntime, route: &str, stream: &str) -> bool {
     match rt.metadata(route) {
@@ -85,7 +91,7 @@ fn is_stream(rt: &HostRuntime, route: &str, stream: &str) -> bool {
     }
 }
 
-/// Tells what is wrong with the name of the routing file, before anything is routed.
+/// Warns of what is wrong with the name of the routing file, before anything is routed.
 #[inline(never)]
 fn warn(rt: &HostRuntime, route: &str) {
     let plain = Plain(route);
@@ -99,19 +105,20 @@ fn warn(rt: &HostRuntime, route: &str) {
     }
 }
 
-/// The file that a run writes, ROUTE or a certificate. Before anything is read it is refused where
-/// it is an input too, and warnings tell what else is wrong with its name.
+/// Returns the file that a run writes, ROUTE or a certificate. Before anything is read, refuses it
+/// if it is also an input, and warns of what else is wrong with its name.
 ///
 /// # Errors
-/// Unwritten where it is an input, and Memory.
+/// `Unwritten` if it is an input, and `Memory`.
 #[inline(never)]
 fn written_file<'a>(
     rt: &'a HostRuntime,
     progress: &'a Progress<'a, HostRuntime>,
     files: [&'a str; 4],
+    schedule: Option<&'a str>,
 ) -> Result<RunFile<'a>, AppFault> {
     let [_, _, _, route] = files;
-    if let Some(input) = input_at(rt, route, files)? {
+    if let Some(input) = input_at(rt, route, files, schedule)? {
         let plain = Plain(route);
         let _ = eprintln!(rt; "{plain} is {input}");
         return Err(AppFault::Unwritten);
@@ -120,30 +127,36 @@ fn written_file<'a>(
     RunFile::of_name(rt, progress, route).map_err(|_| AppFault::Memory)
 }
 
-/// The `route` command. The inputs were opened, in the order in which they are read, before one is
-/// read, and stay open to the end: so the routing file never gets the descriptor of a standard
-/// stream that was closed.
+/// Runs the `route` command. The inputs were opened in reading order, before one is read, and stay
+/// open to the end. So the routing file never gets the descriptor of a standard stream that was
+/// closed.
 pub fn route<'a, R: Runtime + Threads + Wait + Sync + AllocGlobal>(
     handle: &'a R,
     rt: &'a HostRuntime,
     given: RouteWords<'a>,
     names: &'a ShownNames,
     design: &mut OpenedDesign<File>,
+    followed_bytes: Option<&'a [u8]>,
     progress: &'a Progress<'a, HostRuntime>,
     watched: Watched,
-) -> Result<Outcome, AppFault>
+) -> Result<Outcome, RunFault>
     requires tracks { (1 ≤ given.width) × (given.width ≤ most_tracks) }
     requires workers { (1 ≤ given.workers) × (given.workers ≤ most_workers) }
 {
     let files = [given.net, given.arch, given.place, given.route];
-    let mut route = written_file(rt, progress, files)?;
+    let mut route = written_file(rt, progress, files, given.follow)?;
     let mut out = Adapted::new(BehindProgress::new(output(rt, watched), progress));
-    let (workers, settings) = (given.workers, given.settings);
+    let schedule = schedule_in(rt.alloc(), followed_bytes, given.workers)?;
+    let (workers, settings) = (workers_of(&schedule, given.workers), given.settings);
+    let (width, mode) = (given.width, mode_of(given.global));
+    let command = route_text(rt.alloc(), width, mode)?;
+    let sums = InputSums::new();
+    let run = sums.description(command.as_str(), workers, settings);
     let log = log_of(
         handle,
         rt,
         given.log,
-        files,
+        others_of(files, [given.follow, None, None]),
         names.log(),
         names.files(),
         workers,
@@ -152,19 +165,33 @@ pub fn route<'a, R: Runtime + Threads + Wait + Sync + AllocGlobal>(
     );
     let rest = RestFile {
         rt,
-        name: rest_name(rt, given.rest, others_of(files, given.log)),
+        name: free_name(
+            rt,
+            given.rest,
+            others_of(files, [given.log, given.follow, None]),
+        ),
         progress,
     };
-    let gate = BothGates {
+    let others = others_of(files, [given.log, given.follow, given.rest]);
+    let recorded = free_name(rt, given.schedule, others);
+    let gates = ScheduleGates::new(handle, rt.alloc(), &schedule, &run, given.workers, recorded);
+    let watchers = BothGates {
         first: progress,
         second: &log,
     };
-    let (width, mode) = (given.width, mode_of(given.global));
-    route_run(
+    let recording = BothGates {
+        first: &gates.recorder,
+        second: &watchers,
+    };
+    let gate = BothGates {
+        first: &gates.follower,
+        second: &recording,
+    };
+    let result = route_run(
         handle,
-        &mut design.net,
-        &mut design.arch,
-        &mut design.place,
+        &mut Summed::new(handle, &mut design.net, gates.wanted(&sums.net)),
+        &mut Summed::new(handle, &mut design.arch, gates.wanted(&sums.arch)),
+        &mut Summed::new(handle, &mut design.place, gates.wanted(&sums.place)),
         &mut route,
         &mut out,
         width,
@@ -173,10 +200,13 @@ pub fn route<'a, R: Runtime + Threads + Wait + Sync + AllocGlobal>(
         workers,
         &gate,
         &rest,
-    )
+    );
+    let outcome = gates.result_of(result)?;
+    gates.end(rt, progress, given.follow, recorded, &run);
+    Ok(outcome)
 }
 
-/// Which widths a search tries.
+/// Returns the plan of the widths that a search tries.
 fn plan_of(start: u32, upward: bool, below: u32, shows_bound: bool) -> WidthPlan
     requires { (1 ≤ start) × (start ≤ most_tracks) }
     ensures { (1 ≤ start_of result) × (start_of result ≤ most_tracks) }
@@ -192,28 +222,35 @@ fn plan_of(start: u32, upward: bool, below: u32, shows_bound: bool) -> WidthPlan
     }
 }
 
-/// The `width` command, whose files were opened as those of `route` are.
+/// Runs the `width` command. Its files were opened like those of `route`.
 pub fn width<'a, R: Runtime + Threads + Wait + Sync + AllocGlobal>(
     handle: &'a R,
     rt: &'a HostRuntime,
     given: WidthWords<'a>,
     names: &'a ShownNames,
     design: &mut OpenedDesign<File>,
+    followed_bytes: Option<&'a [u8]>,
     progress: &'a Progress<'a, HostRuntime>,
     watched: Watched,
-) -> Result<WidthReport, AppFault>
+) -> Result<WidthReport, RunFault>
     requires start { (1 ≤ given.start) × (given.start ≤ most_tracks) }
     requires workers { (1 ≤ given.workers) × (given.workers ≤ most_workers) }
 {
     let files = [given.net, given.arch, given.place, given.route];
-    let mut route = written_file(rt, progress, files)?;
+    let mut route = written_file(rt, progress, files, given.follow)?;
     let mut out = Adapted::new(BehindProgress::new(output(rt, watched), progress));
-    let (workers, settings) = (given.workers, given.settings);
+    let schedule = schedule_in(rt.alloc(), followed_bytes, given.workers)?;
+    let (workers, settings) = (workers_of(&schedule, given.workers), given.settings);
+    let plan = plan_of(given.start, given.upward, given.verify, !given.no_bound);
+    let mode = mode_of(given.global);
+    let command = width_text(rt.alloc(), given.start, given.upward, given.verify, mode)?;
+    let sums = InputSums::new();
+    let run = sums.description(command.as_str(), workers, settings);
     let log = log_of(
         handle,
         rt,
         given.log,
-        files,
+        others_of(files, [given.follow, None, None]),
         names.log(),
         names.files(),
         workers,
@@ -223,20 +260,29 @@ pub fn width<'a, R: Runtime + Threads + Wait + Sync + AllocGlobal>(
     let kept = TrialFiles {
         rt,
         prefix: given.keep,
-        others: others_of(files, given.log),
+        others: others_of(files, [given.log, given.follow, given.schedule]),
         progress,
     };
-    let gate = BothGates {
+    let others = others_of(files, [given.log, given.follow, None]);
+    let recorded = free_name(rt, given.schedule, others);
+    let gates = ScheduleGates::new(handle, rt.alloc(), &schedule, &run, given.workers, recorded);
+    let watchers = BothGates {
         first: progress,
         second: &log,
     };
-    let plan = plan_of(given.start, given.upward, given.verify, !given.no_bound);
-    let mode = mode_of(given.global);
-    width_run(
+    let recording = BothGates {
+        first: &gates.recorder,
+        second: &watchers,
+    };
+    let gate = BothGates {
+        first: &gates.follower,
+        second: &recording,
+    };
+    let result = width_run(
         handle,
-        &mut design.net,
-        &mut design.arch,
-        &mut design.place,
+        &mut Summed::new(handle, &mut design.net, gates.wanted(&sums.net)),
+        &mut Summed::new(handle, &mut design.arch, gates.wanted(&sums.arch)),
+        &mut Summed::new(handle, &mut design.place, gates.wanted(&sums.place)),
         &mut route,
         &mut out,
         plan,
@@ -245,10 +291,13 @@ pub fn width<'a, R: Runtime + Threads + Wait + Sync + AllocGlobal>(
         workers,
         &gate,
         &kept,
-    )
+    );
+    let report = gates.result_of(result)?;
+    gates.end(rt, progress, given.follow, recorded, &run);
+    Ok(report)
 }
 
-/// The `check` command.
+/// Runs the `check` command.
 pub fn check(
     handle: &(impl Threads + Sync + AllocGlobal),
     rt: &HostRuntime,
@@ -290,7 +339,7 @@ pub fn check(
     )
 }
 
-/// The `report` command.
+/// Runs the `report` command.
 pub fn report(
     rt: &HostRuntime,
     given: ReportWords<'_>,
@@ -315,7 +364,7 @@ pub fn report(
     )
 }
 
-/// The `bound` command.
+/// Runs the `bound` command.
 pub fn bound<'a>(
     rt: &'a HostRuntime,
     given: BoundWords<'a>,
@@ -339,7 +388,7 @@ pub fn bound<'a>(
     )
 }
 
-/// The `bound` command with a certificate, whose name stands after those of the inputs.
+/// Runs the `bound` command with a certificate. Its name comes after those of the inputs.
 fn certify<'a>(
     rt: &'a HostRuntime,
     files: [&'a str; 4],
@@ -347,7 +396,7 @@ fn certify<'a>(
     progress: &'a Progress<'a, HostRuntime>,
     watched: Watched,
 ) -> Result<(), AppFault> {
-    let mut cut = written_file(rt, progress, files)?;
+    let mut cut = written_file(rt, progress, files, None)?;
     let mut out = Adapted::new(output(rt, watched));
     bound_run(
         rt.alloc(),
@@ -361,7 +410,7 @@ fn certify<'a>(
     cut.finish().map_err(|_| AppFault::Unwritten)
 }
 
-/// The `graph` command.
+/// Runs the `graph` command.
 pub fn graph<F: Read>(
     rt: &HostRuntime,
     given: GraphWords<'_>,

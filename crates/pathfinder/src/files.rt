@@ -1,5 +1,5 @@
-//! What the program writes to: ROUTE and the files beside it, each of which appears whole or not at
-//! all, and standard output.
+//! Standard output, and ROUTE and the other files that a run writes, each of which appears as a
+//! whole or not at all wherever a file can be made in its folder.
 
 ghost use Rattle.std.specs.Prelude.{◌≤◌, IfOk, None, length};
 
@@ -15,24 +15,23 @@ use std::os::unix::fs::FileTypeExt;
 use std::time::Clock;
 use vpr_text::{Broken, ByteSink};
 
-/// How many bytes a file may have that is read.
+/// The greatest number of bytes of a file that can be read.
 const MOST_BYTES: u64 = 16_777_216;
 
 /// Where the bytes of a file go.
 #[derive(Drop)]
 enum Target {
-    /// To a file of its own, which takes the file's place when it is whole.
+    /// To a file of its own, which replaces the named file when it is complete.
     Replacing(File),
     /// To the file itself.
     InPlace(File),
-    /// Where standard output goes, which is the file.
+    /// To standard output, which goes to the file.
     Output,
-    /// Where standard error goes, which is the file.
+    /// To standard error, which goes to the file.
     Error,
 }
 
-/// Creates a file, or empties the one that is there. A pipe is opened without waiting for somebody
-/// who reads it.
+/// Creates a file, or empties the one that is there. Opens a pipe without waiting for a reader.
 #[inline(never)]
 pub fn create_at_once(rt: &HostRuntime, name: &str) -> Result<File> {
     match fs::metadata(rt, name) {
@@ -41,7 +40,7 @@ pub fn create_at_once(rt: &HostRuntime, name: &str) -> Result<File> {
     }
 }
 
-/// Whether this is the name of a pipe.
+/// Returns whether this is the name of a pipe.
 #[inline(never)]
 pub fn is_pipe(rt: &HostRuntime, name: &str) -> bool {
     match fs::symlink_metadata(rt, name) {
@@ -50,8 +49,7 @@ pub fn is_pipe(rt: &HostRuntime, name: &str) -> bool {
     }
 }
 
-/// Opens a pipe for writing without waiting for somebody who reads it: while it is open for both,
-/// there is one.
+/// Opens a pipe for writing without waiting for a reader: while it is open for both, there is one.
 #[inline(never)]
 fn open_pipe(rt: &HostRuntime, name: &str) -> Result<File> {
     let both = OpenOptions::new().read(true).write(true).open(rt, name);
@@ -67,7 +65,7 @@ fn warn_in_place(rt: &HostRuntime, name: &str, why: &str) {
     let _ = eprintln!(rt; "warning: {name} is written in place: {why}");
 }
 
-/// Copies what was written into the file of this name, and removes it.
+/// Copies what was written into the file of this name, and removes what it was copied from.
 #[inline(never)]
 fn copy_in_place(rt: &HostRuntime, name: &str, replacement: &Replacement) -> Result<()> {
     warn_in_place(rt, name, "it cannot be replaced");
@@ -76,7 +74,8 @@ fn copy_in_place(rt: &HostRuntime, name: &str, replacement: &Replacement) -> Res
     Ok(())
 }
 
-/// Begins to write a file: beside it where it is on a disk and a file can be made there.
+/// Begins to write a file. A file on a disk is written to another one in its folder, if one can be
+/// made there.
 #[inline(never)]
 fn begin_file(
     rt: &HostRuntime,
@@ -95,13 +94,13 @@ fn begin_file(
     if leads_to(rt, STANDARD_ERROR, &found) {
         return Ok(Target::Error);
     }
-    // One that may not be written isn't replaced either.
+    // A file that may not be written isn't replaced either.
     let _ = OpenOptions::new().write(true).open(rt, name)?;
     begin_beside(rt, name, replacement, Some(&found))
 }
 
-/// Begins a file that takes the place of one that was found, or of none; where that can't be made,
-/// the file itself.
+/// Begins a file that takes the place of the one that was found, or of none. If that can't be made,
+/// begins the file itself.
 #[inline(never)]
 fn begin_beside(
     rt: &HostRuntime,
@@ -119,16 +118,16 @@ fn begin_beside(
     Ok(Target::InPlace(file))
 }
 
-/// Gives what was written the name of the file whose place it takes.
+/// Gives what was written the name of the file that it replaces.
 #[inline(never)]
 fn rename_begun(rt: &HostRuntime, replacement: &Replacement) -> Result<()> {
     fs::rename(rt, replacement.begun(), replacement.end())
 }
 
-/// Puts what was written into the place of the file of this name.
+/// Replaces the file of this name with what was written.
 fn put_in_place(rt: &HostRuntime, name: &str, replacement: &Replacement) -> Result<()> {
     match rename_begun(rt, replacement) {
-        // A file that is mounted, as containers do, can't be replaced.
+        // A file that is mounted, as in containers, can't be replaced.
         Err(error) if error.kind() == ErrorKind::ResourceBusy => {
             copy_in_place(rt, name, replacement)
         }
@@ -164,19 +163,19 @@ impl Write for Errors<'_> {
     }
 }
 
-/// A file that a run writes, or words on standard error. The file is begun at the first write; it
-/// is another one, which takes its place when it is whole, wherever that can be made. Nothing is
-/// written before the line of progress has ended.
+/// A file that a run writes, or words on standard error. The file is begun at the first write.
+/// Wherever it can be made, that is another file, which replaces the named one when it is complete.
+/// Nothing is written before the line of progress has ended.
 #[derive(Drop)]
 pub struct RunFile<'a> {
     rt: &'a HostRuntime,
     progress: &'a Progress<'a, HostRuntime>,
-    /// Its name; none of words.
+    /// Its name, or `None` for words.
     name: Option<String>,
     replacement: Option<Replacement>,
     target: Option<Target>,
     words: PlainWriter<Errors<'a>>,
-    /// How many bytes were written.
+    /// The number of bytes that were written.
     count: u64,
     has_failed: bool,
     /// Whether what was written is in its place.
@@ -184,7 +183,7 @@ pub struct RunFile<'a> {
 }
 
 impl<'a> RunFile<'a> {
-    /// A file of this name, and what takes its place.
+    /// Returns a file of this name, with its replacement.
     fn new(
         rt: &'a HostRuntime,
         progress: &'a Progress<'a, HostRuntime>,
@@ -204,10 +203,10 @@ impl<'a> RunFile<'a> {
         }
     }
 
-    /// A file of this name.
+    /// Returns a file of this name.
     ///
     /// # Errors
-    /// Where memory ran out.
+    /// If memory ran out.
     pub fn of_name(
         rt: &'a HostRuntime,
         progress: &'a Progress<'a, HostRuntime>,
@@ -218,12 +217,12 @@ impl<'a> RunFile<'a> {
         Ok(RunFile::new(rt, progress, Some(name), replacement))
     }
 
-    /// Words on standard error.
+    /// Returns words on standard error.
     pub fn of_words(rt: &'a HostRuntime, progress: &'a Progress<'a, HostRuntime>) -> RunFile<'a> {
         RunFile::new(rt, progress, None, None)
     }
 
-    /// Puts what was written into its place, where nothing has failed.
+    /// Puts what was written into its place, if nothing has failed.
     pub fn finish(&mut self) -> std::result::Result<(), Broken> {
         if self.has_failed {
             return Err(Broken);
@@ -231,7 +230,7 @@ impl<'a> RunFile<'a> {
         self.complete()
     }
 
-    /// What is written to, which is begun where it wasn't.
+    /// Takes the target of writes, and begins it if it wasn't begun.
     fn take_target(&mut self, name: &str) -> Result<Target> {
         match self.target.take() {
             Some(target) => Ok(target),
@@ -239,7 +238,7 @@ impl<'a> RunFile<'a> {
         }
     }
 
-    /// Writes a front of the bytes, and answers its length.
+    /// Writes a front of the bytes, and returns its length.
     fn write(&mut self, bytes: &[u8]) -> Result<usize>
         ensures { IfOk result (λ count. count ≤ length bytes.now) }
     {
@@ -255,7 +254,7 @@ impl<'a> RunFile<'a> {
         written
     }
 
-    /// Takes away what was begun beside the file.
+    /// Removes the replacement if it was begun.
     fn abandon(&mut self) {
         if let Some(Target::Replacing(_)) = self.target.take() {
             if let Some(replacement) = &self.replacement {
@@ -264,7 +263,8 @@ impl<'a> RunFile<'a> {
         }
     }
 
-    /// Whether what was begun is in its place now.
+    /// Puts what was begun into its place, and returns whether it is there. If it isn't, removes
+    /// it.
     fn is_put_in_place(&mut self) -> bool {
         let Some(Target::Replacing(_)) = self.target.take() else {
             return true;
@@ -279,7 +279,7 @@ impl<'a> RunFile<'a> {
         is_put
     }
 
-    /// Warns of a file that is too long to be read.
+    /// Warns if the file is too long to be read.
     #[inline(never)]
     fn warn_of_length(&self) {
         if self.count <= MOST_BYTES {
@@ -294,7 +294,7 @@ impl<'a> RunFile<'a> {
     }
 }
 
-/// Writes a front of the bytes to where they go, and answers its length.
+/// Writes a front of the bytes to a target, and returns its length.
 fn write_to(rt: &HostRuntime, target: &mut Target, bytes: &[u8]) -> Result<usize>
     ensures { IfOk result (λ count. count ≤ length bytes.now) }
 {
@@ -344,7 +344,7 @@ impl WholeSink for RunFile<'_> {
     }
 }
 
-/// A writer to which nothing is written before the progress line has ended.
+/// A writer that ends the line of progress before each write.
 #[derive(Drop)]
 pub struct BehindProgress<'a, 'b, W, R> {
     out: W,

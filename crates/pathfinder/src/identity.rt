@@ -1,4 +1,4 @@
-//! Which file a name leads to, be it there or not.
+//! The file that a name leads to, whether the file exists or not.
 
 use std::fs;
 use std::fs::{Files, Metadata};
@@ -7,20 +7,20 @@ use std::os::unix::fs::MetadataExt;
 use std::path::{Path, PathBuf};
 use std::rt::Runtime;
 
-/// How many symbolic links a name may lead over, as on Linux.
+/// The greatest number of symbolic links that a name may lead over, as on Linux.
 const MOST_LINKS: u32 = 40;
 
-/// Where the standard streams of a process are.
+/// The paths of a process's standard streams.
 pub const STANDARD_OUTPUT: &str = "/proc/self/fd/1";
 
 pub const STANDARD_ERROR: &str = "/proc/self/fd/2";
 
-/// Whether two are of one file.
+/// Returns whether both are of the same file.
 fn is_same(file: &Metadata, other: &Metadata) -> bool {
     file.dev() == other.dev() && file.ino() == other.ino()
 }
 
-/// Whether a name leads to a file that was found by another one.
+/// Returns whether a name leads to a file that was found by another name.
 #[inline(never)]
 pub fn leads_to<R: Files>(rt: &R, name: &str, found: &Metadata) -> bool {
     match rt.metadata(name) {
@@ -29,7 +29,7 @@ pub fn leads_to<R: Files>(rt: &R, name: &str, found: &Metadata) -> bool {
     }
 }
 
-/// The folder in which a file is.
+/// Returns the folder that a file is in.
 pub fn folder_of(name: &str) -> &str {
     match Path::new(name).parent() {
         Some(folder) if !folder.as_str().is_empty() => folder.as_str(),
@@ -37,7 +37,7 @@ pub fn folder_of(name: &str) -> &str {
     }
 }
 
-/// The path to which a symbolic link at this one leads.
+/// Returns the path that the symbolic link at this path leads to.
 #[inline(never)]
 fn next_path(rt: &(impl Runtime + AllocGlobal), mut path: PathBuf) -> Result<PathBuf> {
     let next = fs::read_link(rt, path.as_str())?;
@@ -46,13 +46,13 @@ fn next_path(rt: &(impl Runtime + AllocGlobal), mut path: PathBuf) -> Result<Pat
     Ok(path)
 }
 
-/// The name of a file that is there, over no symbolic link.
+/// Returns the name of an existing file, without symbolic links.
 #[inline(never)]
 fn real_name(rt: &(impl Runtime + AllocGlobal), name: &str) -> Result<String> {
     Ok(fs::canonicalize(rt, name)?.into_string())
 }
 
-/// Where a name leads whose file isn't there: the name at the end of its symbolic links.
+/// Returns where a name leads whose file doesn't exist: the name at the end of its symbolic links.
 #[inline(never)]
 fn end_of_links(rt: &(impl Runtime + AllocGlobal), name: &str) -> Result<String> {
     let mut path = Path::new(name).to_path_buf(rt.alloc())?;
@@ -65,11 +65,11 @@ fn end_of_links(rt: &(impl Runtime + AllocGlobal), name: &str) -> Result<String>
     Err(Error::from(ErrorKind::InvalidInput))
 }
 
-/// Where a name leads: the file's own name, over no symbolic link. None where that is no file on a
-/// disk, as a device, a pipe or a folder, or where it can't be found out.
+/// Returns where a name leads: the file's own name, without symbolic links. Returns `None` if that
+/// is no file on a disk, but a device, a pipe or a folder, or if it can't be found out.
 ///
 /// # Errors
-/// Of kind `OutOfMemory` where memory ran out.
+/// An error of kind `OutOfMemory` if memory ran out.
 #[inline(never)]
 pub fn end_of(rt: &(impl Runtime + AllocGlobal), name: &str) -> Result<Option<String>> {
     let end = match rt.metadata(name) {
@@ -84,8 +84,8 @@ pub fn end_of(rt: &(impl Runtime + AllocGlobal), name: &str) -> Result<Option<St
     }
 }
 
-/// Whether two names, of which the first leads to no file, are those of one: of one name in one
-/// folder.
+/// Returns whether two names are those of the same new file: of the same name in the same folder.
+/// The first one leads to no file.
 #[inline(never)]
 fn is_same_new_file(rt: &(impl Runtime + AllocGlobal), name: &str, other: &str) -> Result<bool> {
     if rt.metadata(other).is_ok() {
@@ -102,11 +102,11 @@ fn is_same_new_file(rt: &(impl Runtime + AllocGlobal), name: &str, other: &str) 
     }
 }
 
-/// Whether a name leads to the file of another one too, be it there or not. What is a device, a
-/// pipe or a socket is no such file.
+/// Returns whether a name leads to the same file as another one, whether the file exists or not. A
+/// device, a pipe or a socket is no such file.
 ///
 /// # Errors
-/// Where memory ran out, or a name leads over too many symbolic links.
+/// If memory ran out, or a name leads over too many symbolic links.
 #[inline(never)]
 pub fn is_name_of(rt: &(impl Runtime + AllocGlobal), name: &str, other: &str) -> Result<bool> {
     match rt.metadata(name) {

@@ -1,4 +1,4 @@
-//! What a log is written to: a file of whole rows, or standard error.
+//! The output of a log: a file of whole rows, or standard error.
 
 use crate::files::{Errors, create_at_once, is_pipe};
 use crate::shown::{Plain, PlainWriter};
@@ -7,17 +7,17 @@ use std::fs;
 use std::fs::File;
 use std::io::{ErrorKind, Result, Write};
 
-/// A log's file, created at the first write to it, or standard error. Where a write fails, the file
-/// is cut to its last whole row. Nothing is written before the line of progress has ended.
+/// A log's file, created at the first write to it, or standard error. If a write fails, the file is
+/// cut to its last whole row. Nothing is written before the line of progress has ended.
 #[derive(Drop)]
 pub struct LogFile<'a> {
     rt: &'a HostRuntime,
     progress: &'a Progress<'a, HostRuntime>,
-    /// The name of the file; none where it is standard error.
+    /// The name of the file, or `None` for standard error.
     name: Option<&'a str>,
     file: Option<File>,
     errors: PlainWriter<Errors<'a>>,
-    /// How many bytes were written, and how many of these are whole rows.
+    /// The number of bytes that were written, and of those that are in whole rows.
     count: u64,
     whole: u64,
 }
@@ -39,7 +39,7 @@ impl<'a> LogFile<'a> {
         }
     }
 
-    /// Notes bytes that were written.
+    /// Records bytes that were written.
     fn note(&mut self, bytes: &[u8]) {
         if let Some(end) = bytes.iter().rposition(|byte| *byte == b'\n') {
             let row = (end as u64).saturating_add(1);
@@ -50,8 +50,8 @@ impl<'a> LogFile<'a> {
 }
 
 impl LogFile<'_> {
-    /// Writes a front of the first bytes to a file that was just created. A pipe that nobody reads
-    /// is waited for, and a warning says so.
+    /// Writes a front of the first bytes to a file that was just created. If that is a pipe that
+    /// nobody reads, warns and waits for a reader.
     fn write_first(
         &self,
         name: &str,
@@ -72,7 +72,7 @@ impl LogFile<'_> {
         }
     }
 
-    /// Writes a front of the bytes to the file, and answers what came of it, with the file.
+    /// Writes a front of the bytes to the file. Returns the file and the result.
     fn write_to(&mut self, name: &str, bytes: &[u8]) -> Result<(File, Result<usize>)> {
         match self.file.take() {
             Some(mut file) => {

@@ -9,6 +9,7 @@ mod log_file;
 mod names;
 mod opened;
 mod replacement;
+mod schedule;
 mod shown;
 mod side;
 mod terminal;
@@ -25,9 +26,11 @@ use command_line::command::GraphWords;
 use commands::{Watched, output};
 use names::ShownNames;
 use opened::{Input, Kept, open};
+use refusals::FilesRead;
 use run_inputs::{AppFault, InputFile, status};
 use run_log::Progress;
 use runs::{outcome_status, report_status, verdict_status};
+use schedule::{RunFault, read_followed, refused_schedule};
 use std::io::{IsTerminal, Read, Write};
 use std::process::ExitCode;
 use std::rt::Runtime;
@@ -37,7 +40,7 @@ use std::{env, io};
 use terminal::{columns, takes_lines_back};
 use vpr_text::Adapted;
 
-/// The status of words that the command line may not have.
+/// The exit status of an invalid command line.
 const BAD_WORDS: u8 = 2;
 
 fn main(rt: HostRuntime) -> ExitCode {
@@ -49,8 +52,8 @@ fn main(rt: HostRuntime) -> ExitCode {
     ExitCode::from(run(&rt, &rt, &mut errors, watched))
 }
 
-/// Runs the command that the command line names, and answers its exit status. Where standard error
-/// is watched, on a terminal, it shows how far a negotiation is.
+/// Runs the command that the command line names, and returns its exit status. If standard error is
+/// a terminal, it shows how far a negotiation is.
 fn run<R: Runtime + Threads + Wait + Sync + AllocGlobal>(
     handle: &R,
     rt: &HostRuntime,
@@ -86,7 +89,7 @@ fn run<R: Runtime + Threads + Wait + Sync + AllocGlobal>(
     }
 }
 
-/// Runs `route`, and answers its status.
+/// Runs `route`, and returns its exit status.
 #[inline(never)]
 fn run_route<R: Runtime + Threads + Wait + Sync + AllocGlobal>(
     handle: &R,
@@ -98,21 +101,37 @@ fn run_route<R: Runtime + Threads + Wait + Sync + AllocGlobal>(
         return BAD_WORDS;
     };
     let files = [given.net, given.arch, given.place, given.route];
-    let is_explained = given.explain;
+    let (is_explained, followed) = (given.explain, given.follow);
     let (names, mut design) = match begin(rt, files, given.log, is_explained) {
         Ok(begun) => begun,
         Err(status) => return status,
     };
+    let schedule = match read_followed(rt, followed) {
+        Ok(bytes) => bytes,
+        Err(status) => return status,
+    };
     let progress = progress_on(rt, watched);
-    let answer = commands::route(handle, rt, given, &names, &mut design, &progress, watched);
+    let answer = commands::route(
+        handle,
+        rt,
+        given,
+        &names,
+        &mut design,
+        bytes_of(&schedule),
+        &progress,
+        watched,
+    );
     progress.end();
     match answer {
         Ok(outcome) => outcome_status(&outcome),
-        Err(fault) => refused_with(rt, fault, is_explained, read_of(&names, &design, &[])),
+        Err(fault) => {
+            let files = read_of(&names, &design, &[]);
+            refused_run(rt, fault, followed, is_explained, files)
+        }
     }
 }
 
-/// Runs `width`, and answers its status.
+/// Runs `width`, and returns its exit status.
 #[inline(never)]
 fn run_width<R: Runtime + Threads + Wait + Sync + AllocGlobal>(
     handle: &R,
@@ -124,22 +143,61 @@ fn run_width<R: Runtime + Threads + Wait + Sync + AllocGlobal>(
         return BAD_WORDS;
     };
     let files = [given.net, given.arch, given.place, given.route];
-    let is_explained = given.explain;
+    let (is_explained, followed) = (given.explain, given.follow);
     let (names, mut design) = match begin(rt, files, given.log, is_explained) {
         Ok(begun) => begun,
         Err(status) => return status,
     };
+    let schedule = match read_followed(rt, followed) {
+        Ok(bytes) => bytes,
+        Err(status) => return status,
+    };
     let progress = progress_on(rt, watched);
-    let answer = commands::width(handle, rt, given, &names, &mut design, &progress, watched);
+    let answer = commands::width(
+        handle,
+        rt,
+        given,
+        &names,
+        &mut design,
+        bytes_of(&schedule),
+        &progress,
+        watched,
+    );
     progress.end();
     match answer {
         Ok(report) => report_status(&report),
-        Err(fault) => refused_with(rt, fault, is_explained, read_of(&names, &design, &[])),
+        Err(fault) => {
+            let files = read_of(&names, &design, &[]);
+            refused_run(rt, fault, followed, is_explained, files)
+        }
     }
 }
 
-/// Runs `check`, and answers its status. All files are opened, in the order in which they are read,
-/// before one is read.
+/// Returns the bytes of a file, if there is one.
+fn bytes_of(file: &Option<Vec<u8>>) -> Option<&[u8]> {
+    match file {
+        Some(bytes) => Some(bytes.as_slice()),
+        None => None,
+    }
+}
+
+/// Prints the line of the fault of a run that may follow a schedule, explains it on standard error
+/// if that is wanted, and returns its status.
+fn refused_run(
+    rt: &HostRuntime,
+    fault: RunFault,
+    schedule: Option<&str>,
+    is_explained: bool,
+    files: FilesRead<'_>,
+) -> u8 {
+    match fault {
+        RunFault::Run(fault) => refused_with(rt, fault, is_explained, files),
+        RunFault::Schedule(fault) => refused_schedule(rt, fault, schedule, is_explained),
+    }
+}
+
+/// Runs `check`, and returns its exit status. All files are opened in reading order, before one is
+/// read.
 fn run_check(
     handle: &(impl Threads + Sync + AllocGlobal),
     rt: &HostRuntime,
@@ -174,7 +232,7 @@ fn run_check(
     }
 }
 
-/// Runs `report`, which opens its files as `check` does, and answers its status.
+/// Runs `report`, and returns its exit status. Its files are opened like those of `check`.
 fn run_report(rt: &HostRuntime, given: &ArgMatches<'_>, watched: Watched) -> u8 {
     let Some(given) = command::report_words(given) else {
         return BAD_WORDS;
@@ -194,7 +252,7 @@ fn run_report(rt: &HostRuntime, given: &ArgMatches<'_>, watched: Watched) -> u8 
     }
 }
 
-/// Runs `bound`, and answers its status.
+/// Runs `bound`, and returns its exit status.
 fn run_bound(rt: &HostRuntime, given: &ArgMatches<'_>, watched: Watched) -> u8 {
     let Some(given) = command::bound_words(given) else {
         return BAD_WORDS;
@@ -212,7 +270,7 @@ fn run_bound(rt: &HostRuntime, given: &ArgMatches<'_>, watched: Watched) -> u8 {
     }
 }
 
-/// Runs `graph`, and answers its status.
+/// Runs `graph`, and returns its exit status.
 fn run_graph(rt: &HostRuntime, given: &ArgMatches<'_>, watched: Watched) -> u8 {
     let Some(given) = command::graph_words(given) else {
         return BAD_WORDS;
@@ -231,7 +289,7 @@ fn run_graph(rt: &HostRuntime, given: &ArgMatches<'_>, watched: Watched) -> u8 {
     }
 }
 
-/// Prints the listing of a device of an architecture, and answers the status.
+/// Prints the listing of a device of an architecture, and returns the exit status.
 fn list_graph<F: Read + Drop>(
     rt: &HostRuntime,
     given: GraphWords<'_>,
@@ -258,7 +316,7 @@ fn list_graph<F: Read + Drop>(
     }
 }
 
-/// The words of the command line. `help --help` asks for what `help` alone does.
+/// Returns the words of the command line. `help --help` asks for the same as `help`.
 #[inline(never)]
 fn words(rt: &HostRuntime) -> io::Result<Vec<String>> {
     let mut words: Vec<String> = env::args(rt)?.collect(rt.alloc())?;
@@ -269,8 +327,8 @@ fn words(rt: &HostRuntime) -> io::Result<Vec<String>> {
     Ok(words)
 }
 
-/// Prints what clap says of the words, and answers the status: 0 for help and for the version where
-/// they were asked for.
+/// Prints clap's message about the words, and returns the exit status: 0 for help or the version if
+/// it was asked for and could be printed.
 #[inline(never)]
 fn explained(rt: &HostRuntime, error: &ClapError, watched: Watched) -> u8 {
     if error.kind() == ErrorKind::OutOfMemory {
@@ -286,8 +344,8 @@ fn explained(rt: &HostRuntime, error: &ClapError, watched: Watched) -> u8 {
     }
 }
 
-/// What shows how far a run is, where standard error is watched and what is shown can be taken
-/// back.
+/// Returns the progress of a run. It is shown if standard error is a terminal on which a line can
+/// be taken back.
 fn progress_on(rt: &HostRuntime, watched: Watched) -> Progress<'_, HostRuntime> {
     let is_wanted = watched.errors && takes_lines_back(rt);
     let progress = Progress::new(rt, is_wanted).within(columns(rt));

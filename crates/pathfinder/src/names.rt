@@ -4,7 +4,7 @@ use crate::shown::shown;
 use refusals::{FileRead, FilesRead};
 use std::alloc::{AllocError, Global};
 
-/// The names without control characters; empty where the run has no such file.
+/// The names without control characters. A name is empty if the run has no such file.
 #[derive(Drop)]
 pub struct ShownNames {
     net: String,
@@ -15,7 +15,7 @@ pub struct ShownNames {
 }
 
 impl ShownNames {
-    /// Those of NET, ARCH, PLACE and ROUTE, and of the log.
+    /// Returns the names of NET, ARCH, PLACE and ROUTE, and of the log.
     pub fn of(
         alloc: Global,
         files: [&str; 4],
@@ -31,7 +31,7 @@ impl ShownNames {
         })
     }
 
-    /// NET, ARCH, PLACE and ROUTE.
+    /// Returns the names of NET, ARCH, PLACE and ROUTE.
     pub fn files(&self) -> [&str; 4] {
         [
             self.net.as_str(),
@@ -49,7 +49,7 @@ impl ShownNames {
         self.log.as_str()
     }
 
-    /// The files with what was read of them.
+    /// Returns the files with what was read of them.
     pub fn with_bytes<'a>(
         &'a self,
         net: &'a [u8],
@@ -77,7 +77,7 @@ impl ShownNames {
         }
     }
 
-    /// The files, of which nothing was read.
+    /// Returns the files with nothing read of them.
     pub fn without_bytes(&self) -> FilesRead<'_> {
         self.with_bytes(&[], &[], &[], &[])
     }

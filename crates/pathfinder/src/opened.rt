@@ -1,4 +1,4 @@
-//! The files that a run reads, opened; what was read of them is kept where it is to be explained.
+//! The opened files that a run reads. What is read of them is kept if faults are to be explained.
 
 use run_inputs::{AppFault, InputFile};
 use std::alloc::Global;
@@ -7,7 +7,7 @@ use std::io::{Read, Result as IoResult};
 use std::rt::Runtime;
 use vpr_text::Adapted;
 
-/// A reader that keeps what was read, where that is wanted and there is memory.
+/// A reader that keeps what was read, if that is wanted and there is memory.
 #[derive(Drop)]
 pub struct Kept<F> {
     file: F,
@@ -22,7 +22,7 @@ impl<F> Kept<F> {
         }
     }
 
-    /// What was read; nothing where it wasn't kept.
+    /// Returns what was read, or nothing if it wasn't kept.
     pub fn bytes(&self) -> &[u8] {
         match &self.bytes {
             Some(bytes) => bytes.as_slice(),
@@ -30,7 +30,7 @@ impl<F> Kept<F> {
         }
     }
 
-    /// Keeps bytes that were read, or nothing any more.
+    /// Keeps bytes that were read. If memory runs out, keeps nothing any more.
     fn keep(&mut self, read: &[u8]) {
         if let Some(bytes) = &mut self.bytes {
             if bytes.extend_from_slice(read).is_err() {
@@ -59,7 +59,7 @@ pub struct OpenedDesign<F> {
     pub place: Input<F>,
 }
 
-/// Opens an input file, of which what is read is kept where that is wanted.
+/// Opens an input file. What is read of it is kept if that is wanted.
 pub fn open<R: Runtime + AllocGlobal>(
     rt: &R,
     name: &str,
@@ -72,7 +72,7 @@ pub fn open<R: Runtime + AllocGlobal>(
     }
 }
 
-/// Opens the files of a design, in the order in which they are read.
+/// Opens the files of a design in reading order.
 #[inline(never)]
 pub fn open_design<R: Runtime + AllocGlobal>(
     rt: &R,

@@ -1,4 +1,4 @@
-//! A file that is written beside another one, and takes its place when it is whole.
+//! A file that is written in the folder of another one, and replaces it when it is complete.
 
 use crate::identity::{end_of, folder_of};
 use std::fs;
@@ -8,44 +8,44 @@ use std::os::unix::fs::{MetadataExt, OpenOptionsExt, PermissionsExt};
 use std::path::Path;
 use std::rt::Runtime;
 
-/// How such a file is named, before its number.
+/// The name of such a file before its number.
 const STEM: &str = ".pathfinder-";
 
-/// How many digits its number has.
+/// The number of digits of its number.
 const DIGITS: usize = 3;
 
-/// The names that are tried: as many as there are such numbers.
+/// The number of names that are tried: one for each such number.
 const MOST_NUMBERS: u32 = 1000;
 
-/// The mode of a new file, before the process takes bits away.
+/// The mode of a new file, before the process's mask takes bits away.
 const NEW_MODE: u32 = 0o666;
 
-/// The mode of a file that nobody else may read.
+/// The mode of a file that only its owner may read and write.
 const OWN_MODE: u32 = 0o600;
 
-/// All bits of a mode but those of the kind.
+/// All bits of a mode except those of the kind.
 const MODE_BITS: u32 = 0o7777;
 
-/// The names of a file that is written, and of the one whose place it takes.
+/// The names of a file that is written, and of the one that it replaces.
 #[derive(Drop)]
 pub struct Replacement {
     end: String,
-    /// The last digits are those of the number that was tried last.
+    /// Its last digits are those of the number that was tried last.
     begun: String,
 }
 
 impl Replacement {
-    /// The name of the file whose place it takes.
+    /// Returns the name of the file that is replaced.
     pub fn end(&self) -> &str {
         self.end.as_str()
     }
 
-    /// The name of the file that is written.
+    /// Returns the name of the file that is written.
     pub fn begun(&self) -> &str {
         self.begun.as_str()
     }
 
-    /// Names the file by another number. It takes no memory.
+    /// Gives the file another number. It takes no memory.
     fn set_number(&mut self, number: u32) -> Result<()> {
         for _ in 0..DIGITS {
             self.begun.pop();
@@ -58,11 +58,11 @@ impl Replacement {
     }
 }
 
-/// What takes the place of the file of this name; none where that isn't, or won't be, a file on a
-/// disk.
+/// Returns the replacement of the file of this name, or `None` if that isn't, or won't be, a file
+/// on a disk.
 ///
 /// # Errors
-/// Where memory ran out.
+/// If memory ran out.
 #[inline(never)]
 pub fn replacement_of(
     rt: &(impl Runtime + AllocGlobal),
@@ -80,8 +80,8 @@ pub fn replacement_of(
     Ok(Some(Replacement { end, begun }))
 }
 
-/// Makes the file that takes the place of one that was found, or of none, under a name that nothing
-/// has. It gets the mode, and where it may the owner, of the one that was found.
+/// Creates the file that takes the place of the one that was found, or of none, under a name that
+/// nothing has. It gets the mode of the one that was found, and its owner if that is allowed.
 #[inline(never)]
 pub fn begin_replacement<R: Files>(
     rt: &R,
@@ -96,7 +96,7 @@ pub fn begin_replacement<R: Files>(
     Ok(file)
 }
 
-/// Makes a file under the first number that is free.
+/// Creates a file under the first free number.
 fn create_numbered<R: Files>(rt: &R, replacement: &mut Replacement, mode: u32) -> Result<R::File> {
     for number in 0..MOST_NUMBERS {
         replacement.set_number(number)?;
@@ -108,7 +108,7 @@ fn create_numbered<R: Files>(rt: &R, replacement: &mut Replacement, mode: u32) -
     Err(Error::from(ErrorKind::AlreadyExists))
 }
 
-/// Makes a file where there is none.
+/// Creates a file, if there is none of this name.
 #[inline(never)]
 fn create_new<R: Files>(rt: &R, name: &str, mode: u32) -> Result<R::File> {
     let mut how = OpenOptions::new();
@@ -116,7 +116,7 @@ fn create_new<R: Files>(rt: &R, name: &str, mode: u32) -> Result<R::File> {
     how.open(rt, name)
 }
 
-/// Gives a file the mode of another one, and its owner and group where they differ and that is
+/// Gives a file the mode of another one, and its owner and group if they differ and that is
 /// allowed.
 #[inline(never)]
 fn take_after<R: Files>(rt: &R, name: &str, file: &R::File, found: &Metadata) {

@@ -1,4 +1,4 @@
-//! Text for people: names and lines without control characters, so that a hostile one reaches no
+//! Texts for people: names and lines without control characters, so that no hostile one reaches a
 //! terminal.
 
 ghost use Rattle.std.specs.Prelude.{◌≤◌, length};
@@ -7,14 +7,14 @@ use std::alloc::{AllocError, Global};
 use std::fmt;
 use std::io::{Result as IoResult, Write};
 
-/// What is shown in place of a control character.
+/// The character that is shown in place of a control character.
 const REPLACED: char = '?';
 
 /// The first of the two bytes of U+0080 to U+00BF in UTF-8.
 const LEAD: u8 = 0xc2;
 
-/// The letter that is shown for one: `?` for a control character (U+0000 to U+001F, U+007F to
-/// U+009F).
+/// Returns the character that is shown for one: `?` for a control character (U+0000 to U+001F,
+/// U+007F to U+009F).
 fn shown_as(letter: char) -> char {
     if letter.is_control() {
         REPLACED
@@ -36,7 +36,7 @@ impl fmt::Display for Plain<'_> {
     }
 }
 
-/// A name with `?` in place of each control character.
+/// Returns a name with `?` in place of each control character.
 pub fn shown(alloc: Global, name: &str) -> Result<String, AllocError> {
     let mut text = String::new(alloc);
     for letter in name.chars() {
@@ -45,22 +45,22 @@ pub fn shown(alloc: Global, name: &str) -> Result<String, AllocError> {
     Ok(text)
 }
 
-/// Whether a byte is a control character by itself. A line feed isn't: it ends lines.
+/// Returns whether a byte is a control character by itself. A line feed isn't, since it ends lines.
 fn is_control(byte: u8) -> bool {
     (byte < b' ' && byte != b'\n') || byte == 0x7f
 }
 
-/// Whether a byte after `LEAD` makes a control character with it.
+/// Returns whether a byte after `LEAD` makes a control character with it.
 fn is_second(byte: u8) -> bool {
     (0x80..=0x9f).contains(&byte)
 }
 
-/// Whether a byte is passed on as it is, whatever comes after it.
+/// Returns whether a byte is passed on as it is, whatever comes after it.
 fn is_plain(byte: u8) -> bool {
     byte != LEAD && !is_control(byte)
 }
 
-/// The length of the front that is passed on as it is.
+/// Returns the length of the front that is passed on as it is.
 fn plain_front(bytes: &[u8]) -> usize
     ensures { result ≤ length bytes.now }
 {
@@ -68,8 +68,8 @@ fn plain_front(bytes: &[u8]) -> usize
     length.min(bytes.len())
 }
 
-/// A writer that passes bytes on with `?` in place of each control character but line feeds; where
-/// it isn't watched, on a terminal, it passes on all as it is.
+/// A writer that passes bytes on with `?` in place of each control character other than a line
+/// feed. If it isn't watched, on a terminal, it passes on all bytes as they are.
 #[derive(Drop)]
 pub struct PlainWriter<W> {
     out: W,
@@ -87,7 +87,7 @@ impl<W: Write> PlainWriter<W> {
         }
     }
 
-    /// Passes on one byte, of those that aren't plain.
+    /// Passes on one byte that isn't plain.
     fn write_odd(&mut self, byte: u8) -> IoResult<()> {
         if byte == LEAD {
             self.has_lead = true;
@@ -96,7 +96,7 @@ impl<W: Write> PlainWriter<W> {
         self.out.write_all(b"?")
     }
 
-    /// Passes on the byte after `LEAD`, with it.
+    /// Passes on the byte after `LEAD`, together with it.
     fn write_second(&mut self, byte: u8) -> IoResult<()> {
         self.has_lead = false;
         if is_second(byte) {
@@ -110,7 +110,7 @@ impl<W: Write> PlainWriter<W> {
         }
     }
 
-    /// Passes on a front of the bytes, and answers its length.
+    /// Passes on a front of the bytes, and returns its length.
     fn write_front(&mut self, bytes: &[u8]) -> IoResult<usize> {
         let Some(first) = bytes.first() else {
             return Ok(0);

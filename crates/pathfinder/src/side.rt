@@ -1,4 +1,5 @@
-//! What a run writes beside ROUTE: a log, the trees that were left, routings of trials, and words.
+//! What a run writes in addition to ROUTE: a log, the trees that were left, routings of trials, and
+//! words.
 
 use crate::files::RunFile;
 use crate::identity::{STANDARD_ERROR, STANDARD_OUTPUT};
@@ -14,56 +15,64 @@ use std::sync::Wait;
 use std::time::Clock;
 use vpr_text::Adapted;
 
-/// The files of a run over which no further one is written: the inputs, ROUTE, the log, and those
-/// that standard output and standard error go to.
-pub fn others_of<'a>(files: [&'a str; 4], log: Option<&'a str>) -> [&'a str; 7] {
+/// Returns the files of a run that no further file is written over: the inputs, ROUTE, those that
+/// standard output and standard error go to, and up to three others that the run names.
+pub fn others_of<'a>(files: [&'a str; 4], named: [Option<&'a str>; 3]) -> [&'a str; 9] {
     let [net, arch, place, route] = files;
-    let log = match log {
-        Some(name) if name != "-" => name,
-        _ => route,
-    };
+    let [first, second, third] = named;
     [
         net,
         arch,
         place,
         route,
-        log,
+        file_named(first, route),
+        file_named(second, route),
+        file_named(third, route),
         STANDARD_OUTPUT,
         STANDARD_ERROR,
     ]
 }
 
-/// Where a log of this name is written: nowhere where none is wanted, or where it can't be or
-/// shouldn't be written, of which a warning tells.
+/// Returns the name of a further file, or ROUTE if there is none or it is standard error.
+fn file_named<'a>(name: Option<&'a str>, route: &'a str) -> &'a str {
+    match name {
+        Some(name) if name != "-" => name,
+        _ => route,
+    }
+}
+
+/// Returns the sink of a log of this name. Returns `None` if none is wanted, or, after a warning,
+/// if it can't or shouldn't be written.
 #[inline(never)]
 fn log_sink<'a>(
     rt: &'a HostRuntime,
     log: Option<&'a str>,
-    files: [&'a str; 4],
+    others: [&'a str; 9],
     progress: &'a Progress<'a, HostRuntime>,
 ) -> Option<Adapted<LogFile<'a>>> {
     let name = log?;
-    if name != "-" && !is_free(rt, "the log ", name, others_of(files, None)) {
+    if name != "-" && !is_free(rt, "the log ", name, &others) {
         return None;
     }
     let file = (name != "-").then_some(name);
     Some(Adapted::new(LogFile::new(rt, progress, file)))
 }
 
-/// The log of a run that begins now, by so many workers; it is written where one is wanted. Its
-/// name and those of the run's files are told as they are shown.
+/// Returns the log of a run that begins now, with this many workers. It is written if one is
+/// wanted. `shown_name` and `shown_files` are its name and those of the run's files, as they are
+/// shown.
 pub fn log_of<'a, R: Eprint + Clock + Wait>(
     handle: &'a R,
     rt: &'a HostRuntime,
     name: Option<&'a str>,
-    files: [&'a str; 4],
+    others: [&'a str; 9],
     shown_name: &'a str,
     shown_files: [&'a str; 4],
     workers: u32,
     settings: Settings,
     progress: &'a Progress<'a, HostRuntime>,
 ) -> Log<'a, R, Adapted<LogFile<'a>>> {
-    let sink = log_sink(rt, name, files, progress);
+    let sink = log_sink(rt, name, others, progress);
     Log::new(
         handle,
         shown_name,
@@ -75,21 +84,21 @@ pub fn log_of<'a, R: Eprint + Clock + Wait>(
     )
 }
 
-/// The name of the file of trees that were left, where it can be and should be written in a run
-/// with these other files; else a warning tells why not.
+/// Returns the name of a further file of a run with these other files. Returns `None` if none is
+/// wanted, or, after a warning, if it can't or shouldn't be written.
 #[inline(never)]
-pub fn rest_name<'a>(
+pub fn free_name<'a>(
     rt: &HostRuntime,
     name: Option<&'a str>,
-    others: [&'a str; 7],
+    others: [&'a str; 9],
 ) -> Option<&'a str> {
     match name {
-        Some(name) if is_free(rt, "", name, others) => Some(name),
+        Some(name) if is_free(rt, "", name, &others) => Some(name),
         _ => None,
     }
 }
 
-/// The file of the trees that were left; none where it has no name.
+/// The file of the trees that were left, if it has a name.
 #[derive(Clone, Copy)]
 pub struct RestFile<'a> {
     pub rt: &'a HostRuntime,
@@ -120,13 +129,13 @@ impl<'a> SideFiles for RestFile<'a> {
     }
 }
 
-/// The files of routed trials: a prefix, the width and `.route`; none where they have no prefix.
+/// The files of routed trials, if they have a prefix: the prefix, the width and `.route`.
 #[derive(Clone, Copy)]
 pub struct TrialFiles<'a> {
     pub rt: &'a HostRuntime,
     pub prefix: Option<&'a str>,
-    /// The other files of the run, over which none is written.
-    pub others: [&'a str; 7],
+    /// The other files of the run, which none of these is written over.
+    pub others: [&'a str; 9],
     pub progress: &'a Progress<'a, HostRuntime>,
 }
 
@@ -140,7 +149,7 @@ impl<'a> SideFiles for TrialFiles<'a> {
             return None;
         };
         self.progress.end();
-        if !is_free(self.rt, "", name.as_str(), self.others) {
+        if !is_free(self.rt, "", name.as_str(), &self.others) {
             return None;
         }
         match RunFile::of_name(self.rt, self.progress, name.as_str()) {

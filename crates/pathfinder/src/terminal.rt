@@ -1,12 +1,13 @@
-//! What is known of the terminal on which it is shown how far a negotiation is.
+//! What is known of the terminal that shows how far a negotiation is.
 
 use std::env::{Env, FillError};
 use vpr_text::number;
 
-/// How many columns a terminal has of which nothing is known.
+/// The number of columns of a terminal whose size is unknown.
 const COLUMNS: u32 = 80;
 
-/// Whether a line on the terminal can be taken back: `TERM` names one, and not a dumb one.
+/// Returns whether a line on the terminal can be taken back: `TERM` names a terminal other than a
+/// dumb one.
 pub fn takes_lines_back(env: &impl Env) -> bool {
     let mut name = [0; 16];
     match env.var("TERM", &mut name) {
@@ -16,7 +17,7 @@ pub fn takes_lines_back(env: &impl Env) -> bool {
     }
 }
 
-/// How many columns the terminal has: the number in `COLUMNS`, or 80.
+/// Returns the number of columns of the terminal: the number in `COLUMNS`, or 80.
 pub fn columns(env: &impl Env) -> u32 {
     let mut text = [0; 16];
     let length = env.var("COLUMNS", &mut text).unwrap_or(0);

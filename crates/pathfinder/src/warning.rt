@@ -1,5 +1,5 @@
-//! What is reported of ROUTE and of files beside it before anything is routed: that they can't be
-//! written, or shouldn't be. To find that out nothing is created and nothing is written.
+//! Warnings about ROUTE and the other files that a run writes, before anything is routed: that they
+//! can't or shouldn't be written. To find that out, nothing is created and nothing is written.
 
 use crate::identity::{STANDARD_ERROR, STANDARD_OUTPUT, folder_of, is_name_of};
 use crate::shown::Plain;
@@ -9,7 +9,7 @@ use std::io::{Eprint, Result as IoResult};
 use std::os::unix::fs::MetadataExt;
 use std::rt::Runtime;
 
-/// The bits of a mode by which a file's owner may write it, and those by which anybody else may.
+/// The bits of a mode that let a file's owner write it, and those that let anybody else write it.
 const OWNER_WRITES: u32 = 0o200;
 
 const OTHERS_WRITE: u32 = 0o022;
@@ -19,11 +19,11 @@ const OTHERS_WRITE: u32 = 0o022;
 pub enum Doubt<'a> {
     /// It is the name of a folder.
     Folder,
-    /// The folder in which it would stand isn't there.
+    /// The folder that it would be in doesn't exist.
     NoFolder(&'a str),
-    /// It would be made in this folder, in which we may make no file.
+    /// It would be created in this folder, in which the process may create no file.
     ClosedFolder(&'a str),
-    /// It is there, and we may not write it.
+    /// It exists, and the process may not write it.
     Closed,
 }
 
@@ -47,8 +47,8 @@ impl fmt::Display for Doubt<'_> {
     }
 }
 
-/// Why a file of this name can't be written, so far as it can be known; a device, a pipe and the
-/// like aren't asked.
+/// Returns why a file of this name can't be written, as far as that can be known. A device, a pipe
+/// and the like aren't tested.
 #[inline(never)]
 pub fn hindrance_of<'a, R: Files>(rt: &R, name: &'a str) -> Option<Doubt<'a>> {
     match rt.metadata(name) {
@@ -61,13 +61,13 @@ pub fn hindrance_of<'a, R: Files>(rt: &R, name: &'a str) -> Option<Doubt<'a>> {
     }
 }
 
-/// Whether a file that is there can be opened for writing, which leaves it as it is.
+/// Returns whether an existing file can be opened for writing, which leaves it as it is.
 #[inline(never)]
 fn may_be_written<R: Files>(rt: &R, name: &str) -> bool {
     OpenOptions::new().write(true).open(rt, name).is_ok()
 }
 
-/// What is wrong with the place of a file that isn't there.
+/// Returns what is wrong with the place of a file that doesn't exist.
 #[inline(never)]
 fn doubt_of_place<'a, R: Files>(rt: &R, name: &'a str) -> Option<Doubt<'a>> {
     let folder = folder_of(name);
@@ -77,8 +77,9 @@ fn doubt_of_place<'a, R: Files>(rt: &R, name: &'a str) -> Option<Doubt<'a>> {
     }
 }
 
-/// Whether a folder's mode lets us make no file in it. A process owns its entry in /proc; which
-/// groups it is in can't be asked, so one that its group may write is taken for open.
+/// Returns whether a folder's mode lets the process create no file in it. A process owns its entry
+/// in /proc. The groups of the process are unknown, so a folder that its group may write counts as
+/// open.
 #[inline(never)]
 fn is_closed<R: Files>(rt: &R, folder: &Metadata) -> bool {
     let Ok(own) = rt.metadata("/proc/self") else {
@@ -92,24 +93,24 @@ fn is_closed<R: Files>(rt: &R, folder: &Metadata) -> bool {
     own.uid() != 0 && folder.mode() & bits == 0
 }
 
-/// The first of the other files of a run of which this is a name too.
+/// Returns the first of the other files of a run that this name leads to as well.
 ///
 /// # Errors
-/// Where that can't be found out.
+/// If that can't be found out.
 fn taken_by<'b>(
     rt: &(impl Runtime + AllocGlobal),
     name: &str,
-    others: [&'b str; 7],
+    others: &[&'b str],
 ) -> IoResult<Option<&'b str>> {
     for other in others {
-        if is_name_of(rt, name, other)? {
-            return Ok(Some(other));
+        if is_name_of(rt, name, *other)? {
+            return Ok(Some(*other));
         }
     }
     Ok(None)
 }
 
-/// Why a file is not written over another one of the run.
+/// The reason why a file is not written over another one of the run.
 #[derive(Clone, Copy)]
 struct Taken<'a>(&'a str);
 
@@ -126,15 +127,11 @@ impl fmt::Display for Taken<'_> {
     }
 }
 
-/// Whether a file may be written beside ROUTE, in a run with these other files, so far as that can
-/// be known. Where it may not, a warning tells why; it begins with what the file is, as `the log `.
+/// Returns whether a file may be written in addition to ROUTE, in a run with these other files, as
+/// far as that can be known. If it may not, a warning gives the reason. The warning begins with
+/// what the file is, as in `the log `.
 #[inline(never)]
-pub fn is_free(
-    rt: &(impl Runtime + AllocGlobal),
-    what: &str,
-    name: &str,
-    others: [&str; 7],
-) -> bool {
+pub fn is_free(rt: &(impl Runtime + AllocGlobal), what: &str, name: &str, others: &[&str]) -> bool {
     let plain = Plain(name);
     match taken_by(rt, name, others) {
         Ok(None) => {}

@@ -1,4 +1,4 @@
-//! What is wrong with a file that is refused, and what to do: a sentence for each fault.
+//! What is wrong with a refused file, and what to do about it: a sentence for each fault.
 
 use arch_file::{ArchFault, Entry};
 use net_file::NetFault;
@@ -7,22 +7,21 @@ use route_file::RouteFileFault;
 use run_inputs::{AppFault, InputFile};
 use vpr_text::TextFault;
 
-/// Which word of a faulty line offends.
+/// The offending word of a faulty line.
 #[derive(Clone, Copy, Debug, PartialEq, Eq)]
 pub enum Offender {
-    /// None of them alone.
+    /// No single word.
     Line,
     First,
     Second,
     Third,
-    /// The second one, of a line that has no more.
+    /// The second word, if the line has only two.
     Value,
-    /// No word: a block that has no row.
+    /// No word, but a block that has no row.
     Block(usize),
 }
 
-/// What is said of a fault: the line that it is about, 0 where there is none, which word offends,
-/// and what to do.
+/// Advice on a fault: the file, the line or 0 if there is none, the offending word, and what to do.
 #[derive(Clone, Copy, Debug)]
 pub struct Advice {
     pub file: InputFile,
@@ -31,7 +30,7 @@ pub struct Advice {
     pub text: &'static str,
 }
 
-/// What is said of a fault of a file, whichever it is.
+/// Advice on a fault, without the file: the line, the offending word and the text.
 #[derive(Clone, Copy, Debug)]
 struct Said(u32, Offender, &'static str);
 
@@ -47,10 +46,10 @@ impl Said {
     }
 }
 
-/// Nothing, of want of memory.
+/// Empty advice, on lack of memory.
 const NOTHING: Said = Said(0, Offender::Line, "");
 
-/// What is said of a fault, if it is one of an input file.
+/// Returns the advice on a fault, if it is one of an input file.
 pub fn advice_on(fault: &AppFault) -> Option<Advice> {
     match *fault {
         AppFault::Arch(fault) => Some(on_arch(fault).of(InputFile::Arch)),
@@ -68,7 +67,7 @@ const UNREAD: Said = Said(
     "it can't be read: see that it is there, and that you may read it",
 );
 
-/// What is said of a fault of any text.
+/// Returns the advice on a fault that a file of any kind can have.
 fn on_text(fault: TextFault) -> Said {
     match fault {
         TextFault::TooLong => Said(
@@ -85,7 +84,7 @@ fn on_text(fault: TextFault) -> Said {
     }
 }
 
-/// What is said of a fault of an architecture.
+/// Returns the advice on a fault of an architecture.
 fn on_arch(fault: ArchFault) -> Said {
     match fault {
         ArchFault::Text(fault) => on_text(fault),
@@ -124,7 +123,7 @@ fn on_arch(fault: ArchFault) -> Said {
     }
 }
 
-/// What is said of an entry that no line gives.
+/// Returns the advice on an entry that no line gives.
 fn missing_entry(entry: Entry) -> &'static str {
     match entry {
         Entry::IoRat => "no line gives `io_rat`: add it",
@@ -143,7 +142,7 @@ fn missing_entry(entry: Entry) -> &'static str {
     }
 }
 
-/// What is said of a fault of a netlist.
+/// Returns the advice on a fault of a netlist.
 fn on_net(fault: NetFault) -> Said {
     match fault {
         NetFault::Text(fault) => on_text(fault),
@@ -196,7 +195,7 @@ fn on_net(fault: NetFault) -> Said {
     }
 }
 
-/// What is said of a fault of a placement.
+/// Returns the advice on a fault of a placement.
 fn on_place(fault: PlaceFault) -> Said {
     match fault {
         PlaceFault::Text(fault) => on_text(fault),
@@ -246,7 +245,7 @@ const HEAD: Said = Said(
     "its first two lines are missing: see that it is the right file",
 );
 
-/// What is said of a fault of a routing file.
+/// Returns the advice on a fault of a routing file.
 fn on_route(fault: RouteFileFault) -> Said {
     match fault {
         RouteFileFault::Text(fault) => on_text(fault),

@@ -1,4 +1,4 @@
-//! What is said of a file that is refused, beside its fault: the line, the word, and what to do.
+//! Advice on a refused file, in addition to its fault: the line, the word, and what to do.
 #![tactic(auto)]
 
 mod advice;

@@ -1,4 +1,4 @@
-//! A file that is refused, explained on standard error: where, which line and word, what to do.
+//! Explains a refused file on standard error: the place, the line, the word, and what to do.
 
 ghost use Rattle.std.specs.Prelude.{◌<◌, IfSome, length};
 
@@ -8,24 +8,24 @@ use std::alloc::{AllocGlobal, Global};
 use std::io::Eprint;
 use vpr_text::{Lines, lines};
 
-/// How much of a line or a word is shown, in bytes.
+/// The greatest number of bytes shown of a line or a word.
 const MOST_SHOWN: usize = 200;
 
-/// How many lines of the file are shown of a line that is continued.
+/// The greatest number of physical lines shown of a continued line.
 const MOST_LINES: u32 = 8;
 
-/// What an architecture begins with that isn't for VPR 4.30.
+/// The advice on an architecture that looks like XML.
 const XML: &str = "this looks like the XML of VTR 7 and later, and this reads VPR 4.30's format";
 
-/// A file of a run: its name, as it is shown, and the bytes that were read of it; none where they
-/// were not kept.
+/// A file of a run: its name as it is shown, and the bytes that were read of it, or no bytes if
+/// they were not kept.
 #[derive(Clone, Copy)]
 pub struct FileRead<'a> {
     pub name: &'a str,
     pub bytes: &'a [u8],
 }
 
-/// The files of a run; without a name where the run has no such file.
+/// The files of a run. A file that the run doesn't have has no name.
 #[derive(Clone, Copy)]
 pub struct FilesRead<'a> {
     pub arch: FileRead<'a>,
@@ -45,8 +45,8 @@ impl<'a> FilesRead<'a> {
     }
 }
 
-/// A piece of a file as it is shown: so many bytes of it at most, and `?` for each that isn't
-/// printed. None where memory runs out.
+/// Returns a piece of a file as it is shown: its first `MOST_SHOWN` bytes, with a blank for each
+/// tab and `?` for each other byte that isn't printable. Returns `None` if memory runs out.
 fn shown(alloc: Global, piece: &[u8]) -> Option<String> {
     let mut text = String::new(alloc);
     for byte in piece.iter().take(MOST_SHOWN) {
@@ -55,7 +55,7 @@ fn shown(alloc: Global, piece: &[u8]) -> Option<String> {
     Some(text)
 }
 
-/// The character that is shown for a byte.
+/// Returns the character that is shown for a byte.
 fn shown_as(byte: u8) -> char {
     match byte {
         b'\t' => ' ',
@@ -64,14 +64,14 @@ fn shown_as(byte: u8) -> char {
     }
 }
 
-/// Tells on standard error why a file was refused, and what to do, as far as there is memory.
+/// Prints on standard error why a file was refused and what to do, as far as memory suffices.
 pub fn tell_refusal(rt: &(impl Eprint + AllocGlobal), fault: &AppFault, files: FilesRead<'_>) {
     if let Some(advice) = advice_on(fault) {
         tell(rt, &advice, files);
     }
 }
 
-/// Tells an advice.
+/// Prints advice.
 fn tell(rt: &(impl Eprint + AllocGlobal), advice: &Advice, files: FilesRead<'_>) {
     let file = files.of(advice.file);
     let name = file.name;
@@ -84,7 +84,7 @@ fn tell(rt: &(impl Eprint + AllocGlobal), advice: &Advice, files: FilesRead<'_>)
     }
 }
 
-/// Tells that a block has no row.
+/// Prints that a block has no row.
 fn tell_block(
     rt: &(impl Eprint + AllocGlobal),
     advice: &Advice,
@@ -103,7 +103,7 @@ fn tell_block(
     }
 }
 
-/// The name that the element of a block's number has.
+/// Returns the name of the element of a netlist that has the block's number.
 fn name_among(alloc: Global, bytes: &[u8], block: usize) -> Option<String> {
     let lines = lines(alloc, bytes).ok()?;
     let line = (0..lines.len())
@@ -112,7 +112,7 @@ fn name_among(alloc: Global, bytes: &[u8], block: usize) -> Option<String> {
     shown(alloc, lines.word(line, 1)?)
 }
 
-/// Whether a line of a netlist is an element.
+/// Returns whether a line of a netlist is an element.
 fn is_element(lines: &Lines<'_>, line: usize) -> bool {
     match lines.word(line, 0) {
         Some(word) => matches!(word, b".input" | b".output" | b".clb"),
@@ -120,7 +120,7 @@ fn is_element(lines: &Lines<'_>, line: usize) -> bool {
     }
 }
 
-/// Tells of a line that is refused: the word that offends and what to do, and its text.
+/// Prints the advice on a refused line, with the offending word, and then the text of the line.
 fn tell_line(rt: &(impl Eprint + AllocGlobal), advice: &Advice, file: FileRead<'_>) {
     tell_word(rt, advice, file);
     let mut line = advice.line;
@@ -134,7 +134,7 @@ fn tell_line(rt: &(impl Eprint + AllocGlobal), advice: &Advice, file: FileRead<'
     }
 }
 
-/// Shows a line of a file, unless it has no text.
+/// Prints a line of a file, unless it has no text.
 fn tell_text(rt: &(impl Eprint + AllocGlobal), name: &str, line: u32, text: &[u8]) {
     if text.is_empty() {
         return;
@@ -144,8 +144,8 @@ fn tell_text(rt: &(impl Eprint + AllocGlobal), name: &str, line: u32, text: &[u8
     }
 }
 
-/// Whether a line goes on in the next one: its last byte is a backslash, but for a comment and
-/// blanks.
+/// Returns whether a line continues in the next one: its last byte is a backslash, apart from a
+/// comment and blanks.
 fn is_continued(text: &[u8]) -> bool {
     let end = text.iter().position(|byte| *byte == b'#');
     let words = text.get(..end.unwrap_or(text.len())).unwrap_or(text);
@@ -153,7 +153,7 @@ fn is_continued(text: &[u8]) -> bool {
     last == Some(&b'\\')
 }
 
-/// Tells what to do about a line, and of which of its words.
+/// Prints the advice on a line, after the offending word if there is one.
 fn tell_word(rt: &(impl Eprint + AllocGlobal), advice: &Advice, file: FileRead<'_>) {
     let name = file.name;
     let (line, text) = (advice.line, text_on(advice, file.bytes));
@@ -167,13 +167,13 @@ fn tell_word(rt: &(impl Eprint + AllocGlobal), advice: &Advice, file: FileRead<'
     }
 }
 
-/// What to do about a line: of an architecture that is XML something else.
+/// Returns the advice on a line. If an architecture looks like XML, the advice is another one.
 fn text_on(advice: &Advice, bytes: &[u8]) -> &'static str {
     let is_xml = advice.file == InputFile::Arch && begins_with_angle(bytes);
     if is_xml { XML } else { advice.text }
 }
 
-/// Whether the first byte that is no blank is `<`.
+/// Returns whether the first byte that isn't blank is `<`.
 fn begins_with_angle(bytes: &[u8]) -> bool {
     match bytes.iter().find(|byte| !byte.is_ascii_whitespace()) {
         Some(byte) => *byte == b'<',
@@ -181,7 +181,7 @@ fn begins_with_angle(bytes: &[u8]) -> bool {
     }
 }
 
-/// The bytes of a line of a file.
+/// Returns the bytes of a line of a file, or none if there is no such line.
 fn line_of(bytes: &[u8], number: u32) -> &[u8] {
     let mut line: u32 = 1;
     let mut start = 0;
@@ -201,7 +201,7 @@ fn line_of(bytes: &[u8], number: u32) -> &[u8] {
     }
 }
 
-/// The word of a line that offends, if one does.
+/// Returns the offending word of a line, if there is one.
 fn word_of(alloc: Global, advice: &Advice, bytes: &[u8]) -> Option<String> {
     let lines = lines(alloc, bytes).ok()?;
     let line = line_at(&lines, advice.line)?;
@@ -209,7 +209,7 @@ fn word_of(alloc: Global, advice: &Advice, bytes: &[u8]) -> Option<String> {
     shown(alloc, lines.word(line, place)?)
 }
 
-/// The place of a line among those that have words.
+/// Returns the index of a line among those that have words.
 fn line_at(lines: &Lines<'_>, number: u32) -> Option<usize>
     ensures { IfSome result (λ line. line < length lines.now) }
 {
@@ -221,7 +221,7 @@ fn line_at(lines: &Lines<'_>, number: u32) -> Option<usize>
     None
 }
 
-/// The place of the word that offends, of so many.
+/// Returns the index of the offending word among `words` words, if there is one.
 fn place_of(offender: Offender, words: usize) -> Option<usize> {
     match offender {
         Offender::First => Some(0),

@@ -9,7 +9,7 @@ use route_report::ChannelUse;
 use rr_graph::{Device, Kind};
 use text_output::{ByteSink, OutputBuffer, put_number};
 
-/// The axis along which a channel runs, before its number.
+/// Returns the name of the axis along which a channel runs, which comes before its number.
 fn axis_name(kind: Kind) -> &'static [u8]
     ensures { result.now ≡ axis_text kind }
 {
@@ -19,7 +19,7 @@ fn axis_name(kind: Kind) -> &'static [u8]
     }
 }
 
-/// How many places a channel of this kind has.
+/// Returns the number of places of a channel of this kind.
 fn places_of_channel(device: &Device, kind: Kind) -> u32
     ensures { result ≡ places_of_channel device.now kind }
 {

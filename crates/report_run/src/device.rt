@@ -1,4 +1,4 @@
-//! How many wires and places a device has, and how many nets of a netlist are global.
+//! The numbers of wires and places of a device, and of global nets of a netlist.
 
 ghost use Rattle.std.specs.Prelude.{◌≡◌, if◌then◌else◌};
 ghost use Rattle.rr_graph.specs.Nodes.{is_wire_at};
@@ -8,7 +8,7 @@ use net_file::Netlist;
 use route_report::places_at;
 use rr_graph::{Device, Kind};
 
-/// 1 where a node is a wire, else 0.
+/// Returns 1 if a node is a wire, and otherwise 0.
 fn one_if_wire(device: &Device, node: u32) -> u64
     ensures { result ≡ (if is_wire_at device.now node then 1 else 0) }
 {
@@ -18,7 +18,7 @@ fn one_if_wire(device: &Device, node: u32) -> u64
     }
 }
 
-/// How many wires there are.
+/// Returns the number of wires.
 #[tactic(auto, using(route_report::proofs::Sums::count_next), unfolding(crate::specs::Figures::wires_in))]
 pub(crate) fn wires_in(device: &Device) -> u64
     ensures { result ≡ wires_in device.now }
@@ -30,7 +30,7 @@ pub(crate) fn wires_in(device: &Device) -> u64
     wires
 }
 
-/// How many places the wires pass.
+/// Returns the number of places that the wires pass.
 #[tactic(auto, using(route_report::proofs::Sums::sum_more), unfolding(crate::specs::Figures::places_in))]
 pub(crate) fn places_in(device: &Device) -> u64
     ensures { result ≡ places_in device.now }
@@ -42,7 +42,7 @@ pub(crate) fn places_in(device: &Device) -> u64
     places
 }
 
-/// How many nets a dedicated network carries.
+/// Returns the number of nets that a dedicated network carries.
 #[tactic(auto, unfolding(crate::specs::Figures::global_nets))]
 pub(crate) fn global_nets(netlist: &Netlist<'_>) -> usize
     ensures { result ≡ global_nets netlist.now }

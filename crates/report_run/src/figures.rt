@@ -1,4 +1,4 @@
-//! The lines on the device, that on the bound, and those on the whole routing.
+//! The lines on the device, on the bound, and on the whole routing.
 
 ghost use Rattle.std.specs.Prelude.{◌≡◌};
 ghost use Rattle.vpr_text.specs.Output.{SendsTo};
@@ -34,7 +34,7 @@ fn put_device<W: ByteSink>(out: &mut OutputBuffer, sink: &mut W, device: &Device
     );
 }
 
-/// Prints the line on the bound, of the figures of a cut.
+/// Prints the line on the bound, which the figures of a cut give.
 fn put_bound<W: ByteSink>(out: &mut OutputBuffer, sink: &mut W, bound: CutFigures)
     ensures { SendsTo W.taken W.failed sink.old sink.new out.old out.new (bound_line bound) }
 {
@@ -43,7 +43,7 @@ fn put_bound<W: ByteSink>(out: &mut OutputBuffer, sink: &mut W, bound: CutFigure
     out.push(sink, b"\n");
 }
 
-/// Prints the lines on how many nets there are, and how many have a list.
+/// Prints the lines on how many nets there are, how many are global, and how many have a list.
 fn put_nets<W: ByteSink>(
     out: &mut OutputBuffer,
     sink: &mut W,
@@ -67,7 +67,7 @@ fn put_nets<W: ByteSink>(
     out.push(sink, b"\n");
 }
 
-/// Prints the lines on the wires that are used, and their places.
+/// Prints the lines on the used wires and their places.
 fn put_uses<W: ByteSink>(out: &mut OutputBuffer, sink: &mut W, device: &Device, figures: &Figures)
     ensures { SendsTo W.taken W.failed sink.old sink.new out.old out.new
         (use_lines device.now figures.now) }
@@ -116,7 +116,7 @@ fn put_lengths<W: ByteSink>(
     out.push(sink, b"\n");
 }
 
-/// Prints the lines on the whole routing, and that on the bound.
+/// Prints the lines on the device, on the bound, and on the whole routing.
 pub(crate) fn put_figures<W: ByteSink>(
     out: &mut OutputBuffer,
     sink: &mut W,

@@ -1,5 +1,5 @@
-//! Laws of the map: functions that do nothing, and whose contracts are theorems about the
-//! definitions. Of its numbers each is the occupancy of its place.
+//! Laws of the map: functions that do nothing, whose contracts are theorems about the definitions.
+//! Each number of the map is the occupancy of its place.
 
 ghost use Rattle.std.specs.Prelude.{◌≡◌, ◌≤◌, ◌<◌};
 ghost use Rattle.rr_graph.specs.node.Kind.TheVariants.{Chanx, Chany};
@@ -8,7 +8,7 @@ ghost use Rattle.report_run.specs.Map.{occupied_at, right_of};
 
 use rr_graph::Device;
 
-/// What the map has at a place, from 0 on, of the channel above a row is what is occupied there.
+/// Shows that the map has the occupancy of a place, counted from 0, of the channel above a row.
 #[tactic(auto, using(crate::proofs::Places::above_is))]
 pub fn mapped_above(device: &Device, uses: &[u16], row: u32, place: u32)
     requires row { row ≤ device.now.ny }
@@ -17,7 +17,8 @@ pub fn mapped_above(device: &Device, uses: &[u16], row: u32, place: u32)
         ≡ occupancy_at device.now uses.now (place_in Chanx row place) }
 {}
 
-/// What it has at a place of the channel right of a column is what is occupied there.
+/// Shows that the map has the occupancy of a place, counted from 0, of the channel right of a
+/// column.
 #[tactic(auto, using(crate::proofs::Places::right_is))]
 pub fn mapped_right(device: &Device, uses: &[u16], column: u32, place: u32)
     requires column { column ≤ device.now.nx }

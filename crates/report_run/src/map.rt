@@ -10,7 +10,7 @@ use route_report::ChannelUse;
 use rr_graph::Device;
 use text_output::{ByteSink, OutputBuffer, put_number};
 
-/// The number at an index; 0 past the last one.
+/// Returns the number at an index, or 0 past the last one.
 fn number_at(numbers: &[u64], index: u32) -> u64
     ensures { result ≡ get_or numbers.now index 0 }
 {
@@ -20,7 +20,7 @@ fn number_at(numbers: &[u64], index: u32) -> u64
     }
 }
 
-/// What is occupied at a place of a channel of a list; 0 where there is no such place.
+/// Returns how much is occupied at a place of a channel in a list, or 0 if there is no such place.
 fn occupied_at(channels: &[ChannelUse], channel: u32, place: u32) -> u64
     ensures { result ≡ occupied_at channels.now channel place }
 {
@@ -30,7 +30,7 @@ fn occupied_at(channels: &[ChannelUse], channel: u32, place: u32) -> u64
     }
 }
 
-/// The channel right of a column, in the list of all.
+/// Returns the index of the channel right of a column in the list of all channels.
 fn right_of(device: &Device, column: u32) -> u32
     requires { column < 65536 }
     ensures { result ≡ right_of device.now column }
@@ -38,7 +38,7 @@ fn right_of(device: &Device, column: u32) -> u32
     device.ny() + 1 + column
 }
 
-/// The blanks before a number of the map.
+/// Returns the blanks before a number of the map.
 fn blanks_before(number: u64) -> &'static [u8]
     ensures { result.now ≡ blanks_before number }
 {
@@ -59,7 +59,7 @@ fn put_cell<W: ByteSink>(out: &mut OutputBuffer, sink: &mut W, number: u64)
     put_number(out, sink, number);
 }
 
-/// Prints a place of the channel above a row, and where channels meet right of it.
+/// Prints a place of the channel above a row, and the crossing of channels right of it.
 fn put_crossing_at<W: ByteSink>(
     out: &mut OutputBuffer,
     sink: &mut W,
@@ -127,7 +127,7 @@ fn put_block_cells<W: ByteSink>(
     out.push(sink, b"   .");
 }
 
-/// Prints the blocks of a row, each behind a place of the channel left of it.
+/// Prints the blocks of a row, each after the place of the channel left of it.
 fn put_blocks<W: ByteSink>(
     out: &mut OutputBuffer,
     sink: &mut W,
@@ -166,7 +166,7 @@ fn put_blocks_line<W: ByteSink>(
     out.push(sink, b"\n");
 }
 
-/// Prints a row of blocks that has so many rows above it, and the channel below it.
+/// Prints a row of blocks that has this many rows above it, and the channel below it.
 fn put_row<W: ByteSink>(
     out: &mut OutputBuffer,
     sink: &mut W,
@@ -182,7 +182,7 @@ fn put_row<W: ByteSink>(
     put_crossing_line(out, sink, device, channels, row);
 }
 
-/// Prints so many rows from the top.
+/// Prints this many rows from the top.
 fn put_rows<W: ByteSink>(
     out: &mut OutputBuffer,
     sink: &mut W,

@@ -1,4 +1,4 @@
-//! The lines on the lines of the routing file that name what is overused.
+//! The lines of a report on the lines of the routing file that name overused nodes.
 
 ghost use Rattle.std.specs.Prelude.{◌≡◌, ◌<◌, length, option_copied};
 ghost use Rattle.vpr_text.specs.Output.{SendsTo};
@@ -28,7 +28,7 @@ fn put_naming<W: ByteSink>(out: &mut OutputBuffer, sink: &mut W, line: u32, node
     );
 }
 
-/// The overused node that a line of the file names, if it names one.
+/// Returns the overused node that a line of the file names, if it names one.
 pub fn overused_on(lines: &Lines<'_>, device: &Device, uses: &[u16], index: usize) -> Option<u32>
     ensures { result ≡ overused_on device.now uses.now lines.now index }
 {
@@ -51,7 +51,7 @@ fn put_named<W: ByteSink>(out: &mut OutputBuffer, sink: &mut W, line: u32, node:
     }
 }
 
-/// Prints what is said of a line of the file.
+/// Prints that a line of the file names an overused node, if it does.
 fn put_named_at<W: ByteSink>(
     out: &mut OutputBuffer,
     sink: &mut W,
@@ -68,7 +68,7 @@ fn put_named_at<W: ByteSink>(
     put_named(out, sink, lines.at(index), node);
 }
 
-/// Prints which lines of the file name what is overused by these uses.
+/// Prints which lines of the file name nodes that are overused by these uses.
 pub(crate) fn put_naming_lines<W: ByteSink>(
     out: &mut OutputBuffer,
     sink: &mut W,

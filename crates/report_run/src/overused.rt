@@ -54,7 +54,7 @@ fn put_overuse<W: ByteSink>(
     out.push(sink, b"\n");
 }
 
-/// Prints the line of how many nodes are overused.
+/// Prints the line with the number of overused nodes.
 #[tactic(auto, unfolding(crate::specs::Overused::overused_line))]
 fn put_count<W: ByteSink>(out: &mut OutputBuffer, sink: &mut W, count: usize)
     ensures { SendsTo W.taken W.failed sink.old sink.new out.old out.new (overused_line count) }

@@ -1,4 +1,4 @@
-//! What a report says of a routing, and its text.
+//! The report of a routing, and its text.
 
 ghost use Rattle.std.specs.Prelude.{◌≡◌, IfOk};
 ghost use Rattle.vpr_text.specs.Output.{SendsTo};
@@ -23,10 +23,10 @@ use text_output::{ByteSink, OutputBuffer};
 use vpr_text::Lines;
 use width_bound::CutFigures;
 
-/// What a report says of a routing.
+/// The report of a routing.
 #[derive(Drop)]
 pub(crate) struct RouteReport {
-    /// How many nets cover each node, by its number.
+    /// The number of nets that cover each node, by the node's number.
     uses: Vec<u16>,
     figures: Figures,
     types: Vec<WireTypeUse>,
@@ -45,7 +45,7 @@ impl Model for RouteReport {
 }
 
 impl RouteReport {
-    /// The figures of a routing, legal or not.
+    /// Returns the report of a routing, legal or not.
     pub(crate) fn new(
         alloc: Global,
         problem: &Problem,
@@ -101,8 +101,8 @@ impl RouteReport {
         }
     }
 
-    /// Prints the report with the bound of a cut, what is said of the lines of the file, and the
-    /// map if it is asked for.
+    /// Prints the report with the bound of a cut, the lines of the file that name overused nodes,
+    /// and the map if it is asked for.
     pub(crate) fn put<W: ByteSink>(
         &self,
         out: &mut OutputBuffer,

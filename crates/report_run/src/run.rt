@@ -91,7 +91,7 @@ fn report_lines<W: ByteSink>(
     report_bounded(alloc, placed, problem, &report, lines, out, is_map)
 }
 
-/// Prints the report of a routing of a placed netlist, which was read from these bytes, so that
+/// Prints the report of a routing of a placed netlist. The routing was read from these bytes, so
 /// they have lines.
 fn report_routing<W: ByteSink>(
     alloc: Global,
@@ -118,7 +118,7 @@ fn report_routing<W: ByteSink>(
     report_lines(alloc, placed, problem, routing, &lines, out, is_map)
 }
 
-/// Reads bytes as a routing of a placed netlist, and prints the report of it.
+/// Reads bytes as a routing of a placed netlist, and prints its report.
 fn report_bytes<W: ByteSink>(
     alloc: Global,
     placed: &PlacedNetlist<'_>,
@@ -140,7 +140,7 @@ fn report_bytes<W: ByteSink>(
     report_routing(alloc, placed, problem, &routing, bytes, out, is_map)
 }
 
-/// Reads a routing of a placed netlist from a source, and prints the report of it.
+/// Reads a routing of a placed netlist from a source, and prints its report.
 fn report_design<R: ByteSource, W: ByteSink>(
     alloc: Global,
     placed: &PlacedNetlist<'_>,
@@ -162,7 +162,7 @@ fn report_design<R: ByteSource, W: ByteSink>(
     report_bytes(alloc, placed, problem, &bytes, out, is_map)
 }
 
-/// Reads a routing of a placed netlist on a device, and prints the report of it.
+/// Reads a routing of a placed netlist on a device, and prints its report.
 fn report_placed<R: ByteSource, W: ByteSink>(
     alloc: Global,
     placed: &PlacedNetlist<'_>,
@@ -188,13 +188,14 @@ fn report_placed<R: ByteSource, W: ByteSink>(
     report_design(alloc, placed, &problem, route, out, is_map)
 }
 
-/// Reads an architecture, a netlist, its placement and its routing, in this order and each only
-/// where those before it are without fault; finds a bound of the channel width; and prints the
-/// figures of the routing, legal or not, on the device of the placement's size, with the bound.
+/// Reads an architecture, a netlist, its placement and its routing in this order, each only if
+/// those before it have no fault. Finds a bound of the channel width. Prints the figures of the
+/// routing, legal or not, on the device of the placement's size, with the bound.
 ///
 /// # Errors
-/// Memory aside, exactly the first fault of the files by the order of reading, and then nothing was
-/// printed; else Unwritten exactly where the sink failed, which received a front of the report.
+/// Each fault exactly when it comes first; only `Memory` is unspecified. The faults of the files
+/// come in reading order, and then nothing was printed. After them comes `Unwritten`, if the sink
+/// failed; it received a front of the report.
 pub fn report_run<N: ByteSource, A: ByteSource, P: ByteSource, R: ByteSource, W: ByteSink>(
     alloc: Global,
     net: &mut N,
@@ -207,8 +208,8 @@ pub fn report_run<N: ByteSource, A: ByteSource, P: ByteSource, R: ByteSource, W:
     is_map: bool,
 ) -> Result<(), AppFault>
     requires tracks { (1 ≤ width) × (width ≤ most_tracks) }
-    // What the files say decides. Where they say a placed netlist and a routing of it, the report
-    // is printed, with the bound of some cut. There is no routing at a width that this rules out.
+    // The files decide. If they give a placed netlist and a routing of it, the report is printed,
+    // with the bound of some cut. There is no routing at a width that this rules out.
     ensures runs { result ≢ Err AppFault.Memory
         → MeetsDesign (reading (A.remaining arch.old) (A.failed arch.new))
         (reading (N.remaining net.old) (N.failed net.new))
@@ -216,10 +217,10 @@ pub fn report_run<N: ByteSource, A: ByteSource, P: ByteSource, R: ByteSource, W:
         (λ files. Meets (reading (R.remaining route.old) (R.failed route.new))
         (λ r. RunsReport is_map (writing_to W.taken W.failed out.old out.new)
         width mode r (placed_in files) result)) }
-    // Nothing is written where memory runs out.
+    // Nothing is written if memory runs out.
     ensures memory { result ≡ Err AppFault.Memory
         → TakesNothing (writing_to W.taken W.failed out.old out.new) }
-    // A file is not read where the run ended at one before it.
+    // A file is not read if the run ended at one before it.
     ensures net { ends_before InputFile.Net result ≡ true → net.new ≡ net.old }
     ensures place { ends_before InputFile.Place result ≡ true → place.new ≡ place.old }
     ensures route { ends_before InputFile.Route result ≡ true → route.new ≡ route.old }

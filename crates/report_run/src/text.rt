@@ -9,7 +9,7 @@ use rr_graph::Problem;
 use run_inputs::{net_name, number_of_net};
 use text_output::{ByteSink, OutputBuffer, Piece, put_pieces};
 
-/// Prints how many of what there is.
+/// Prints a part and the whole, as in `3 of 8`.
 #[tactic(auto, unfolding(crate::specs::Texts::share_text))]
 pub(crate) fn put_share<W: ByteSink>(out: &mut OutputBuffer, sink: &mut W, part: u64, whole: u64)
     ensures { SendsTo W.taken W.failed sink.old sink.new out.old out.new (share_text part whole) }
@@ -25,7 +25,7 @@ pub(crate) fn put_share<W: ByteSink>(out: &mut OutputBuffer, sink: &mut W, part:
     );
 }
 
-/// What is left of a number after a division, in hundredths of the divisor.
+/// Returns the remainder of a division in hundredths of the divisor, rounded down.
 fn hundredths_left(number: u64, by: u64) -> u64
     requires some { 1 ≤ by }
     requires few { by < 2 ^ 32 }
@@ -54,7 +54,7 @@ fn put_quotient<W: ByteSink>(out: &mut OutputBuffer, sink: &mut W, number: u64, 
     );
 }
 
-/// A number of things, of which there is at least one.
+/// Returns a number of things, or 1 if there are none.
 fn some_of(count: u32) -> u64
     ensures most { result ≡ max count 1 }
     ensures some { 1 ≤ result }
@@ -63,7 +63,7 @@ fn some_of(count: u32) -> u64
     u64::from(count.max(1))
 }
 
-/// Prints the mean of so many numbers with this sum.
+/// Prints the mean of this many numbers with this sum.
 pub(crate) fn put_mean<W: ByteSink>(out: &mut OutputBuffer, sink: &mut W, sum: u64, count: u32)
     ensures { SendsTo W.taken W.failed sink.old sink.new out.old out.new (mean_text sum count) }
 {

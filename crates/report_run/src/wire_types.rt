@@ -24,7 +24,7 @@ fn put_type<W: ByteSink>(out: &mut OutputBuffer, sink: &mut W, number: usize, ki
     out.push(sink, b"\n");
 }
 
-/// Prints the line of a type of a list.
+/// Prints the line of a type in a list.
 #[tactic(auto, unfolding(crate::specs::WireTypes::type_line_at))]
 fn put_type_at<W: ByteSink>(
     out: &mut OutputBuffer,

@@ -81,13 +81,13 @@ fn print_explanation<W: ByteSink>(
 }
 
 /// Prints what is wrong with a routing of a problem, which was read from a file of this name with
-/// these lines: a line for each net that has a fault, its first one, in words and with the nodes
-/// that it is about, behind the line of the file; then how many nodes are overused, and a line for
-/// each; then a line for each line of the file that names one. It waits for threads that judge the
-/// nets.
+/// these lines. Each net that has a fault gets a line: the first fault in words, with the nodes
+/// that it is about, after the line number of the file. Then comes the number of overused nodes and
+/// a line for each, and then a line for each line of the file that names one. It waits for threads
+/// that judge the nets.
 ///
 /// # Errors
-/// Memory, and then nothing was printed; else Unwritten exactly where the sink failed, which
+/// `Memory`, and then nothing was printed. Otherwise `Unwritten` exactly if the sink failed, which
 /// received a front of the explanation.
 pub fn explain<W: ByteSink>(
     rt: &(impl Threads + Sync + AllocGlobal),
@@ -99,11 +99,11 @@ pub fn explain<W: ByteSink>(
     out: &mut W,
 ) -> Result<(), AppFault>
     requires { length routing.now ≡ length problem.now.nets }
-    // The explanation is that of each net's first fault.
+    // The explanation has the first fault of each net.
     ensures prints { result ≢ Err AppFault.Memory
         → PrintsExplanation (writing_to W.taken W.failed out.old out.new)
         path.now netlist.now problem.now lines.now routing.now result }
-    // Nothing is written where memory runs out.
+    // Nothing is written if memory runs out.
     ensures memory { result ≡ Err AppFault.Memory
         → TakesNothing (writing_to W.taken W.failed out.old out.new) }
 {

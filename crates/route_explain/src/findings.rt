@@ -1,4 +1,4 @@
-//! What is found out about a routing before anything is printed, since it takes memory.
+//! What is found out about a routing before anything is printed, since that takes memory.
 
 ghost use Rattle.std.specs.Prelude.{◌≡◌, ◌<◌, IfOk, None, get_or, is_some, length, true};
 ghost use Rattle.route_explain.specs.kept.Findings.{AreFindings, AreIndexes, IsIndexOf};
@@ -15,21 +15,21 @@ use std::alloc::{AllocError, AllocGlobal, Global};
 use std::thread::Threads;
 use vpr_text::Lines;
 
-/// What is wrong with a routing, and what it is looked up by.
+/// What is wrong with a routing, and the tables for looking that up.
 #[derive(Drop)]
 pub(crate) struct Findings {
     /// The first fault of each net, if it has one.
     pub(crate) faults: Vec<Option<RouteFault>>,
-    /// For each net that has a fault an index of its list.
+    /// For each net that has a fault, an index of its list.
     pub(crate) indexes: Vec<NetIndex>,
-    /// For each net of the netlist the place in the file at which its section begins.
+    /// For each net of the netlist, the place in the file at which its section begins.
     pub(crate) starts: Vec<usize>,
-    /// How many nets cover each node.
+    /// The number of nets that cover each node.
     pub(crate) uses: Vec<u16>,
     pub(crate) overused: Vec<OverusedNode>,
 }
 
-/// An index of the list of a net, if it has a fault.
+/// Returns an index of a net's list if the net has a fault, and otherwise an empty one.
 fn index_of_net(
     alloc: Global,
     problem: &Problem,
@@ -47,7 +47,7 @@ fn index_of_net(
     }
 }
 
-/// An index of the list of each net that has a fault.
+/// Returns an index for each net. A net that has a fault gets an index of its list.
 fn net_indexes(
     alloc: Global,
     problem: &Problem,
@@ -65,7 +65,7 @@ fn net_indexes(
 }
 
 impl Findings {
-    /// What is wrong with a routing whose file has these lines.
+    /// Finds out what is wrong with a routing whose file has these lines.
     pub(crate) fn new(
         rt: &(impl Threads + Sync + AllocGlobal),
         netlist: &Netlist<'_>,

@@ -1,4 +1,4 @@
-//! What the steps of a faulty list are looked up by.
+//! An index for looking up the steps of a faulty list.
 
 ghost use Rattle.std.specs.Prelude.{◌≡◌, IfOk, is_some};
 ghost use Rattle.route_tree.specs.Paths.{ends_of};
@@ -8,8 +8,8 @@ ghost use Rattle.route_explain.specs.kept.Places.{IsIndex, is_before, place_in};
 use crate::places::Places;
 use std::alloc::{AllocError, Global};
 
-/// Where each node stands first among those at which the steps of a list begin, among those at
-/// which they end, and among the sinks of the net.
+/// The first place of each node in three lists: the nodes at which the steps of a net's list begin,
+/// those at which they end, and the sinks of the net.
 #[derive(Drop)]
 pub(crate) struct NetIndex {
     begins: Places,
@@ -17,14 +17,14 @@ pub(crate) struct NetIndex {
     sinks: Places,
 }
 
-/// The nodes at which steps begin.
+/// Returns the nodes at which steps begin.
 fn begins_of(alloc: Global, pairs: &[(u32, u32)]) -> Result<Vec<u32>, AllocError>
     ensures { IfOk result (λ v. v.items ≡ begins_of pairs.now) }
 {
     pairs.iter().map(|pair| pair.0).collect(alloc)
 }
 
-/// The nodes at which steps end.
+/// Returns the nodes at which steps end.
 fn ends_of(alloc: Global, pairs: &[(u32, u32)]) -> Result<Vec<u32>, AllocError>
     ensures { IfOk result (λ v. v.items ≡ ends_of pairs.now) }
 {
@@ -32,7 +32,7 @@ fn ends_of(alloc: Global, pairs: &[(u32, u32)]) -> Result<Vec<u32>, AllocError>
 }
 
 impl NetIndex {
-    /// Of no list.
+    /// Returns an index of no list.
     pub(crate) fn none(alloc: Global) -> NetIndex {
         NetIndex {
             begins: Places::none(alloc),
@@ -41,7 +41,7 @@ impl NetIndex {
         }
     }
 
-    /// Of a list for a net with these sinks.
+    /// Returns an index of a list for a net with these sinks.
     pub(crate) fn new(
         alloc: Global,
         sinks: &[u32],
@@ -59,28 +59,28 @@ impl NetIndex {
         })
     }
 
-    /// Whether a step begins at a node.
+    /// Returns whether a step begins at a node.
     pub(crate) fn begins_at(&self, node: u32) -> bool
         ensures { result ≡ is_some (place_in self.now.begins node) }
     {
         self.begins.has(node)
     }
 
-    /// Whether a step ends at a node.
+    /// Returns whether a step ends at a node.
     pub(crate) fn ends_at(&self, node: u32) -> bool
         ensures { result ≡ is_some (place_in self.now.ends node) }
     {
         self.ends.has(node)
     }
 
-    /// Whether a step before this row ends at a node.
+    /// Returns whether a step before this row ends at a node.
     pub(crate) fn ends_before(&self, node: u32, row: usize) -> bool
         ensures { result ≡ is_before (place_in self.now.ends node) row }
     {
         self.ends.has_before(node, row)
     }
 
-    /// Whether a node is one of the sinks.
+    /// Returns whether a node is one of the sinks.
     pub(crate) fn has_sink(&self, node: u32) -> bool
         ensures { result ≡ is_some (place_in self.now.sinks node) }
     {

@@ -9,7 +9,7 @@ use crate::index::NetIndex;
 use crate::steps::pair_at;
 use std::marker::Model;
 
-/// The steps of a net's list, and its sinks. Contracts see it as these.
+/// The steps of a net's list, and its sinks. Contracts see these two.
 #[derive(Drop)]
 pub(crate) struct IndexedList<'a> {
     sinks: &'a [u32],
@@ -28,7 +28,7 @@ impl<'a> Model for IndexedList<'a> {
 }
 
 impl<'a> IndexedList<'a> {
-    /// The list of these steps, for a net with these sinks, of which this is an index.
+    /// Returns the list of these steps for a net with these sinks. The index is of both.
     pub(crate) fn new(
         sinks: &'a [u32],
         pairs: &'a [(u32, u32)],
@@ -44,28 +44,28 @@ impl<'a> IndexedList<'a> {
         }
     }
 
-    /// The sinks of the net.
+    /// Returns the sinks of the net.
     pub(crate) fn sinks(&self) -> &'a [u32]
         ensures { result.now ≡ self.now.sinks }
     {
         self.sinks
     }
 
-    /// The steps.
+    /// Returns the steps.
     pub(crate) fn pairs(&self) -> &'a [(u32, u32)]
         ensures { result.now ≡ self.now.pairs }
     {
         self.pairs
     }
 
-    /// How many steps there are.
+    /// Returns the number of steps.
     pub(crate) fn len(&self) -> usize
         ensures { result ≡ length self.now.pairs }
     {
         self.pairs.len()
     }
 
-    /// The step at a row; past the last one that of no use.
+    /// Returns the step at a row, or `(0, 0)` past the last one.
     pub(crate) fn pair_at(&self, row: usize) -> (u32, u32)
         ensures { result ≡ pair_at self.now.pairs row }
     {
@@ -78,28 +78,28 @@ impl<'a> IndexedList<'a> {
         self.index
     }
 
-    /// Whether a node is one of the sinks.
+    /// Returns whether a node is one of the sinks.
     pub(crate) fn has_sink(&self, node: u32) -> bool
         ensures { result ≡ is_among self.now.sinks node }
     {
         self.index().has_sink(node)
     }
 
-    /// Whether a step begins at a node.
+    /// Returns whether a step begins at a node.
     pub(crate) fn begins_at(&self, node: u32) -> bool
         ensures { result ≡ begins_at self.now.pairs node }
     {
         self.index().begins_at(node)
     }
 
-    /// Whether a step ends at a node.
+    /// Returns whether a step ends at a node.
     pub(crate) fn ends_at(&self, node: u32) -> bool
         ensures { result ≡ ends_at self.now.pairs node }
     {
         self.index().ends_at(node)
     }
 
-    /// Whether one of so many first steps ends at a node.
+    /// Returns whether one of the first `row` steps ends at a node.
     pub(crate) fn ends_before(&self, row: usize, node: u32) -> bool
         ensures { result ≡ ends_before self.now.pairs row node }
     {

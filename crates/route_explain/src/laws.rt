@@ -1,4 +1,4 @@
-//! Laws of explanations: functions that do nothing, and whose contracts are theorems about the
+//! Laws of explanations: functions that do nothing, whose contracts are theorems about the
 //! definitions. The first line of a net is about the fault that the verdict names.
 
 ghost use Rattle.std.specs.Prelude.{◌≡◌, Some, length};
@@ -11,7 +11,7 @@ use route_check::RouteFault;
 use route_tree::Routing;
 use rr_graph::Problem;
 
-/// The verdict names the fault of the first net that has a line.
+/// Shows that the verdict names the fault of the first net that has a line.
 pub fn first_line_is_of_the_verdict(
     problem: &Problem,
     routing: &Routing,

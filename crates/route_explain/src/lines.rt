@@ -1,4 +1,4 @@
-//! Which line of the file a fault is about.
+//! The line of the file that a fault is about.
 
 ghost use Rattle.std.specs.Prelude.{◌≡◌, ◌&&◌, ◌==◌, None, drop};
 ghost use Rattle.std.specs.Option.{option_or};
@@ -10,7 +10,7 @@ use route_file::{begins_section, node_named};
 use rr_graph::Device;
 use vpr_text::Lines;
 
-/// The line at which the first node of a section stands; 0 where none does.
+/// Returns the number of the line that names the first node of a section, or 0 if none does.
 fn first_node_line(device: &Device, lines: &Lines<'_>, start: usize) -> u32
     ensures { result ≡ first_node_line device.now (drop start lines.now) }
 {
@@ -25,7 +25,7 @@ fn first_node_line(device: &Device, lines: &Lines<'_>, start: usize) -> u32
     0
 }
 
-/// Whether a node, if a line names one, makes a step with the last one.
+/// Returns whether a step from the last node ends at the node that a line names, if it names one.
 fn ends_step(device: &Device, last: Option<u32>, node: Option<u32>) -> bool
     ensures { result ≡ ends_step device.now last node }
 {
@@ -35,7 +35,7 @@ fn ends_step(device: &Device, last: Option<u32>, node: Option<u32>) -> bool
     }
 }
 
-/// How many steps are left, of so many, where one ends.
+/// Returns how many of the steps are left after a line. A step ends on it if `is_step`.
 fn left_after(is_step: bool, left: usize) -> usize
     ensures { result ≡ left_after is_step left }
 {
@@ -46,7 +46,7 @@ fn left_after(is_step: bool, left: usize) -> usize
     }
 }
 
-/// The last node, where a line names one or none.
+/// Returns the last node after a line that names a node or none.
 fn last_after(last: Option<u32>, node: Option<u32>) -> Option<u32>
     ensures { result ≡ option_or node last }
 {
@@ -56,14 +56,15 @@ fn last_after(last: Option<u32>, node: Option<u32>) -> Option<u32>
     }
 }
 
-/// Whether a step ends, and none is left.
+/// Returns whether a step ends and none is left.
 fn is_there(is_step: bool, left: usize) -> bool
     ensures { result ≡ (is_step && left == 0) }
 {
     is_step && left == 0
 }
 
-/// The line at which the step at a row of a section ends; 0 where none does.
+/// Returns the number of the line at which the step at a row of a section ends, or 0 if there is
+/// none.
 fn step_line(device: &Device, lines: &Lines<'_>, start: usize, row: usize) -> u32
     ensures { result ≡ step_line device.now None row (drop start lines.now) }
 {
@@ -84,7 +85,7 @@ fn step_line(device: &Device, lines: &Lines<'_>, start: usize, row: usize) -> u3
     0
 }
 
-/// The line of a spot, where a section begins behind a place.
+/// Returns the number of a spot's line. The section's heading is before the place `start`.
 fn spot_line(device: &Device, lines: &Lines<'_>, start: usize, spot: Spot) -> u32
     ensures { result ≡ spot_line device.now lines.now start spot }
 {
@@ -95,7 +96,7 @@ fn spot_line(device: &Device, lines: &Lines<'_>, start: usize, spot: Spot) -> u3
     }
 }
 
-/// The line of a spot; 0 where the file has no such section.
+/// Returns the number of a spot's line, or 0 if the file has no such section.
 pub(crate) fn line_of_spot(device: &Device, lines: &Lines<'_>, start: usize, spot: Spot) -> u32
     ensures { result ≡ line_of_spot device.now lines.now start spot }
 {

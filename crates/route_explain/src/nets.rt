@@ -72,7 +72,7 @@ fn put_fault_words<W: ByteSink>(
     }
 }
 
-/// What is wrong with the list of a net that has one.
+/// Returns the fault of a net's list, if the net has a list.
 pub(crate) fn tree_fault_in(fault: RouteFault) -> Option<TreeFault>
     ensures { result ≡ tree_fault_in fault }
 {
@@ -82,7 +82,7 @@ pub(crate) fn tree_fault_in(fault: RouteFault) -> Option<TreeFault>
     }
 }
 
-/// The pairs of a net's list; none where it has no list.
+/// Returns the pairs of a net's list, or none if it has no list.
 pub(crate) fn pairs_at(lists: &[Option<Pairs>], net: u32) -> &[(u32, u32)]
     ensures { result.now ≡ pairs_in (list_in lists.now net) }
 {
@@ -93,7 +93,7 @@ pub(crate) fn pairs_at(lists: &[Option<Pairs>], net: u32) -> &[(u32, u32)]
     }
 }
 
-/// The fault of a net, if it has one.
+/// Returns the fault of a net, if it has one.
 pub(crate) fn fault_at(faults: &[Option<RouteFault>], net: u32) -> Option<RouteFault>
     ensures { result ≡ get_or faults.now net None }
 {
@@ -103,7 +103,8 @@ pub(crate) fn fault_at(faults: &[Option<RouteFault>], net: u32) -> Option<RouteF
     }
 }
 
-/// The line of the file that the fault of a net is about; 0 where there is none.
+/// Returns the number of the line of the file that the fault of a net is about, or 0 if there is
+/// none.
 fn fault_line_number(
     problem: &Problem,
     lines: &Lines<'_>,
@@ -200,7 +201,7 @@ fn put_net<W: ByteSink>(
     }
 }
 
-/// Prints what is said of a net.
+/// Looks up the fault of a net, and prints the net's line if there is one.
 fn put_net_at<W: ByteSink>(
     out: &mut OutputBuffer,
     sink: &mut W,

@@ -1,4 +1,4 @@
-//! Which step stands out of order.
+//! The first step that is out of order.
 
 ghost use Rattle.std.specs.Prelude.{◌≡◌};
 ghost use Rattle.route_explain.specs.Steps.{is_in_order, may_follow, row_out_of_order};
@@ -6,7 +6,7 @@ ghost use Rattle.route_explain.specs.Steps.{is_in_order, may_follow, row_out_of_
 use crate::indexed_list::IndexedList;
 use rr_graph::Device;
 
-/// Whether the step at a row may begin where it does, after one that ends at this node.
+/// Returns whether the step at a row may begin where it does, after one that ends at this node.
 fn may_follow(list: &IndexedList<'_>, device: &Device, source: u32, row: usize, last: u32) -> bool
     ensures { result ≡ may_follow device.now source list.now.pairs row last }
 {
@@ -14,7 +14,7 @@ fn may_follow(list: &IndexedList<'_>, device: &Device, source: u32, row: usize, 
     last == node || (device.is_sink(last) && (source == node || list.ends_before(row, node)))
 }
 
-/// Whether the step at a row may stand there.
+/// Returns whether the step at a row is in order.
 fn is_in_order(list: &IndexedList<'_>, device: &Device, source: u32, row: usize) -> bool
     ensures { result ≡ is_in_order device.now source list.now.pairs row }
 {
@@ -25,7 +25,7 @@ fn is_in_order(list: &IndexedList<'_>, device: &Device, source: u32, row: usize)
     may_follow(list, device, source, row, last)
 }
 
-/// The first step that may not stand where it does.
+/// Returns the row of the first step that is out of order.
 pub(crate) fn row_out_of_order(
     list: &IndexedList<'_>,
     device: &Device,

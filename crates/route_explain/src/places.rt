@@ -1,4 +1,4 @@
-//! Where nodes stand first in a list, found without a walk over it.
+//! The first place of each node in a list, found without a walk over the list.
 
 ghost use Rattle.std.specs.Prelude.{◌≡◌, [], IfOk, OnOk, is_some};
 ghost use Rattle.route_explain.specs.kept.Places.{ArePlaces, HasMore, is_before, place_in};
@@ -6,14 +6,14 @@ ghost use Rattle.route_explain.specs.kept.Places.{ArePlaces, HasMore, is_before,
 use std::alloc::{AllocError, Global};
 use std::collections::BTreeMap;
 
-/// Where nodes stand first.
+/// The first place of each node.
 #[derive(Drop)]
 pub(crate) struct Places {
     first: BTreeMap<u32, usize>,
 }
 
 impl Places {
-    /// No node has a place.
+    /// Returns a table in which no node has a place.
     pub(crate) fn none(alloc: Global) -> Places
         ensures { ArePlaces [] result }
     {
@@ -22,7 +22,7 @@ impl Places {
         }
     }
 
-    /// A node stands at a place too, behind all others.
+    /// Adds a place of a node, which comes after all others.
     fn add(&mut self, node: u32, place: usize) -> Result<(), AllocError>
         ensures { OnOk result (HasMore self.old self.new node place) }
     {
@@ -32,7 +32,7 @@ impl Places {
         Ok(())
     }
 
-    /// Where the nodes of a list stand first.
+    /// Returns the first place of each node in a list.
     pub(crate) fn of(alloc: Global, nodes: &[u32]) -> Result<Places, AllocError>
         ensures { IfOk result (ArePlaces nodes.now) }
     {
@@ -43,14 +43,14 @@ impl Places {
         Ok(places)
     }
 
-    /// Whether a node has a place.
+    /// Returns whether a node has a place.
     pub(crate) fn has(&self, node: u32) -> bool
         ensures { result ≡ is_some (place_in self.now node) }
     {
         self.first.contains_key(&node)
     }
 
-    /// Whether a node has a place before this one.
+    /// Returns whether a node has a place before this one.
     pub(crate) fn has_before(&self, node: u32, place: usize) -> bool
         ensures { result ≡ is_before (place_in self.now node) place }
     {

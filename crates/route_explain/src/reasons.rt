@@ -98,7 +98,7 @@ fn put_no_switch<W: ByteSink>(
     put_why(out, sink, device, pairs, row);
 }
 
-/// Prints the first node that is come to again.
+/// Prints the first node that the steps reach again.
 fn put_met_again<W: ByteSink>(
     out: &mut OutputBuffer,
     sink: &mut W,
@@ -114,7 +114,7 @@ fn put_met_again<W: ByteSink>(
     put_end(out, sink, device, list.pairs(), row);
 }
 
-/// Prints the node to which a step leads, if it leaves the source.
+/// Prints the node that a step leads to, if the step leaves the source.
 fn put_leaving<W: ByteSink>(
     out: &mut OutputBuffer,
     sink: &mut W,
@@ -130,7 +130,7 @@ fn put_leaving<W: ByteSink>(
     }
 }
 
-/// Prints the nodes to which steps from the source lead.
+/// Prints the nodes that steps from the source lead to.
 fn put_all_leaving<W: ByteSink>(
     out: &mut OutputBuffer,
     sink: &mut W,
@@ -146,7 +146,7 @@ fn put_all_leaving<W: ByteSink>(
     }
 }
 
-/// Prints the source, and the nodes to which steps from there lead.
+/// Prints the source, and the nodes that steps from it lead to.
 fn put_outputs<W: ByteSink>(
     out: &mut OutputBuffer,
     sink: &mut W,
@@ -162,7 +162,7 @@ fn put_outputs<W: ByteSink>(
     put_all_leaving(out, sink, device, source, pairs);
 }
 
-/// Prints the first sink that is none of the net's.
+/// Prints the first sink that isn't one of the net's.
 fn put_foreign_sink<W: ByteSink>(
     out: &mut OutputBuffer,
     sink: &mut W,
@@ -177,7 +177,8 @@ fn put_foreign_sink<W: ByteSink>(
     put_end(out, sink, device, list.pairs(), row);
 }
 
-/// Prints the node to which nothing leads, if a step begins at one, else that there is a circle.
+/// Prints the node that no step leads to, if a step begins at one, and otherwise that there is a
+/// circle.
 fn put_apart<W: ByteSink>(
     out: &mut OutputBuffer,
     sink: &mut W,
@@ -200,7 +201,7 @@ fn put_apart<W: ByteSink>(
     }
 }
 
-/// Prints the node from which nothing goes on, if a step ends at one, else what is apart.
+/// Prints the node that no step goes on from, if a step ends at one, and otherwise what is apart.
 fn put_loose<W: ByteSink>(
     out: &mut OutputBuffer,
     sink: &mut W,
@@ -239,7 +240,7 @@ fn put_dangling<W: ByteSink>(
     put_loose(out, sink, list, device, source, row);
 }
 
-/// Prints a sink, unless a step leads there.
+/// Prints a sink, unless a step leads to it.
 fn put_missing<W: ByteSink>(
     out: &mut OutputBuffer,
     sink: &mut W,
@@ -255,7 +256,7 @@ fn put_missing<W: ByteSink>(
     }
 }
 
-/// Prints the sinks to which no step leads.
+/// Prints the sinks that no step leads to.
 fn put_all_missing<W: ByteSink>(
     out: &mut OutputBuffer,
     sink: &mut W,
@@ -285,7 +286,7 @@ fn put_missing_sinks<W: ByteSink>(
     put_all_missing(out, sink, list, device);
 }
 
-/// Prints the first step that may not stand where it does.
+/// Prints the first step that is out of order.
 fn put_out_of_order<W: ByteSink>(
     out: &mut OutputBuffer,
     sink: &mut W,
@@ -301,7 +302,7 @@ fn put_out_of_order<W: ByteSink>(
     put_step(out, sink, device, list.pairs(), row);
 }
 
-/// Prints what a fault means, of a list for a net of this source.
+/// Prints what a fault of a list means, for a net with this source.
 pub(crate) fn put_reason<W: ByteSink>(
     out: &mut OutputBuffer,
     sink: &mut W,

@@ -36,7 +36,7 @@ fn explain_lines<W: ByteSink>(
 }
 
 /// Explains a routing of a design, which was read from these bytes, as far as memory and the sink
-/// let it.
+/// allow.
 fn explain_to<W: ByteSink>(
     rt: &(impl Threads + Sync + AllocGlobal),
     path: &[u8],
@@ -130,14 +130,14 @@ fn explain_design<R: ByteSource, W: ByteSink, X: ByteSink>(
     explain_bytes(rt, path, design, &bytes, out, words)
 }
 
-/// Reads the files of a design and its routing, whose file has this name, and prints the verdict on
-/// the routing, all of it as `check_run` does; and then explains the verdict to a second sink. The
-/// answer is the verdict, whether or not the explanation could be printed.
+/// Reads the files of a design and its routing, and prints the verdict on the routing as
+/// `check_run` does. Then explains the verdict to a second sink, in which the routing's file has
+/// the name `path`. Returns the verdict, whether or not the explanation could be printed.
 ///
 /// # Errors
-/// Memory aside, exactly the first fault of the files by the order of reading, and then nothing was
-/// printed; else Unwritten exactly where the first sink failed, which received a front of the
-/// verdict's line, and then nothing was explained.
+/// Each fault exactly when it comes first; only `Memory` is unspecified. The faults of the files
+/// come in reading order, and then nothing was printed. After them comes `Unwritten`, if the first
+/// sink failed; it received a front of the verdict's line, and nothing was explained.
 pub fn explain_run<
     N: ByteSource,
     A: ByteSource,
@@ -158,8 +158,8 @@ pub fn explain_run<
     mode: Mode,
 ) -> Result<Option<RouteFault>, AppFault>
     requires tracks { (1 ≤ width) × (width ≤ most_tracks) }
-    // What the files say decides, and where they say a routing of a problem, the line of the
-    // verdict on it is printed, and what is wrong with it.
+    // The files decide. If they give a routing of a problem, the line of the verdict on it is
+    // printed, and what is wrong with it.
     ensures runs { result ≢ Err AppFault.Memory
         → MeetsDesign (reading (A.remaining arch.old) (A.failed arch.new))
         (reading (N.remaining net.old) (N.failed net.new))
@@ -168,12 +168,12 @@ pub fn explain_run<
         (λ r. RunsExplain (writing_to W.taken W.failed out.old out.new)
         (writing_to X.taken X.failed words.old words.new) path.now
         (reported_in width mode files r) result)) }
-    // Nothing is written where memory runs out before the verdict.
+    // Nothing is written if memory runs out before the verdict.
     ensures memory { result ≡ Err AppFault.Memory
         → TakesNothing (writing_to W.taken W.failed out.old out.new) }
     ensures untold { result ≡ Err AppFault.Memory
         → TakesNothing (writing_to X.taken X.failed words.old words.new) }
-    // A file is not read where the run ended at one before it.
+    // A file is not read if the run ended at one before it.
     ensures net { ends_before InputFile.Net result ≡ true → net.new ≡ net.old }
     ensures place { ends_before InputFile.Place result ≡ true → place.new ≡ place.old }
     ensures route { ends_before InputFile.Route result ≡ true → route.new ≡ route.old }

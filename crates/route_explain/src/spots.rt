@@ -1,4 +1,4 @@
-//! Where in its section of the file a fault of a net's list shows.
+//! Where a fault of a net's list shows in the net's section of the file.
 
 ghost use Rattle.std.specs.Prelude.{◌≡◌, ◌<◌, length};
 ghost use Rattle.route_explain.specs.Spots.{at_row, fault_spot, loose_spot, spot_of};
@@ -26,7 +26,7 @@ pub(crate) enum Spot {
     StepEnd(usize),
 }
 
-/// Where the step at a row ends, if there is one.
+/// Returns the spot at which the step at a row ends, or the heading if there is no step.
 fn at_row(row: Option<usize>) -> Spot
     ensures { result ≡ at_row row }
 {
@@ -36,7 +36,7 @@ fn at_row(row: Option<usize>) -> Spot
     }
 }
 
-/// Where a step ends at a dead end, else where one is cut off.
+/// Returns the spot of a step that ends at a dead end, or else of one that is cut off.
 fn loose_spot(dead_end: Option<usize>, cut_off: Option<usize>) -> Spot
     ensures { result ≡ loose_spot dead_end cut_off }
 {
@@ -46,7 +46,7 @@ fn loose_spot(dead_end: Option<usize>, cut_off: Option<usize>) -> Spot
     }
 }
 
-/// Where a fault of a list shows, for a net of this source.
+/// Returns where a fault of a list shows, for a net with this source.
 fn spot_of(list: &IndexedList<'_>, device: &Device, source: u32, fault: TreeFault) -> Spot
     ensures { result ≡ spot_of device.now source list.now.sinks list.now.pairs fault }
 {
@@ -63,7 +63,7 @@ fn spot_of(list: &IndexedList<'_>, device: &Device, source: u32, fault: TreeFaul
     }
 }
 
-/// Where the fault of a net shows.
+/// Returns where the fault of a net shows.
 pub(crate) fn fault_spot(
     index: &NetIndex,
     problem: &Problem,

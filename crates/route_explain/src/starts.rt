@@ -1,4 +1,4 @@
-//! Where in the file the sections of nets begin.
+//! Where the sections of nets begin in the file.
 
 ghost use Rattle.std.specs.Prelude.{◌≡◌, IfOk, get_or};
 ghost use Rattle.route_explain.specs.Lines.{starts_of};
@@ -9,7 +9,7 @@ use route_file::net_begun;
 use std::alloc::{AllocError, Global};
 use vpr_text::Lines;
 
-/// Notes where the section of a net begins, if it is one of them.
+/// Records where the section of a net begins, if the net is one of the list.
 fn note(starts: &mut Vec<usize>, net: Option<u32>, place: usize)
     ensures { starts.new.items ≡ noted starts.old.items net place }
 {
@@ -21,8 +21,8 @@ fn note(starts: &mut Vec<usize>, net: Option<u32>, place: usize)
     }
 }
 
-/// For each net of the netlist the place behind the line that begins its section; 0 where none
-/// does.
+/// Returns for each net of the netlist the place after the line that begins its section, or 0 if
+/// there is none.
 pub(crate) fn section_starts(
     alloc: Global,
     netlist: &Netlist<'_>,
@@ -37,7 +37,8 @@ pub(crate) fn section_starts(
     Ok(starts)
 }
 
-/// The place at which the section of the net with this number begins; 0 where none does.
+/// Returns the place at which the section of the net with this number begins, or 0 if there is
+/// none.
 pub(crate) fn start_at(starts: &[usize], number: u32) -> usize
     ensures { result ≡ get_or starts.now number 0 }
 {

@@ -5,7 +5,7 @@ ghost use Rattle.route_explain.specs.Switches.{reason_between, reason_by, switch
 
 use rr_graph::{Device, Kind, Node};
 
-/// Why two wires are not joined.
+/// Returns why two wires are not joined.
 fn wires_reason(is_one_track: bool) -> &'static [u8]
     ensures { result.now ≡ wires_reason is_one_track }
 {
@@ -16,7 +16,7 @@ fn wires_reason(is_one_track: bool) -> &'static [u8]
     }
 }
 
-/// Why nodes of these kinds are not joined.
+/// Returns why nodes of these kinds are not joined.
 fn kinds_reason(from: Kind, to: Kind, is_one_track: bool) -> &'static [u8]
     ensures { result.now ≡ reason_by from to is_one_track }
 {
@@ -29,7 +29,7 @@ fn kinds_reason(from: Kind, to: Kind, is_one_track: bool) -> &'static [u8]
     }
 }
 
-/// Why two nodes are not joined; nothing of what is no node.
+/// Returns why two nodes are not joined, or an empty text if one of them is no node.
 fn nodes_reason(from: Option<Node>, to: Option<Node>) -> &'static [u8]
     ensures { result.now ≡ reason_between from to }
 {
@@ -42,7 +42,7 @@ fn nodes_reason(from: Option<Node>, to: Option<Node>) -> &'static [u8]
     }
 }
 
-/// Why no switch leads from the first node of a step to the second.
+/// Returns why no switch leads from the first node of a step to the second.
 pub(crate) fn switch_reason(device: &Device, pair: (u32, u32)) -> &'static [u8]
     ensures { result.now ≡ switch_reason device.now pair }
 {

@@ -71,7 +71,7 @@ pub(crate) fn put_end<W: ByteSink>(
     }
 }
 
-/// Prints the number of a line behind a file's name, if there is such a line.
+/// Prints the number of a line after a file's name, if there is such a line.
 fn put_line<W: ByteSink>(out: &mut OutputBuffer, sink: &mut W, line: u32)
     ensures { SendsTo W.taken W.failed sink.old sink.new out.old out.new (line_text line) }
 {

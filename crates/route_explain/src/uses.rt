@@ -1,4 +1,4 @@
-//! The lines on the lines of the file that name what is overused.
+//! The lines of an explanation on the lines of the file that name overused nodes.
 
 ghost use Rattle.std.specs.Prelude.{◌≡◌, if◌then◌else◌};
 ghost use Rattle.vpr_text.specs.Output.{SendsTo};
@@ -75,7 +75,8 @@ fn put_use_of<W: ByteSink>(
     }
 }
 
-/// Prints what is said of a line of the file, which stands in the section of this net.
+/// Prints that a line of the file names an overused node, if it does. The line is in the section of
+/// this net.
 fn put_use_at<W: ByteSink>(
     out: &mut OutputBuffer,
     sink: &mut W,
@@ -96,7 +97,7 @@ fn put_use_at<W: ByteSink>(
     put_use_of(out, sink, path, netlist, device, line, net, node);
 }
 
-/// The net in whose section the line behind this one stands.
+/// Returns the net whose section the next line is in.
 fn net_behind(
     netlist: &Netlist<'_>,
     lines: &Lines<'_>,
@@ -113,7 +114,7 @@ fn net_behind(
     }
 }
 
-/// Prints which lines of the file name what is overused by these uses, and for which nets.
+/// Prints which lines of the file name nodes that are overused by these uses, and for which nets.
 pub(crate) fn put_use_lines<W: ByteSink>(
     out: &mut OutputBuffer,
     sink: &mut W,

@@ -1,4 +1,4 @@
-//! A placed design that is read for a device, from its three files.
+//! A placed design on a device, read from its three files.
 
 ghost use Rattle.std.specs.Prelude.{◌≡◌, ◌≤◌, true, false, map};
 ghost use Rattle.net_file.specs.Routed.{routed_numbers};
@@ -46,7 +46,7 @@ impl<'a> Model for Design<'a> {
 }
 
 impl<'a> Design<'a> {
-    /// The design of a netlist's text, whose placement is read: its netlist, its placement, and its
+    /// Reads the placement for a netlist's text. Returns the netlist, the placement, and their
     /// problem on the device of the placement's array.
     pub fn read<P: ByteSource>(
         alloc: Global,
@@ -78,7 +78,7 @@ impl<'a> Design<'a> {
         self.placed.placement()
     }
 
-    /// Its problem, whose nets have the numbers of the netlist's routed nets.
+    /// Returns the problem. Its nets have the numbers of the netlist's routed nets.
     pub fn problem(&self) -> &Problem
         ensures problem { result.now ≡ self.now.problem }
         ensures design { IsDesign self.now.netlist self.now.placement self.now.problem }

@@ -29,16 +29,16 @@ pub enum InputFile {
 /// What can go wrong in a run.
 #[derive(Clone, Copy, Debug, PartialEq, Eq, Error)]
 pub enum AppFault {
-    /// The architecture file has this fault; never that of memory.
+    /// The architecture file has this fault, which is never lack of memory.
     #[error("the architecture file: {0}")]
     Arch(ArchFault),
-    /// The netlist has this fault; never that of memory.
+    /// The netlist has this fault, which is never lack of memory.
     #[error("the netlist: {0}")]
     Net(NetFault),
-    /// The placement has this fault; never that of memory.
+    /// The placement has this fault, which is never lack of memory.
     #[error("the placement: {0}")]
     Place(PlaceFault),
-    /// The routing file has this fault; never that of memory.
+    /// The routing file has this fault, which is never lack of memory.
     #[error("the routing file: {0}")]
     Route(RouteFileFault),
     /// An input file could not be opened, or reading it failed.
@@ -126,7 +126,7 @@ impl From<WorkFault> for AppFault {
     }
 }
 
-/// The exit status that a fault gives: 4 for bad input, 5 for reading or writing that failed, 6 for
+/// Returns the exit status of a fault: 4 for bad input, 5 for reading or writing that failed, 6 for
 /// memory, a thread, or a worker that went astray.
 pub fn status(fault: &AppFault) -> u8
     ensures { result ≡ status_of fault.now }
@@ -138,7 +138,7 @@ pub fn status(fault: &AppFault) -> u8
     }
 }
 
-/// An input file's name in a fault's text.
+/// Returns an input file's name in the text of a fault.
 fn input_name(file: InputFile) -> &'static [u8]
     ensures { result.now ≡ input_text file }
 {
@@ -222,7 +222,7 @@ fn put_fault<W: ByteSink>(out: &mut OutputBuffer, sink: &mut W, fault: &AppFault
 /// Prints a fault's line. It takes no memory.
 ///
 /// # Errors
-/// Broken where the sink failed, which then took a front of the line.
+/// `Broken` if the sink failed. It took a front of the line.
 pub fn print_fault<W: ByteSink>(fault: &AppFault, out: &mut W) -> Result<(), Broken>
     ensures ok { OnOk result (Appends (W.taken out.old) (W.taken out.new) (fault_text fault.now)) }
     ensures err { OnErr result (IsTrue (W.failed out.new)) }

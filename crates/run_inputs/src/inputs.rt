@@ -1,4 +1,4 @@
-//! The input files of a run: their bytes, and what these say.
+//! The input files of a run: their bytes, and their contents.
 
 ghost use Rattle.std.specs.Prelude.{◌≡◌, false, length, map, IfOk};
 ghost use Rattle.net_file.specs.Reads.{ReadsBytes};
@@ -35,7 +35,7 @@ pub fn read_input<S: ByteSource>(
     }
 }
 
-/// The architecture that bytes describe.
+/// Reads an architecture from its bytes.
 fn parse_arch(alloc: Global, bytes: &[u8]) -> Result<Arch, AppFault>
     ensures { Gives Memory (λ a. a) result (arch_from bytes.now) }
 {
@@ -45,7 +45,7 @@ fn parse_arch(alloc: Global, bytes: &[u8]) -> Result<Arch, AppFault>
     }
 }
 
-/// The netlist that bytes describe, for the pins of an architecture.
+/// Reads a netlist from its bytes, for the pins of an architecture.
 pub fn parse_netlist<'a>(
     alloc: Global,
     bytes: &'a [u8],
@@ -61,7 +61,7 @@ pub fn parse_netlist<'a>(
     }
 }
 
-/// The placement of a netlist's blocks that bytes describe.
+/// Reads the placement of a netlist's blocks from its bytes.
 pub fn parse_placement(
     alloc: Global,
     bytes: &[u8],
@@ -78,7 +78,7 @@ pub fn parse_placement(
     }
 }
 
-/// The routing that bytes describe, for the routed nets of a netlist.
+/// Reads a routing from its bytes, for the routed nets of a netlist.
 pub fn parse_routing(
     alloc: Global,
     bytes: &[u8],

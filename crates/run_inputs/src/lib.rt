@@ -1,5 +1,5 @@
-//! What a run reads, file by file: the stages in which a design is read, and what can go wrong in a
-//! run.
+//! The inputs of a run, file by file: the stages in which a design is read, and what can go wrong
+//! in a run.
 #![tactic(auto)]
 
 mod design;

@@ -1,4 +1,4 @@
-//! An architecture, and the text of a netlist for it, which is read next.
+//! An architecture, and the text of a netlist for it that is not parsed yet.
 
 ghost use Rattle.std.specs.Prelude.{◌≡◌, true};
 ghost use Rattle.run_inputs.specs.Inputs.{ends_before};
@@ -30,7 +30,7 @@ impl Model for NetlistText {
 }
 
 impl NetlistText {
-    /// Reads an architecture, and then, where it has no fault, the text of a netlist.
+    /// Reads an architecture, and then, if that has no fault, the text of a netlist.
     pub fn read<A: ByteSource, N: ByteSource>(
         alloc: Global,
         arch: &mut A,

@@ -24,8 +24,8 @@ use std::alloc::{AllocError, Global};
 use std::marker::Model;
 use vpr_text::ByteSource;
 
-/// The problem of a design that was read and placed, on the device of its array, which the design
-/// fits.
+/// Returns the problem of a design that was read and placed, on the device of its array. The design
+/// suits that device.
 fn problem_of(
     alloc: Global,
     arch: &Arch,
@@ -75,7 +75,7 @@ impl<'a> Model for PlacedNetlist<'a> {
 }
 
 impl<'a> PlacedNetlist<'a> {
-    /// The netlist of a text, whose placement is read.
+    /// Parses the netlist of a text, and reads its placement.
     pub fn read<P: ByteSource>(
         alloc: Global,
         text: &'a NetlistText,
@@ -102,7 +102,7 @@ impl<'a> PlacedNetlist<'a> {
         self.arch
     }
 
-    /// The netlist, which was read for the architecture.
+    /// Returns the netlist, which was read for the architecture.
     pub fn netlist(&self) -> &Netlist<'a>
         ensures netlist { result.now ≡ self.now.netlist }
         ensures read { (bytes : List ℕ) × ReadsBytes self.now.arch.pins bytes self.now.netlist }
@@ -110,7 +110,7 @@ impl<'a> PlacedNetlist<'a> {
         &self.netlist
     }
 
-    /// The placement of the netlist's blocks.
+    /// Returns the placement of the netlist's blocks.
     pub fn placement(&self) -> &Placement
         ensures placement { result.now ≡ self.now.placement }
         ensures placed { IsPlaced self.now.arch.io_rat self.now.netlist.blocks self.now.placement }
@@ -118,7 +118,7 @@ impl<'a> PlacedNetlist<'a> {
         &self.placement
     }
 
-    /// Its problem on the device of its array.
+    /// Returns the problem on the device of the placement's array.
     pub fn problem(&self, alloc: Global, width: u32, mode: Mode) -> Result<Problem, AllocError>
         requires tracks { (1 ≤ width) × (width ≤ most_tracks) }
         ensures made { IfOk result (λ p. p ≡ placed_problem mode self.now width) }

@@ -1,4 +1,4 @@
-//! What is told while a run goes on: the log of a negotiation, and its progress on a terminal.
+//! Gates that report while a run goes on: the log of a negotiation, and its progress on a terminal.
 #![tactic(auto)]
 
 mod log;

@@ -1,10 +1,10 @@
-//! A log of a negotiation, or of those of a search of widths: a head, a line for each iteration,
-//! and one for each width that was tried.
+//! A log of a negotiation, or of the negotiations of a search of widths: a head, a line for each
+//! iteration, and a line for each width that was tried.
 
 use crate::log_text::{write_head, write_row};
 use crate::trial_text::{write_left, write_routed};
 use congestion_book::Book;
-use net_workers::{Gate, TrialEnd};
+use net_workers::{Gate, ScheduledTurn, TrialEnd};
 use node_cost::Settings;
 use rr_graph::Problem;
 use std::io::Eprint;
@@ -13,12 +13,12 @@ use std::sync::{Mutex, Wait};
 use std::time::{Clock, Duration};
 use vpr_text::ByteSink;
 
-/// The greatest number of an iteration.
+/// The greatest number that an iteration has.
 const MOST_ITERATIONS: u32 = 500;
 
-/// A gate that writes a log: before the first negotiation a head, and after each iteration and each
-/// trial of a width a line, each whole and at once. Where it can't be written a warning stands on
-/// standard error, and the log ends there; the run goes on.
+/// A gate that writes a log: a head before the first negotiation, and a line after each iteration
+/// and each trial of a width. Each of them is written whole and at once. If the log can't be
+/// written, a warning goes to standard error, the log ends there, and the run goes on.
 #[derive(Drop)]
 pub struct Log<'a, R, W> {
     rt: &'a R,
@@ -30,13 +30,14 @@ pub struct Log<'a, R, W> {
     settings: Settings,
     begin: Duration,
     is_begun: AtomicBool,
-    /// Where it is written; nowhere if it isn't wanted, or any more.
+    /// The sink of the log; `None` if no log is wanted, or none any more.
     out: Mutex<Option<W>>,
 }
 
 impl<'a, R: Eprint + Clock + Wait, W: ByteSink + Drop> Log<'a, R, W> {
-    /// One of a run that begins now, by so many workers. Its name is that of the file, for
-    /// warnings; the head names the program's version, and NET, ARCH, PLACE and ROUTE of the run.
+    /// Returns the log of a run that begins now, with this many workers. `name` is that of the
+    /// log's file, for warnings. The head names the version of the program and the run's NET, ARCH,
+    /// PLACE and ROUTE.
     pub fn new(
         rt: &'a R,
         name: &'a str,
@@ -59,14 +60,14 @@ impl<'a, R: Eprint + Clock + Wait, W: ByteSink + Drop> Log<'a, R, W> {
         }
     }
 
-    /// The milliseconds since it was made.
+    /// Returns the milliseconds since the log was made.
     fn elapsed(&self) -> u64 {
         let now = self.rt.monotonic().unwrap_or(self.begin);
         let elapsed = now.saturating_sub(self.begin);
         u64::try_from(elapsed.as_millis()).unwrap_or(u64::MAX)
     }
 
-    /// Whether the head was written.
+    /// Writes the head, and returns whether that succeeded.
     fn is_head_written(&self, sink: &mut W, problem: &Problem) -> bool {
         let [net, arch, place, route] = self.files;
         write_head(
@@ -83,13 +84,13 @@ impl<'a, R: Eprint + Clock + Wait, W: ByteSink + Drop> Log<'a, R, W> {
         .is_ok()
     }
 
-    /// Whether the line of an iteration was written.
+    /// Writes the line of an iteration, and returns whether that succeeded.
     fn is_row_written(&self, sink: &mut W, iteration: u32, book: &Book) -> bool {
         let number = iteration.max(1).min(MOST_ITERATIONS);
         write_row(sink, &self.settings, number, book, self.elapsed()).is_ok()
     }
 
-    /// Whether the line of a trial was written.
+    /// Writes the line of a trial, and returns whether that succeeded.
     fn is_trial_written(&self, sink: &mut W, width: u32, end: TrialEnd) -> bool {
         match end {
             TrialEnd::Routed { iterations } => write_routed(sink, width, iterations).is_ok(),
@@ -101,7 +102,7 @@ impl<'a, R: Eprint + Clock + Wait, W: ByteSink + Drop> Log<'a, R, W> {
         }
     }
 
-    /// Tells that the log ends.
+    /// Warns that the log can't be written.
     fn complain(&self) {
         let name = self.name;
         let _ = eprintln!(self.rt; "warning: the log {name} cannot be written");
@@ -109,6 +110,8 @@ impl<'a, R: Eprint + Clock + Wait, W: ByteSink + Drop> Log<'a, R, W> {
 }
 
 impl<R: Eprint + Clock + Wait, W: ByteSink + Drop> Gate for Log<'_, R, W> {
+    ghost accepted = { λ gate k turns. Unit {0} };
+
     fn begins(&self, problem: &Problem) {
         if self.is_begun.swap(true, Ordering::SeqCst) {
             return;
@@ -126,6 +129,10 @@ impl<R: Eprint + Clock + Wait, W: ByteSink + Drop> Gate for Log<'_, R, W> {
     fn between(&self, _worker: u32, _net: u32) {}
 
     fn searched(&self, _worker: u32, _net: u32) {}
+
+    fn accepts(&self, _iteration: u32, _turns: &[ScheduledTurn]) -> bool {
+        true
+    }
 
     fn closed(&self, iteration: u32, book: &Book) {
         let mut out = self.out.lock(self.rt);

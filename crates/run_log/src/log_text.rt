@@ -13,7 +13,7 @@ use rr_graph::{Mode, Problem};
 use run_inputs::AppFault;
 use text_output::{ByteSink, OutputBuffer, Piece, put_number, put_pieces};
 
-/// Prints a name and what it has.
+/// Prints a name and its value.
 #[tactic(auto, unfolding(crate::specs::kept::LogTexts::entry_text))]
 fn put_entry<'a, W: ByteSink>(out: &mut OutputBuffer, sink: &mut W, name: &'a [u8], value: &'a [u8])
     ensures { SendsTo W.taken W.failed sink.old sink.new out.old out.new
@@ -69,7 +69,7 @@ fn put_array<W: ByteSink>(out: &mut OutputBuffer, sink: &mut W, nx: u32, ny: u32
     );
 }
 
-/// How nets are routed.
+/// Returns the name of a mode.
 fn mode_name(mode: Mode) -> &'static [u8]
     ensures { result.now ≡ mode_name mode }
 {
@@ -99,7 +99,7 @@ fn put_files<W: ByteSink>(
     put_entry(out, sink, b"route", route);
 }
 
-/// Prints what the problem of the first negotiation is.
+/// Prints the array, the number of nets, the mode and the width of the first negotiation's problem.
 fn put_problem<W: ByteSink>(out: &mut OutputBuffer, sink: &mut W, problem: &Problem)
     ensures { SendsTo W.taken W.failed sink.old sink.new out.old out.new
         (problem_text problem.now) }
@@ -121,7 +121,7 @@ fn put_factors<W: ByteSink>(out: &mut OutputBuffer, sink: &mut W, settings: &Set
     put_amount(out, sink, b"mult", settings.mult(), b" sixteenths");
 }
 
-/// Prints what was chosen of each negotiation.
+/// Prints the options of each negotiation.
 fn put_options<W: ByteSink>(out: &mut OutputBuffer, sink: &mut W, workers: u32, settings: &Settings)
     ensures { SendsTo W.taken W.failed sink.old sink.new out.old out.new
         (options_text workers settings.now) }
@@ -133,7 +133,7 @@ fn put_options<W: ByteSink>(out: &mut OutputBuffer, sink: &mut W, workers: u32, 
     put_amount(out, sink, b"bb", settings.bb(), b" places");
 }
 
-/// Prints what stands above the columns.
+/// Prints the titles of the columns.
 fn put_titles<W: ByteSink>(out: &mut OutputBuffer, sink: &mut W)
     ensures { SendsTo W.taken W.failed sink.old sink.new out.old out.new (titles_text) }
 {
@@ -143,7 +143,7 @@ fn put_titles<W: ByteSink>(out: &mut OutputBuffer, sink: &mut W)
     );
 }
 
-/// Prints a head.
+/// Prints the head of a log.
 fn put_head<W: ByteSink>(
     out: &mut OutputBuffer,
     sink: &mut W,
@@ -166,7 +166,7 @@ fn put_head<W: ByteSink>(
     put_titles(out, sink);
 }
 
-/// Writes the head of a log of a run with these files, at once.
+/// Writes the head of the log of a run with these files, at once.
 #[inline(never)]
 pub fn write_head<W: ByteSink>(
     sink: &mut W,
@@ -202,8 +202,8 @@ pub fn write_head<W: ByteSink>(
     }
 }
 
-/// Prints a text of so many places or more, with the front of a filling before it where it has
-/// fewer.
+/// Prints a text in at least this many places. A shorter text is preceded by a front of the
+/// filling.
 fn put_filled<W: ByteSink>(
     out: &mut OutputBuffer,
     sink: &mut W,
@@ -220,7 +220,7 @@ fn put_filled<W: ByteSink>(
     out.push(sink, text);
 }
 
-/// Prints a number at the right of so many places.
+/// Prints a number right-aligned in at least this many places.
 fn put_column<W: ByteSink, I: Integer>(
     out: &mut OutputBuffer,
     sink: &mut W,
@@ -241,7 +241,7 @@ fn put_column<W: ByteSink, I: Integer>(
     );
 }
 
-/// Prints what stands behind the point, in so many places.
+/// Prints the digits after a decimal point, in this many places.
 fn put_part<W: ByteSink>(out: &mut OutputBuffer, sink: &mut W, places: usize, part: u32)
     requires { places ≤ 4 }
     ensures { SendsTo W.taken W.failed sink.old sink.new out.old out.new
@@ -251,7 +251,7 @@ fn put_part<W: ByteSink>(out: &mut OutputBuffer, sink: &mut W, places: usize, pa
     put_filled(out, sink, b"0000", places, digits.format(part).as_bytes());
 }
 
-/// Prints a number with so many places behind the point.
+/// Prints a number with this many places after the decimal point.
 fn put_point<W: ByteSink, I: Integer>(
     out: &mut OutputBuffer,
     sink: &mut W,
@@ -268,7 +268,7 @@ fn put_point<W: ByteSink, I: Integer>(
     put_part(out, sink, places, part);
 }
 
-/// Prints which iteration of which negotiation a line tells of.
+/// Prints the columns for the width, the iteration and the present-congestion factor.
 fn put_iteration<W: ByteSink>(
     out: &mut OutputBuffer,
     sink: &mut W,
@@ -286,7 +286,7 @@ fn put_iteration<W: ByteSink>(
     put_point(out, sink, present / 16, 4, present % 16 * 625);
 }
 
-/// Prints what it left.
+/// Prints the columns for what the iteration left.
 fn put_figures<W: ByteSink>(
     out: &mut OutputBuffer,
     sink: &mut W,
@@ -308,7 +308,7 @@ fn put_figures<W: ByteSink>(
     put_column(out, sink, 10, wirelength);
 }
 
-/// Prints when it ended, and ends the line.
+/// Prints the time at which the iteration ended, and ends the line.
 fn put_time<W: ByteSink>(out: &mut OutputBuffer, sink: &mut W, milliseconds: u64)
     ensures { SendsTo W.taken W.failed sink.old sink.new out.old out.new (time_text milliseconds) }
 {
@@ -323,7 +323,7 @@ fn put_time<W: ByteSink>(out: &mut OutputBuffer, sink: &mut W, milliseconds: u64
     out.push(sink, b"\n");
 }
 
-/// Prints the line of an iteration, of the book that it left.
+/// Prints the line of an iteration, from the book that it left.
 fn put_row<W: ByteSink>(
     out: &mut OutputBuffer,
     sink: &mut W,
@@ -350,7 +350,7 @@ fn put_row<W: ByteSink>(
     put_time(out, sink, milliseconds);
 }
 
-/// Writes the line of an iteration, of the book that it left, at once.
+/// Writes the line of an iteration, from the book that it left, at once.
 #[inline(never)]
 pub fn write_row<W: ByteSink>(
     sink: &mut W,

@@ -1,25 +1,25 @@
-//! A line that tells people how far a negotiation is, and a line for each width that was tried.
+//! A line that shows people how far a negotiation is, and a line for each width that was tried.
 
 use congestion_book::Book;
-use net_workers::{Gate, TrialEnd};
+use net_workers::{Gate, ScheduledTurn, TrialEnd};
 use std::fmt;
 use std::fmt::Write;
 use std::io::Eprint;
 use std::sync::atomic::{AtomicBool, AtomicU32, AtomicU64, Ordering};
 use std::time::{Clock, Duration};
 
-/// How many milliseconds pass at least before the line is written anew.
+/// The least number of milliseconds between two writes of the line.
 const PAUSE: u64 = 100;
 
-/// What clears the line of a terminal, from its beginning on.
+/// The text that clears the line of a terminal from its beginning.
 const CLEAR: &str = "\r\x1b[K";
 
-/// What stops a terminal from going on in the next row at the end of one, and what lets it again.
+/// The text that keeps a terminal from wrapping long lines. `WRAP` lets it wrap them again.
 const CUT: &str = "\x1b[?7l";
 
 const WRAP: &str = "\x1b[?7h";
 
-/// How many columns a terminal has of which nothing is known.
+/// The number of columns of a terminal whose size is unknown.
 const COLUMNS: u32 = 80;
 
 /// A time, printed in seconds.
@@ -38,17 +38,17 @@ impl fmt::Display for Seconds {
 /// How far a negotiation is.
 #[derive(Clone, Copy, Debug)]
 struct Standing {
-    /// The width that is tried; 0 where there is no search of widths.
+    /// The width that is being tried, or 0 if there is no search of widths.
     width: u32,
-    /// The least width that was routed, where that is shown; 0 where none was.
+    /// The least width that was routed, if it is shown; 0 if none was.
     least: u32,
     iteration: u32,
-    /// How many nets had their turn in the iteration.
+    /// The number of nets that had their turn in the iteration.
     turns: u32,
-    /// How many nets there are.
+    /// The number of nets.
     nets: u32,
-    /// How many nodes were overused after the last close; none was closed before the first
-    /// iteration.
+    /// The number of nodes that were overused after the last close. No iteration was closed before
+    /// the first one.
     overused: u32,
 }
 
@@ -77,12 +77,12 @@ impl fmt::Display for Standing {
     }
 }
 
-/// The end of a word of which there are so many.
+/// Returns the ending of a word for this number of things.
 fn plural(count: u32) -> &'static str {
     if count == 1 { "" } else { "s" }
 }
 
-/// Passes on the front of a text, for which there is room, and drops the rest.
+/// Passes on the front of a text that there is room for, and drops the rest.
 #[derive(Drop)]
 struct Front<'a, W> {
     out: &'a mut W,
@@ -97,7 +97,7 @@ impl<W: Write> Write for Front<'_, W> {
     }
 }
 
-/// The line as it is shown, so far as there is room for it.
+/// The line as it is shown, cut to the room that there is.
 #[derive(Clone, Copy, Debug)]
 struct Line {
     standing: Standing,
@@ -117,36 +117,37 @@ impl fmt::Display for Line {
     }
 }
 
-/// A gate that keeps a line on standard error up to date, for people who look at a terminal: the
-/// width, where widths are tried, the iteration, how many nets had their turn in it of all, how
-/// many nodes were overused after the last close, and the time since it was made. It is no longer
-/// than the terminal's row. The line ends by `end`; after each trial of a width one stays that
-/// tells what it came to.
+/// A gate that keeps a line on standard error up to date, for people who watch a terminal. The line
+/// shows the width, if widths are tried, the iteration, how many of all nets had their turn in it,
+/// how many nodes were overused after the last close, and the time since the gate was made. It is
+/// no longer than the terminal's row. `end` removes it. After each trial of a width, a line with
+/// the outcome stays, unless `without_trials` was called.
 #[derive(Drop)]
 pub struct Progress<'a, R> {
     rt: &'a R,
     is_wanted: bool,
-    /// How many columns the terminal has.
+    /// The number of columns of the terminal.
     columns: u32,
     begin: Duration,
-    /// Whether a line stays after each trial of a width. Else the line of progress has the least
-    /// width that was routed.
+    /// Whether a line stays after each trial of a width. If not, the line of progress shows the
+    /// least width that was routed.
     keeps_trials: bool,
-    /// The width that is tried; 0 where there is no search of widths.
+    /// The width that is being tried, or 0 if there is no search of widths.
     width: AtomicU32,
-    /// The least width that was routed; 0 where none was.
+    /// The least width that was routed, or 0 if none was.
     least: AtomicU32,
     iteration: AtomicU32,
     turns: AtomicU32,
     nets: AtomicU32,
     overused: AtomicU32,
-    /// When the line is to be written anew, in milliseconds.
+    /// The time at which the line may be written again, in milliseconds.
     due: AtomicU64,
     is_shown: AtomicBool,
 }
 
 impl<'a, R: Eprint + Clock> Progress<'a, R> {
-    /// One that begins now, on a terminal of 80 columns; where it isn't wanted it never writes.
+    /// Returns a gate that begins now, on a terminal of 80 columns. If it isn't wanted, it never
+    /// writes.
     pub fn new(rt: &'a R, is_wanted: bool) -> Progress<'a, R> {
         Progress {
             rt,
@@ -165,20 +166,20 @@ impl<'a, R: Eprint + Clock> Progress<'a, R> {
         }
     }
 
-    /// The same on a terminal of so many columns.
+    /// Sets the number of columns of the terminal.
     pub fn within(mut self, columns: u32) -> Progress<'a, R> {
         self.columns = columns;
         self
     }
 
-    /// The same with no line that stays after a trial of a width: for a terminal that standard
-    /// output goes to as well, where these lines come in the end.
+    /// Lets no line stay after a trial of a width. This is for a terminal that standard output goes
+    /// to as well, since these lines appear there at the end.
     pub fn without_trials(mut self) -> Progress<'a, R> {
         self.keeps_trials = false;
         self
     }
 
-    /// The least width that is shown in the line; 0 where none is.
+    /// Returns the least width that the line shows, or 0 if it shows none.
     fn shown_least(&self) -> u32 {
         if self.keeps_trials {
             return 0;
@@ -186,7 +187,7 @@ impl<'a, R: Eprint + Clock> Progress<'a, R> {
         self.least.load(Ordering::SeqCst)
     }
 
-    /// Notes that a width was routed.
+    /// Records that a width was routed.
     fn note_routed(&self, width: u32) {
         let least = self.least.load(Ordering::SeqCst);
         if least == 0 || width < least {
@@ -194,7 +195,7 @@ impl<'a, R: Eprint + Clock> Progress<'a, R> {
         }
     }
 
-    /// The milliseconds since it was made.
+    /// Returns the milliseconds since the gate was made.
     fn elapsed(&self) -> u64 {
         let now = self.rt.monotonic().unwrap_or(self.begin);
         let elapsed = now.saturating_sub(self.begin);
@@ -224,12 +225,12 @@ impl<'a, R: Eprint + Clock> Progress<'a, R> {
         let _ = eprint!(self.rt; "{CLEAR}{CUT}{line}{WRAP}");
     }
 
-    /// Keeps how many nodes are overused after a close.
+    /// Records how many nodes are overused after a close.
     pub fn note_overused(&self, overused: u32) {
         self.overused.store(overused, Ordering::SeqCst);
     }
 
-    /// Takes the line away, where it was written.
+    /// Removes the line, if it was written.
     pub fn end(&self) {
         if self.is_shown.swap(false, Ordering::SeqCst) {
             let _ = eprint!(self.rt; "{CLEAR}");
@@ -238,6 +239,8 @@ impl<'a, R: Eprint + Clock> Progress<'a, R> {
 }
 
 impl<R: Eprint + Clock> Gate for Progress<'_, R> {
+    ghost accepted = { λ gate k turns. Unit {0} };
+
     fn opened(&self, iteration: u32, nets: u32) {
         self.iteration.store(iteration, Ordering::SeqCst);
         self.turns.store(0, Ordering::SeqCst);
@@ -255,6 +258,10 @@ impl<R: Eprint + Clock> Gate for Progress<'_, R> {
         if elapsed >= self.due.load(Ordering::SeqCst) {
             self.show(elapsed);
         }
+    }
+
+    fn accepts(&self, _iteration: u32, _turns: &[ScheduledTurn]) -> bool {
+        true
     }
 
     fn closed(&self, _iteration: u32, book: &Book) {

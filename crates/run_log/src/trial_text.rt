@@ -1,4 +1,4 @@
-//! The line of a log that tells what a trial of a width came to.
+//! The line of a log with the outcome of a trial of a width.
 
 ghost use Rattle.std.specs.Prelude.{◌≡◌};
 ghost use Rattle.vpr_text.specs.Output.{SendsTo};
@@ -8,7 +8,7 @@ ghost use Rattle.run_log.specs.kept.LogTexts.{trial_left_text, trial_routed_text
 use run_inputs::AppFault;
 use text_output::{ByteSink, OutputBuffer, Piece, put_pieces};
 
-/// Prints that a width was routed, after so many iterations.
+/// Prints that a width was routed after this many iterations.
 #[tactic(auto, unfolding(crate::specs::kept::LogTexts::trial_routed_text))]
 fn put_routed<W: ByteSink>(out: &mut OutputBuffer, sink: &mut W, width: u32, iterations: u32)
     ensures { SendsTo W.taken W.failed sink.old sink.new out.old out.new
@@ -27,8 +27,8 @@ fn put_routed<W: ByteSink>(out: &mut OutputBuffer, sink: &mut W, width: u32, ite
     );
 }
 
-/// Prints that a width was not routed: how many nets have no tree and how many nodes are overused,
-/// after so many iterations.
+/// Prints that a width was not routed, how many nets have no tree, and how many nodes are overused
+/// after this many iterations.
 #[tactic(auto, unfolding(crate::specs::kept::LogTexts::trial_left_text))]
 fn put_left<W: ByteSink>(
     out: &mut OutputBuffer,
@@ -58,7 +58,7 @@ fn put_left<W: ByteSink>(
     );
 }
 
-/// Writes, at once, that a width was routed, after so many iterations.
+/// Writes at once that a width was routed after this many iterations.
 #[inline(never)]
 pub fn write_routed<W: ByteSink>(sink: &mut W, width: u32, iterations: u32) -> Result<(), AppFault>
     ensures { PrintsText (writing_to W.taken W.failed sink.old sink.new)
@@ -72,7 +72,7 @@ pub fn write_routed<W: ByteSink>(sink: &mut W, width: u32, iterations: u32) -> R
     }
 }
 
-/// Writes, at once, that a width was not routed, and what was left after so many iterations.
+/// Writes at once that a width was not routed, and what was left after this many iterations.
 #[inline(never)]
 pub fn write_left<W: ByteSink>(
     sink: &mut W,

@@ -3,9 +3,11 @@ use Rattle.std.proofs.Common.{◌≡◌, ℕ, ◌<◌, Bool, true, false, List, 
 use Rattle.rr_graph.specs.Problems.{RoutingProblem}
 use Rattle.rr_graph.specs.node.Mode.{Mode}
 use Rattle.node_cost.specs.Options.{RouterOptions}
+use Rattle.net_workers.specs.Schedules.{TurnRule}
 use Rattle.width_search.specs.declared.report.LeastWidth.{LeastWidth}
 use Rattle.width_search.specs.declared.trial.Trial.{Trial}
-use Rattle.width_search.specs.Reports.{IsOfLeastWidth, Negotiates, Report}
+use Rattle.rr_graph.specs.Designs.{problem_with}
+use Rattle.width_search.specs.Reports.{IsOfLeastWidth, IsWidthReport, Negotiates, Report}
 use Rattle.route_file.specs.Text.{text_of}
 use Rattle.run_inputs.specs.declared.fault.InputFile.TheVariants as file
 use Rattle.run_inputs.specs.declared.fault.AppFault.{AppFault}
@@ -26,14 +28,24 @@ pub report_filled : (r : Report) → 0 < length (report_text r)
 report_filled r = let filled = least_filled r.least in simp length-append (omega (arith, filled))
 
 -- the routing of the least width routes its problem
-routes_found : (mode : Mode) (p : PlacedNetlist) (o : RouterOptions) (workers : ℕ) (trials : List Trial) (least : Option LeastWidth)
-    → IsOfLeastWidth (Negotiates (placed_problem mode p) o workers) trials least → RoutesLeast mode p least
-routes_found mode p o workers trials (Some least) is = is.1.0.0
-routes_found mode p o workers trials None is = tt
+routes_found : (mode : Mode) (p : PlacedNetlist) (o : RouterOptions) (workers : ℕ) (allows : TurnRule) (trials : List Trial) (least : Option LeastWidth)
+    → IsOfLeastWidth (Negotiates (placed_problem mode p) o workers allows) trials least → RoutesLeast mode p least
+routes_found mode p o workers allows trials (Some least) is = is.1.0.0
+routes_found mode p o workers allows trials None is = tt
 
-pub routes_least : (mode : Mode) (p : PlacedNetlist) (o : RouterOptions) (workers : ℕ) (r : Report)
-    → IsOfLeastWidth (Negotiates (placed_problem mode p) o workers) r.trials r.least → RoutesLeast mode p r.least
-routes_least mode p o workers r is = routes_found mode p o workers r.trials r.least is
+pub routes_least : (mode : Mode) (p : PlacedNetlist) (o : RouterOptions) (workers : ℕ) (allows : TurnRule) (r : Report)
+    → IsOfLeastWidth (Negotiates (placed_problem mode p) o workers allows) r.trials r.least → RoutesLeast mode p r.least
+routes_least mode p o workers allows r is = routes_found mode p o workers allows r.trials r.least is
+
+-- the report of a search is one of a placed netlist whose architecture, netlist and placement were
+-- looked up
+pub report_placed : (mode : Mode) (o : RouterOptions) (workers : ℕ) (allows : TurnRule) (next : List Trial → Option ℕ) (r : Report) (p q : PlacedNetlist)
+    → q.arch ≡ p.arch → q.netlist ≡ p.netlist → q.placement ≡ p.placement
+    → IsWidthReport (Negotiates (placed_problem mode q) o workers allows) next r → IsWidthReport (Negotiates (placed_problem mode p) o workers allows) next r
+report_placed mode o workers allows next r p q arch netlist placement is =
+    subst (λ x. IsWidthReport (Negotiates (problem_with mode p.arch p.netlist x) o workers allows) next r) placement
+    (subst (λ x. IsWidthReport (Negotiates (problem_with mode p.arch x q.placement) o workers allows) next r) netlist
+    (subst (λ x. IsWidthReport (Negotiates (problem_with mode x q.netlist q.placement) o workers allows) next r) arch is))
 
 -- ---- what is printed, and then written
 

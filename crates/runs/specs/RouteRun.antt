@@ -3,6 +3,7 @@ use Rattle.std.specs.Prelude.{◌≡◌, ℕ, Bool, true, List, ◌++◌, codes,
 use Rattle.node_cost.specs.Options.{RouterOptions}
 use Rattle.route_tree.specs.Usage.{Lists}
 use Rattle.route_file.specs.Text.{text_of}
+use Rattle.net_workers.specs.Schedules.{TurnRule}
 use Rattle.iteration.specs.declared.outcome.Outcome.{Outcome}
 use Rattle.iteration.specs.declared.outcome.Outcome.TheVariants.{Success, NotRouted}
 use Rattle.iteration.specs.Outcomes as negotiation
@@ -51,16 +52,16 @@ abbrev pub PlacesOutcome : (is_placed : Bool) → Outcome → Type 0
 PlacesOutcome is_placed (Success lists iterations) = is_placed ≡ true
 PlacesOutcome is_placed (NotRouted unrouted overused iterations) = Unit {0}
 
--- A design's problem is negotiated: the outcome is one of the negotiation, and a success is a
--- routing of the problem; and it is written.
-abbrev pub RoutesDesign : RouterOptions → (workers : ℕ) → (route out : Writing) → PlacedDesign → Result Outcome AppFault → Type 0
-RoutesDesign o workers route out d result =
+-- A design's problem is negotiated: the outcome is one of the negotiation by these rules, and a
+-- success is a routing of the problem; and it is written.
+abbrev pub RoutesDesign : RouterOptions → (workers : ℕ) → TurnRule → (route out : Writing) → PlacedDesign → Result Outcome AppFault → Type 0
+RoutesDesign o workers allows route out d result =
     (outcome : Outcome)
     × negotiation.IsOutcome d.problem o outcome
-    × negotiation.EndsNegotiation d.problem o workers outcome
+    × negotiation.EndsNegotiation d.problem o workers allows outcome
     × WritesOutcome route out d outcome result
 
 -- A run of `route`, free faults aside: with a fault of its files neither sink takes anything; where
 -- they say a design, its problem is negotiated, and the outcome is written.
-abbrev pub RunsRoute : RouterOptions → (workers : ℕ) → (route out : Writing) → Result PlacedDesign AppFault → Result Outcome AppFault → Type 0
-RunsRoute o workers route out = StopsOrGoesOn (TakesNothing route × TakesNothing out) (RoutesDesign o workers route out)
+abbrev pub RunsRoute : RouterOptions → (workers : ℕ) → TurnRule → (route out : Writing) → Result PlacedDesign AppFault → Result Outcome AppFault → Type 0
+RunsRoute o workers allows route out = StopsOrGoesOn (TakesNothing route × TakesNothing out) (RoutesDesign o workers allows route out)

@@ -7,6 +7,7 @@ use Rattle.route_tree.specs.Usage.{Lists}
 use Rattle.route_check.specs.Routed.{IsRouted}
 use Rattle.node_cost.specs.Options.{RouterOptions}
 use Rattle.route_file.specs.Text.{text_of}
+use Rattle.net_workers.specs.Schedules.{TurnRule}
 use Rattle.iteration.specs.declared.outcome.Outcome.{Outcome}
 use Rattle.width_search.specs.declared.report.LeastWidth.{LeastWidth}
 use Rattle.width_search.specs.declared.trial.Trial.{Trial}
@@ -103,18 +104,18 @@ pub record IsUpwardReport (comes_to : ℕ → Outcome → Type 0) (p : PlacedNet
   pub ends : EndsUpward first r.trials r.least
 
 -- the report is that of the plan
-abbrev pub IsPlanned : RouterOptions → (workers : ℕ) → Mode → PlacedNetlist → WidthPlan → Report → Type 0
-IsPlanned o workers mode p (Search start below shows_bound) r = IsVerifiedReport (Negotiates (placed_problem mode p) o workers) start below r
-IsPlanned o workers mode p (Upward start) r = IsUpwardReport (Negotiates (placed_problem mode p) o workers) p start r
+abbrev pub IsPlanned : RouterOptions → (workers : ℕ) → TurnRule → Mode → PlacedNetlist → WidthPlan → Report → Type 0
+IsPlanned o workers allows mode p (Search start below shows_bound) r = IsVerifiedReport (Negotiates (placed_problem mode p) o workers allows) start below r
+IsPlanned o workers allows mode p (Upward start) r = IsUpwardReport (Negotiates (placed_problem mode p) o workers allows) p start r
 
 -- The widths of a plan are tried for a placed netlist, and the report is written.
-abbrev pub SearchesWidths : RouterOptions → (workers : ℕ) → WidthPlan → Mode → (route out : Writing) → PlacedNetlist → Result Report AppFault → Type 0
-SearchesWidths o workers plan mode route out p result =
+abbrev pub SearchesWidths : RouterOptions → (workers : ℕ) → TurnRule → WidthPlan → Mode → (route out : Writing) → PlacedNetlist → Result Report AppFault → Type 0
+SearchesWidths o workers allows plan mode route out p result =
     (r : Report)
-    × IsPlanned o workers mode p plan r
+    × IsPlanned o workers allows mode p plan r
     × WritesReport route out mode p r r result
 
 -- A run of `width`, free faults aside: with a fault of its files neither sink takes anything; where
 -- they say a placed netlist, the widths of the plan are tried for it, and the report is written.
-abbrev pub RunsWidth : RouterOptions → (workers : ℕ) → WidthPlan → Mode → (route out : Writing) → Result PlacedNetlist AppFault → Result Report AppFault → Type 0
-RunsWidth o workers plan mode route out = StopsOrGoesOn (TakesNothing route × TakesNothing out) (SearchesWidths o workers plan mode route out)
+abbrev pub RunsWidth : RouterOptions → (workers : ℕ) → TurnRule → WidthPlan → Mode → (route out : Writing) → Result PlacedNetlist AppFault → Result Report AppFault → Type 0
+RunsWidth o workers allows plan mode route out = StopsOrGoesOn (TakesNothing route × TakesNothing out) (SearchesWidths o workers allows plan mode route out)

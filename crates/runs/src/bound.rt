@@ -12,10 +12,11 @@ use std::alloc::Global;
 use text_output::OutputBuffer;
 use width_bound::CutFigures;
 
-/// One more than the greatest width that a device may have.
+/// One more than the greatest width of a device.
 pub(crate) const PAST_WIDTHS: u32 = 257;
 
-/// What a cut of a placed netlist says: there is no routing at the widths that it rules out.
+/// Returns the figures of a cut of a placed netlist. There is no routing at the widths that they
+/// rule out.
 pub(crate) fn bound_of(alloc: Global, placed: &PlacedNetlist<'_>) -> Result<CutFigures, AppFault>
     ensures sound { IfOk result (IsTrueOf placed.now) }
     ensures free { IfErr result (λ e. is_free e ≡ true) }
@@ -24,15 +25,14 @@ pub(crate) fn bound_of(alloc: Global, placed: &PlacedNetlist<'_>) -> Result<CutF
     Ok(found.figures)
 }
 
-/// The printed width, or one more than the greatest there is where that is less.
+/// Returns a width, or `PAST_WIDTHS` if that is less.
 fn width_or_past(width: usize) -> u32
     ensures { result ≡ min width 257 }
 {
     width.min(PAST_WIDTHS as usize) as u32
 }
 
-/// The least width that the figures don't rule out; one more than the greatest there is, where they
-/// rule out all.
+/// Returns the least width that the figures don't rule out, or `PAST_WIDTHS` if they rule out all.
 pub(crate) fn first_possible(figures: CutFigures) -> u32
     ensures { result ≡ first_possible figures }
 {
@@ -43,14 +43,15 @@ pub(crate) fn first_possible(figures: CutFigures) -> u32
     }
 }
 
-/// From which width on each is tried: the greater of the start and the least that isn't ruled out.
+/// Returns the first width to try: the greater of the start and the least width that isn't ruled
+/// out.
 pub(crate) fn first_width(start: u32, figures: CutFigures) -> u32
     ensures { result ≡ first_width start figures }
 {
     start.max(first_possible(figures))
 }
 
-/// Reports where words go below which width there is no routing.
+/// Writes to the sink of words below which width there is no routing.
 #[inline(never)]
 pub(crate) fn tell_bound<S: SideFiles>(kept: &S, figures: CutFigures) {
     let mut words = kept.words();

@@ -18,7 +18,7 @@ use std::thread::Threads;
 use text_output::{ByteSink, OutputBuffer};
 use vpr_text::ByteSource;
 
-/// Prints the line of a verdict, and answers the verdict.
+/// Prints the line of a verdict, and returns the verdict.
 fn print_verdict<W: ByteSink>(
     netlist: &Netlist<'_>,
     problem: &Problem,
@@ -81,14 +81,14 @@ fn check_design<R: ByteSource, W: ByteSink>(
     judge(rt, design, &routing, out)
 }
 
-/// Reads an architecture, a netlist, its placement and its routing, in this order and each only
-/// where those before it are without fault; judges the routing on the device of the placement's
-/// size, and prints the verdict.
+/// Reads an architecture, a netlist, its placement and its routing in this order, each only if
+/// those before it have no fault. Judges the routing on the device of the placement's size, and
+/// prints the verdict.
 ///
 /// # Errors
-/// Memory aside, exactly the first fault of the files by the order of reading, and then nothing was
-/// printed; else Unwritten exactly where the sink failed, which received a front of the verdict's
-/// line.
+/// Each fault exactly when it comes first; only `Memory` is unspecified. The faults of the files
+/// come in reading order, and then nothing was printed. After them comes `Unwritten`, if the sink
+/// failed; it received a front of the verdict's line.
 pub fn check_run<N: ByteSource, A: ByteSource, P: ByteSource, R: ByteSource, W: ByteSink>(
     rt: &(impl Threads + Sync + AllocGlobal),
     net: &mut N,
@@ -100,8 +100,8 @@ pub fn check_run<N: ByteSource, A: ByteSource, P: ByteSource, R: ByteSource, W: 
     mode: Mode,
 ) -> Result<Option<RouteFault>, AppFault>
     requires tracks { (1 ≤ width) × (width ≤ most_tracks) }
-    // What the files say decides, and where they say a routing of a problem, the line of the
-    // verdict on it is printed.
+    // The files decide. If they give a routing of a problem, the line of the verdict on it is
+    // printed.
     ensures runs { result ≢ Err AppFault.Memory
         → MeetsDesign (reading (A.remaining arch.old) (A.failed arch.new))
         (reading (N.remaining net.old) (N.failed net.new))
@@ -109,10 +109,10 @@ pub fn check_run<N: ByteSource, A: ByteSource, P: ByteSource, R: ByteSource, W: 
         (λ files. Meets (reading (R.remaining route.old) (R.failed route.new))
         (λ r. RunsCheck (writing_to W.taken W.failed out.old out.new)
         (judged_in width mode files r) result)) }
-    // Nothing is written where memory runs out.
+    // Nothing is written if memory runs out.
     ensures memory { result ≡ Err AppFault.Memory
         → TakesNothing (writing_to W.taken W.failed out.old out.new) }
-    // A file is not read where the run ended at one before it.
+    // A file is not read if the run ended at one before it.
     ensures net { ends_before InputFile.Net result ≡ true → net.new ≡ net.old }
     ensures place { ends_before InputFile.Place result ≡ true → place.new ≡ place.old }
     ensures route { ends_before InputFile.Route result ≡ true → route.new ≡ route.old }

@@ -16,7 +16,7 @@ use std::alloc::Global;
 use text_output::{ByteSink, OutputBuffer};
 use vpr_text::ByteSource;
 
-/// Prints the listing of a device. Nothing is printed where memory runs out.
+/// Prints the listing of a device. Nothing is printed if memory runs out.
 fn print_listing<W: ByteSink>(alloc: Global, device: &Device, out: &mut W) -> Result<(), AppFault>
     ensures memory { result ≡ Err AppFault.Memory
         → TakesNothing (writing_to W.taken W.failed out.old out.new) }
@@ -37,9 +37,10 @@ fn print_listing<W: ByteSink>(alloc: Global, device: &Device, out: &mut W) -> Re
 /// Reads an architecture, and prints the nodes and edges of a device of it.
 ///
 /// # Errors
-/// Memory aside, Unread exactly where the source failed, else Arch with exactly the fault of its
-/// bytes, else Unwritten exactly where the sink failed, which then received a front of the listing.
-/// After any other fault it received nothing.
+/// Each fault exactly when it comes first; only `Memory` is unspecified. First comes `Unread`, if
+/// the source failed, then `Arch` with the fault of the bytes, then `Unwritten`, if the sink
+/// failed. In that case the sink received a front of the listing. After any other fault it received
+/// nothing.
 pub fn graph_run<S: ByteSource, W: ByteSink>(
     alloc: Global,
     arch: &mut S,
@@ -52,13 +53,12 @@ pub fn graph_run<S: ByteSource, W: ByteSink>(
     requires columns { (1 ≤ nx) × (nx ≤ longest_side) }
     requires rows { (1 ≤ ny) × (ny ≤ longest_side) }
     requires tracks { (1 ≤ width) × (width ≤ most_tracks) }
-    // What the file says decides, and where it says an architecture, the listing of its device is
-    // printed.
+    // The file decides. If it gives an architecture, the listing of its device is printed.
     ensures runs { result ≢ Err AppFault.Memory
         → Meets (reading (S.remaining arch.old) (S.failed arch.new))
         (λ a. RunsGraph (writing_to W.taken W.failed out.old out.new)
         (fabric_with nx ny width mode) (arch_in a) result) }
-    // Nothing is written where memory runs out.
+    // Nothing is written if memory runs out.
     ensures memory { result ≡ Err AppFault.Memory
         → TakesNothing (writing_to W.taken W.failed out.old out.new) }
 {

@@ -12,20 +12,20 @@ ghost use Rattle.run_inputs.specs.Runs.{PrintsText, writing_to};
 use crate::routing::write_trees;
 use crate::side_files::SideFiles;
 use crate::whole_sink::WholeSink;
-use net_workers::Gate;
+use net_workers::{Gate, ScheduledTurn};
 use route_tree::{Pairs, Routing};
 use rr_graph::{Device, Mode, Problem};
 use run_inputs::{AppFault, PlacedNetlist};
 use std::alloc::Global;
 
-/// Whether all these numbers are below the count.
+/// Returns whether all these numbers are below the count.
 fn are_below(count: u32, pairs: &[(u32, u32)]) -> bool
     ensures { result ≡ list_all (is_below count) pairs.now }
 {
     pairs.iter().all(|pair| pair.0 < count && pair.1 < count)
 }
 
-/// Whether a list, if there is one, names nodes of the device.
+/// Returns whether a list, if there is one, names only nodes of the device.
 fn names_nodes(device: &Device, list: &Option<Pairs>) -> bool
     ensures { result ≡ are_nodes device.now list.now }
 {
@@ -35,14 +35,15 @@ fn names_nodes(device: &Device, list: &Option<Pairs>) -> bool
     }
 }
 
-/// Whether all these lists name nodes of the device.
+/// Returns whether all these lists name only nodes of the device.
 fn name_nodes(device: &Device, lists: &[Option<Pairs>]) -> bool
     ensures { result ≡ list_all (are_nodes device.now) lists.now }
 {
     lists.iter().all(|list| names_nodes(device, list))
 }
 
-/// Whether a routing can be meant for a problem.
+/// Returns whether a routing has an entry for each net of a problem, and names only nodes of its
+/// device.
 #[tactic(auto, unfolding(route_tree::specs::Fits::fits_problem))]
 fn fits(problem: &Problem, routing: &Routing) -> bool
     ensures { result ≡ fits_problem problem.now routing.now }
@@ -50,8 +51,8 @@ fn fits(problem: &Problem, routing: &Routing) -> bool
     routing.lists.len() == problem.nets() as usize && name_nodes(problem.device(), &routing.lists)
 }
 
-/// Writes the text of a routing of a placed netlist at a width: Astray where it can't be meant for
-/// that.
+/// Writes the text of a routing of a placed netlist at a width. Returns `Astray` if the routing
+/// doesn't fit the problem at that width.
 fn write_trial<W: WholeSink>(
     alloc: Global,
     placed: &PlacedNetlist<'_>,
@@ -74,7 +75,7 @@ fn write_trial<W: WholeSink>(
     write_trees(netlist, placement, &problem, routing, file)
 }
 
-/// A gate of a search of widths that writes each routing that is found, where its file is wanted.
+/// A gate of a search of widths that writes each routing that is found, if its file is wanted.
 #[derive(Drop)]
 pub(crate) struct KeptTrials<'a, 'b, S> {
     alloc: Global,
@@ -100,9 +101,15 @@ impl<'a, 'b, S> KeptTrials<'a, 'b, S> {
 }
 
 impl<S: SideFiles> Gate for KeptTrials<'_, '_, S> {
+    ghost accepted = { λ gate k turns. Unit {0} };
+
     fn between(&self, _worker: u32, _net: u32) {}
 
     fn searched(&self, _worker: u32, _net: u32) {}
+
+    fn accepts(&self, _iteration: u32, _turns: &[ScheduledTurn]) -> bool {
+        true
+    }
 
     fn found(&self, problem: &Problem, routing: &Routing) {
         let width = problem.device().width();

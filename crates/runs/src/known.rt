@@ -1,4 +1,4 @@
-//! What is known of the least width after each one from a first on was tried.
+//! What is known of the least width after each width from a first one on was tried.
 
 ghost use Rattle.std.specs.Prelude.{◌≡◌, ◌≤◌, option_copied};
 ghost use Rattle.vpr_text.specs.Output.{SendsTo};
@@ -9,14 +9,14 @@ use crate::side_files::SideFiles;
 use text_output::{ByteSink, OutputBuffer, Piece, put_pieces};
 use width_search::{LeastWidth, WidthReport};
 
-/// What one width, or several, are called.
+/// Returns the word for one width or for several.
 fn widths_word(first: u32, last: u32) -> &'static [u8]
     ensures { result.now ≡ widths_word first last }
 {
     if first == last { b"width " } else { b"widths " }
 }
 
-/// Prints one width, of which more is said.
+/// Prints one width as the subject of a sentence.
 #[tactic(auto, unfolding(crate::specs::kept::Known::one_was))]
 fn put_one<W: ByteSink>(out: &mut OutputBuffer, words: &mut W, width: u32)
     ensures { SendsTo W.taken W.failed words.old words.new out.old out.new (one_was width) }
@@ -24,7 +24,7 @@ fn put_one<W: ByteSink>(out: &mut OutputBuffer, words: &mut W, width: u32)
     put_pieces(out, words, &[Piece::Number(width), Piece::Text(b" was")]);
 }
 
-/// Prints the first and the last of several widths, of which more is said.
+/// Prints the first and the last of several widths as the subject of a sentence.
 #[tactic(auto, unfolding(crate::specs::kept::Known::several_were))]
 fn put_several<W: ByteSink>(out: &mut OutputBuffer, words: &mut W, first: u32, last: u32)
     ensures { SendsTo W.taken W.failed words.old words.new out.old out.new
@@ -42,7 +42,7 @@ fn put_several<W: ByteSink>(out: &mut OutputBuffer, words: &mut W, first: u32, l
     );
 }
 
-/// Prints a range of widths, of which more is said.
+/// Prints a range of widths as the subject of a sentence.
 fn put_were<W: ByteSink>(out: &mut OutputBuffer, words: &mut W, first: u32, last: u32)
     ensures { SendsTo W.taken W.failed words.old words.new out.old out.new
         (were_text first last) }
@@ -54,7 +54,7 @@ fn put_were<W: ByteSink>(out: &mut OutputBuffer, words: &mut W, first: u32, last
     }
 }
 
-/// Prints what is so of a range of widths.
+/// Prints a sentence about a range of widths.
 fn put_range<W: ByteSink>(out: &mut OutputBuffer, words: &mut W, first: u32, last: u32, what: &[u8])
     ensures { SendsTo W.taken W.failed words.old words.new out.old out.new
         (range_text first last what.now) }
@@ -64,7 +64,7 @@ fn put_range<W: ByteSink>(out: &mut OutputBuffer, words: &mut W, first: u32, las
     out.push(words, what);
 }
 
-/// Prints that a range of widths was not tried, after what was said of others.
+/// Prints that a range of widths was not tried, after a sentence about others.
 fn put_too<W: ByteSink>(out: &mut OutputBuffer, words: &mut W, first: u32, last: u32)
     ensures { SendsTo W.taken W.failed words.old words.new out.old out.new (too_text first last) }
 {
@@ -73,7 +73,7 @@ fn put_too<W: ByteSink>(out: &mut OutputBuffer, words: &mut W, first: u32, last:
     out.push(words, b" not tried");
 }
 
-/// Prints which widths below the first were not tried, where some are possible.
+/// Prints which widths below the first were not tried, if some of them are possible.
 fn put_also<W: ByteSink>(out: &mut OutputBuffer, words: &mut W, bound: u32, first: u32)
     ensures { SendsTo W.taken W.failed words.old words.new out.old out.new
         (also_untried bound first) }
@@ -111,7 +111,7 @@ fn put_between<W: ByteSink>(
     }
 }
 
-/// Prints below which width none is possible.
+/// Prints the width below which none is possible.
 #[tactic(auto, unfolding(crate::specs::kept::Known::none_below))]
 fn put_none_below<W: ByteSink>(out: &mut OutputBuffer, words: &mut W, bound: u32)
     ensures { SendsTo W.taken W.failed words.old words.new out.old out.new (none_below bound) }
@@ -127,7 +127,7 @@ fn put_none_below<W: ByteSink>(out: &mut OutputBuffer, words: &mut W, bound: u32
     );
 }
 
-/// Ends a line, after the width below which none is possible where there is such a width.
+/// Ends a line, after the width below which none is possible, if there is such a width.
 fn put_end<W: ByteSink>(out: &mut OutputBuffer, words: &mut W, bound: u32)
     ensures { SendsTo W.taken W.failed words.old words.new out.old out.new (end_text bound) }
 {
@@ -138,7 +138,7 @@ fn put_end<W: ByteSink>(out: &mut OutputBuffer, words: &mut W, bound: u32)
     }
 }
 
-/// Prints the line of the widths from the bound on that are less than `past`.
+/// Prints the line on the widths from the bound on that are less than `past`.
 fn put_gap<W: ByteSink>(out: &mut OutputBuffer, words: &mut W, bound: u32, first: u32, past: u32)
     ensures { SendsTo W.taken W.failed words.old words.new out.old out.new
         (gap_line bound first past) }
@@ -163,7 +163,7 @@ fn put_least_possible<W: ByteSink>(out: &mut OutputBuffer, words: &mut W, width:
     );
 }
 
-/// Prints what is known where a width was routed.
+/// Prints what is known if a width was routed.
 fn put_routed<W: ByteSink>(
     out: &mut OutputBuffer,
     words: &mut W,
@@ -181,7 +181,7 @@ fn put_routed<W: ByteSink>(
     }
 }
 
-/// Prints what is known after each width from a first on was tried.
+/// Prints what is known after each width from a first one on was tried.
 fn put_line<W: ByteSink>(
     out: &mut OutputBuffer,
     words: &mut W,
@@ -198,8 +198,8 @@ fn put_line<W: ByteSink>(
     }
 }
 
-/// Prints what is known after each width was tried from the greater of the start and the bound on:
-/// nothing where the bound rules out all.
+/// Prints what is known after each width from the greater of the start and the bound on was tried.
+/// Prints nothing if the bound rules out all widths.
 fn put_known<W: ByteSink>(
     out: &mut OutputBuffer,
     words: &mut W,
@@ -215,8 +215,8 @@ fn put_known<W: ByteSink>(
     }
 }
 
-/// Reports where words go what is known of the least width after each one was tried from the
-/// greater of the start and the bound on.
+/// Writes to the sink of words what is known of the least width after each width from the greater
+/// of the start and the bound on was tried.
 #[inline(never)]
 pub(crate) fn tell_known<S: SideFiles>(kept: &S, start: u32, bound: u32, report: &WidthReport) {
     let mut words = kept.words();

@@ -1,4 +1,4 @@
-//! What a negotiation without success left: its trees, and which nets have none.
+//! What a negotiation without success left: its trees, and the nets that have none.
 
 ghost use Rattle.std.specs.Prelude.{◌≡◌, true, false};
 ghost use Rattle.vpr_text.specs.Output.{SendsTo};
@@ -13,7 +13,7 @@ use crate::whole_sink::WholeSink;
 use congestion_book::Book;
 use iteration::routing_of;
 use net_file::Netlist;
-use net_workers::Gate;
+use net_workers::{Gate, ScheduledTurn};
 use rr_graph::{Device, Problem};
 use run_inputs::{AppFault, Design, net_name, number_of_net};
 use std::alloc::Global;
@@ -46,12 +46,13 @@ fn write_recorded<W: WholeSink>(
     )
 }
 
-/// Whether the trees of a book were written, which is of the design's problem.
+/// Writes the trees of a book, if the book is of the design's problem. Returns whether they were
+/// written.
 fn is_written<W: WholeSink>(alloc: Global, design: &Design<'_>, book: &Book, file: &mut W) -> bool {
     *book.problem() == *design.problem() && write_recorded(alloc, design, book, file).is_ok()
 }
 
-/// Prints that no way leads to a sink of the net of this name.
+/// Prints that no path leads to a sink of the net of this name.
 #[tactic(auto, unfolding(crate::specs::kept::Left::stuck_line))]
 fn put_stuck_line<'a, W: ByteSink>(
     out: &mut OutputBuffer,
@@ -76,7 +77,7 @@ fn put_stuck_line<'a, W: ByteSink>(
     );
 }
 
-/// Prints that no way leads to a sink of a net of the problem, of these two.
+/// Prints that no path leads to a sink of a net of the problem. `stuck` is the net and the sink.
 fn put_stuck<W: ByteSink>(
     out: &mut OutputBuffer,
     words: &mut W,
@@ -91,7 +92,7 @@ fn put_stuck<W: ByteSink>(
     put_stuck_line(out, words, problem.device(), name, stuck.1);
 }
 
-/// Prints which nets have no tree, each with a sink to which no way leads.
+/// Prints which nets have no tree, each with a sink that no path leads to.
 fn put_all_stuck<W: ByteSink>(
     out: &mut OutputBuffer,
     words: &mut W,
@@ -107,7 +108,7 @@ fn put_all_stuck<W: ByteSink>(
     }
 }
 
-/// Tells which nets of a design have no tree.
+/// Writes which nets of a design have no tree.
 #[inline(never)]
 fn tell_stuck<W: ByteSink>(words: &mut W, design: &Design<'_>, stuck: &[(u32, u32)]) {
     let mut out = OutputBuffer::new();
@@ -115,15 +116,16 @@ fn tell_stuck<W: ByteSink>(words: &mut W, design: &Design<'_>, stuck: &[(u32, u3
     let _ = out.finish(words);
 }
 
-/// A gate of a negotiation that writes, where it found no routing and the file is wanted, the trees
-/// that the last iteration left, and tells of each net without one a sink to which no way leads.
+/// A gate of a negotiation. If no routing was found and the file is wanted, it writes the trees
+/// that the last iteration left, and reports for each net without a tree a sink that no path leads
+/// to.
 #[derive(Drop)]
 pub(crate) struct LeftTrees<'a, 'b, T, S> {
     rt: &'a T,
     alloc: Global,
     design: &'a Design<'b>,
     files: &'a S,
-    /// The nets for which a search found no way, each with the sink.
+    /// The nets for which a search found no path, each with the sink.
     stuck: Mutex<Vec<(u32, u32)>>,
 }
 
@@ -145,6 +147,8 @@ impl<'a, 'b, T: Wait, S: SideFiles> LeftTrees<'a, 'b, T, S> {
 }
 
 impl<T: Wait, S: SideFiles> Gate for LeftTrees<'_, '_, T, S> {
+    ghost accepted = { λ gate k turns. Unit {0} };
+
     fn between(&self, _worker: u32, _net: u32) {}
 
     fn stuck(&self, net: u32, sink: u32) {
@@ -152,6 +156,10 @@ impl<T: Wait, S: SideFiles> Gate for LeftTrees<'_, '_, T, S> {
     }
 
     fn searched(&self, _worker: u32, _net: u32) {}
+
+    fn accepts(&self, _iteration: u32, _turns: &[ScheduledTurn]) -> bool {
+        true
+    }
 
     fn left(&self, book: &Book) {
         let width = self.design.problem().device().width();

@@ -1,4 +1,4 @@
-//! Widths below the least that a search found, each tried once more or for the first time.
+//! Widths below the least that a search found. Each is tried, even if the search tried it before.
 
 ghost use Rattle.std.specs.Prelude.{◌≡◌, ℕ, ◌≤◌};
 ghost use Rattle.vpr_text.specs.Output.{SendsTo};
@@ -24,7 +24,7 @@ use std::thread::Threads;
 use text_output::{ByteSink, OutputBuffer, Piece, put_number, put_pieces};
 use width_search::{WidthReport, negotiate_at};
 
-/// Prints what the negotiation of a width came to.
+/// Prints the outcome of the negotiation of a width.
 fn put_line<W: ByteSink>(out: &mut OutputBuffer, words: &mut W, width: u32, outcome: &Outcome)
     ensures { SendsTo W.taken W.failed words.old words.new out.old out.new
         (lesser_line width outcome.now) }
@@ -51,7 +51,7 @@ fn put_routed<W: ByteSink>(out: &mut OutputBuffer, words: &mut W, width: u32)
     );
 }
 
-/// Prints which lesser width was routed, the least of several, or that none was.
+/// Prints the least of the lesser widths that were routed, or that none was.
 fn put_end<W: ByteSink>(out: &mut OutputBuffer, words: &mut W, routed: Option<u32>)
     ensures { SendsTo W.taken W.failed words.old words.new out.old out.new (lesser_end routed) }
 {
@@ -61,7 +61,7 @@ fn put_end<W: ByteSink>(out: &mut OutputBuffer, words: &mut W, routed: Option<u3
     }
 }
 
-/// Reports what the negotiation of a width came to.
+/// Writes the outcome of the negotiation of a width.
 #[inline(never)]
 fn tell_outcome<W: ByteSink>(words: &mut W, width: u32, outcome: &Outcome) {
     let mut out = OutputBuffer::new();
@@ -69,7 +69,7 @@ fn tell_outcome<W: ByteSink>(words: &mut W, width: u32, outcome: &Outcome) {
     let _ = out.finish(words);
 }
 
-/// Reports which lesser width was routed, or that none was.
+/// Writes the least of the lesser widths that were routed, or that none was.
 #[inline(never)]
 fn tell_end<W: ByteSink>(words: &mut W, routed: Option<u32>) {
     let mut out = OutputBuffer::new();
@@ -77,20 +77,20 @@ fn tell_end<W: ByteSink>(words: &mut W, routed: Option<u32>) {
     let _ = out.finish(words);
 }
 
-/// Prints why no further width can be tried.
+/// Writes why no further width can be tried.
 #[inline(never)]
 fn tell_fault<W: ByteSink>(words: &mut W, fault: &AppFault) {
     let _ = print_fault(fault, words);
 }
 
-/// Whether a negotiation found a routing.
+/// Returns whether a negotiation found a routing.
 fn is_routed(outcome: &Outcome) -> bool
     ensures { result ≡ is_success outcome.now }
 {
     matches!(outcome, Outcome::Success(_, _))
 }
 
-/// Adds a routing that a negotiation of a width found to the report, and answers whether it found
+/// Adds a routing that the negotiation of a width found to the report. Returns whether it found
 /// one.
 fn add_success(report: &mut WidthReport, width: u32, outcome: Outcome) -> Result<bool, AppFault>
     requires { (1 ≤ width) × (width ≤ most_tracks) }
@@ -103,8 +103,8 @@ fn add_success(report: &mut WidthReport, width: u32, outcome: Outcome) -> Result
     Ok(true)
 }
 
-/// Negotiates at a width, reports what that came to, adds a routing to the report, and answers
-/// whether there is one.
+/// Negotiates at a width, writes the outcome, and adds a routing to the report. Returns whether
+/// there is one.
 fn try_lesser<T: Threads + Wait + Sync + AllocGlobal, W: ByteSink, G: Gate + Sync>(
     rt: &T,
     widths: &Widths<'_, '_, '_>,
@@ -116,7 +116,8 @@ fn try_lesser<T: Threads + Wait + Sync + AllocGlobal, W: ByteSink, G: Gate + Syn
     requires tracks { (1 ≤ width) × (width ≤ most_tracks) }
     requires workers { (1 ≤ widths.now.workers) × (widths.now.workers ≤ most_workers) }
     ensures { TriesLesser (Negotiates (placed_problem widths.now.mode widths.now.placed.now)
-        widths.now.settings.now widths.now.workers) width report.old report.new }
+        widths.now.settings.now widths.now.workers (G.accepted gate.now)) width report.old
+        report.new }
 {
     let placed = widths.placed;
     let outcome = negotiate_at(
@@ -135,14 +136,14 @@ fn try_lesser<T: Threads + Wait + Sync + AllocGlobal, W: ByteSink, G: Gate + Syn
     add_success(report, width, outcome)
 }
 
-/// The least width that was routed, with one lesser width more.
+/// Returns the least width that was routed, after one more lesser width.
 fn least_with(least: Option<u32>, lesser: u32, is_routed: bool) -> Option<u32> {
     if is_routed { Some(lesser) } else { least }
 }
 
-/// Negotiates at so many widths below one, the greatest first, reports what each came to, and adds
-/// the routings to the report. The least width that was routed; and in `past` the least width that
-/// was tried.
+/// Negotiates at up to `count` widths below `width`, the greatest first. Writes the outcome of
+/// each, and adds the routings to the report. Returns the least width that was routed. `past`
+/// becomes the least width that was tried.
 fn try_all<T: Threads + Wait + Sync + AllocGlobal, W: ByteSink, G: Gate + Sync>(
     rt: &T,
     widths: &Widths<'_, '_, '_>,
@@ -157,9 +158,9 @@ fn try_all<T: Threads + Wait + Sync + AllocGlobal, W: ByteSink, G: Gate + Sync>(
     requires workers { (1 ≤ widths.now.workers) × (widths.now.workers ≤ most_workers) }
     ensures { (start : ℕ) → IsVerifying (Negotiates
         (placed_problem widths.now.mode widths.now.placed.now) widths.now.settings.now
-        widths.now.workers) start count width 1 report.old
+        widths.now.workers (G.accepted gate.now)) start count width 1 report.old
         → IsVerifiedReport (Negotiates (placed_problem widths.now.mode widths.now.placed.now)
-        widths.now.settings.now widths.now.workers) start count report.new }
+        widths.now.settings.now widths.now.workers (G.accepted gate.now)) start count report.new }
 {
     let mut routed = None;
     for step in 1..width.min(count.saturating_add(1)) {
@@ -171,9 +172,9 @@ fn try_all<T: Threads + Wait + Sync + AllocGlobal, W: ByteSink, G: Gate + Sync>(
     Ok(routed)
 }
 
-/// Tries so many widths below the least that was found, reports what each comes to, and in the end
-/// whether one was routed. Where one of them can't be tried that is reported, and those that were
-/// routed before count. The least width that was tried.
+/// Tries up to `count` widths below the least that was found. Writes the outcome of each, and at
+/// the end whether one was routed. If one of them can't be tried, writes that, and keeps those that
+/// were routed before. Returns the least width that was tried, or `width` if none was.
 fn try_below<T: Threads + Wait + Sync + AllocGlobal, G: Gate + Sync, S: SideFiles + Sync>(
     rt: &T,
     widths: &Widths<'_, '_, '_>,
@@ -187,9 +188,9 @@ fn try_below<T: Threads + Wait + Sync + AllocGlobal, G: Gate + Sync, S: SideFile
     requires workers { (1 ≤ widths.now.workers) × (widths.now.workers ≤ most_workers) }
     ensures { (start : ℕ) → IsVerifying (Negotiates
         (placed_problem widths.now.mode widths.now.placed.now) widths.now.settings.now
-        widths.now.workers) start count width 1 report.old
+        widths.now.workers (G.accepted gate.now)) start count width 1 report.old
         → IsVerifiedReport (Negotiates (placed_problem widths.now.mode widths.now.placed.now)
-        widths.now.settings.now widths.now.workers) start count report.new }
+        widths.now.settings.now widths.now.workers (G.accepted gate.now)) start count report.new }
 {
     let trials = KeptTrials::new(rt.alloc(), widths.placed, widths.mode, kept);
     let gates = BothGates {
@@ -208,9 +209,9 @@ fn try_below<T: Threads + Wait + Sync + AllocGlobal, G: Gate + Sync, S: SideFile
     past
 }
 
-/// Tries so many widths below the least that a search found, and adds those that are routed to its
-/// report. The least width such that it and all from there up to that of the search were tried; one
-/// more than the greatest there is, where the search found none.
+/// Tries up to `below` widths below the least that a search found, and adds those that are routed
+/// to its report. Returns the least width from which on all widths up to that of the search were
+/// tried, or `PAST_WIDTHS` if the search found none.
 pub(crate) fn verify<T: Threads + Wait + Sync + AllocGlobal, G: Gate + Sync, S: SideFiles + Sync>(
     rt: &T,
     widths: &Widths<'_, '_, '_>,
@@ -222,9 +223,9 @@ pub(crate) fn verify<T: Threads + Wait + Sync + AllocGlobal, G: Gate + Sync, S: 
     requires workers { (1 ≤ widths.now.workers) × (widths.now.workers ≤ most_workers) }
     ensures { (start : ℕ) → IsWidthReport (Negotiates
         (placed_problem widths.now.mode widths.now.placed.now) widths.now.settings.now
-        widths.now.workers) (next_width start) report.old
+        widths.now.workers (G.accepted gate.now)) (next_width start) report.old
         → IsVerifiedReport (Negotiates (placed_problem widths.now.mode widths.now.placed.now)
-        widths.now.settings.now widths.now.workers) start below report.new }
+        widths.now.settings.now widths.now.workers (G.accepted gate.now)) start below report.new }
 {
     let Some(least) = report.least() else {
         return PAST_WIDTHS;

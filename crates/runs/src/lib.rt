@@ -1,4 +1,4 @@
-//! What the commands of the program do, over any sources and sinks: their runs, texts and statuses.
+//! The commands of the program, over any sources and sinks: their runs, texts and statuses.
 #![tactic(auto)]
 
 mod bound;

@@ -14,7 +14,7 @@ use smallvec::SmallVec;
 use std::alloc::AllocError;
 use text_output::{ByteSink, OutputBuffer, Piece, put_node, put_number, put_pieces};
 
-/// Prints the first line: how many nodes and edges there are.
+/// Prints the first line, with the numbers of nodes and edges.
 #[tactic(auto, unfolding(crate::specs::Texts::counts_line))]
 fn put_counts<W: ByteSink>(out: &mut OutputBuffer, sink: &mut W, nodes: u32, edges: u64)
     ensures { SendsTo W.taken W.failed sink.old sink.new out.old out.new (counts_line nodes edges) }
@@ -31,7 +31,7 @@ fn put_counts<W: ByteSink>(out: &mut OutputBuffer, sink: &mut W, nodes: u32, edg
     );
 }
 
-/// Prints the line of the node of a number, nothing for what is no node.
+/// Prints the line of the node of a number, or nothing if there is no such node.
 fn put_line<W: ByteSink>(out: &mut OutputBuffer, sink: &mut W, device: &Device, id: u32)
     ensures { SendsTo W.taken W.failed sink.old sink.new out.old out.new (line_at device.now id) }
 {
@@ -59,7 +59,7 @@ fn put_line<W: ByteSink>(out: &mut OutputBuffer, sink: &mut W, device: &Device, 
     out.push(sink, b"\n");
 }
 
-/// Prints the lines of all nodes, or until the sink breaks.
+/// Prints the lines of all nodes. Stops if the sink breaks.
 fn put_lines<W: ByteSink>(out: &mut OutputBuffer, sink: &mut W, device: &Device)
     ensures { SendsTo W.taken W.failed sink.old sink.new out.old out.new
         (flat_map (line_at device.now) (numbers_below (node_count_of device.now))) }
@@ -92,7 +92,7 @@ fn put_edge_lines<W: ByteSink>(out: &mut OutputBuffer, sink: &mut W, from: u32, 
     }
 }
 
-/// Prints the lines of the edges from a node, whose successors fit in the list.
+/// Prints the lines of the edges from a node. Its successors fit in the list.
 fn put_edges_of<W: ByteSink>(
     out: &mut OutputBuffer,
     sink: &mut W,
@@ -117,7 +117,7 @@ pub(crate) fn make_room(device: &Device, list: &mut SmallVec<u32, 8>) -> Result<
     Ok(())
 }
 
-/// Prints the lines of all edges, or until the sink breaks.
+/// Prints the lines of all edges. Stops if the sink breaks.
 fn put_edges<W: ByteSink>(
     out: &mut OutputBuffer,
     sink: &mut W,
@@ -136,7 +136,7 @@ fn put_edges<W: ByteSink>(
     }
 }
 
-/// Prints the listing of a device, or until the sink breaks. The list has room for the successors
+/// Prints the listing of a device. Stops if the sink breaks. The list has room for the successors
 /// of any node.
 pub(crate) fn put_listing<W: ByteSink>(
     out: &mut OutputBuffer,

@@ -24,7 +24,7 @@ fn put_routed<W: ByteSink>(out: &mut OutputBuffer, sink: &mut W, iterations: u32
     );
 }
 
-/// Prints the line of what is left without success.
+/// Prints the line of an outcome without success.
 #[tactic(auto, unfolding(crate::specs::RouteRun::left_text))]
 fn put_left<W: ByteSink>(
     out: &mut OutputBuffer,
@@ -66,7 +66,7 @@ pub(crate) fn put_outcome<W: ByteSink>(out: &mut OutputBuffer, sink: &mut W, out
     }
 }
 
-/// The exit status of an outcome: 0 for a routing, 3 where there is none.
+/// Returns the exit status of an outcome: 0 for a routing, 3 if there is none.
 pub fn outcome_status(outcome: &Outcome) -> u8
     ensures { result ≡ status_of_outcome outcome.now }
 {

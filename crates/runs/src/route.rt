@@ -28,7 +28,7 @@ use std::thread::Threads;
 use text_output::{ByteSink, OutputBuffer};
 use vpr_text::ByteSource;
 
-/// Prints the line of an outcome, and answers the outcome.
+/// Prints the line of an outcome, and returns the outcome.
 fn print_outcome<W: ByteSink>(outcome: Outcome, out: &mut W) -> Result<Outcome, AppFault>
     ensures { PrintsText (writing_to W.taken W.failed out.old out.new)
         (outcome_text outcome) outcome result }
@@ -60,7 +60,7 @@ fn write_success<R: WholeSink, W: ByteSink>(
     print_outcome(Outcome::Success(routing, iterations), out)
 }
 
-/// Writes the routing, where the outcome is one, and then prints the line of the outcome.
+/// Writes the routing, if the outcome has one, and then prints the line of the outcome.
 fn write_outcome<R: WholeSink, W: ByteSink>(
     design: &Design<'_>,
     outcome: Outcome,
@@ -91,7 +91,7 @@ fn write_outcome<R: WholeSink, W: ByteSink>(
     }
 }
 
-/// Negotiates a routing of a design; what is left without success goes to the file of `rest`.
+/// Negotiates a routing of a design. What is left without success goes to the file of `rest`.
 fn negotiate_leaving<T: Threads + Wait + Sync + AllocGlobal, G: Gate + Sync, S: SideFiles + Sync>(
     rt: &T,
     design: &Design<'_>,
@@ -103,7 +103,8 @@ fn negotiate_leaving<T: Threads + Wait + Sync + AllocGlobal, G: Gate + Sync, S: 
     requires workers { (1 ≤ workers) × (workers ≤ most_workers) }
     ensures outcome { IfOk result (negotiation.IsOutcome design.now.problem settings.now) }
     ensures run { IfOk result
-        (negotiation.EndsNegotiation design.now.problem settings.now workers) }
+        (negotiation.EndsNegotiation design.now.problem settings.now workers
+        (G.accepted gate.now)) }
     ensures free { IfErr result (λ e. is_free e ≡ true) }
 {
     let left = LeftTrees::new(rt, rt.alloc(), design, rest);
@@ -135,7 +136,7 @@ fn route_design<
 ) -> Result<Outcome, AppFault>
     requires workers { (1 ≤ workers) × (workers ≤ most_workers) }
     ensures runs { ends_free result ≡ false → RoutesDesign settings.now workers
-        (writing_to R.taken R.failed route.old route.new)
+        (G.accepted gate.now) (writing_to R.taken R.failed route.old route.new)
         (writing_to W.taken W.failed out.old out.new) design.now result }
     ensures route { ends_free result ≡ true
         → TakesNothing (writing_to R.taken R.failed route.old route.new) }
@@ -148,19 +149,26 @@ fn route_design<
     write_outcome(design, outcome, route, out)
 }
 
-/// Reads an architecture, a netlist and its placement, in this order and each only where those
-/// before it are without fault; negotiates a routing on the device of the placement's size; writes
-/// the routing to `route`, where there is one, and then prints the line of the outcome. Where no
-/// routing was found, the trees that the last iteration left are written to the file of `rest`, and
-/// the nets without one are told there. The call waits for the workers.
+/// Reads an architecture, a netlist and its placement in this order, each only if those before it
+/// have no fault. Negotiates a routing on the device of the placement's size. Writes the routing to
+/// `route`, if one was found, and then prints the line of the outcome. If none was found, the trees
+/// that the last iteration left are written to the file of `rest`, and its words report the nets
+/// without a tree. The call waits for the workers.
 ///
 /// # Errors
-/// NoThread, Memory and Astray as `negotiate` answers them, and Memory wherever it ran out: then
-/// neither sink took anything. These aside, exactly the first fault of the files by the order of
-/// reading, and neither sink took anything; else Unwritten exactly where writing failed: of
-/// `route`, which then took a front of the routing's text, and `out` took nothing; or of `out`,
-/// which took a front of the line.
-pub fn route_run<N: ByteSource, A: ByteSource, P: ByteSource, R: WholeSink, W: ByteSink>(
+/// `NoThread`, `Memory` and `Astray` as `negotiate` returns them, and `Memory` wherever it ran out:
+/// these are unspecified, and neither sink took anything. Any other fault comes exactly when it is
+/// the first. The faults of the files come in reading order, and then neither sink took anything.
+/// After them comes `Unwritten`, if writing failed: to `route`, which then took a front of the
+/// routing's text while `out` took nothing; or to `out`, which took a front of the line.
+pub fn route_run<
+    N: ByteSource,
+    A: ByteSource,
+    P: ByteSource,
+    R: WholeSink,
+    W: ByteSink,
+    G: Gate + Sync,
+>(
     rt: &(impl Threads + Wait + Sync + AllocGlobal),
     net: &mut N,
     arch: &mut A,
@@ -171,29 +179,29 @@ pub fn route_run<N: ByteSource, A: ByteSource, P: ByteSource, R: WholeSink, W: B
     mode: Mode,
     settings: &Settings,
     workers: u32,
-    gate: &(impl Gate + Sync),
+    gate: &G,
     rest: &(impl SideFiles + Sync),
 ) -> Result<Outcome, AppFault>
     requires tracks { (1 ≤ width) × (width ≤ most_tracks) }
     requires workers { (1 ≤ workers) × (workers ≤ most_workers) }
-    // What the files say decides; where they say a design, its problem is negotiated, and a success
-    // is a routing of it, whose text is written.
+    // The files decide. If they give a design, its problem is negotiated, and a success is a
+    // routing of it, whose text is written.
     ensures runs { ends_free result ≡ false
         → MeetsDesign (reading (A.remaining arch.old) (A.failed arch.new))
         (reading (N.remaining net.old) (N.failed net.new))
         (reading (P.remaining place.old) (P.failed place.new))
-        (λ files. RunsRoute settings.now workers
+        (λ files. RunsRoute settings.now workers (G.accepted gate.now)
         (writing_to R.taken R.failed route.old route.new)
         (writing_to W.taken W.failed out.old out.new)
         (design_in width mode files) result) }
-    // Nothing is written where memory runs out, a thread can't be started or a worker goes astray.
+    // Nothing is written if memory runs out, a thread can't be started or a worker goes astray.
     ensures route { ends_free result ≡ true
         → TakesNothing (writing_to R.taken R.failed route.old route.new) }
     ensures out { ends_free result ≡ true
         → TakesNothing (writing_to W.taken W.failed out.old out.new) }
     // The routing of a success is in its place.
     ensures placed { IfOk result (PlacesOutcome (R.is_placed route.new)) }
-    // A file is not read where the run ended at one before it.
+    // A file is not read if the run ended at one before it.
     ensures net { ends_before InputFile.Net result ≡ true → net.new ≡ net.old }
     ensures place { ends_before InputFile.Place result ≡ true → place.new ≡ place.old }
 {

@@ -28,7 +28,7 @@ fn put_in_place<W: WholeSink>(file: &mut W) -> Result<(), AppFault>
     }
 }
 
-/// Writes the text of trees of a placed netlist, of which some nets may have none.
+/// Writes the text of trees of a placed netlist. Some nets may have none.
 #[inline(never)]
 fn write_text<W: WholeSink>(
     netlist: &Netlist<'_>,
@@ -48,8 +48,8 @@ fn write_text<W: WholeSink>(
     }
 }
 
-/// Writes the text of trees of a placed netlist, of which some nets may have none, and puts it into
-/// its place.
+/// Writes the text of trees of a placed netlist, and puts it into its place. Some nets may have
+/// none.
 pub(crate) fn write_trees<W: WholeSink>(
     netlist: &Netlist<'_>,
     placement: &Placement,

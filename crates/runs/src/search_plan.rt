@@ -39,7 +39,7 @@ fn search_widths<T: Threads + Wait + Sync + AllocGlobal, G: Gate + Sync, S: Side
     requires workers { (1 ≤ widths.now.workers) × (widths.now.workers ≤ most_workers) }
     ensures report { IfOk result (IsWidthReport
         (Negotiates (placed_problem widths.now.mode widths.now.placed.now)
-        widths.now.settings.now widths.now.workers) (next_width start)) }
+        widths.now.settings.now widths.now.workers (G.accepted gate.now)) (next_width start)) }
     ensures free { IfErr result (λ e. is_free e ≡ true) }
 {
     let placed = widths.placed;
@@ -63,8 +63,8 @@ fn search_widths<T: Threads + Wait + Sync + AllocGlobal, G: Gate + Sync, S: Side
     Ok(report)
 }
 
-/// Searches for the least width of a placed netlist, and tries so many widths below it. `past` is
-/// the least width such that it and all from there up to that of the search were tried.
+/// Searches for the least width of a placed netlist, and tries up to `below` widths below it.
+/// `past` becomes the least width from which on all widths up to that of the search were tried.
 fn search_all<T: Threads + Wait + Sync + AllocGlobal, G: Gate + Sync, S: SideFiles + Sync>(
     rt: &T,
     widths: &Widths<'_, '_, '_>,
@@ -78,7 +78,7 @@ fn search_all<T: Threads + Wait + Sync + AllocGlobal, G: Gate + Sync, S: SideFil
     requires workers { (1 ≤ widths.now.workers) × (widths.now.workers ≤ most_workers) }
     ensures report { IfOk result (IsVerifiedReport
         (Negotiates (placed_problem widths.now.mode widths.now.placed.now)
-        widths.now.settings.now widths.now.workers) start below) }
+        widths.now.settings.now widths.now.workers (G.accepted gate.now)) start below) }
     ensures free { IfErr result (λ e. is_free e ≡ true) }
 {
     let mut report = search_widths(rt, widths, start, gate, kept)?;
@@ -86,9 +86,9 @@ fn search_all<T: Threads + Wait + Sync + AllocGlobal, G: Gate + Sync, S: SideFil
     Ok(report)
 }
 
-/// Searches for the least width of a placed netlist, and tries so many widths below it. Then prints
-/// the lines of these trials, and writes the routing of the least width that was routed. In the end
-/// the width below which there is no routing is reported, where that is wanted.
+/// Searches for the least width of a placed netlist, and tries up to `below` widths below it. Then
+/// prints the lines of these trials, and writes the routing of the least width that was routed. At
+/// the end reports the width below which there is no routing, if that is wanted.
 pub(crate) fn search_placed<
     T: Threads + Wait + Sync + AllocGlobal,
     R: WholeSink,
@@ -109,7 +109,7 @@ pub(crate) fn search_placed<
     requires start { (1 ≤ start) × (start ≤ most_tracks) }
     requires workers { (1 ≤ widths.now.workers) × (widths.now.workers ≤ most_workers) }
     ensures runs { ends_free result ≡ false
-        → SearchesWidths widths.now.settings.now widths.now.workers
+        → SearchesWidths widths.now.settings.now widths.now.workers (G.accepted gate.now)
         (Search start below shows_bound) widths.now.mode
         (writing_to R.taken R.failed route.old route.new)
         (writing_to W.taken W.failed out.old out.new) widths.now.placed.now result }

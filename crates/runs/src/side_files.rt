@@ -1,27 +1,28 @@
-//! Files that a run writes beside its own: the trees that a negotiation left, and the routings of
-//! trials.
+//! Files that a run writes in addition to its own: the trees that a negotiation left, and the
+//! routings of trials.
 
 use crate::whole_sink::WholeSink;
 use std::io::{Sink, sink};
 use vpr_text::Adapted;
 
-/// Makes the files that a run writes beside its own. A run goes on where one can't be written.
+/// Makes the files that a run writes in addition to its own. If one can't be written, the run goes
+/// on.
 pub trait SideFiles {
-    /// Such a file, or where words go.
+    /// Such a file, or the sink of words.
     type Out: WholeSink + Drop + Sync;
 
-    /// The file of a negotiation on channels of so many tracks; none where it isn't wanted, or
-    /// can't be made.
+    /// Returns the file of a negotiation at this channel width, or `None` if the file isn't wanted
+    /// or can't be made.
     fn file(&self, width: u32) -> Option<Self::Out>;
 
-    /// After such a file was not written to its end.
+    /// Reports that such a file was not written to its end.
     fn unwritten(&self, width: u32);
 
-    /// Where words go that stand in no file.
+    /// Returns the sink of words, which are in no file.
     fn words(&self) -> Self::Out;
 }
 
-/// No files.
+/// No files, and no words.
 #[derive(Clone, Copy, Debug)]
 pub struct NoFiles;
 

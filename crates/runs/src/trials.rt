@@ -8,7 +8,7 @@ ghost use Rattle.runs.specs.WidthRun.{found_line, least_line, report_text, statu
 use text_output::{ByteSink, OutputBuffer, Piece, put_pieces};
 use width_search::{LeastWidth, Trial, WidthReport};
 
-/// What a trial came to, after its width.
+/// Returns the outcome of a trial, which follows its width.
 fn trial_end(routed: bool) -> &'static [u8]
     ensures { result.now ≡ trial_end routed }
 {
@@ -61,7 +61,7 @@ fn put_found<W: ByteSink>(out: &mut OutputBuffer, sink: &mut W, width: u32)
     );
 }
 
-/// Prints the last line, which names the least width that was routed.
+/// Prints the last line, with the least width that was routed, or that there is none.
 fn put_least<W: ByteSink>(out: &mut OutputBuffer, sink: &mut W, least: Option<&LeastWidth>)
     ensures { SendsTo W.taken W.failed sink.old sink.new out.old out.new
         (least_line (option_copied least.entry)) }
@@ -80,7 +80,7 @@ pub(crate) fn put_report<W: ByteSink>(out: &mut OutputBuffer, sink: &mut W, repo
     put_least(out, sink, report.least());
 }
 
-/// The exit status of a search: 0 where a width was routed, 3 where none was.
+/// Returns the exit status of a search: 0 if a width was routed, 3 if none was.
 pub fn report_status(report: &WidthReport) -> u8
     ensures { result ≡ status_of_report report.now }
 {

@@ -4,8 +4,8 @@ use node_cost::Settings;
 use rr_graph::Mode;
 use run_inputs::PlacedNetlist;
 
-/// A placed netlist, and how each width of it is negotiated: in which mode, by which settings, and
-/// by how many workers.
+/// A placed netlist, and how each of its widths is negotiated: the mode, the settings, and the
+/// number of workers.
 #[derive(Clone, Copy)]
 pub(crate) struct Widths<'p, 't, 's> {
     pub(crate) placed: &'p PlacedNetlist<'t>,

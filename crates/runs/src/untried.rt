@@ -14,14 +14,14 @@ use std::alloc::Global;
 use text_output::{ByteSink, OutputBuffer, Piece, put_number, put_pieces};
 use width_search::{Trial, WidthReport};
 
-/// Whether a trial was of this width.
+/// Returns whether a trial was of this width.
 fn is_tried(trials: &[Trial], width: u32) -> bool
     ensures { result ≡ is_tried trials.now width }
 {
     trials.iter().any(|trial| trial.width == width)
 }
 
-/// Whether the width is at least the bound and less than `past`, and was not tried.
+/// Returns whether the width is at least the bound and less than `past`, and was not tried.
 #[tactic(auto, unfolding(crate::specs::kept::Untried::is_untried))]
 fn is_untried(trials: &[Trial], bound: u32, past: u32, width: u32) -> bool
     ensures { result ≡ is_untried trials.now bound past width }
@@ -29,21 +29,21 @@ fn is_untried(trials: &[Trial], bound: u32, past: u32, width: u32) -> bool
     (width >= bound && width < past) && !is_tried(trials, width)
 }
 
-/// Whether the width below, if there is one, was left out.
+/// Returns whether there is a width below, and it was left out.
 fn has_lower(trials: &[Trial], bound: u32, past: u32, width: u32) -> bool
     ensures { result ≡ (nat_lt 0 width && is_untried trials.now bound past (width - 1)) }
 {
     width > 0 && is_untried(trials, bound, past, width - 1)
 }
 
-/// Whether a run of widths that were left out begins at the width.
+/// Returns whether a run of widths that were left out begins at the width.
 fn begins_gap(trials: &[Trial], bound: u32, past: u32, width: u32) -> bool
     ensures { result ≡ begins_gap trials.now bound past width }
 {
     is_untried(trials, bound, past, width) && !has_lower(trials, bound, past, width)
 }
 
-/// Whether a run of several such widths ends at the width.
+/// Returns whether a run of several such widths ends at the width.
 fn ends_gap(trials: &[Trial], bound: u32, past: u32, width: u32) -> bool
     requires { width < past }
     ensures { result ≡ ends_gap trials.now bound past width }
@@ -77,14 +77,14 @@ fn put_if<W: ByteSink>(
     }
 }
 
-/// What is printed before a run that begins at the width.
+/// Returns the text before a run that begins at the width.
 fn gap_mark(first: u32, width: u32) -> &'static [u8]
     ensures { result.now ≡ gap_mark first width }
 {
     if width == first { b"" } else { b", " }
 }
 
-/// Prints the begin or the end of a run at the width.
+/// Prints the beginning or the end of a run at the width.
 fn put_width<W: ByteSink>(
     out: &mut OutputBuffer,
     words: &mut W,
@@ -121,28 +121,28 @@ fn put_gaps<W: ByteSink>(
     }
 }
 
-/// Whether a width above the first was left out too.
+/// Returns whether a width above the first was left out too.
 fn are_several(trials: &[Trial], bound: u32, past: u32, first: u32) -> bool
     ensures { result ≡ are_several trials.now bound past first }
 {
     (0..past).any(|width| first < width && is_untried(trials, bound, past, width))
 }
 
-/// What one width, or several, are called.
+/// Returns the word for one width or for several.
 fn untried_word(several: bool) -> &'static [u8]
     ensures { result.now ≡ untried_word several }
 {
     if several { b"widths " } else { b"width " }
 }
 
-/// What follows one width, or several.
+/// Returns the text after one width or after several.
 fn untried_were(several: bool) -> &'static [u8]
     ensures { result.now ≡ untried_were several }
 {
     if several { b" were" } else { b" was" }
 }
 
-/// Prints how each width from the bound on is tried.
+/// Prints how to try each width from the bound on.
 #[tactic(auto, unfolding(crate::specs::kept::Untried::upward_advice))]
 fn put_advice<W: ByteSink>(out: &mut OutputBuffer, words: &mut W, bound: u32)
     ensures { SendsTo W.taken W.failed words.old words.new out.old out.new (upward_advice bound) }
@@ -158,7 +158,7 @@ fn put_advice<W: ByteSink>(out: &mut OutputBuffer, words: &mut W, bound: u32)
     );
 }
 
-/// Prints the line of the widths that were left out, which are one or several.
+/// Prints the line on the widths that were left out. `several` is whether there are several.
 fn put_from<W: ByteSink>(
     out: &mut OutputBuffer,
     words: &mut W,
@@ -177,7 +177,7 @@ fn put_from<W: ByteSink>(
     put_advice(out, words, bound);
 }
 
-/// Prints the line of the widths that were left out, of which this one is the first.
+/// Prints the line on the widths that were left out. `first` is the least of them.
 fn put_first<W: ByteSink>(
     out: &mut OutputBuffer,
     words: &mut W,
@@ -193,14 +193,15 @@ fn put_first<W: ByteSink>(
     put_from(out, words, trials, bound, past, first, several);
 }
 
-/// The first width that was left out, if one was.
+/// Returns the least width that was left out, if there is one.
 fn first_untried(trials: &[Trial], bound: u32, past: u32) -> Option<u32>
     ensures { result ≡ find (is_untried trials.now bound past) (numbers_below past) }
 {
     (0..past).find(|width| is_untried(trials, bound, past, *width))
 }
 
-/// Prints which widths from the bound on that are less than `past` were left out, if some were.
+/// Prints which widths from the bound on that are less than `past` were left out, if there are
+/// some.
 fn put_untried<W: ByteSink>(
     out: &mut OutputBuffer,
     words: &mut W,
@@ -217,7 +218,8 @@ fn put_untried<W: ByteSink>(
     }
 }
 
-/// Reports where words go which widths from the bound on that are less than `past` were left out.
+/// Writes to the sink of words which widths from the bound on that are less than `past` were left
+/// out.
 #[inline(never)]
 fn tell_untried<S: SideFiles>(kept: &S, trials: &[Trial], bound: u32, past: u32) {
     let mut words = kept.words();
@@ -226,9 +228,9 @@ fn tell_untried<S: SideFiles>(kept: &S, trials: &[Trial], bound: u32, past: u32)
     let _ = out.finish(&mut words);
 }
 
-/// Reports where words go below which width a placed netlist has no routing, and which widths from
-/// there on that are less than `past` were left out, if that is wanted. Where memory runs out,
-/// nothing is reported.
+/// Writes to the sink of words below which width a placed netlist has no routing, and which widths
+/// from there on that are less than `past` were left out, if that is wanted. If memory runs out,
+/// nothing is written.
 #[inline(never)]
 pub(crate) fn show_bound<S: SideFiles>(
     alloc: Global,

@@ -27,7 +27,8 @@ use text_output::ByteSink;
 use width_bound::CutFigures;
 use width_search::{WidthReport, upward_width};
 
-/// Tries each width of a placed netlist from a start on that these figures don't rule out, upward.
+/// Tries the widths of a placed netlist upward, from the start on or from the least width that
+/// these figures don't rule out, whichever is greater.
 fn try_upward<T: Threads + Wait + Sync + AllocGlobal, G: Gate + Sync, S: SideFiles + Sync>(
     rt: &T,
     widths: &Widths<'_, '_, '_>,
@@ -41,7 +42,8 @@ fn try_upward<T: Threads + Wait + Sync + AllocGlobal, G: Gate + Sync, S: SideFil
     requires sound { IsTrueOf widths.now.placed.now figures }
     ensures report { IfOk result (IsUpwardReport
         (Negotiates (placed_problem widths.now.mode widths.now.placed.now)
-        widths.now.settings.now widths.now.workers) widths.now.placed.now start) }
+        widths.now.settings.now widths.now.workers (G.accepted gate.now)) widths.now.placed.now
+        start) }
     ensures free { IfErr result (λ e. is_free e ≡ true) }
 {
     let placed = widths.placed;
@@ -65,10 +67,10 @@ fn try_upward<T: Threads + Wait + Sync + AllocGlobal, G: Gate + Sync, S: SideFil
     Ok(report)
 }
 
-/// Finds the bound of a placed netlist, and tries each width from there on, or from the start where
+/// Finds the bound of a placed netlist, and tries each width from there on, or from the start if
 /// that is greater, until one is routed. Then prints the lines of the trials, and writes the
 /// routing of the last one. Words report the bound before, and what is known of the least width
-/// after.
+/// afterwards.
 pub(crate) fn upward_placed<
     T: Threads + Wait + Sync + AllocGlobal,
     R: WholeSink,
@@ -87,7 +89,8 @@ pub(crate) fn upward_placed<
     requires start { (1 ≤ start) × (start ≤ most_tracks) }
     requires workers { (1 ≤ widths.now.workers) × (widths.now.workers ≤ most_workers) }
     ensures runs { ends_free result ≡ false
-        → SearchesWidths widths.now.settings.now widths.now.workers (Upward start)
+        → SearchesWidths widths.now.settings.now widths.now.workers (G.accepted gate.now)
+        (Upward start)
         widths.now.mode (writing_to R.taken R.failed route.old route.new)
         (writing_to W.taken W.failed out.old out.new) widths.now.placed.now result }
     ensures route { ends_free result ≡ true

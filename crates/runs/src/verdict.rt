@@ -13,7 +13,7 @@ use rr_graph::{Device, Problem};
 use run_inputs::{net_name, number_of_net};
 use text_output::{ByteSink, OutputBuffer, Piece, put_pieces};
 
-/// The name of a fault of a net's list.
+/// Returns the name of a fault of a net's list.
 pub fn tree_fault_name(fault: TreeFault) -> &'static [u8]
     ensures { result.now ≡ tree_fault_text fault }
 {
@@ -120,7 +120,7 @@ pub fn put_verdict<W: ByteSink>(
     }
 }
 
-/// The exit status of a verdict: 0 for a routing that is legal, 3 for one that isn't.
+/// Returns the exit status of a verdict: 0 for a legal routing, 3 for one that isn't.
 pub fn verdict_status(verdict: Option<RouteFault>) -> u8
     ensures { result ≡ status_of_verdict verdict }
 {

@@ -1,4 +1,5 @@
-//! Sinks whose bytes appear whole, as those of a file that takes its name when all were written.
+//! Sinks whose bytes appear as a whole, like those of a file that takes its name when all were
+//! written.
 
 ghost use Rattle.std.specs.Prelude.{◌≡◌, Bool, OnOk, false, is_err, true};
 ghost use Rattle.std.specs.Io.KnownBytes.{Keeps};
@@ -14,7 +15,7 @@ pub trait WholeSink: ByteSink {
     /// Puts what was written into its place. It takes no byte.
     ///
     /// # Errors
-    /// Broken where that fails; then nothing has changed there.
+    /// `Broken` if that fails. Then nothing has changed there.
     fn complete(&mut self) -> Result<(), Broken>
         requires { Self.failed self.old ≡ false }
         ensures bytes { Keeps (Self.taken self.old) (Self.taken self.new) }
@@ -22,7 +23,7 @@ pub trait WholeSink: ByteSink {
         ensures placed { OnOk result (Self.is_placed self.new ≡ true) };
 }
 
-/// The bytes of a writer stand where they belong as soon as they are written.
+/// The bytes of a writer are in their place as soon as they are written.
 impl<W: Write> WholeSink for Adapted<W> {
     ghost is_placed = { λ _. true };
 

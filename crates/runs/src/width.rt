@@ -45,8 +45,8 @@ fn width_placed<
     requires plan { (1 ≤ start_of plan) × (start_of plan ≤ most_tracks) }
     requires workers { (1 ≤ widths.now.workers) × (widths.now.workers ≤ most_workers) }
     ensures runs { ends_free result ≡ false
-        → SearchesWidths widths.now.settings.now widths.now.workers plan widths.now.mode
-        (writing_to R.taken R.failed route.old route.new)
+        → SearchesWidths widths.now.settings.now widths.now.workers (G.accepted gate.now) plan
+        widths.now.mode (writing_to R.taken R.failed route.old route.new)
         (writing_to W.taken W.failed out.old out.new) widths.now.placed.now result }
     ensures route { ends_free result ≡ true
         → TakesNothing (writing_to R.taken R.failed route.old route.new) }
@@ -75,21 +75,28 @@ fn width_placed<
     }
 }
 
-/// Reads an architecture, a netlist and its placement, in this order and each only where those
-/// before it are without fault; tries channel widths by the plan, on devices of the placement's
-/// size; prints a line for each trial, and one for the least width that was routed; and then writes
-/// the routing of that width to `route`, where there is one. The routing of each trial is written
-/// to its file of `kept` as soon as it is found. Words there report what else is known: what lesser
-/// widths come to, and below which width there is no routing. The call waits for the workers.
+/// Reads an architecture, a netlist and its placement in this order, each only if those before it
+/// have no fault. Tries channel widths by the plan, on devices of the placement's size. Prints a
+/// line for each trial, and one for the least width that was routed. Then writes the routing of
+/// that width to `route`, if there is one. The routing of each trial is written to its file of
+/// `kept` as soon as it is found. Words there report what else is known: the outcomes of lesser
+/// widths, and below which width there is no routing. The call waits for the workers.
 ///
 /// # Errors
-/// NoThread, Memory and Astray as `least_width` answers them, and Memory where it ran out before
-/// anything was written: then neither sink took anything. A fault while lesser widths are tried
-/// ends only that, and words report it. These aside, exactly the first fault of the files by the
-/// order of reading, and neither sink took anything; else Unwritten exactly where writing failed:
-/// of `out`, which then took a front of the lines, and `route` took nothing; or of `route`, which
-/// took a front of the routing's text.
-pub fn width_run<N: ByteSource, A: ByteSource, P: ByteSource, R: WholeSink, W: ByteSink>(
+/// `NoThread`, `Memory` and `Astray` as `least_width` returns them, and `Memory` if it ran out
+/// before anything was written: these are unspecified, and neither sink took anything. A fault
+/// while lesser widths are tried ends only that, and words report it. Any other fault comes exactly
+/// when it is the first. The faults of the files come in reading order, and then neither sink took
+/// anything. After them comes `Unwritten`, if writing failed: to `out`, which then took a front of
+/// the lines while `route` took nothing; or to `route`, which took a front of the routing's text.
+pub fn width_run<
+    N: ByteSource,
+    A: ByteSource,
+    P: ByteSource,
+    R: WholeSink,
+    W: ByteSink,
+    G: Gate + Sync,
+>(
     rt: &(impl Threads + Wait + Sync + AllocGlobal),
     net: &mut N,
     arch: &mut A,
@@ -100,30 +107,29 @@ pub fn width_run<N: ByteSource, A: ByteSource, P: ByteSource, R: WholeSink, W: B
     mode: Mode,
     settings: &Settings,
     workers: u32,
-    gate: &(impl Gate + Sync),
+    gate: &G,
     kept: &(impl SideFiles + Sync),
 ) -> Result<WidthReport, AppFault>
     requires plan { (1 ≤ start_of plan) × (start_of plan ≤ most_tracks) }
     requires workers { (1 ≤ workers) × (workers ≤ most_workers) }
-    // What the files say decides; where they say a placed netlist, the widths of the plan are tried
-    // for it, their lines are printed, and the text of a routing of it at the least width is
-    // written.
+    // The files decide. If they give a placed netlist, the widths of the plan are tried for it,
+    // their lines are printed, and the text of a routing of it at the least width is written.
     ensures runs { ends_free result ≡ false
         → MeetsDesign (reading (A.remaining arch.old) (A.failed arch.new))
         (reading (N.remaining net.old) (N.failed net.new))
         (reading (P.remaining place.old) (P.failed place.new))
-        (λ files. RunsWidth settings.now workers plan mode
+        (λ files. RunsWidth settings.now workers (G.accepted gate.now) plan mode
         (writing_to R.taken R.failed route.old route.new)
         (writing_to W.taken W.failed out.old out.new)
         (placed_in files) result) }
-    // Nothing is written where memory runs out, a thread can't be started or a worker goes astray.
+    // Nothing is written if memory runs out, a thread can't be started or a worker goes astray.
     ensures route { ends_free result ≡ true
         → TakesNothing (writing_to R.taken R.failed route.old route.new) }
     ensures out { ends_free result ≡ true
         → TakesNothing (writing_to W.taken W.failed out.old out.new) }
     // The routing of the least width is in its place.
     ensures placed { IfOk result (λ report. PlacesLeast (R.is_placed route.new) report.least) }
-    // A file is not read where the run ended at one before it.
+    // A file is not read if the run ended at one before it.
     ensures net { ends_before InputFile.Net result ≡ true → net.new ≡ net.old }
     ensures place { ends_before InputFile.Place result ≡ true → place.new ≡ place.old }
 {

@@ -1,4 +1,4 @@
-//! What a search of widths comes to, printed and written.
+//! The result of a search of widths, printed and written.
 
 ghost use Rattle.std.specs.Prelude.{◌≡◌, true, false, OnOk};
 ghost use Rattle.route_check.specs.Routed.{IsRouted};
@@ -59,9 +59,9 @@ fn write_found<R: WholeSink, W: ByteSink>(
     )
 }
 
-/// Prints the lines of a search, and then writes the routing of the least width, where one was
-/// routed. The problem of that width is made before anything is printed, so that a run that is out
-/// of memory has written nothing.
+/// Prints the lines of a search, and then writes the routing of the least width, if one was routed.
+/// The problem of that width is made before anything is printed, so that a run that is out of
+/// memory has written nothing.
 pub(crate) fn write_report<R: WholeSink, W: ByteSink>(
     alloc: Global,
     placed: &PlacedNetlist<'_>,

@@ -6,6 +6,7 @@ use Rattle.rr_graph.specs.Problems.{RoutingProblem}
 use Rattle.node_cost.specs.Options.{RouterOptions}
 use Rattle.iteration.specs.declared.outcome.Outcome.{Outcome}
 use Rattle.iteration.specs.declared.outcome.Outcome.TheVariants.{Success, NotRouted}
+use Rattle.net_workers.specs.Schedules.{TurnRule}
 use Rattle.iteration.specs.Outcomes.{EndsNegotiation, IsOutcome}
 use Rattle.width_search.specs.declared.report.LeastWidth.{LeastWidth}
 use Rattle.width_search.specs.declared.trial.Trial.{Trial}
@@ -26,8 +27,8 @@ is_success (NotRouted unrouted overused iterations) = false
 -- ---- a search
 
 -- what a negotiation at this width, of the problem of each width, may come to
-abbrev pub Negotiates : (problem : ℕ → RoutingProblem) → RouterOptions → (workers : ℕ) → (width : ℕ) → Outcome → Type 0
-Negotiates problem o workers width outcome = IsOutcome (problem width) o outcome × EndsNegotiation (problem width) o workers outcome
+abbrev pub Negotiates : (problem : ℕ → RoutingProblem) → RouterOptions → (workers : ℕ) → TurnRule → (width : ℕ) → Outcome → Type 0
+Negotiates problem o workers allows width outcome = IsOutcome (problem width) o outcome × EndsNegotiation (problem width) o workers allows outcome
 
 -- a trial tells whether a negotiation at its width succeeded
 abbrev pub IsReported : (comes_to : ℕ → Outcome → Type 0) → Trial → Type 0

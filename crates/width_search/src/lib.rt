@@ -1,4 +1,4 @@
-//! The search for the least channel width: trials of widths, one after another, each a negotiation
+//! The search for the least channel width: trials of widths one after another, each a negotiation
 //! of its own.
 #![tactic(auto)]
 

@@ -1,4 +1,4 @@
-//! What a search of widths comes to.
+//! The result of a search of widths.
 
 ghost use Rattle.std.specs.Prelude.{◌≡◌, ◌≤◌, IfSome, None, OnErr, OnOk, [], option_copied};
 ghost use Rattle.rr_graph.specs.Fabric.{most_tracks};
@@ -17,8 +17,8 @@ pub struct LeastWidth {
     pub routing: Routing,
 }
 
-/// What a search of widths comes to: the trials in their order, and the least width that was
-/// routed, if one was. Contracts see a record of both, the trials as a list.
+/// The result of a search of widths: the trials in order, and the least width that was routed, if
+/// one was. Contracts see a record of both, with the trials as a list.
 #[derive(Debug, Drop)]
 pub struct WidthReport {
     trials: Vec<Trial>,
@@ -38,7 +38,7 @@ impl Model for WidthReport {
         (λ least. (1 ≤ least.width) × (least.width ≤ most_tracks)) };
 }
 
-/// Whether a negotiation found a routing.
+/// Returns whether a negotiation found a routing.
 fn is_success(outcome: &Outcome) -> bool
     ensures { result ≡ is_success outcome.now }
 {
@@ -46,7 +46,7 @@ fn is_success(outcome: &Outcome) -> bool
 }
 
 impl WidthReport {
-    /// Before the first trial.
+    /// Returns the report before the first trial.
     pub(crate) fn new(alloc: Global) -> WidthReport
         ensures { result ≡ record { trials = []; least = None } }
     {
@@ -56,14 +56,15 @@ impl WidthReport {
         }
     }
 
-    /// The widths that were tried, in their order.
+    /// Returns the widths that were tried, in order.
     pub fn trials(&self) -> &[Trial]
         ensures { result.now ≡ self.now.trials }
     {
         &self.trials
     }
 
-    /// The least width at which a routing was found, with that routing; None where none was found.
+    /// Returns the least width at which a routing was found, with that routing, or `None` if none
+    /// was found.
     pub fn least(&self) -> Option<&LeastWidth>
         ensures least { option_copied result ≡ self.now.least }
         ensures tracks { IfSome result (λ l. (1 ≤ l.now.width) × (l.now.width ≤ most_tracks)) }
@@ -71,8 +72,8 @@ impl WidthReport {
         self.least.as_ref()
     }
 
-    /// Adds the trial of a width, whose negotiation came to this outcome. A routing takes the place
-    /// of the one before.
+    /// Adds the trial of a width with the outcome of its negotiation. A routing replaces the one
+    /// before.
     pub(crate) fn add(&mut self, width: u32, outcome: Outcome) -> Result<(), AllocError>
         requires { (1 ≤ width) × (width ≤ most_tracks) }
         ensures adds { OnOk result (self.new ≡ with_trial self.old width outcome) }
@@ -86,12 +87,12 @@ impl WidthReport {
         Ok(())
     }
 
-    /// Adds the trial of a width that is less than those that were routed, whose negotiation came
-    /// to this outcome. Its routing takes the place of the one before. The widths that a search of
-    /// its own left out are added so.
+    /// Adds the trial of a width that is less than those that were routed, with the outcome of its
+    /// negotiation. A routing replaces the one before. Callers use this for widths that the search
+    /// itself left out.
     ///
     /// # Errors
-    /// Where memory ran out: then the report is as before.
+    /// If memory ran out. The report is then as before.
     pub fn add_lesser(&mut self, width: u32, outcome: Outcome) -> Result<(), AllocError>
         requires { (1 ≤ width) × (width ≤ most_tracks) }
         ensures adds { OnOk result (self.new ≡ with_trial self.old width outcome) }

@@ -23,7 +23,7 @@ use std::alloc::Global;
 use std::sync::Wait;
 use std::thread::Threads;
 
-/// What the gate is reported of a trial.
+/// Converts the outcome of a trial into what the gate is called with.
 pub(crate) fn end_of(outcome: &Outcome) -> TrialEnd
     ensures { result ≡ end_of outcome.now }
 {
@@ -43,11 +43,11 @@ pub(crate) fn end_of(outcome: &Outcome) -> TrialEnd
     }
 }
 
-/// Negotiates a routing of a placed netlist on a device of this width. The gate is told of the
+/// Negotiates a routing of a placed netlist on a device of this width. The gate is called with the
 /// width before.
 ///
 /// # Errors
-/// As of `least_width`.
+/// As for `least_width`.
 pub fn negotiate_at<R: Threads + Wait + Sync, G: Gate + Sync>(
     rt: &R,
     alloc: Global,
@@ -65,7 +65,7 @@ pub fn negotiate_at<R: Threads + Wait + Sync, G: Gate + Sync>(
     requires read { (bytes : List ℕ) × ReadsBytes arch.now.pins bytes netlist.now }
     requires placed { IsPlaced arch.now.io_rat netlist.now.blocks placement.now }
     ensures { IfOk result (Negotiates (problem_with mode arch.now netlist.now placement.now)
-        settings.now workers width) }
+        settings.now workers (G.accepted gate.now) width) }
 {
     gate.tries(width);
     let problem = Problem::from_design(alloc, arch, netlist, placement, width, mode)?;
@@ -74,16 +74,17 @@ pub fn negotiate_at<R: Threads + Wait + Sync, G: Gate + Sync>(
 }
 
 /// Searches for the least channel width at which a netlist, read and placed for this architecture,
-/// is routed. The widths from `start` on double up to 256, until one is routed; from then on the
-/// gap between the greatest width that was not routed and the least that was is halved. Each trial
-/// is a negotiation on a new book, on a device of its own. The gate is reported of each trial.
+/// is routed. The widths double from `start` on, up to 256, until one is routed. From then on each
+/// trial halves the gap between the greatest width that was not routed and the least that was. Each
+/// trial is a negotiation on a new book, on a device of its own. The gate is called before and
+/// after each trial.
 ///
-/// The least width found is not the least possible: the search tries some widths alone, and a
+/// The least width found need not be the least possible: the search tries only some widths, and a
 /// greater width may fail where a lesser one does not.
 ///
 /// # Errors
-/// `NoThread`, `Memory` and `Astray` as `negotiate` answers them; `Memory` also where a device, a
-/// problem or the list of trials found none. The call waits for the workers.
+/// `NoThread`, `Memory` and `Astray` as `negotiate` returns them. `Memory` also if it runs out for
+/// a device, a problem or the list of trials. The call waits for the workers.
 pub fn least_width<R: Threads + Wait + Sync, G: Gate + Sync>(
     rt: &R,
     alloc: Global,
@@ -103,8 +104,8 @@ pub fn least_width<R: Threads + Wait + Sync, G: Gate + Sync>(
     // The trials are those that the search makes, and the routing is that of the least width that
     // was routed.
     ensures { IfOk result (IsWidthReport (Negotiates
-        (problem_with mode arch.now netlist.now placement.now) settings.now workers)
-        (next_width start)) }
+        (problem_with mode arch.now netlist.now placement.now) settings.now workers
+        (G.accepted gate.now)) (next_width start)) }
 {
     let mut report = WidthReport::new(alloc);
     while let Some(width) = next_width(start, report.trials()) {

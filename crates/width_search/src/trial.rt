@@ -1,9 +1,9 @@
-//! Which widths are tried, one after another.
+//! The widths that are tried, one after another.
 
 ghost use Rattle.std.specs.Prelude.{◌≡◌, Some};
 ghost use Rattle.width_search.specs.Widths.{doubled, first_upward, greatest_unrouted, halved, least_routed, next_upward, next_width, one_more, upward_after, with_routed, with_unrouted};
 
-/// The greatest width that a device may have, in tracks.
+/// The greatest width of a device, in tracks.
 const GREATEST_WIDTH: u32 = 256;
 
 /// A channel width that was tried, in tracks.
@@ -14,7 +14,7 @@ pub struct Trial {
     pub routed: bool,
 }
 
-/// The least width that was routed, with one trial more.
+/// Returns the least width that was routed, after one more trial.
 fn with_routed(least: Option<u32>, trial: Trial) -> Option<u32>
     ensures { result ≡ with_routed least trial }
 {
@@ -25,7 +25,7 @@ fn with_routed(least: Option<u32>, trial: Trial) -> Option<u32>
     }
 }
 
-/// The greatest width that was not routed, with one trial more.
+/// Returns the greatest width that was not routed, after one more trial.
 fn with_unrouted(greatest: u32, trial: Trial) -> u32
     ensures { result ≡ with_unrouted greatest trial }
 {
@@ -36,7 +36,7 @@ fn with_unrouted(greatest: u32, trial: Trial) -> u32
     }
 }
 
-/// The least width that was routed, where one was.
+/// Returns the least width that was routed, if one was.
 #[tactic(auto, unfolding(crate::specs::Widths::least_routed))]
 fn least_routed(trials: &[Trial]) -> Option<u32>
     ensures { result ≡ least_routed trials.now }
@@ -46,7 +46,7 @@ fn least_routed(trials: &[Trial]) -> Option<u32>
         .fold(None, |least, trial| with_routed(least, *trial))
 }
 
-/// The greatest width that was not routed; 0 where there is none.
+/// Returns the greatest width that was not routed, or 0 if there is none.
 #[tactic(auto, unfolding(crate::specs::Widths::greatest_unrouted))]
 fn greatest_unrouted(trials: &[Trial]) -> u32
     ensures { result ≡ greatest_unrouted trials.now }
@@ -56,7 +56,8 @@ fn greatest_unrouted(trials: &[Trial]) -> u32
         .fold(0, |greatest, trial| with_unrouted(greatest, *trial))
 }
 
-/// Twice the last width, while none was routed.
+/// Returns the width to try after `last` while none was routed: twice that, but at most the
+/// greatest width. Returns `None` after the greatest width.
 fn doubled(last: u32) -> Option<u32>
     ensures { result ≡ doubled last }
 {
@@ -67,7 +68,8 @@ fn doubled(last: u32) -> Option<u32>
     }
 }
 
-/// Half way between the greatest width that was not routed and the least that was.
+/// Returns the middle between the greatest width that was not routed and the least that was, or
+/// `None` if there is no width between them.
 fn halved(unrouted: u32, routed: u32) -> Option<u32>
     ensures { result ≡ halved unrouted routed }
 {
@@ -78,7 +80,7 @@ fn halved(unrouted: u32, routed: u32) -> Option<u32>
     }
 }
 
-/// The width that is tried after these trials, where another one is.
+/// Returns the width to try after these trials, if there is one.
 pub(crate) fn next_width(start: u32, trials: &[Trial]) -> Option<u32>
     ensures { result ≡ next_width start trials.now }
 {
@@ -91,7 +93,7 @@ pub(crate) fn next_width(start: u32, trials: &[Trial]) -> Option<u32>
     }
 }
 
-/// The first width of a search upward, where there is such a width.
+/// Returns the first width of a search upward, if a device can have it.
 fn first_upward(first: u32) -> Option<u32>
     ensures { result ≡ first_upward first }
 {
@@ -102,7 +104,7 @@ fn first_upward(first: u32) -> Option<u32>
     }
 }
 
-/// One more than the last width.
+/// Returns one more than the last width, if a device can have it.
 fn one_more(last: u32) -> Option<u32>
     ensures { result ≡ one_more last }
 {
@@ -113,7 +115,7 @@ fn one_more(last: u32) -> Option<u32>
     }
 }
 
-/// The width after this trial of a search upward.
+/// Returns the width to try after this trial of a search upward, if there is one.
 fn above(last: Trial) -> Option<u32>
     ensures { result ≡ upward_after 0 (Some last) }
 {
@@ -124,7 +126,7 @@ fn above(last: Trial) -> Option<u32>
     }
 }
 
-/// The width that is tried after these trials of a search upward, where another one is.
+/// Returns the width to try after these trials of a search upward, if there is one.
 pub(crate) fn next_upward(first: u32, trials: &[Trial]) -> Option<u32>
     ensures { result ≡ next_upward first trials.now }
 {

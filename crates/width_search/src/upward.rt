@@ -1,4 +1,4 @@
-//! The search of widths upward: none is left out.
+//! The search of widths upward, which leaves none out.
 
 ghost use Rattle.std.specs.Prelude.{◌≡◌, ℕ, ◌≤◌, List, IfOk};
 ghost use Rattle.net_file.specs.Reads.{ReadsBytes};
@@ -21,13 +21,13 @@ use std::alloc::Global;
 use std::sync::Wait;
 use std::thread::Threads;
 
-/// Tries each channel width from `first` on, upward and with none left out, until a netlist, read
-/// and placed for this architecture, is routed, or until 256 was not. Where `first` is above 256
-/// there is no trial. Each trial is a negotiation on a new book, on a device of its own. The gate
-/// is reported of each trial.
+/// Tries each channel width from `first` on, upward and leaving none out, until a netlist, read and
+/// placed for this architecture, is routed, or until 256 was not. If `first` is above 256, there is
+/// no trial. Each trial is a negotiation on a new book, on a device of its own. The gate is called
+/// before and after each trial.
 ///
 /// # Errors
-/// As of `least_width`.
+/// As for `least_width`.
 pub fn upward_width<R: Threads + Wait + Sync, G: Gate + Sync>(
     rt: &R,
     alloc: Global,
@@ -47,11 +47,11 @@ pub fn upward_width<R: Threads + Wait + Sync, G: Gate + Sync>(
     // The trials are those that such a search makes, and the routing is that of the least width
     // that was routed.
     ensures report { IfOk result (IsWidthReport (Negotiates
-        (problem_with mode arch.now netlist.now placement.now) settings.now workers)
-        (next_upward first)) }
+        (problem_with mode arch.now netlist.now placement.now) settings.now workers
+        (G.accepted gate.now)) (next_upward first)) }
     // That is: trial i is of the width first + i, and each but the last was not routed.
     ensures upward { IfOk result (λ r. GoesUpward first r.trials) }
-    // The routing is that of the last trial; there is none where no width is left.
+    // The routing is that of the last trial. If there is none, no width is left.
     ensures ends { IfOk result (λ r. EndsUpward first r.trials r.least) }
 {
     let mut report = WidthReport::new(alloc);

@@ -9,7 +9,9 @@ use Rattle.congestion_book.specs.declared.turn.Turn.{Turn}
 use Rattle.congestion_book.specs.Contents.{Content, net_count, view_of}
 use Rattle.net_workers.specs.declared.made_turn.MadeTurn.{MadeTurn}
 use Rattle.net_workers.specs.declared.report.ReportEntry.{ReportEntry}
+use Rattle.gates.specs.declared.schedule.ScheduledTurn.{ScheduledTurn}
 use Rattle.net_workers.specs.Agreement.{reported_turn}
+use Rattle.net_workers.specs.Schedules.{scheduled_turn}
 use Rattle.net_workers.specs.Searches.{IsFoundIn}
 use Rattle.net_workers.specs.kept.Routes.{RoutesNet}
 use Rattle.net_workers.specs.WorkerParts.{no_book}
@@ -32,6 +34,10 @@ no_plan = plan_of no_book 0 0 0
 -- the turn as the book has it
 abbrev pub turn_in_book : MadeTurn → Turn
 turn_in_book t = reported_turn t.worker t.entry
+
+-- the turn as a schedule has it
+abbrev pub turn_in_schedule : MadeTurn → ScheduledTurn
+turn_in_schedule t = scheduled_turn t.worker t.entry
 
 -- the lists after these turns, each of which gives its net another one, or none
 abbrev pub lists_after : Lists → List MadeTurn → Lists

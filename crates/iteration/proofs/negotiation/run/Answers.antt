@@ -4,13 +4,13 @@ use Rattle.iteration.proofs.Advancing.{few_rows, rows_after}
 use Rattle.iteration.proofs.negotiation.run.Goals as goal
 
 pub loop-alloc-init : goal.loop-alloc-init
-loop-alloc-init g c = subst (IsReached c.args.problem c.args.settings.now c.args.workers) (sym c.in_ok-negotiation.ensures) begun
+loop-alloc-init g c = subst (IsReached c.args.problem c.args.settings.now c.args.workers (g.G.Gate.accepted c.args.gate.now)) (sym c.in_ok-negotiation.ensures) begun
 
 pub advance-requires-clause-few : goal.advance-requires-clause-few
 advance-requires-clause-few g c κs within =
     let old = c.loop-alloc.negotiation in
     let on : goes_on c.args.settings.now old ≡ true = sym c.goes_on.ensures.goes_on ∙ c.loop-alloc-test.true in
-    let few = few_rows c.args.problem c.args.settings.now c.args.workers old c.goes_on.ensures.limits.iterations_least on in
+    let few = few_rows c.args.problem c.args.settings.now c.args.workers (g.G.Gate.accepted c.args.gate.now) old c.goes_on.ensures.limits.iterations_least on in
     omega (arith, few, c.goes_on.ensures.limits.iterations)
 
 pub loop-alloc-smaller : goal.loop-alloc-smaller
@@ -18,9 +18,9 @@ loop-alloc-smaller g c =
     let old = c.loop-alloc.negotiation in
     let new = c.in_ok-negotiation-2.negotiation in
     let on : goes_on c.args.settings.now old ≡ true = sym c.goes_on.ensures.goes_on ∙ c.loop-alloc-test.true in
-    let few = few_rows c.args.problem c.args.settings.now c.args.workers old c.goes_on.ensures.limits.iterations_least on in
+    let few = few_rows c.args.problem c.args.settings.now c.args.workers (g.G.Gate.accepted c.args.gate.now) old c.goes_on.ensures.limits.iterations_least on in
     let follows = c.in_ok-negotiation-2.ensures in
-    let more = rows_after c.args.settings.now c.args.workers old new follows in
+    let more = rows_after c.args.settings.now c.args.workers (g.G.Gate.accepted c.args.gate.now) old new follows in
     omega (arith, few, more)
 
 pub loop-alloc-preserved : goal.loop-alloc-preserved

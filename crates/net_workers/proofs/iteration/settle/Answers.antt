@@ -1,6 +1,6 @@
-use Rattle.std.proofs.Common.{rules, ◌≡◌, length, ap, ◌∙◌}
-use Rattle.net_workers.specs.kept.TurnLogs.{IsLegal, plan_of, entries_of}
-use Rattle.net_workers.proofs.Entries.{agrees_by}
+use Rattle.std.proofs.Common.{rules, ◌≡◌, length, map, subst, ap, ◌∙◌}
+use Rattle.net_workers.specs.kept.TurnLogs.{IsLegal, plan_of, entries_of, turn_in_schedule}
+use Rattle.net_workers.proofs.Entries.{agrees_by, schedule_by}
 use Rattle.net_workers.proofs.iteration.settle.Goals as goal
 
 pub reports_of-requires : goal.reports_of-requires
@@ -22,3 +22,17 @@ returns-clause-agrees g c =
     agrees_by round.opening c.into_parts-book.result.0 round.present round.bb round.workers c.args.desk c.in_ok-reports.reports.items legal parts.sound parts.within parts.lists parts.turns
     (done.once c.if-not-is_done.false) (done.free c.if-not-is_done.false) count parts.known
     (λ w low. reports.each w (rw c.requires.workers low) ∙ ap (entries_of w) turns)
+
+pub returns-clause-allowed : goal.returns-clause-allowed
+returns-clause-allowed g c =
+    let parts = c.into_parts-book.ensures in
+    let turns : c.in_ok-turns.turns.items ≡ c.args.desk = c.in_ok-turns.ensures ∙ parts.history in
+    let reports = c.in_ok-reports.ensures in
+    let count : length c.in_ok-reports.reports.items ≡ c.args.workers = search rules in
+    let shown : c.deref.result.now ≡ c.args.desk = c.deref.ensures.value ∙ turns in
+    let accepted = c.in_ok-are_accepted.ensures c.if-not-branch.false in (
+      map turn_in_schedule c.args.desk,
+      schedule_by c.into_parts-book.result.0 c.args.workers c.args.desk c.in_ok-reports.reports.items parts.turns count
+          (λ w low. reports.each w low ∙ ap (entries_of w) turns),
+      subst (λ ts. g.G.Gate.accepted c.args.gate.now c.args.iteration (map turn_in_schedule ts)) shown accepted,
+    )

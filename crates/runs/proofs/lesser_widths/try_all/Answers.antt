@@ -1,4 +1,4 @@
-use Rattle.std.proofs.Common.{◌-◌, ◌≤◌, arith}
+use Rattle.std.proofs.Common.{◌-◌, arith}
 use Rattle.width_search.specs.Reports.{Negotiates}
 use Rattle.run_inputs.specs.Inputs.{placed_problem}
 use Rattle.runs.proofs.Verified.{lesser_step, step_within}
@@ -19,7 +19,7 @@ try_lesser-requires-clause-tracks g c κs within =
 
 pub returns-in_err-is_routed : goal.returns-in_err-is_routed
 returns-in_err-is_routed g c =
-    let comes_to = Negotiates (placed_problem c.args.widths.now.mode c.args.widths.now.placed.now) c.args.widths.now.settings.now c.args.widths.now.workers in
+    let comes_to = Negotiates (placed_problem c.args.widths.now.mode c.args.widths.now.placed.now) c.args.widths.now.settings.now c.args.widths.now.workers (g.G.Gate.accepted c.args.gate.now) in
     let in_range = step_within c.args.width c.args.count c.loop-step.step c.min-step-end.result c.saturating_add.result c.min-step-end.ensures c.saturating_add.ensures c.loop-step-test.true in
     λ start v. (
     lesser_step comes_to start c.args.count c.args.width c.loop-step.step (c.args.width - c.loop-step.step) c.loop-step.report c.try_lesser.new.report
@@ -27,7 +27,7 @@ returns-in_err-is_routed g c =
 
 pub loop-step-preserved : goal.loop-step-preserved
 loop-step-preserved g c =
-    let comes_to = Negotiates (placed_problem c.args.widths.now.mode c.args.widths.now.placed.now) c.args.widths.now.settings.now c.args.widths.now.workers in
+    let comes_to = Negotiates (placed_problem c.args.widths.now.mode c.args.widths.now.placed.now) c.args.widths.now.settings.now c.args.widths.now.workers (g.G.Gate.accepted c.args.gate.now) in
     let in_range = step_within c.args.width c.args.count c.loop-step.step c.min-step-end.result c.saturating_add.result c.min-step-end.ensures c.saturating_add.ensures c.loop-step-test.true in (
       omega (arith, c.loop-step.invariant.0),
       λ start v.

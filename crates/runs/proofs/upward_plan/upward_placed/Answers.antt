@@ -27,4 +27,4 @@ returns-in_err-report-clause-late g c =
 
 pub write_report-requires : goal.write_report-requires
 write_report-requires g c =
-    routes_least c.args.widths.now.mode c.args.widths.now.placed.now c.args.widths.now.settings.now c.args.widths.now.workers c.in_ok-report.report c.in_ok-report.ensures.report.searched.least
+    routes_least c.args.widths.now.mode c.args.widths.now.placed.now c.args.widths.now.settings.now c.args.widths.now.workers (g.G.Gate.accepted c.args.gate.now) c.in_ok-report.report c.in_ok-report.ensures.report.searched.least

@@ -1,0 +1,106 @@
+//! Workers that make the turns of a schedule. Each makes its own turns in order, and each turn
+//! after those that it has to see and before those that come after it.
+
+use crate::board::Board;
+use crate::course::Course;
+use crate::fault::WorkFault;
+use crate::history::Logged;
+use crate::turn_desk::TurnDesk;
+use crate::worker::Worker;
+use crate::workspace::Tools;
+use gates::{Gate, ScheduledTurn};
+use std::alloc::{AllocError, Global};
+use std::sync::{Mutex, Wait};
+
+/// The number of no worker.
+const NOBODY: u32 = u32::MAX;
+
+/// Returns for each net the worker that makes its turn.
+fn workers_of_nets(
+    alloc: Global,
+    turns: &[ScheduledTurn],
+    nets: u32,
+) -> Result<Vec<u32>, AllocError> {
+    let mut workers = Vec::with_capacity(alloc, nets as usize)?;
+    workers.resize(nets as usize, NOBODY)?;
+    for turn in turns {
+        if let Some(worker) = workers.get_mut(turn.net as usize) {
+            *worker = turn.worker;
+        }
+    }
+    Ok(workers)
+}
+
+/// Draws all nets, each for the worker that makes its turn.
+pub(crate) fn draw_all<L: Logged>(
+    alloc: Global,
+    board: &Board<'_, L>,
+    desk: &mut TurnDesk<L>,
+    workers: &mut [Worker<L>],
+    turns: &[ScheduledTurn],
+) -> Result<(), WorkFault> {
+    let nets = board.prepared().problem().nets();
+    for number in workers_of_nets(alloc, turns, nets)? {
+        let Some(worker) = workers.get_mut(number as usize) else {
+            return Err(WorkFault::Astray);
+        };
+        worker.draw(desk);
+    }
+    Ok(())
+}
+
+/// Makes the turns of one worker. Returns what it searched with.
+fn make_own_turns<L: Logged, R: Wait, G: Gate>(
+    rt: &R,
+    alloc: Global,
+    desk: &Mutex<TurnDesk<L>>,
+    board: &Board<'_, L>,
+    course: &Course<'_>,
+    worker: Worker<L>,
+    gate: &G,
+) -> Result<Tools, WorkFault> {
+    let mut worker = worker;
+    for (place, turn) in course.turns().iter().enumerate() {
+        if turn.worker == worker.number() {
+            worker.make_scheduled(rt, alloc, desk, board, course, place as u64, turn, gate)?;
+        }
+    }
+    Ok(worker.into_tools())
+}
+
+/// Makes the turns of one of several workers. If it stops before its last turn, the others no
+/// longer wait for it. Returns what it searched with.
+pub(crate) fn follow<L: Logged, R: Wait, G: Gate>(
+    rt: &R,
+    alloc: Global,
+    desk: &Mutex<TurnDesk<L>>,
+    board: &Board<'_, L>,
+    course: &Course<'_>,
+    worker: Worker<L>,
+    gate: &G,
+) -> Result<Tools, WorkFault> {
+    let made = make_own_turns(rt, alloc, desk, board, course, worker, gate);
+    if made.is_err() {
+        course.stop(rt);
+    }
+    made
+}
+
+/// Makes all turns in one thread, each by the worker whose turn it is.
+pub(crate) fn follow_alone<L: Logged, R: Wait, G: Gate>(
+    rt: &R,
+    alloc: Global,
+    desk: &Mutex<TurnDesk<L>>,
+    board: &Board<'_, L>,
+    course: &Course<'_>,
+    workers: &mut [Worker<L>],
+    gate: &G,
+) -> Result<(), WorkFault> {
+    for (place, turn) in course.turns().iter().enumerate() {
+        let Some(worker) = workers.get_mut(turn.worker as usize) else {
+            return Err(WorkFault::Astray);
+        };
+        worker.make_scheduled(rt, alloc, desk, board, course, place as u64, turn, gate)?;
+    }
+    Ok(())
+}
