@@ -1,6 +1,6 @@
 //! The beginning of the runs with a design, and the end of any run by a fault.
 
-use crate::names::ShownNames;
+use crate::names::{FurtherNames, ShownNames};
 use crate::opened::{Input, OpenedDesign, open, open_design};
 use refusals::{FilesRead, tell_refusal};
 use run_inputs::{AppFault, InputFile, print_fault, status};
@@ -11,7 +11,8 @@ use vpr_text::Adapted;
 /// The names of a run's files, and the opened files of its design.
 pub type Begun = (ShownNames, OpenedDesign<File>);
 
-/// Opens the files of a design: NET, ARCH and PLACE, before ROUTE.
+/// Opens the files of a design: NET, ARCH and PLACE, before ROUTE. `further` names the other files
+/// of the run.
 ///
 /// # Errors
 /// The exit status of the fault, which is printed.
@@ -19,11 +20,11 @@ pub type Begun = (ShownNames, OpenedDesign<File>);
 pub fn begin(
     rt: &HostRuntime,
     files: [&str; 4],
-    log: Option<&str>,
+    further: FurtherNames<'_>,
     is_explained: bool,
 ) -> Result<Begun, u8> {
     let [net, arch, place, _] = files;
-    let Ok(names) = ShownNames::of(rt.alloc(), files, log) else {
+    let Ok(names) = ShownNames::of(rt.alloc(), files, further) else {
         return Err(refused(rt, AppFault::Memory));
     };
     match open_design(rt, arch, net, place, is_explained) {
@@ -43,7 +44,7 @@ pub fn begin_with_route(
     is_explained: bool,
 ) -> Result<(Begun, Input<File>), u8> {
     let [_, _, _, route] = files;
-    let (names, design) = begin(rt, files, None, is_explained)?;
+    let (names, design) = begin(rt, files, FurtherNames::none(), is_explained)?;
     match open(rt, route, InputFile::Route, is_explained) {
         Ok(route) => Ok(((names, design), route)),
         Err(fault) => Err(refused_with(rt, fault, is_explained, names.without_bytes())),

@@ -10,7 +10,7 @@ use crate::identity::{STANDARD_ERROR, STANDARD_OUTPUT, is_name_of, leads_to};
 use crate::names::ShownNames;
 use crate::opened::{Input, OpenedDesign};
 use crate::schedule::{
-    InputSums, RunFault, ScheduleGates, route_text, schedule_in, width_text, workers_of,
+    InputSums, RunFault, ScheduleGates, both_gates, route_text, schedule_in, width_text, workers_of,
 };
 use crate::shown::{Plain, PlainWriter};
 use crate::side::{RestFile, TrialFiles, free_name, log_of, others_of};
@@ -20,7 +20,6 @@ use command_line::command::{
     BoundWords, CheckWords, GraphWords, ReportWords, RouteWords, WidthWords,
 };
 use iteration::Outcome;
-use net_workers::BothGates;
 use report_run::report_run;
 use route_check::RouteFault;
 use route_explain::explain_run;
@@ -152,13 +151,15 @@ pub fn route<'a, R: Runtime + Threads + Wait + Sync + AllocGlobal>(
     let command = route_text(rt.alloc(), width, mode)?;
     let sums = InputSums::new();
     let run = sums.description(command.as_str(), workers, settings);
+    let others = others_of(files, [given.log, given.follow, given.rest]);
+    let recorded = free_name(rt, given.schedule, others);
     let log = log_of(
         handle,
         rt,
         given.log,
         others_of(files, [given.follow, None, None]),
         names.log(),
-        names.files(),
+        names.files(recorded.is_some()),
         workers,
         settings,
         progress,
@@ -172,21 +173,10 @@ pub fn route<'a, R: Runtime + Threads + Wait + Sync + AllocGlobal>(
         ),
         progress,
     };
-    let others = others_of(files, [given.log, given.follow, given.rest]);
-    let recorded = free_name(rt, given.schedule, others);
     let gates = ScheduleGates::new(handle, rt.alloc(), &schedule, &run, given.workers, recorded);
-    let watchers = BothGates {
-        first: progress,
-        second: &log,
-    };
-    let recording = BothGates {
-        first: &gates.recorder,
-        second: &watchers,
-    };
-    let gate = BothGates {
-        first: &gates.follower,
-        second: &recording,
-    };
+    let watchers = both_gates(progress, &log);
+    let recording = both_gates(&gates.recorder, &watchers);
+    let gate = both_gates(&gates.follower, &recording);
     let result = route_run(
         handle,
         &mut Summed::new(handle, &mut design.net, gates.wanted(&sums.net)),
@@ -246,13 +236,15 @@ pub fn width<'a, R: Runtime + Threads + Wait + Sync + AllocGlobal>(
     let command = width_text(rt.alloc(), given.start, given.upward, given.verify, mode)?;
     let sums = InputSums::new();
     let run = sums.description(command.as_str(), workers, settings);
+    let others = others_of(files, [given.log, given.follow, None]);
+    let recorded = free_name(rt, given.schedule, others);
     let log = log_of(
         handle,
         rt,
         given.log,
         others_of(files, [given.follow, None, None]),
         names.log(),
-        names.files(),
+        names.files(recorded.is_some()),
         workers,
         settings,
         progress,
@@ -263,21 +255,10 @@ pub fn width<'a, R: Runtime + Threads + Wait + Sync + AllocGlobal>(
         others: others_of(files, [given.log, given.follow, given.schedule]),
         progress,
     };
-    let others = others_of(files, [given.log, given.follow, None]);
-    let recorded = free_name(rt, given.schedule, others);
     let gates = ScheduleGates::new(handle, rt.alloc(), &schedule, &run, given.workers, recorded);
-    let watchers = BothGates {
-        first: progress,
-        second: &log,
-    };
-    let recording = BothGates {
-        first: &gates.recorder,
-        second: &watchers,
-    };
-    let gate = BothGates {
-        first: &gates.follower,
-        second: &recording,
-    };
+    let watchers = both_gates(progress, &log);
+    let recording = both_gates(&gates.recorder, &watchers);
+    let gate = both_gates(&gates.follower, &recording);
     let result = width_run(
         handle,
         &mut Summed::new(handle, &mut design.net, gates.wanted(&sums.net)),

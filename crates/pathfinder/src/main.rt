@@ -24,7 +24,7 @@ use clap::{ArgMatches, Error as ClapError};
 use command_line::command;
 use command_line::command::GraphWords;
 use commands::{Watched, output};
-use names::ShownNames;
+use names::{FurtherNames, ShownNames};
 use opened::{Input, Kept, open};
 use refusals::FilesRead;
 use run_inputs::{AppFault, InputFile, status};
@@ -102,7 +102,12 @@ fn run_route<R: Runtime + Threads + Wait + Sync + AllocGlobal>(
     };
     let files = [given.net, given.arch, given.place, given.route];
     let (is_explained, followed) = (given.explain, given.follow);
-    let (names, mut design) = match begin(rt, files, given.log, is_explained) {
+    let further = FurtherNames {
+        log: given.log,
+        schedule: given.schedule,
+        follow: given.follow,
+    };
+    let (names, mut design) = match begin(rt, files, further, is_explained) {
         Ok(begun) => begun,
         Err(status) => return status,
     };
@@ -144,7 +149,12 @@ fn run_width<R: Runtime + Threads + Wait + Sync + AllocGlobal>(
     };
     let files = [given.net, given.arch, given.place, given.route];
     let (is_explained, followed) = (given.explain, given.follow);
-    let (names, mut design) = match begin(rt, files, given.log, is_explained) {
+    let further = FurtherNames {
+        log: given.log,
+        schedule: given.schedule,
+        follow: given.follow,
+    };
+    let (names, mut design) = match begin(rt, files, further, is_explained) {
         Ok(begun) => begun,
         Err(status) => return status,
     };
@@ -259,7 +269,7 @@ fn run_bound(rt: &HostRuntime, given: &ArgMatches<'_>, watched: Watched) -> u8 {
     };
     let files = [given.net, given.arch, given.place, ""];
     let is_explained = given.explain;
-    let (names, mut design) = match begin(rt, files, None, is_explained) {
+    let (names, mut design) = match begin(rt, files, FurtherNames::none(), is_explained) {
         Ok(begun) => begun,
         Err(status) => return status,
     };
@@ -275,7 +285,8 @@ fn run_graph(rt: &HostRuntime, given: &ArgMatches<'_>, watched: Watched) -> u8 {
     let Some(given) = command::graph_words(given) else {
         return BAD_WORDS;
     };
-    let Ok(names) = ShownNames::of(rt.alloc(), ["", given.arch, "", ""], None) else {
+    let Ok(names) = ShownNames::of(rt.alloc(), ["", given.arch, "", ""], FurtherNames::none())
+    else {
         return refused(rt, AppFault::Memory);
     };
     let is_explained = given.explain;

@@ -2,7 +2,37 @@
 
 use crate::shown::shown;
 use refusals::{FileRead, FilesRead};
+use run_log::RunFiles;
 use std::alloc::{AllocError, Global};
+
+/// The names of the files that a run may have in addition to NET, ARCH, PLACE and ROUTE.
+#[derive(Clone, Copy)]
+pub struct FurtherNames<'a> {
+    pub log: Option<&'a str>,
+    /// The schedule that the run writes.
+    pub schedule: Option<&'a str>,
+    /// The schedule that the run follows.
+    pub follow: Option<&'a str>,
+}
+
+impl FurtherNames<'_> {
+    pub fn none() -> FurtherNames<'static> {
+        FurtherNames {
+            log: None,
+            schedule: None,
+            follow: None,
+        }
+    }
+}
+
+/// Returns a name as bytes, or `None` if it is empty.
+fn named(name: &str) -> Option<&[u8]> {
+    if name.is_empty() {
+        None
+    } else {
+        Some(name.as_bytes())
+    }
+}
 
 /// The names without control characters. A name is empty if the run has no such file.
 #[derive(Drop)]
@@ -12,14 +42,16 @@ pub struct ShownNames {
     place: String,
     route: String,
     log: String,
+    schedule: String,
+    follow: String,
 }
 
 impl ShownNames {
-    /// Returns the names of NET, ARCH, PLACE and ROUTE, and of the log.
+    /// Returns the names of NET, ARCH, PLACE and ROUTE, and of the further files.
     pub fn of(
         alloc: Global,
         files: [&str; 4],
-        log: Option<&str>,
+        further: FurtherNames<'_>,
     ) -> Result<ShownNames, AllocError> {
         let [net, arch, place, route] = files;
         Ok(ShownNames {
@@ -27,18 +59,28 @@ impl ShownNames {
             arch: shown(alloc, arch)?,
             place: shown(alloc, place)?,
             route: shown(alloc, route)?,
-            log: shown(alloc, log.unwrap_or(""))?,
+            log: shown(alloc, further.log.unwrap_or(""))?,
+            schedule: shown(alloc, further.schedule.unwrap_or(""))?,
+            follow: shown(alloc, further.follow.unwrap_or(""))?,
         })
     }
 
-    /// Returns the names of NET, ARCH, PLACE and ROUTE.
-    pub fn files(&self) -> [&str; 4] {
-        [
-            self.net.as_str(),
-            self.arch.as_str(),
-            self.place.as_str(),
-            self.route.as_str(),
-        ]
+    /// Returns the names that the head of the run's log has. That of the schedule that is written
+    /// is among them only if the run is recorded.
+    pub fn files(&self, is_recorded: bool) -> RunFiles<'_> {
+        let schedule = if is_recorded {
+            named(self.schedule.as_str())
+        } else {
+            None
+        };
+        RunFiles {
+            net: self.net.as_bytes(),
+            arch: self.arch.as_bytes(),
+            place: self.place.as_bytes(),
+            route: self.route.as_bytes(),
+            schedule,
+            follow: named(self.follow.as_str()),
+        }
     }
 
     pub fn route(&self) -> &str {

@@ -8,7 +8,7 @@ use crate::shown::Plain;
 use crate::warning::is_free;
 use command_line::help::VERSION;
 use node_cost::Settings;
-use run_log::{Log, Progress};
+use run_log::{Log, Progress, RunFiles};
 use runs::SideFiles;
 use std::io::Eprint;
 use std::sync::Wait;
@@ -67,7 +67,7 @@ pub fn log_of<'a, R: Eprint + Clock + Wait>(
     name: Option<&'a str>,
     others: [&'a str; 9],
     shown_name: &'a str,
-    shown_files: [&'a str; 4],
+    shown_files: RunFiles<'a>,
     workers: u32,
     settings: Settings,
     progress: &'a Progress<'a, HostRuntime>,

@@ -4,7 +4,9 @@
 mod log;
 mod log_text;
 mod progress;
+mod run_files;
 mod trial_text;
 
 pub use log::Log;
 pub use progress::Progress;
+pub use run_files::RunFiles;

@@ -2,6 +2,7 @@
 //! iteration, and a line for each width that was tried.
 
 use crate::log_text::{write_head, write_row};
+use crate::run_files::RunFiles;
 use crate::trial_text::{write_left, write_routed};
 use congestion_book::Book;
 use net_workers::{Gate, ScheduledTurn, TrialEnd};
@@ -24,8 +25,7 @@ pub struct Log<'a, R, W> {
     rt: &'a R,
     name: &'a str,
     program: &'a str,
-    /// The files of the run: NET, ARCH, PLACE and ROUTE.
-    files: [&'a str; 4],
+    files: RunFiles<'a>,
     workers: u32,
     settings: Settings,
     begin: Duration,
@@ -36,13 +36,12 @@ pub struct Log<'a, R, W> {
 
 impl<'a, R: Eprint + Clock + Wait, W: ByteSink + Drop> Log<'a, R, W> {
     /// Returns the log of a run that begins now, with this many workers. `name` is that of the
-    /// log's file, for warnings. The head names the version of the program and the run's NET, ARCH,
-    /// PLACE and ROUTE.
+    /// log's file, for warnings. The head names the version of the program and the run's files.
     pub fn new(
         rt: &'a R,
         name: &'a str,
         program: &'a str,
-        files: [&'a str; 4],
+        files: RunFiles<'a>,
         workers: u32,
         settings: Settings,
         out: Option<W>,
@@ -69,14 +68,10 @@ impl<'a, R: Eprint + Clock + Wait, W: ByteSink + Drop> Log<'a, R, W> {
 
     /// Writes the head, and returns whether that succeeded.
     fn is_head_written(&self, sink: &mut W, problem: &Problem) -> bool {
-        let [net, arch, place, route] = self.files;
         write_head(
             sink,
             self.program.as_bytes(),
-            net.as_bytes(),
-            arch.as_bytes(),
-            place.as_bytes(),
-            route.as_bytes(),
+            &self.files,
             problem,
             self.workers,
             &self.settings,

@@ -1,55 +1,19 @@
 //! The text of a log: its head, and the line of an iteration.
 
-ghost use Rattle.std.specs.Prelude.{◌≡◌, ◌≤◌, decimal, length};
+ghost use Rattle.std.specs.Prelude.{◌≡◌, ◌≤◌, decimal, length, option_copied};
 ghost use Rattle.vpr_text.specs.Output.{SendsTo};
 ghost use Rattle.node_cost.specs.Options.{most_iterations};
 ghost use Rattle.run_inputs.specs.Runs.{PrintsText, writing_to};
-ghost use Rattle.run_log.specs.kept.LogTexts.{amount_text, array_text, column_text, entry_text, factors_text, figures_text, files_text, filled_text, head_text, iteration_text, mode_name, options_text, part_text, point_text, problem_text, row_text, time_text, titles_text};
+ghost use Rattle.run_log.specs.kept.LogTexts.{array_text, column_text, figures_text, files_text, filled_text, given_text, head_text, iteration_text, mode_name, part_text, point_text, problem_text, row_text, time_text, titles_text};
 
+use crate::run_files::RunFiles;
 use congestion_book::Book;
 use itoa::{Buffer, Integer};
 use node_cost::Settings;
 use rr_graph::{Mode, Problem};
 use run_inputs::AppFault;
-use text_output::{ByteSink, OutputBuffer, Piece, put_number, put_pieces};
-
-/// Prints a name and its value.
-#[tactic(auto, unfolding(crate::specs::kept::LogTexts::entry_text))]
-fn put_entry<'a, W: ByteSink>(out: &mut OutputBuffer, sink: &mut W, name: &'a [u8], value: &'a [u8])
-    ensures { SendsTo W.taken W.failed sink.old sink.new out.old out.new
-        (entry_text name.now value.now) }
-{
-    put_pieces(
-        out,
-        sink,
-        &[
-            Piece::Text(b"# "),
-            Piece::Text(name),
-            Piece::Text(b" "),
-            Piece::Text(value),
-            Piece::Text(b"\n"),
-        ],
-    );
-}
-
-/// Prints a name, a number and its unit.
-fn put_amount<W: ByteSink, I: Integer>(
-    out: &mut OutputBuffer,
-    sink: &mut W,
-    name: &[u8],
-    number: I,
-    unit: &[u8],
-)
-    ensures { SendsTo W.taken W.failed sink.old sink.new out.old out.new
-        (amount_text name.now (I.text number) unit.now) }
-{
-    out.push(sink, b"# ");
-    out.push(sink, name);
-    out.push(sink, b" ");
-    put_number(out, sink, number);
-    out.push(sink, unit);
-    out.push(sink, b"\n");
-}
+use run_schedule::{put_amount, put_entry, put_options};
+use text_output::{ByteSink, OutputBuffer, Piece, put_pieces};
 
 /// Prints the size of an array.
 #[tactic(auto, unfolding(crate::specs::kept::LogTexts::array_text))]
@@ -79,24 +43,31 @@ fn mode_name(mode: Mode) -> &'static [u8]
     }
 }
 
-/// Prints the program and its version, and the files of a run.
-fn put_files<W: ByteSink>(
+/// Prints the line of a name that may have a value.
+fn put_given<'a, W: ByteSink>(
     out: &mut OutputBuffer,
     sink: &mut W,
-    program: &[u8],
-    net: &[u8],
-    arch: &[u8],
-    place: &[u8],
-    route: &[u8],
+    name: &'a [u8],
+    value: Option<&'a [u8]>,
 )
     ensures { SendsTo W.taken W.failed sink.old sink.new out.old out.new
-        (files_text program.now net.now arch.now place.now route.now) }
+        (given_text name.now (option_copied value)) }
 {
-    put_entry(out, sink, b"pathfinder", program);
-    put_entry(out, sink, b"net", net);
-    put_entry(out, sink, b"arch", arch);
-    put_entry(out, sink, b"place", place);
-    put_entry(out, sink, b"route", route);
+    if let Some(value) = value {
+        put_entry(out, sink, name, value);
+    }
+}
+
+/// Prints the files of a run, and its schedules.
+fn put_files<W: ByteSink>(out: &mut OutputBuffer, sink: &mut W, files: &RunFiles<'_>)
+    ensures { SendsTo W.taken W.failed sink.old sink.new out.old out.new (files_text files.now) }
+{
+    put_entry(out, sink, b"net", files.net);
+    put_entry(out, sink, b"arch", files.arch);
+    put_entry(out, sink, b"place", files.place);
+    put_entry(out, sink, b"route", files.route);
+    put_given(out, sink, b"schedule", files.schedule);
+    put_given(out, sink, b"follow", files.follow);
 }
 
 /// Prints the array, the number of nets, the mode and the width of the first negotiation's problem.
@@ -109,28 +80,6 @@ fn put_problem<W: ByteSink>(out: &mut OutputBuffer, sink: &mut W, problem: &Prob
     put_amount(out, sink, b"nets", problem.nets(), b"");
     put_entry(out, sink, b"routing", mode_name(device.mode()));
     put_amount(out, sink, b"width", device.width(), b" tracks");
-}
-
-/// Prints the present-congestion factors.
-fn put_factors<W: ByteSink>(out: &mut OutputBuffer, sink: &mut W, settings: &Settings)
-    ensures { SendsTo W.taken W.failed sink.old sink.new out.old out.new
-        (factors_text settings.now) }
-{
-    put_amount(out, sink, b"first-pres", settings.first(), b" sixteenths");
-    put_amount(out, sink, b"init-pres", settings.init(), b" sixteenths");
-    put_amount(out, sink, b"mult", settings.mult(), b" sixteenths");
-}
-
-/// Prints the options of each negotiation.
-fn put_options<W: ByteSink>(out: &mut OutputBuffer, sink: &mut W, workers: u32, settings: &Settings)
-    ensures { SendsTo W.taken W.failed sink.old sink.new out.old out.new
-        (options_text workers settings.now) }
-{
-    put_amount(out, sink, b"workers", workers, b"");
-    put_amount(out, sink, b"iterations", settings.iterations(), b" at most");
-    put_factors(out, sink, settings);
-    put_amount(out, sink, b"acc", settings.acc(), b" twentieths of a wire");
-    put_amount(out, sink, b"bb", settings.bb(), b" places");
 }
 
 /// Prints the titles of the columns.
@@ -148,21 +97,19 @@ fn put_head<W: ByteSink>(
     out: &mut OutputBuffer,
     sink: &mut W,
     program: &[u8],
-    net: &[u8],
-    arch: &[u8],
-    place: &[u8],
-    route: &[u8],
+    files: &RunFiles<'_>,
     problem: &Problem,
     workers: u32,
     settings: &Settings,
 )
     ensures { SendsTo W.taken W.failed sink.old sink.new out.old out.new
-        (head_text (files_text program.now net.now arch.now place.now route.now) problem.now workers
-        settings.now) }
+        (head_text program.now files.now problem.now workers settings.now) }
 {
-    put_files(out, sink, program, net, arch, place, route);
+    put_entry(out, sink, b"pathfinder", program);
+    put_files(out, sink, files);
     put_problem(out, sink, problem);
-    put_options(out, sink, workers, settings);
+    put_amount(out, sink, b"workers", workers, b"");
+    put_options(out, sink, settings);
     put_titles(out, sink);
 }
 
@@ -171,27 +118,20 @@ fn put_head<W: ByteSink>(
 pub fn write_head<W: ByteSink>(
     sink: &mut W,
     program: &[u8],
-    net: &[u8],
-    arch: &[u8],
-    place: &[u8],
-    route: &[u8],
+    files: &RunFiles<'_>,
     problem: &Problem,
     workers: u32,
     settings: &Settings,
 ) -> Result<(), AppFault>
     ensures { PrintsText (writing_to W.taken W.failed sink.old sink.new)
-        (head_text (files_text program.now net.now arch.now place.now route.now) problem.now workers
-        settings.now) tt result }
+        (head_text program.now files.now problem.now workers settings.now) tt result }
 {
     let mut buffer = OutputBuffer::new();
     put_head(
         &mut buffer,
         sink,
         program,
-        net,
-        arch,
-        place,
-        route,
+        files,
         problem,
         workers,
         settings,

@@ -12,7 +12,8 @@ use Rattle.run_schedule.specs.Heads.{IsHead, IsHeadRest, IsTitle, most_nets, tit
 use Rattle.run_schedule.specs.Runs.{IsSchedule, RunTurns, text_of_run}
 use Rattle.run_schedule.specs.Schedules.{AreTrials, TrialTurns}
 use Rattle.run_schedule.specs.kept.Reading.{ReadsAll}
-use Rattle.run_schedule.specs.ScheduleTexts.{amount_text, end_text, entry_text, schedule_text, titles_text, trials_text}
+use Rattle.run_schedule.specs.HeadLines.{amount_text, entry_text}
+use Rattle.run_schedule.specs.ScheduleTexts.{end_text, schedule_text, titles_text, trials_text}
 use Rattle.run_schedule.specs.Lines.{AreNotes, IsInLine, line_text, notes_text}
 use Rattle.run_schedule.specs.kept.Taking.{IsAny, IsWithin, numbered_line, Passes, Takes, TakesSome}
 

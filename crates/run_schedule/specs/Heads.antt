@@ -1,7 +1,7 @@
 -- The head of a schedule (ours).
 use Rattle.std.specs.Prelude.{◌≡◌, ℕ, ◌≤◌, List, [], ◌++◌, codes}
 use Rattle.node_cost.specs.Options.{most_workers}
-use Rattle.run_schedule.specs.ScheduleTexts.{amount_text, entry_text}
+use Rattle.run_schedule.specs.HeadLines.{amount_text, entry_text}
 use Rattle.run_schedule.specs.Lines.{AreNotes, IsInLine, notes_text}
 
 -- the most nets of a problem

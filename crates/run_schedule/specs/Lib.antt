@@ -1,5 +1,6 @@
 pub mod Faults
 pub mod Follows
+pub mod HeadLines
 pub mod Heads
 pub mod Lines
 pub mod Runs

@@ -3,19 +3,11 @@
 use Rattle.std.specs.Prelude.{ℕ, ◌+◌, List, [], ◌∷◌, ◌++◌, codes, decimal}
 use Rattle.std.specs.List.{flat_map}
 use Rattle.gates.specs.declared.schedule.ScheduledTurn.{ScheduledTurn}
-use Rattle.node_cost.specs.Options.{RouterOptions}
+use Rattle.run_schedule.specs.HeadLines.{amount_text, entry_text, options_text}
 use Rattle.run_schedule.specs.Schedules.{TrialTurns}
 use Rattle.run_schedule.specs.declared.head.Head.{Head}
 
 -- ---- the head
-
--- a name and what it has, as `# net a.net`
-unfoldable pub entry_text : (name value : List ℕ) → List ℕ
-entry_text name value = codes "# " ++ (name ++ (codes " " ++ (value ++ codes "\n")))
-
--- a name, a number and its unit, as `# bb 3 places`
-unfoldable pub amount_text : (name : List ℕ) → (amount : ℕ) → (unit : List ℕ) → List ℕ
-amount_text name amount unit = codes "# " ++ (name ++ (codes " " ++ (decimal amount ++ (unit ++ codes "\n"))))
 
 -- the program, the command and the sums of the files
 unfoldable pub run_text : (program command net arch place : List ℕ) → List ℕ
@@ -23,17 +15,6 @@ run_text program command net arch place =
     entry_text (codes "pathfinder") program
     ++ (entry_text (codes "schedule of") command
     ++ (entry_text (codes "net") net ++ (entry_text (codes "arch") arch ++ entry_text (codes "place") place)))
-
--- what was chosen of each negotiation
-unfoldable pub factors_text : RouterOptions → List ℕ
-factors_text o =
-    amount_text (codes "first-pres") o.first (codes " sixteenths")
-    ++ (amount_text (codes "init-pres") o.init (codes " sixteenths") ++ amount_text (codes "mult") o.mult (codes " sixteenths"))
-
-unfoldable pub options_text : RouterOptions → List ℕ
-options_text o =
-    amount_text (codes "iterations") o.iterations (codes " at most")
-    ++ (factors_text o ++ (amount_text (codes "acc") o.acc (codes " twentieths of a wire") ++ amount_text (codes "bb") o.bb (codes " places")))
 
 unfoldable pub head_text : Head → List ℕ
 head_text h =

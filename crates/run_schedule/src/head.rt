@@ -2,11 +2,12 @@
 
 ghost use Rattle.std.specs.Prelude.{◌≡◌, IfOk};
 ghost use Rattle.vpr_text.specs.Output.{SendsTo};
-ghost use Rattle.run_schedule.specs.ScheduleTexts.{amount_text, entry_text, factors_text, head_text, options_text, run_text};
+ghost use Rattle.run_schedule.specs.ScheduleTexts.{head_text, run_text};
 
+use crate::head_lines::{put_amount, put_entry, put_options};
 use node_cost::Settings;
 use std::alloc::Global;
-use text_output::{ByteSink, OutputBuffer, Piece, put_pieces};
+use text_output::{ByteSink, OutputBuffer};
 use vpr_text::{Adapted, Broken};
 
 /// What a schedule tells of its run.
@@ -27,51 +28,6 @@ pub struct Head<'a> {
     pub nets: u32,
 }
 
-/// Prints a name and what it has.
-#[tactic(auto, unfolding(crate::specs::ScheduleTexts::entry_text))]
-fn put_entry<'a, W: ByteSink>(out: &mut OutputBuffer, sink: &mut W, name: &'a [u8], value: &'a [u8])
-    ensures { SendsTo W.taken W.failed sink.old sink.new out.old out.new
-        (entry_text name.now value.now) }
-{
-    put_pieces(
-        out,
-        sink,
-        &[
-            Piece::Text(b"# "),
-            Piece::Text(name),
-            Piece::Text(b" "),
-            Piece::Text(value),
-            Piece::Text(b"\n"),
-        ],
-    );
-}
-
-/// Prints a name, a number and its unit.
-#[tactic(auto, unfolding(crate::specs::ScheduleTexts::amount_text))]
-fn put_amount<'a, W: ByteSink>(
-    out: &mut OutputBuffer,
-    sink: &mut W,
-    name: &'a [u8],
-    amount: u32,
-    unit: &'a [u8],
-)
-    ensures { SendsTo W.taken W.failed sink.old sink.new out.old out.new
-        (amount_text name.now amount unit.now) }
-{
-    put_pieces(
-        out,
-        sink,
-        &[
-            Piece::Text(b"# "),
-            Piece::Text(name),
-            Piece::Text(b" "),
-            Piece::Number(amount),
-            Piece::Text(unit),
-            Piece::Text(b"\n"),
-        ],
-    );
-}
-
 /// Prints the program, the command and the sums of the files.
 fn put_run<W: ByteSink>(out: &mut OutputBuffer, sink: &mut W, head: &Head<'_>)
     ensures { SendsTo W.taken W.failed sink.old sink.new out.old out.new
@@ -83,28 +39,6 @@ fn put_run<W: ByteSink>(out: &mut OutputBuffer, sink: &mut W, head: &Head<'_>)
     put_entry(out, sink, b"net", head.net);
     put_entry(out, sink, b"arch", head.arch);
     put_entry(out, sink, b"place", head.place);
-}
-
-/// Prints the present-congestion factors.
-fn put_factors<W: ByteSink>(out: &mut OutputBuffer, sink: &mut W, settings: &Settings)
-    ensures { SendsTo W.taken W.failed sink.old sink.new out.old out.new
-        (factors_text settings.now) }
-{
-    put_amount(out, sink, b"first-pres", settings.first(), b" sixteenths");
-    put_amount(out, sink, b"init-pres", settings.init(), b" sixteenths");
-    put_amount(out, sink, b"mult", settings.mult(), b" sixteenths");
-}
-
-/// Prints what was chosen of each negotiation.
-fn put_options<W: ByteSink>(out: &mut OutputBuffer, sink: &mut W, settings: &Settings)
-    ensures { SendsTo W.taken W.failed sink.old sink.new out.old out.new
-        (options_text settings.now) }
-{
-    put_amount(out, sink, b"iterations", settings.iterations(), b" at most");
-    put_factors(out, sink, settings);
-    let acc = u32::from(settings.acc());
-    put_amount(out, sink, b"acc", acc, b" twentieths of a wire");
-    put_amount(out, sink, b"bb", settings.bb(), b" places");
 }
 
 /// Prints a head.

@@ -1,22 +1,16 @@
 -- The text of a log (ours): lines with `#` tell of the run, and behind titles a line tells of each
 -- iteration.
-use Rattle.std.specs.Prelude.{ℕ, ◌-◌, ◌*◌, ◌/◌, ◌%◌, List, [], ◌++◌, codes, decimal, length, take}
+use Rattle.std.specs.Prelude.{Maybe, None, Some, option_copied, ℕ, ◌-◌, ◌*◌, ◌/◌, ◌%◌, List, [], ◌++◌, codes, decimal, length, take}
 use Rattle.rr_graph.specs.node.Mode.{Mode}
 use Rattle.rr_graph.specs.node.Mode.TheVariants.{Detailed, Global}
 use Rattle.rr_graph.specs.Problems.{RoutingProblem}
 use Rattle.node_cost.specs.Options.{RouterOptions, present_of}
 use Rattle.congestion_book.specs.Contents.{Content}
+use Rattle.run_schedule.specs.HeadLines.{amount_text, entry_text, options_text}
+use Rattle.run_log.specs.declared.run_files.RunFiles.{RunFiles}
 use Rattle.congestion_book.specs.Recorded.{excess_in, overused_in, unrouted_in, wirelength_in}
 
 -- ---- the head
-
--- a name and what it has, as `# net a.net`
-unfoldable pub entry_text : (name value : List ℕ) → List ℕ
-entry_text name value = codes "# " ++ (name ++ (codes " " ++ (value ++ codes "\n")))
-
--- a name, an amount and its unit, as `# bb 3 places`
-unfoldable pub amount_text : (name amount unit : List ℕ) → List ℕ
-amount_text name amount unit = codes "# " ++ (name ++ (codes " " ++ (amount ++ (unit ++ codes "\n"))))
 
 -- the size of an array, as `# array 11 x 9 blocks`
 unfoldable pub array_text : (nx ny : ℕ) → List ℕ
@@ -26,38 +20,37 @@ abbrev pub mode_name : Mode → List ℕ
 mode_name Detailed = codes "detailed"
 mode_name Global = codes "global"
 
--- the program and its version, and the files of the run
-unfoldable pub files_text : (program net arch place route : List ℕ) → List ℕ
-files_text program net arch place route =
-    entry_text (codes "pathfinder") program
-    ++ (entry_text (codes "net") net ++ (entry_text (codes "arch") arch ++ (entry_text (codes "place") place ++ entry_text (codes "route") route)))
+-- a name that may have a value
+abbrev pub given_text : (name : List ℕ) → Maybe (List ℕ) → List ℕ
+given_text name None = []
+given_text name (Some value) = entry_text name value
+
+-- the files of the run, and its schedules, if it has any
+unfoldable pub files_text : RunFiles → List ℕ
+files_text f =
+    entry_text (codes "net") f.net.now
+    ++ (entry_text (codes "arch") f.arch.now
+    ++ (entry_text (codes "place") f.place.now
+    ++ (entry_text (codes "route") f.route.now
+    ++ (given_text (codes "schedule") (option_copied f.schedule) ++ given_text (codes "follow") (option_copied f.follow)))))
 
 -- the problem of the first negotiation
 unfoldable pub problem_text : RoutingProblem → List ℕ
 problem_text p =
     array_text p.device.nx p.device.ny
-    ++ (amount_text (codes "nets") (decimal (length p.nets)) []
-    ++ (entry_text (codes "routing") (mode_name p.device.mode) ++ amount_text (codes "width") (decimal p.device.width) (codes " tracks")))
-
--- what was chosen of each negotiation
-unfoldable pub factors_text : RouterOptions → List ℕ
-factors_text o =
-    amount_text (codes "first-pres") (decimal o.first) (codes " sixteenths")
-    ++ (amount_text (codes "init-pres") (decimal o.init) (codes " sixteenths") ++ amount_text (codes "mult") (decimal o.mult) (codes " sixteenths"))
-
-unfoldable pub options_text : (workers : ℕ) → RouterOptions → List ℕ
-options_text workers o =
-    amount_text (codes "workers") (decimal workers) []
-    ++ (amount_text (codes "iterations") (decimal o.iterations) (codes " at most")
-    ++ (factors_text o ++ (amount_text (codes "acc") (decimal o.acc) (codes " twentieths of a wire") ++ amount_text (codes "bb") (decimal o.bb) (codes " places"))))
+    ++ (amount_text (codes "nets") (length p.nets) []
+    ++ (entry_text (codes "routing") (mode_name p.device.mode) ++ amount_text (codes "width") p.device.width (codes " tracks")))
 
 -- what stands above the columns
 abbrev pub titles_text : List ℕ
 titles_text = codes "width iteration    present overused   excess unrouted wirelength   seconds\n"
 
--- the head: the program and the files of the run, the problem and what was chosen
-unfoldable pub head_text : (files : List ℕ) → RoutingProblem → (workers : ℕ) → RouterOptions → List ℕ
-head_text files p workers o = files ++ (problem_text p ++ (options_text workers o ++ titles_text))
+-- the head: the version of the program, the files, the problem and the options
+unfoldable pub head_text : (program : List ℕ) → RunFiles → RoutingProblem → (workers : ℕ) → RouterOptions → List ℕ
+head_text program files p workers o =
+    entry_text (codes "pathfinder") program
+    ++ (files_text files
+    ++ (problem_text p ++ (amount_text (codes "workers") workers [] ++ (options_text o ++ titles_text))))
 
 -- ---- columns
 

@@ -5,4 +5,4 @@ use Rattle.run_log.proofs.log_text.put_files.Goals as goal
 pub returns : goal.returns
 unfolding files_text
 returns g c =
-    sends_then c.put_entry.ensures (sends_then c.put_entry-2.ensures (sends_then c.put_entry-3.ensures (sends_then c.put_entry-4.ensures c.put_entry-5.ensures)))
+    sends_then c.put_entry.ensures (sends_then c.put_entry-2.ensures (sends_then c.put_entry-3.ensures (sends_then c.put_entry-4.ensures (sends_then c.put_given.ensures c.put_given-2.ensures))))

@@ -4,4 +4,5 @@ use Rattle.run_log.proofs.log_text.put_head.Goals as goal
 
 pub returns : goal.returns
 unfolding head_text
-returns g c = sends_then c.put_files.ensures (sends_then c.put_problem.ensures (sends_then c.put_options.ensures c.put_titles.ensures))
+returns g c =
+    sends_then c.put_entry.ensures (sends_then c.put_files.ensures (sends_then c.put_problem.ensures (sends_then c.put_amount.ensures (sends_then c.put_options.ensures c.put_titles.ensures))))

@@ -1,6 +1,6 @@
 use Rattle.vpr_text.proofs.Printing.{sends_then}
-use Rattle.run_schedule.specs.ScheduleTexts.{options_text}
-use Rattle.run_schedule.proofs.head.put_options.Goals as goal
+use Rattle.run_schedule.specs.HeadLines.{options_text}
+use Rattle.run_schedule.proofs.head_lines.put_options.Goals as goal
 
 pub returns : goal.returns
 unfolding options_text

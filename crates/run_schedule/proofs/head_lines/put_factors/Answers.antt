@@ -1,6 +1,6 @@
 use Rattle.vpr_text.proofs.Printing.{sends_then}
-use Rattle.run_log.specs.kept.LogTexts.{factors_text}
-use Rattle.run_log.proofs.log_text.put_factors.Goals as goal
+use Rattle.run_schedule.specs.HeadLines.{factors_text}
+use Rattle.run_schedule.proofs.head_lines.put_factors.Goals as goal
 
 pub returns : goal.returns
 unfolding factors_text

@@ -1,8 +1,0 @@
-use Rattle.vpr_text.proofs.Printing.{sends_then}
-use Rattle.run_log.specs.kept.LogTexts.{amount_text}
-use Rattle.run_log.proofs.log_text.put_amount.Goals as goal
-
-pub returns : goal.returns
-unfolding amount_text
-returns g c =
-    sends_then c.push.ensures (sends_then c.push-2.ensures (sends_then c.push-3.ensures (sends_then c.put_number.ensures (sends_then c.push-4.ensures c.push-5.ensures))))
