@@ -1,4 +1,4 @@
-//! Why a schedule could not be read, or doesn't fit a run.
+//! Why a schedule can't be read, or doesn't fit a run.
 
 ghost use Rattle.std.specs.Prelude.{◌≡◌};
 ghost use Rattle.run_schedule.specs.Faults.{is_memory, kind_name};
@@ -12,19 +12,19 @@ use thiserror::Error;
 #[derive(Clone, Copy, Debug, PartialEq, Eq, Error)]
 pub enum FaultKind {
     /// The text doesn't begin as that of a schedule.
-    #[error("isn't the beginning of a schedule")]
+    #[error("isn't the first line of a schedule")]
     NotSchedule,
     /// The head has no such line, or a number on it is out of range.
-    #[error("can't stand in the head")]
+    #[error("doesn't belong in the head")]
     BadHead,
     /// The line isn't three numbers.
-    #[error("isn't the line of a turn")]
+    #[error("isn't a turn")]
     BadTurn,
     /// The problem has no net of that number.
     #[error("names no net")]
     UnknownNet,
     /// The net has had its turn in this iteration.
-    #[error("names a net that has had its turn")]
+    #[error("names a net that has already had its turn")]
     TurnedTwice,
     /// The run has no worker of that number.
     #[error("names no worker")]
@@ -33,7 +33,7 @@ pub enum FaultKind {
     #[error("has a number of turns that the worker can't have seen")]
     BadSeen,
     /// A net has had no turn in the iteration that ends before the line.
-    #[error("ends an iteration in which a net has no turn")]
+    #[error("ends an iteration in which some net has no turn")]
     Unturned,
     /// The line doesn't begin the next iteration, or there are more than 500.
     #[error("doesn't begin the next iteration")]
@@ -42,10 +42,10 @@ pub enum FaultKind {
     #[error("doesn't begin the trial of a width")]
     BadWidth,
     /// The last line isn't `end`.
-    #[error("isn't the end")]
+    #[error("isn't `end`")]
     BadEnd,
     /// Memory ran out.
-    #[error("is where memory ran out")]
+    #[error("couldn't be read: out of memory")]
     Memory,
     #[error("is of another version of the program")]
     OtherProgram,
@@ -59,15 +59,15 @@ pub enum FaultKind {
     OtherPlace,
     #[error("is of another number of workers")]
     OtherWorkers,
-    #[error("is of another choice")]
+    #[error("has another value of the option")]
     OtherOptions,
     #[error("is of another number of nets")]
     OtherNets,
     #[error("is of another width")]
     OtherWidth,
-    #[error("is the end, and the run makes another trial")]
+    #[error("ends the schedule, but the run makes another trial")]
     MoreTrials,
-    #[error("ends a trial that makes another iteration")]
+    #[error("ends a trial, but the run makes another iteration")]
     MoreIterations,
 }
 
@@ -88,7 +88,7 @@ impl<T: Drop> From<AllocFailed<T>> for FaultKind {
 }
 
 impl FaultKind {
-    /// Its name.
+    /// Returns its name.
     pub fn name(self) -> &'static [u8]
         ensures { result.now ≡ kind_name self }
     {
@@ -119,7 +119,7 @@ impl FaultKind {
         }
     }
 
-    /// Whether memory ran out.
+    /// Returns whether memory ran out.
     pub fn is_memory(self) -> bool
         ensures { result ≡ is_memory self }
     {
