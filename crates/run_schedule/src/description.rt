@@ -1,12 +1,12 @@
-//! What the head of a schedule tells of its run, before the number of nets is known.
+//! What a run is known by, before the number of its nets is known.
 
 use crate::file_sum::FileSum;
 use crate::head::Head;
 use node_cost::Settings;
 use std::sync::Wait;
 
-/// What a run is known by: the program's version, its command with the options that are its own,
-/// the sums of its files, and how it negotiates.
+/// What a run is known by: the version of the program, the command with the options of its own, the
+/// sums of its files, the number of workers, and the options of each negotiation.
 #[derive(Clone, Copy)]
 pub struct RunDescription<'a> {
     pub program: &'a str,
@@ -27,7 +27,7 @@ pub(crate) struct Sums {
 }
 
 impl Sums {
-    /// Those of the bytes up to now.
+    /// Returns the sums of the bytes up to now.
     pub(crate) fn of<R: Wait>(rt: &R, run: &RunDescription<'_>) -> Sums {
         Sums {
             net: run.net.digits(rt),
@@ -38,7 +38,7 @@ impl Sums {
 }
 
 impl<'a> RunDescription<'a> {
-    /// The head of the run, with these sums, of problems with so many nets.
+    /// Returns the head of the schedule of this run, with these sums and this number of nets.
     pub(crate) fn head<'s>(&self, sums: &'s Sums, nets: u32) -> Head<'s>
     where
         'a: 's,

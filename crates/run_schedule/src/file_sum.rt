@@ -1,4 +1,4 @@
-//! The sums of files, which are made while they are read.
+//! The sums of files, made while these are read.
 
 ghost use Rattle.std.specs.Prelude.{◌≡◌, ℕ, List};
 ghost use Rattle.hex.specs.Hex.{encode_lower};
@@ -10,7 +10,7 @@ use sha2::{Digest, Sha256};
 use std::sync::{Mutex, Wait};
 use vpr_text::{Broken, ByteSource};
 
-/// The sum of what a hasher holds, in hexadecimal digits.
+/// Returns the sum of a hasher, in hexadecimal digits.
 fn digits_of(hasher: Sha256) -> [u8; 64]
     ensures { (bytes : List ℕ) → Holds256 hasher bytes
         → result ≡ encode_lower (sha256 bytes) }
@@ -20,27 +20,27 @@ fn digits_of(hasher: Sha256) -> [u8; 64]
     digits
 }
 
-/// The sum of the bytes that a source gave: their SHA-256.
+/// The SHA-256 of the bytes that a source gave.
 #[derive(Drop)]
 pub struct FileSum {
     hasher: Mutex<Sha256>,
 }
 
 impl FileSum {
-    /// The sum of no bytes.
+    /// Returns the sum of no bytes.
     pub fn new() -> FileSum {
         FileSum {
             hasher: Mutex::new(Sha256::new()),
         }
     }
 
-    /// Adds bytes to those that are summed.
+    /// Adds bytes.
     fn add<R: Wait>(&self, rt: &R, bytes: &[u8]) {
         let mut hasher = self.hasher.lock(rt);
         hasher.update(bytes);
     }
 
-    /// The sum of the bytes up to now, in hexadecimal digits.
+    /// Returns the sum of the bytes up to now, in hexadecimal digits.
     pub fn digits<R: Wait>(&self, rt: &R) -> [u8; 64] {
         let hasher = self.hasher.lock(rt);
         digits_of(hasher.clone().unwrap())

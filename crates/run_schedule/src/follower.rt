@@ -1,4 +1,4 @@
-//! A schedule is followed.
+//! The gate that has a run follow a schedule.
 
 use crate::description::{RunDescription, Sums};
 use crate::fault::{FaultKind, ScheduleFault};
@@ -11,8 +11,8 @@ use routing_problem::Problem;
 use std::alloc::Global;
 use std::sync::{Mutex, Wait};
 
-/// A gate that has the workers make the turns of a schedule, which has to be one of the same run.
-/// Where it isn't, there are no turns to make, and the negotiation has no outcome.
+/// A gate that has the workers make the turns of a schedule. If the schedule is that of another
+/// run, the gate gives no turns and accepts none, so that the negotiation has no outcome.
 #[derive(Drop)]
 pub struct Follower<'a, R> {
     rt: &'a R,
@@ -24,8 +24,8 @@ pub struct Follower<'a, R> {
 }
 
 impl<'a, R: Wait> Follower<'a, R> {
-    /// One that has followed nothing yet. Where one thread makes all turns, the run is taken to
-    /// have as many workers as the schedule.
+    /// Returns a gate that has followed nothing yet. If the run is by one thread (`is_alone`), it
+    /// counts as one by as many workers as the schedule has.
     pub fn new(
         rt: &'a R,
         alloc: Global,
@@ -43,19 +43,19 @@ impl<'a, R: Wait> Follower<'a, R> {
         }
     }
 
-    /// What the schedule tells otherwise than the run, as far as this has come: the first of it.
+    /// Returns the first line of the schedule that isn't that of the run, as far as this has come.
     pub fn misfit(&self) -> Option<ScheduleFault> {
         let progress = self.progress.lock(self.rt);
         progress.misfit()
     }
 
-    /// Whether the run was all that the schedule tells.
+    /// Returns whether the run made all turns of the schedule.
     pub fn is_spent(&self) -> bool {
         let progress = self.progress.lock(self.rt);
         progress.is_spent(self.schedule)
     }
 
-    /// How many workers the run is taken to have.
+    /// Returns the number of workers that the run counts as having.
     fn workers(&self) -> u32 {
         if self.is_alone {
             self.schedule.workers()
@@ -64,7 +64,7 @@ impl<'a, R: Wait> Follower<'a, R> {
         }
     }
 
-    /// The first line of the head that isn't that of the run, of problems with so many nets.
+    /// Returns the first line of the head that isn't that of the run, with this number of nets.
     fn head_misfit(&self, nets: u32) -> Option<ScheduleFault> {
         let run = RunDescription {
             workers: self.workers(),

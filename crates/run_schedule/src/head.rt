@@ -1,4 +1,4 @@
-//! The head of a schedule: what it tells of the run.
+//! The head of a schedule, which describes the run.
 
 ghost use Rattle.std.specs.Prelude.{◌≡◌, IfOk};
 ghost use Rattle.vpr_text.specs.Output.{SendsTo};
@@ -10,18 +10,18 @@ use std::alloc::Global;
 use text_output::{ByteSink, OutputBuffer};
 use vpr_text::{Adapted, Broken};
 
-/// What a schedule tells of its run.
+/// What the head of a schedule says of the run.
 #[derive(Clone, Copy, Debug)]
 pub struct Head<'a> {
     /// The version of the program.
     pub program: &'a [u8],
-    /// The command of the run, with the options that are its own.
+    /// The command of the run, with the options of its own.
     pub command: &'a [u8],
     /// The sum of the netlist's bytes, in hexadecimal digits.
     pub net: &'a [u8],
-    /// That of the architecture's.
+    /// The sum of the architecture's bytes.
     pub arch: &'a [u8],
-    /// That of the placement's.
+    /// The sum of the placement's bytes.
     pub place: &'a [u8],
     pub workers: u32,
     pub settings: Settings,
@@ -51,7 +51,7 @@ pub(crate) fn put_head<W: ByteSink>(out: &mut OutputBuffer, sink: &mut W, head: 
     put_amount(out, sink, b"nets", head.nets, b"");
 }
 
-/// The lines of a head. Broken where memory ran out.
+/// Returns the lines of a head, or `Broken` if memory ran out.
 #[inline(never)]
 pub(crate) fn head_lines(alloc: Global, head: &Head<'_>) -> Result<Vec<u8>, Broken>
     ensures { IfOk result (λ lines. lines.items ≡ head_text head.now) }

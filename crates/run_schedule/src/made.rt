@@ -19,13 +19,13 @@ fn are_all(marks: &[bool]) -> bool
     marks.iter().all(|mark| *mark)
 }
 
-/// The turns of an iteration as far as they were made, of so many nets by so many workers.
+/// The turns of an iteration up to now, with the numbers of nets and workers.
 #[derive(Drop)]
 pub(crate) struct MadeTurns {
     turns: Turns,
-    /// Which nets have had their turn.
+    /// Whether each net has had its turn.
     had: Vec<bool>,
-    /// How many turns each worker had seen at its last one.
+    /// The number of turns that each worker had seen at its last turn.
     last: Vec<u64>,
 }
 
@@ -45,7 +45,7 @@ impl Model for MadeTurns {
 }
 
 impl MadeTurns {
-    /// None yet.
+    /// Returns an iteration without turns.
     pub(crate) fn new(alloc: Global, nets: u32, workers: u32) -> Result<MadeTurns, AllocError>
         ensures { IfOk result (λ m. m ≡ none_made nets workers) }
     {
@@ -58,7 +58,7 @@ impl MadeTurns {
         })
     }
 
-    /// What is wrong with the net of the next turn.
+    /// Returns what is wrong with the net of the next turn.
     fn net_fault(&self, net: u32) -> Option<FaultKind>
         ensures { IsNone result
             ↔ ((net < self.now.nets) × All (λ s. s.net ≢ net) self.now.turns) }
@@ -70,7 +70,7 @@ impl MadeTurns {
         }
     }
 
-    /// What is wrong with the worker of the next turn, and with what it has seen.
+    /// Returns what is wrong with the worker of the next turn, and with what it has seen.
     fn worker_fault(&self, worker: u32, seen: u64) -> Option<FaultKind>
         ensures { IsNone result ↔ ((worker < self.now.workers)
             × (seen ≤ length self.now.turns)
@@ -85,7 +85,7 @@ impl MadeTurns {
         None
     }
 
-    /// What is wrong with the next turn.
+    /// Returns what is wrong with the next turn.
     fn fault_of(&self, turn: ScheduledTurn) -> Option<FaultKind>
         ensures { IsNone result ↔ MayFollow self.now turn }
     {
@@ -95,7 +95,7 @@ impl MadeTurns {
         }
     }
 
-    /// The next turn, where a line tells one that may follow.
+    /// Returns the next turn if the line is one that may follow.
     pub(crate) fn accepted(&self, told: Option<ScheduledTurn>) -> Result<ScheduledTurn, FaultKind>
         ensures turn { MatchResult result
             (λ turn. (told ≡ Some turn) × MayFollow self.now turn)
@@ -121,7 +121,7 @@ impl MadeTurns {
         Ok(())
     }
 
-    /// All turns of the iteration, where each net has one.
+    /// Returns all turns of the iteration, if each net has one.
     pub(crate) fn finish(self) -> Result<Turns, FaultKind>
         ensures { MatchResult result
             (λ turns. (turns ≡ self.turns) × IsIteration self.nets self.workers turns)

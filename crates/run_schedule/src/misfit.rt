@@ -5,7 +5,7 @@ ghost use Rattle.std.specs.Prelude.{◌≡◌, ◌↔◌, ◌≤◌, IsNone, len
 use crate::fault::{FaultKind, ScheduleFault};
 use crate::text::line_at;
 
-/// How many bytes two texts have in common in front.
+/// Returns the length of the longest common front of two texts.
 fn common_length(one: &[u8], other: &[u8]) -> usize
     ensures { result ≤ length one.now }
 {
@@ -18,7 +18,7 @@ fn common_length(one: &[u8], other: &[u8]) -> usize
     most
 }
 
-/// What a line of a head tells that is another than that of the run.
+/// Returns what is wrong with a line of a head that isn't that of the run.
 fn kind_of(line: u32) -> FaultKind {
     match line {
         1 => FaultKind::OtherProgram,
@@ -32,7 +32,7 @@ fn kind_of(line: u32) -> FaultKind {
     }
 }
 
-/// The first line of a head that isn't that of the run.
+/// Returns the first line of a head that isn't that of the run.
 pub(crate) fn head_misfit(head: &[u8], expected: &[u8]) -> Option<ScheduleFault>
     ensures { IsNone result ↔ (head.now ≡ expected.now) }
 {

@@ -11,7 +11,7 @@ use gates::ScheduledTurn;
 /// The line of the first trial.
 const FIRST_LINE: u32 = 15;
 
-/// How many lines a trial has.
+/// Returns the number of lines of a trial.
 fn line_count(trial: &Trial) -> u32 {
     trial.iterations().iter().fold(1, |lines, turns| {
         let turn_count = u32::try_from(turns.len()).unwrap_or(u32::MAX);
@@ -19,7 +19,7 @@ fn line_count(trial: &Trial) -> u32 {
     })
 }
 
-/// The line at which a trial begins, or what is behind the last one.
+/// Returns the line at which a trial begins, or the line after the last trial.
 fn line_of(schedule: &RunSchedule<'_>, trial: usize) -> u32 {
     let before = schedule.trials().iter().take(trial);
     before.fold(FIRST_LINE, |line, trial| {
@@ -27,20 +27,20 @@ fn line_of(schedule: &RunSchedule<'_>, trial: usize) -> u32 {
     })
 }
 
-/// How far a schedule was followed, and where it was none of the run.
+/// How far a schedule was followed, and the first line that isn't that of the run.
 #[derive(Clone, Copy, Debug)]
 pub(crate) struct Progress {
-    /// How many trials were begun.
+    /// The number of trials that were begun.
     trials: usize,
-    /// How many iterations of the last of them were made.
+    /// The number of iterations of the last one that were made.
     iterations: usize,
-    /// Whether a trial was left before all its iterations were made.
+    /// Whether a trial ended before all its iterations were made.
     is_cut: bool,
     misfit: Option<ScheduleFault>,
 }
 
 impl Progress {
-    /// Nothing was followed.
+    /// Returns that nothing was followed yet.
     pub(crate) fn new() -> Progress {
         Progress {
             trials: 0,
@@ -54,23 +54,23 @@ impl Progress {
         self.misfit
     }
 
-    /// Whether no trial was begun.
+    /// Returns whether no trial was begun.
     pub(crate) fn is_fresh(&self) -> bool {
         self.trials == 0
     }
 
-    /// Notes what the schedule tells otherwise than the run.
+    /// Notes a line that isn't that of the run, if it is the first one.
     pub(crate) fn note(&mut self, misfit: ScheduleFault) {
         self.misfit = Some(misfit);
     }
 
-    /// Notes that the line at which a trial would begin is another than that of the run.
+    /// Notes that the line at which a trial would begin isn't that of the run.
     fn note_at(&mut self, schedule: &RunSchedule<'_>, trial: usize, kind: FaultKind) {
         let line = line_of(schedule, trial);
         self.note(ScheduleFault { line, kind });
     }
 
-    /// The turns of an iteration of the trial that was begun last.
+    /// Returns the turns of an iteration of the trial that was begun last.
     fn turns<'s>(
         &self,
         schedule: &'s RunSchedule<'_>,
@@ -82,7 +82,7 @@ impl Progress {
         schedule.turns(trial, iteration)
     }
 
-    /// Whether all iterations were made of the trial that was begun last.
+    /// Returns whether all iterations of the trial that was begun last were made.
     fn has_ended(&self, schedule: &RunSchedule<'_>) -> bool {
         let Some(trial) = self.trials.checked_sub(1) else {
             return true;
@@ -93,7 +93,7 @@ impl Progress {
         }
     }
 
-    /// Begins the next trial, on a device with so many tracks.
+    /// Begins the next trial, on a device of this width.
     pub(crate) fn begin(&mut self, schedule: &RunSchedule<'_>, width: u32) {
         if !self.has_ended(schedule) {
             self.is_cut = true;
@@ -111,7 +111,7 @@ impl Progress {
         }
     }
 
-    /// The turns to be made in an iteration: none where the schedule is none of the run.
+    /// Returns the turns to make in an iteration, or none if the schedule isn't that of the run.
     pub(crate) fn next_turns<'s>(
         &mut self,
         schedule: &'s RunSchedule<'_>,
@@ -129,7 +129,7 @@ impl Progress {
         }
     }
 
-    /// Whether these are the turns of an iteration, which was made then.
+    /// Notes that an iteration was made, and returns whether these are its turns in the schedule.
     pub(crate) fn accept(
         &mut self,
         schedule: &RunSchedule<'_>,
@@ -151,7 +151,7 @@ impl Progress {
         true
     }
 
-    /// Whether all was followed: the run had each trial of the schedule, and each iteration.
+    /// Returns whether the run made each trial of the schedule, and each iteration.
     pub(crate) fn is_spent(&self, schedule: &RunSchedule<'_>) -> bool {
         self.misfit.is_none()
             && !self.is_cut

@@ -1,4 +1,4 @@
-//! Schedules are read.
+//! Reading the trials of a schedule.
 
 ghost use Rattle.std.specs.Prelude.{◌≡◌, ◌≤◌, ◌||◌, ◌==◌, IfOk, length, true};
 ghost use Rattle.node_cost.specs.Options.{most_iterations};
@@ -28,7 +28,7 @@ fn begins(text: &[u8], byte: u8) -> bool
     }
 }
 
-/// Whether a text begins with a line that ends the turns of an iteration.
+/// Returns whether a text begins with a line that ends the turns of an iteration.
 fn is_past_turns(text: &[u8]) -> bool
     ensures { result ≡ is_past_turns text.now }
 {
@@ -82,7 +82,7 @@ fn read_iteration(
     read_turns(alloc, text, nets, workers)
 }
 
-/// Whether an iteration follows those that were read: a trial has one at least.
+/// Returns whether an iteration follows those that were read. A trial has at least one.
 fn has_iteration(text: &[u8], trial: &Trial) -> bool
     ensures { result ≡ (length trial.now.iterations == 0 || is_at_iteration text.now) }
 {
@@ -126,7 +126,7 @@ fn read_trial(
     read_iterations(alloc, text, width, nets, workers)
 }
 
-/// Whether a trial follows those that were read: a run has one at least.
+/// Returns whether a trial follows those that were read. A run has at least one.
 fn has_trial(text: &[u8], trials: &Trials) -> bool
     ensures { result ≡ (length trials.now == 0 || is_at_trial text.now) }
 {

@@ -1,4 +1,4 @@
-//! The turns of a run are recorded.
+//! The gate that records the turns of a run.
 
 ghost use Rattle.std.specs.Prelude.{◌≡◌, OnOk, false};
 ghost use Rattle.run_schedule.specs.kept.Growing.{with_iteration};
@@ -14,10 +14,10 @@ use std::sync::{Mutex, Wait};
 use thiserror::Error;
 use vpr_text::{Broken, ByteSink};
 
-/// Why what was recorded could not be written.
+/// Why a record can't be written.
 #[derive(Clone, Copy, Debug, PartialEq, Eq, Error)]
 pub enum RecordFault {
-    /// Memory ran out while it was recorded.
+    /// Memory ran out while turns were recorded.
     #[error("memory ran out")]
     Memory,
     /// The sink broke.
@@ -31,17 +31,17 @@ impl From<Broken> for RecordFault {
     }
 }
 
-/// What was recorded up to now.
+/// The turns that were recorded up to now.
 #[derive(Debug, Drop)]
 struct Recording {
     trials: Trials,
-    /// How many nets its problems have.
+    /// The number of nets of its problems.
     nets: u32,
     is_lost: bool,
 }
 
 impl Recording {
-    /// Begins a trial of this width, of a problem with so many nets.
+    /// Begins a trial of this width, of a problem with this number of nets.
     fn begin(&mut self, alloc: Global, width: u32, nets: u32)
         ensures { self.new.is_lost ≡ false → Begins self.old self.new width nets }
     {
@@ -71,8 +71,8 @@ impl Recording {
     }
 }
 
-/// A gate that records which turns the workers made: in memory, until they are written. Where this
-/// runs out the record is lost, and the run goes on.
+/// A gate that records the turns of the workers in memory, until they are written. If memory runs
+/// out, the record is lost and the run goes on.
 #[derive(Drop)]
 pub struct Recorder<'a, R> {
     rt: &'a R,
@@ -81,7 +81,7 @@ pub struct Recorder<'a, R> {
 }
 
 impl<'a, R: Wait> Recorder<'a, R> {
-    /// One that has recorded nothing.
+    /// Returns a gate that has recorded nothing yet.
     pub fn new(rt: &'a R, alloc: Global) -> Recorder<'a, R> {
         Recorder {
             rt,
@@ -97,7 +97,7 @@ impl<'a, R: Wait> Recorder<'a, R> {
     /// Writes the schedule of the run up to now.
     ///
     /// # Errors
-    /// Memory where it ran out while the turns were recorded; Broken where the sink broke.
+    /// `Memory` if it ran out while the turns were recorded, and `Broken` if the sink broke.
     pub fn write<W: ByteSink>(
         &self,
         sink: &mut W,

@@ -1,4 +1,4 @@
-//! The schedule of a run, as its text tells it.
+//! The schedule of a run, as its text has it.
 
 ghost use Rattle.std.specs.Prelude.{◌≡◌, ◌↔◌, ◌++◌, IfOk, IfSome, IsOk, MatchResult};
 ghost use Rattle.std.specs.Result.{result_ok};
@@ -23,14 +23,14 @@ const MOST_WORKERS: u32 = 16;
 
 const MOST_NETS: u32 = 65535;
 
-/// How many workers and nets the run of a schedule has.
+/// The numbers of workers and nets of a schedule's run.
 #[derive(Clone, Copy, Debug)]
 struct Counts {
     workers: u32,
     nets: u32,
 }
 
-/// The schedule of a run, as it was read from a text.
+/// The schedule of a run, read from a text.
 #[derive(Debug, Drop)]
 pub struct RunSchedule<'a> {
     /// The lines above the titles.
@@ -52,7 +52,7 @@ impl<'a> Model for RunSchedule<'a> {
     ghost invariant = { λ s. IsSchedule (run_inside s) };
 }
 
-/// Takes the lines of a head behind the first two.
+/// Reads the lines of a head after the first two.
 fn take_counts(text: &mut Text<'_>) -> Option<Counts>
     ensures { TakesSome (λ counts. IsHeadRest counts.workers counts.nets) text.old text.new result }
 {
@@ -63,7 +63,7 @@ fn take_counts(text: &mut Text<'_>) -> Option<Counts>
     Some(Counts { workers, nets })
 }
 
-/// Passes the first two lines of a head.
+/// Takes off the first two lines of a head.
 fn pass_title(text: &mut Text<'_>) -> Option<()>
     ensures { Passes IsTitle title_text text.old text.new result }
 {
@@ -102,12 +102,12 @@ fn read_to_end(alloc: Global, text: &mut Text<'_>, counts: Counts) -> Result<Tri
     Ok(trials)
 }
 
-/// Whether a line ends in a text.
+/// Returns whether a line ends in a text.
 fn has_line(text: &[u8]) -> bool {
     text.contains(&b'\n')
 }
 
-/// Reads the titles and all that is behind them. What breaks off has no end.
+/// Reads the titles and all that follows. A text that breaks off there has no end.
 fn read_body(alloc: Global, text: &mut Text<'_>, counts: Counts) -> Result<Trials, FaultKind>
     ensures { ReadsAll (AreTrials counts.nets counts.workers)
         (λ trials. titles_text ++ (trials_text trials ++ end_text)) text.old result }
@@ -135,10 +135,10 @@ fn read_run<'a>(alloc: Global, text: &mut Text<'a>) -> Result<RunSchedule<'a>, F
     })
 }
 
-/// The schedule that these bytes tell.
+/// Returns the schedule that these bytes are.
 ///
-/// The first fault is named, with its line: of one line that which stands first in `FaultKind`. A
-/// last line below the titles that breaks off is `BadEnd`.
+/// The first fault, with its line; of several faults of a line, the one that comes first in
+/// `FaultKind`. If the last line after the titles breaks off, that is `BadEnd`.
 pub fn read<'a>(alloc: Global, bytes: &'a [u8]) -> Result<RunSchedule<'a>, ScheduleFault>
     // What is read is the schedule of the text.
     ensures found { IfOk result (λ s. IsSchedule s × (bytes.now ≡ text_of_run s)) }
@@ -157,14 +157,14 @@ pub fn read<'a>(alloc: Global, bytes: &'a [u8]) -> Result<RunSchedule<'a>, Sched
 }
 
 impl<'a> RunSchedule<'a> {
-    /// The lines of its head.
+    /// Returns the lines of its head.
     pub fn head(&self) -> &'a [u8]
         ensures { result.now ≡ self.now.head }
     {
         self.head
     }
 
-    /// How many workers its run has.
+    /// Returns the number of workers of its run.
     pub fn workers(&self) -> u32
         ensures workers { result ≡ self.now.workers }
         ensures limits { IsSchedule self.now }
@@ -172,14 +172,14 @@ impl<'a> RunSchedule<'a> {
         self.workers
     }
 
-    /// How many nets each problem of its run has.
+    /// Returns the number of nets of each problem of its run.
     pub fn nets(&self) -> u32
         ensures { result ≡ self.now.nets }
     {
         self.nets
     }
 
-    /// The turns of an iteration of a trial; iterations are counted from 1, and trials from 0.
+    /// Returns the turns of an iteration, counted from 1, of a trial, counted from 0.
     pub fn turns(&self, trial: usize, iteration: u32) -> Option<&[ScheduledTurn]>
         ensures { IfSome result (λ turns. HasTurns self.now iteration turns.now) }
     {
@@ -187,7 +187,7 @@ impl<'a> RunSchedule<'a> {
         trial.turns(iteration)
     }
 
-    /// Its trials.
+    /// Returns its trials.
     pub fn trials(&self) -> &[Trial]
         ensures { result.now ≡ self.now.trials }
     {

@@ -1,4 +1,4 @@
-//! A text that is read from its front.
+//! Reading a text from its front.
 
 ghost use Rattle.std.specs.Prelude.{◌≡◌, ◌≢◌, ◌↔◌, ◌++◌, ℕ, List, Some, IfSome, IsTrue, MatchOption, decimal, false, not, position};
 ghost use Rattle.vpr_text.specs.Numbers.{is_digit};
@@ -23,21 +23,21 @@ fn is_within(least: u32, most: u32, number: u32) -> bool
     least <= number && number <= most
 }
 
-/// Where the first byte stands that is no digit.
+/// Returns the place of the first byte that isn't a digit.
 fn digits_end(text: &[u8]) -> Option<usize>
     ensures { result ≡ position (λ b. not (is_digit b)) text.now }
 {
     text.iter().position(|byte| !is_digit(*byte))
 }
 
-/// Where the first line ends.
+/// Returns the place where the first line ends.
 fn line_end(text: &[u8]) -> Option<usize>
     ensures { result ≡ position is_line_feed text.now }
 {
     text.iter().position(|byte| *byte == b'\n')
 }
 
-/// What is behind this front.
+/// Returns the rest of a text after this front.
 #[tactic(auto, using(crate::proofs::Fronts::behind))]
 fn behind<'a>(text: &'a [u8], front: &[u8]) -> Option<&'a [u8]>
     ensures { MatchOption result ((rest : List ℕ) → text.now ≢ front.now ++ rest)
@@ -46,7 +46,7 @@ fn behind<'a>(text: &'a [u8], front: &[u8]) -> Option<&'a [u8]>
     text.strip_prefix(front)
 }
 
-/// The number that is printed as these digits, with none too many.
+/// Returns the number that is printed as exactly these digits.
 #[tactic(auto, using(crate::proofs::Numbers::number_read))]
 fn number_of(digits: &[u8]) -> Option<u32>
     ensures found { IfSome result (λ n. IsWord n × (digits.now ≡ decimal n)) }
@@ -60,7 +60,7 @@ fn number_of(digits: &[u8]) -> Option<u32>
     Some(number)
 }
 
-/// The number of the line that a rest of a text begins with.
+/// Returns the number of the line with which the rest of a text begins.
 pub(crate) fn line_at(bytes: &[u8], rest: &[u8]) -> u32 {
     let length = bytes.len().saturating_sub(rest.len());
     let lines = bytes[..length]
@@ -70,7 +70,7 @@ pub(crate) fn line_at(bytes: &[u8], rest: &[u8]) -> u32 {
     u32::try_from(lines).unwrap_or(u32::MAX).saturating_add(1)
 }
 
-/// What is left of a text, of which the front was read. Contracts see its bytes.
+/// The rest of a text whose front was read. Contracts see its bytes.
 #[derive(Debug, Drop)]
 pub(crate) struct Text<'a> {
     rest: &'a [u8],
@@ -91,7 +91,7 @@ impl<'a> Text<'a> {
         Text { rest: bytes }
     }
 
-    /// The same again.
+    /// Returns a copy.
     pub(crate) fn again(&self) -> Text<'a>
         ensures { result ≡ self.now }
     {
@@ -104,7 +104,7 @@ impl<'a> Text<'a> {
         self.rest
     }
 
-    /// Takes this front off it.
+    /// Takes off this front.
     pub(crate) fn take(&mut self, front: &[u8]) -> Option<()>
         ensures { Takes IsAny (λ _. front.now) self.old self.new result }
     {
@@ -112,7 +112,7 @@ impl<'a> Text<'a> {
         Some(())
     }
 
-    /// Takes a number and the byte behind it.
+    /// Takes off a number and the byte after it.
     pub(crate) fn take_number(&mut self, end: u8) -> Option<u32>
         requires { is_digit end ≡ false }
         ensures { Takes IsWord (ended_text end) self.old self.new result }
@@ -124,7 +124,7 @@ impl<'a> Text<'a> {
         Some(number)
     }
 
-    /// Takes a line that begins like this, and tells a number within these limits.
+    /// Takes off a line of this front and a number within these limits, and returns the number.
     pub(crate) fn take_within(&mut self, front: &[u8], least: u32, most: u32) -> Option<u32>
         ensures { Takes (IsWithin least most) (numbered_line front.now) self.old self.new result }
     {
@@ -138,7 +138,7 @@ impl<'a> Text<'a> {
         Some(number)
     }
 
-    /// Takes the line of a turn.
+    /// Takes off the line of a turn.
     pub(crate) fn take_turn(&mut self) -> Option<ScheduledTurn>
         ensures { Takes IsReadable turn_text self.old self.new result }
     {
@@ -152,7 +152,7 @@ impl<'a> Text<'a> {
         })
     }
 
-    /// Passes a line that begins like this.
+    /// Takes off a line that begins with this front.
     pub(crate) fn pass_line(&mut self, front: &[u8]) -> Option<()>
         ensures { Passes IsInLine (line_text front.now) self.old self.new result }
     {
@@ -162,7 +162,7 @@ impl<'a> Text<'a> {
         Some(())
     }
 
-    /// Passes so many lines of a head.
+    /// Takes off this number of lines of a head.
     pub(crate) fn pass_notes(&mut self, count: usize) -> Option<()>
         ensures { Passes (AreNotes count) notes_text self.old self.new result }
     {

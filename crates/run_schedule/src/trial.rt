@@ -27,7 +27,7 @@ impl Model for Turns {
 }
 
 impl Turns {
-    /// None yet.
+    /// Returns an empty list.
     pub(crate) fn new(alloc: Global) -> Turns
         ensures { result ≡ [] }
     {
@@ -36,7 +36,7 @@ impl Turns {
         }
     }
 
-    /// A copy of these.
+    /// Returns a copy of these turns.
     pub fn of(alloc: Global, turns: &[ScheduledTurn]) -> Result<Turns, AllocError>
         ensures { IfOk result (λ t. t ≡ turns.now) }
     {
@@ -53,14 +53,14 @@ impl Turns {
         Ok(())
     }
 
-    /// How many there are.
+    /// Returns the number of turns.
     pub(crate) fn len(&self) -> u64
         ensures { result ≡ length self.now }
     {
         self.turns.len() as u64
     }
 
-    /// They as a slice.
+    /// Returns them as a slice.
     pub fn as_slice(&self) -> &[ScheduledTurn]
         ensures { result.now ≡ self.now }
     {
@@ -68,7 +68,7 @@ impl Turns {
     }
 }
 
-/// A trial: a negotiation on a device with so many tracks, by the turns of its iterations.
+/// A trial: the width of its device, and the turns of each iteration.
 #[derive(Debug, Drop)]
 pub struct Trial {
     width: u32,
@@ -86,7 +86,7 @@ impl Model for Trial {
 }
 
 impl Trial {
-    /// One of this width, before its first iteration.
+    /// Returns a trial of this width, before its first iteration.
     pub fn new(alloc: Global, width: u32) -> Trial
         ensures { result ≡ record { width = width; iterations = [] } }
     {
@@ -107,14 +107,14 @@ impl Trial {
         Ok(())
     }
 
-    /// The tracks of its device.
+    /// Returns the width of its device, in tracks.
     pub fn width(&self) -> u32
         ensures { result ≡ self.now.width }
     {
         self.width
     }
 
-    /// The turns of an iteration, which is counted from 1.
+    /// Returns the turns of an iteration, counted from 1.
     pub fn turns(&self, iteration: u32) -> Option<&[ScheduledTurn]>
         ensures { option_copied result ≡ turns_at self.now iteration }
     {
@@ -123,7 +123,7 @@ impl Trial {
         Some(turns.as_slice())
     }
 
-    /// The turns of each iteration.
+    /// Returns the turns of each iteration.
     pub fn iterations(&self) -> &[Turns]
         ensures { result.now ≡ self.now.iterations }
     {
@@ -149,7 +149,7 @@ impl Model for Trials {
 }
 
 impl Trials {
-    /// None yet.
+    /// Returns an empty list.
     pub fn new(alloc: Global) -> Trials
         ensures { result ≡ [] }
     {
@@ -185,7 +185,7 @@ impl Trials {
         self.trials.is_empty()
     }
 
-    /// They as a slice.
+    /// Returns them as a slice.
     pub fn as_slice(&self) -> &[Trial]
         ensures { result.now ≡ self.now }
     {

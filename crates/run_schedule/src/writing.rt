@@ -1,4 +1,4 @@
-//! The text of a schedule is written.
+//! Writing the text of a schedule.
 
 ghost use Rattle.std.specs.Prelude.{◌≡◌, ◌+◌};
 ghost use Rattle.vpr_text.specs.Output.{SendsTo};
@@ -117,7 +117,7 @@ fn put_schedule<W: ByteSink>(
 /// Writes the schedule of a run with this head and these trials.
 ///
 /// # Errors
-/// Broken where the sink broke, after it took a front of the text.
+/// `Broken` if the sink broke, after it took a front of the text.
 #[inline(never)]
 pub fn write_schedule<W: ByteSink>(
     sink: &mut W,
