@@ -3,129 +3,20 @@
 ghost use Rattle.std.specs.Prelude.{◌≤◌, IfSome};
 ghost use Rattle.rr_graph.specs.Fabric.{longest_side, most_tracks};
 ghost use Rattle.node_cost.specs.Options.{most_workers};
+ghost use Rattle.command_line.specs.Given.{IsRouteGiven, IsWidthGiven, IsCheckGiven, IsReportGiven, IsBoundGiven, IsGraphGiven};
 
+use crate::choices::{GREATEST_SIDE, MOST_TRACKS, MOST_WORKERS, from_to};
+use crate::given::{
+    design_files, flag, number, number_within, optional, settings, side_files, text,
+};
 use crate::help;
-use clap::{Arg, ArgAction, ArgMatches, Command, value_parser};
+use crate::options::{
+    explain_flag, global_flag, input, ranged, setting, side_file, upward_flag, width, with_design,
+    with_settings,
+};
+use clap::{Arg, ArgAction, ArgMatches, Command};
 use node_cost::Settings;
 use std::alloc::{AllocError, Global};
-
-/// The greatest array size on each side, in logic blocks.
-const GREATEST_SIDE: u32 = 100;
-
-/// The greatest channel width, in tracks.
-const MOST_TRACKS: u32 = 256;
-
-/// The greatest number of workers of a negotiation.
-const MOST_WORKERS: u32 = 16;
-
-/// The greatest present-congestion factor.
-const GREATEST_PRESENT: u32 = 1_048_576;
-
-fn number<'a>(alloc: Global, name: &'a str, most: u32, help: &'a str) -> Arg<'a> {
-    Arg::new(alloc, name)
-        .required(true)
-        .value_parser(value_parser!(u32).range(1..=i64::from(most)))
-        .help(help)
-}
-
-fn input<'a>(alloc: Global, name: &'a str, help: &'a str) -> Arg<'a> {
-    Arg::new(alloc, name).required(true).help(help)
-}
-
-fn global_flag<'a>(alloc: Global) -> Arg<'a> {
-    Arg::new(alloc, "global")
-        .long("global")
-        .action(ArgAction::SetTrue)
-        .help("Global routing: each place of a channel is one node with room for W nets")
-}
-
-/// Returns the `--explain` option with this help.
-fn explain_flag<'a>(alloc: Global, help: &'a str) -> Arg<'a> {
-    Arg::new(alloc, "explain")
-        .long("explain")
-        .action(ArgAction::SetTrue)
-        .help(help)
-}
-
-fn width<'a>(alloc: Global) -> Arg<'a> {
-    number(
-        alloc,
-        "width",
-        MOST_TRACKS,
-        "Tracks in each channel, 1 to 256",
-    )
-    .long("width")
-    .value_name("W")
-}
-
-/// Returns an option with a number for negotiations. It has a default.
-fn setting<'a>(
-    alloc: Global,
-    name: &'a str,
-    least: u32,
-    most: u32,
-    standard: &'a str,
-    help: &'a str,
-) -> Arg<'a> {
-    Arg::new(alloc, name)
-        .long(name)
-        .value_name("N")
-        .value_parser(value_parser!(u32).range(i64::from(least)..=i64::from(most)))
-        .help(help)
-        .default_value(standard)
-}
-
-/// Adds the options for negotiations to a command.
-fn with_settings<'a>(alloc: Global, command: Command<'a>) -> Result<Command<'a>, AllocError> {
-    command
-        .arg(setting(alloc, "workers", 1, MOST_WORKERS, "1", help::WORKERS))?
-        .arg(setting(
-            alloc,
-            "iterations",
-            1,
-            500,
-            "30",
-            "Iterations at most, 1 to 500",
-        ))?
-        .arg(setting(
-            alloc,
-            "first-pres",
-            0,
-            GREATEST_PRESENT,
-            "8",
-            help::FIRST_PRES,
-        ))?
-        .arg(setting(
-            alloc,
-            "init-pres",
-            0,
-            GREATEST_PRESENT,
-            "8",
-            "That of the second iteration, in sixteenths; 0 to 1048576",
-        ))?
-        .arg(setting(alloc, "mult", 16, 256, "32", help::MULT))?
-        .arg(setting(alloc, "acc", 0, 65_535, "20", help::ACC))?
-        .arg(setting(alloc, "bb", 1, 255, "3", help::BB))?
-        .arg(side_file(alloc, "log", "FILE", help::LOG))?
-        .arg(side_file(alloc, "schedule", "FILE", help::SCHEDULE))?
-        .arg(side_file(alloc, "follow", "FILE", help::FOLLOW))
-}
-
-/// Returns an option that names a further file of a run.
-fn side_file<'a>(alloc: Global, name: &'a str, value: &'a str, help: &'a str) -> Arg<'a> {
-    Arg::new(alloc, name)
-        .long(name)
-        .value_name(value)
-        .help(help)
-}
-
-/// Adds the three files of a placed design to a command.
-fn with_design<'a>(alloc: Global, command: Command<'a>) -> Result<Command<'a>, AllocError> {
-    command
-        .arg(input(alloc, "NET", "The netlist, a .net file of VPR 4.30"))?
-        .arg(input(alloc, "ARCH", "The architecture file, .arch"))?
-        .arg(input(alloc, "PLACE", "The placement of the netlist"))
-}
 
 fn route_command<'a>(alloc: Global) -> Result<Command<'a>, AllocError> {
     let command = Command::new(alloc, "route")
@@ -144,17 +35,6 @@ fn route_command<'a>(alloc: Global) -> Result<Command<'a>, AllocError> {
     with_settings(alloc, command)
 }
 
-/// Returns the `--upward` option: a search from the bound on, in which there is no lesser width to
-/// verify.
-fn upward_flag<'a>(alloc: Global) -> Result<Arg<'a>, AllocError> {
-    Arg::new(alloc, "upward")
-        .long("upward")
-        .action(ArgAction::SetTrue)
-        .help(help::UPWARD)
-        .conflicts_with("verify")?
-        .conflicts_with("no-bound")
-}
-
 fn width_command<'a>(alloc: Global) -> Result<Command<'a>, AllocError> {
     let command = Command::new(alloc, "width")
         .about("Search for the least channel width at which a placed netlist is routed")
@@ -165,13 +45,13 @@ fn width_command<'a>(alloc: Global) -> Result<Command<'a>, AllocError> {
             "ROUTE",
             "The routing file that is written, of the least width; without one it is left alone",
         ))?
-        .arg(setting(alloc, "start", 1, MOST_TRACKS, "12", help::START).default_value_if(
+        .arg(setting(alloc, "start", from_to(1, MOST_TRACKS, "12"), help::START).default_value_if(
             "upward",
             "true",
             Some("1"),
         )?)?
         .arg(upward_flag(alloc)?)?
-        .arg(setting(alloc, "verify", 0, MOST_TRACKS, "0", help::VERIFY))?
+        .arg(setting(alloc, "verify", from_to(0, MOST_TRACKS, "0"), help::VERIFY))?
         .arg(
             Arg::new(alloc, "no-bound")
                 .long("no-bound")
@@ -230,19 +110,19 @@ fn graph_command<'a>(alloc: Global) -> Result<Command<'a>, AllocError> {
             "ARCH",
             "The architecture file, .arch; `stdin` is standard input",
         ))?
-        .arg(number(
+        .arg(ranged(
             alloc,
             "NX",
             GREATEST_SIDE,
             "Logic blocks in a row, 1 to 100",
         ))?
-        .arg(number(
+        .arg(ranged(
             alloc,
             "NY",
             GREATEST_SIDE,
             "Logic blocks in a column, 1 to 100",
         ))?
-        .arg(number(alloc, "W", MOST_TRACKS, "Tracks in each channel, 1 to 256"))?
+        .arg(ranged(alloc, "W", MOST_TRACKS, "Tracks in each channel, 1 to 256"))?
         .arg(global_flag(alloc))?
         .arg(explain_flag(alloc, help::EXPLAIN))
 }
@@ -361,50 +241,28 @@ pub struct GraphWords<'a> {
     pub explain: bool,
 }
 
-/// Returns a number of the command line, or `None` if it isn't in 1 to `most`. The parser refuses
-/// such a number.
-fn number_within(matches: &ArgMatches<'_>, name: &str, most: u32) -> Option<u32>
-    ensures { IfSome result (λ n. (1 ≤ n) × (n ≤ most)) }
-{
-    let number = matches.get_one::<u32>(name)?;
-    if number >= 1 && number <= most {
-        Some(number)
-    } else {
-        None
-    }
-}
-
-/// Returns the numbers of a negotiation, or `None` if one is out of its range. The parser refuses
-/// such a number.
-fn settings(matches: &ArgMatches<'_>) -> Option<Settings> {
-    let first = matches.get_one::<u32>("first-pres")?;
-    let init = matches.get_one::<u32>("init-pres")?;
-    let mult = matches.get_one::<u32>("mult")?;
-    let acc = matches.get_one::<u32>("acc")?;
-    let bb = matches.get_one::<u32>("bb")?;
-    let iterations = matches.get_one::<u32>("iterations")?;
-    Settings::new(first, init, mult, acc, bb, iterations).ok()
-}
-
 /// Returns the values given to the `route` command, or `None` if one is out of its range.
 pub fn route_words<'a>(matches: &ArgMatches<'a>) -> Option<RouteWords<'a>>
     ensures tracks { IfSome result (λ r. (1 ≤ r.width) × (r.width ≤ most_tracks)) }
     ensures workers { IfSome result (λ r. (1 ≤ r.workers) × (r.workers ≤ most_workers)) }
+    ensures given { IfSome result (λ w. IsRouteGiven matches.now w) }
 {
+    let design = design_files(matches)?;
+    let side = side_files(matches);
     Some(RouteWords {
-        net: matches.get_str("NET")?,
-        arch: matches.get_str("ARCH")?,
-        place: matches.get_str("PLACE")?,
-        route: matches.get_str("ROUTE")?,
+        net: design.net,
+        arch: design.arch,
+        place: design.place,
+        route: text(matches, "ROUTE")?,
         width: number_within(matches, "width", MOST_TRACKS)?,
-        global: matches.get_flag("global"),
-        explain: matches.get_flag("explain"),
+        global: flag(matches, "global"),
+        explain: flag(matches, "explain"),
         workers: number_within(matches, "workers", MOST_WORKERS)?,
         settings: settings(matches)?,
-        log: matches.get_str("log"),
-        schedule: matches.get_str("schedule"),
-        follow: matches.get_str("follow"),
-        rest: matches.get_str("rest"),
+        log: side.log,
+        schedule: side.schedule,
+        follow: side.follow,
+        rest: optional(matches, "rest"),
     })
 }
 
@@ -412,66 +270,76 @@ pub fn route_words<'a>(matches: &ArgMatches<'a>) -> Option<RouteWords<'a>>
 pub fn width_words<'a>(matches: &ArgMatches<'a>) -> Option<WidthWords<'a>>
     ensures start { IfSome result (λ w. (1 ≤ w.start) × (w.start ≤ most_tracks)) }
     ensures workers { IfSome result (λ w. (1 ≤ w.workers) × (w.workers ≤ most_workers)) }
+    ensures given { IfSome result (λ w. IsWidthGiven matches.now w) }
 {
+    let design = design_files(matches)?;
+    let side = side_files(matches);
     Some(WidthWords {
-        net: matches.get_str("NET")?,
-        arch: matches.get_str("ARCH")?,
-        place: matches.get_str("PLACE")?,
-        route: matches.get_str("ROUTE")?,
+        net: design.net,
+        arch: design.arch,
+        place: design.place,
+        route: text(matches, "ROUTE")?,
         start: number_within(matches, "start", MOST_TRACKS)?,
-        global: matches.get_flag("global"),
-        explain: matches.get_flag("explain"),
+        global: flag(matches, "global"),
+        explain: flag(matches, "explain"),
         workers: number_within(matches, "workers", MOST_WORKERS)?,
         settings: settings(matches)?,
-        log: matches.get_str("log"),
-        schedule: matches.get_str("schedule"),
-        follow: matches.get_str("follow"),
-        keep: matches.get_str("keep"),
-        verify: matches.get_one::<u32>("verify")?,
-        upward: matches.get_flag("upward"),
-        no_bound: matches.get_flag("no-bound"),
+        log: side.log,
+        schedule: side.schedule,
+        follow: side.follow,
+        keep: optional(matches, "keep"),
+        verify: number(matches, "verify")?,
+        upward: flag(matches, "upward"),
+        no_bound: flag(matches, "no-bound"),
     })
 }
 
 /// Returns the values given to the `check` command, or `None` if one is out of its range.
 pub fn check_words<'a>(matches: &ArgMatches<'a>) -> Option<CheckWords<'a>>
-    ensures { IfSome result (λ c. (1 ≤ c.width) × (c.width ≤ most_tracks)) }
+    ensures tracks { IfSome result (λ c. (1 ≤ c.width) × (c.width ≤ most_tracks)) }
+    ensures given { IfSome result (λ w. IsCheckGiven matches.now w) }
 {
+    let design = design_files(matches)?;
     Some(CheckWords {
-        net: matches.get_str("NET")?,
-        arch: matches.get_str("ARCH")?,
-        place: matches.get_str("PLACE")?,
-        route: matches.get_str("ROUTE")?,
+        net: design.net,
+        arch: design.arch,
+        place: design.place,
+        route: text(matches, "ROUTE")?,
         width: number_within(matches, "width", MOST_TRACKS)?,
-        global: matches.get_flag("global"),
-        explain: matches.get_flag("explain"),
+        global: flag(matches, "global"),
+        explain: flag(matches, "explain"),
     })
 }
 
 /// Returns the values given to the `report` command, or `None` if one is out of its range.
 pub fn report_words<'a>(matches: &ArgMatches<'a>) -> Option<ReportWords<'a>>
-    ensures { IfSome result (λ r. (1 ≤ r.width) × (r.width ≤ most_tracks)) }
+    ensures tracks { IfSome result (λ r. (1 ≤ r.width) × (r.width ≤ most_tracks)) }
+    ensures given { IfSome result (λ w. IsReportGiven matches.now w) }
 {
+    let design = design_files(matches)?;
     Some(ReportWords {
-        net: matches.get_str("NET")?,
-        arch: matches.get_str("ARCH")?,
-        place: matches.get_str("PLACE")?,
-        route: matches.get_str("ROUTE")?,
+        net: design.net,
+        arch: design.arch,
+        place: design.place,
+        route: text(matches, "ROUTE")?,
         width: number_within(matches, "width", MOST_TRACKS)?,
-        global: matches.get_flag("global"),
-        explain: matches.get_flag("explain"),
-        map: matches.get_flag("map"),
+        global: flag(matches, "global"),
+        explain: flag(matches, "explain"),
+        map: flag(matches, "map"),
     })
 }
 
 /// Returns the values given to the `bound` command, or `None` if one of its files is not named.
-pub fn bound_words<'a>(matches: &ArgMatches<'a>) -> Option<BoundWords<'a>> {
+pub fn bound_words<'a>(matches: &ArgMatches<'a>) -> Option<BoundWords<'a>>
+    ensures { IfSome result (λ w. IsBoundGiven matches.now w) }
+{
+    let design = design_files(matches)?;
     Some(BoundWords {
-        net: matches.get_str("NET")?,
-        arch: matches.get_str("ARCH")?,
-        place: matches.get_str("PLACE")?,
-        cut: matches.get_str("cut"),
-        explain: matches.get_flag("explain"),
+        net: design.net,
+        arch: design.arch,
+        place: design.place,
+        cut: optional(matches, "cut"),
+        explain: flag(matches, "explain"),
     })
 }
 
@@ -480,13 +348,14 @@ pub fn graph_words<'a>(matches: &ArgMatches<'a>) -> Option<GraphWords<'a>>
     ensures columns { IfSome result (λ g. (1 ≤ g.nx) × (g.nx ≤ longest_side)) }
     ensures rows { IfSome result (λ g. (1 ≤ g.ny) × (g.ny ≤ longest_side)) }
     ensures tracks { IfSome result (λ g. (1 ≤ g.width) × (g.width ≤ most_tracks)) }
+    ensures given { IfSome result (λ w. IsGraphGiven matches.now w) }
 {
     Some(GraphWords {
-        arch: matches.get_str("ARCH")?,
+        arch: text(matches, "ARCH")?,
         nx: number_within(matches, "NX", GREATEST_SIDE)?,
         ny: number_within(matches, "NY", GREATEST_SIDE)?,
         width: number_within(matches, "W", MOST_TRACKS)?,
-        global: matches.get_flag("global"),
-        explain: matches.get_flag("explain"),
+        global: flag(matches, "global"),
+        explain: flag(matches, "explain"),
     })
 }

@@ -179,10 +179,16 @@ pub const WORKERS: &str = "\
 Threads that route at once, 1 to 16; with more than one the routing
 differs from run to run, unless --follow repeats a run";
 
+/// The help of `--iterations`.
+pub const ITERATIONS: &str = "Iterations at most, 1 to 500";
+
 /// The help of `--first-pres`.
 pub const FIRST_PRES: &str = "\
 The present-congestion factor of the first iteration, in sixteenths:
 8 is 0.5; 0 to 1048576";
+
+/// The help of `--init-pres`.
+pub const INIT_PRES: &str = "That of the second iteration, in sixteenths; 0 to 1048576";
 
 /// The help of `--mult`.
 pub const MULT: &str = "\

@@ -2,5 +2,8 @@
 //! given.
 #![tactic(auto)]
 
+mod choices;
 pub mod command;
+mod given;
 pub mod help;
+mod options;
