@@ -1,6 +1,6 @@
 -- The text of a log (ours): lines with `#` tell of the run, and behind titles a line tells of each
 -- iteration.
-use Rattle.std.specs.Prelude.{Maybe, None, Some, option_copied, ℕ, ◌-◌, ◌*◌, ◌/◌, ◌%◌, List, [], ◌++◌, codes, decimal, length, take}
+use Rattle.std.specs.Prelude.{ℕ, ◌-◌, ◌*◌, ◌/◌, ◌%◌, List, [], ◌++◌, Option, Some, None, codes, decimal, length, option_copied, take}
 use Rattle.rr_graph.specs.node.Mode.{Mode}
 use Rattle.rr_graph.specs.node.Mode.TheVariants.{Detailed, Global}
 use Rattle.rr_graph.specs.Problems.{RoutingProblem}
@@ -21,7 +21,7 @@ mode_name Detailed = codes "detailed"
 mode_name Global = codes "global"
 
 -- a name that may have a value
-abbrev pub given_text : (name : List ℕ) → Maybe (List ℕ) → List ℕ
+abbrev pub given_text : (name : List ℕ) → Option (List ℕ) → List ℕ
 given_text name None = []
 given_text name (Some value) = entry_text name value
 
