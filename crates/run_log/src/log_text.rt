@@ -51,7 +51,7 @@ fn put_given<'a, W: ByteSink>(
     value: Option<&'a [u8]>,
 )
     ensures { SendsTo W.taken W.failed sink.old sink.new out.old out.new
-        (given_text name.now (option_copied value)) }
+        (given_text name.now (option_copied value.entry)) }
 {
     if let Some(value) = value {
         put_entry(out, sink, name, value);
