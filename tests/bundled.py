@@ -1,5 +1,7 @@
-"""The designs that come with the program: the netlist, the architecture and the placement of each."""
+"""The designs that come with the program: the netlist, the architecture and the placement of each. And a copy of tools/."""
+import compileall
 import pathlib
+import shutil
 
 TOP = pathlib.Path(__file__).resolve().parent.parent
 EXAMPLES = TOP / "examples"
@@ -11,3 +13,10 @@ COUNTER = (EXAMPLES / "counter.net", LUT4, EXAMPLES / "counter.place")
 ADDER = (EXAMPLES / "adder.net", LUT4, EXAMPLES / "adder.place")
 CROSSING = (EXAMPLES / "crossing/crossing.net", SMALL, EXAMPLES / "crossing/crossing.place")
 SHIFT = (EXAMPLES / "shift.net", LUT4, EXAMPLES / "shift.place")
+
+
+def copy_of_tools(folder):
+    """Copies tools/ into a folder, with its modules compiled, so that not each call of a tool compiles them; the copy."""
+    tools = pathlib.Path(shutil.copytree(TOP / "tools", pathlib.Path(folder, "tools")))
+    compileall.compile_dir(tools, quiet=2)
+    return tools

@@ -1,8 +1,9 @@
 // Refuses calls of a program that it is loaded into (LD_PRELOAD): of the kind that REFUSED_KIND names, `memory` (malloc, calloc, realloc,
-// aligned_alloc, posix_memalign and memalign, counted together) or `threads` (pthread_create), the one whose number, from 1, stands in
-// REFUSED_NUMBER, and where REFUSED_FROM is 1 all behind it too.
-// Where that call was made, a byte is written to the file descriptor that stands in REFUSED_TELLS. Where a line is printed that is
-// REFUSED_MARK, how many calls were made before is written there as a line.
+// aligned_alloc, posix_memalign and memalign, counted together) or `threads` (pthread_create), one by its number, from 1, and if wanted all
+// behind it too. The program is loaded once for many runs: each begins as a copy of the process (fork), before the program has begun. The
+// runs come as jobs from the file descriptor that stands in REFUSED_JOBS, one after another; what came of each goes to REFUSED_ENDS.
+// Where a call was refused, a byte is told beside what the run printed. Where a line is printed that is REFUSED_MARK, a line is told: how
+// many calls were made before.
 #define _GNU_SOURCE
 #include <dlfcn.h>
 #include <errno.h>
@@ -11,7 +12,9 @@
 #include <stdio.h>
 #include <stdlib.h>
 #include <string.h>
+#include <sys/mman.h>
 #include <sys/syscall.h>
+#include <sys/wait.h>
 #include <unistd.h>
 
 // glibc's own, under names that nothing stands in for.
@@ -23,6 +26,19 @@ void *__libc_memalign(size_t, size_t);
 typedef int (*Create)(pthread_t *, const pthread_attr_t *, void *(*)(void *), void *);
 
 enum Kind { NOTHING, MEMORY, THREADS };
+
+// A run: the number of the call to refuse, 0 for none, whether all behind it are refused too, and after how many seconds it is ended.
+struct Job {
+  unsigned long number, from, seconds;
+};
+
+// What a run has: what it prints on both streams, and what is told of it.
+enum { PRINTED, COMPLAINED, TOLD, FILES };
+
+// What came of a run: its status as waitpid has it, and how long its files are, which follow.
+struct End {
+  unsigned long status, sizes[FILES];
+};
 
 static enum Kind kind = NOTHING;
 static unsigned long number;
@@ -36,12 +52,86 @@ static const char *word_in(const char *name) {
   return word ? word : "";
 }
 
+static int file_in(const char *name) { return (int)strtol(word_in(name), NULL, 10); }
+
+static void must(int holds) {
+  if (!holds)
+    abort();
+}
+
+// Hands on all bytes; nothing of it asks for memory.
+static void put(int file, const void *bytes, size_t count) {
+  const char *rest = bytes;
+  while (count > 0) {
+    long written = syscall(SYS_write, file, rest, count);
+    must(written > 0);
+    rest += written;
+    count -= (size_t)written;
+  }
+}
+
+// Makes this process the run of a job.
+static void become(const struct Job *job, const int *files) {
+  number = job->number;
+  from = job->from != 0;
+  tells = files[TOLD];
+  must(dup2(files[PRINTED], STDOUT_FILENO) >= 0 && dup2(files[COMPLAINED], STDERR_FILENO) >= 0);
+  must(close(files[PRINTED]) == 0 && close(files[COMPLAINED]) == 0);
+  alarm((unsigned)job->seconds);
+}
+
+static void put_file(int to, int file, size_t size) {
+  static char bytes[1 << 16];
+  for (size_t at = 0; at < size;) {
+    long count = pread(file, bytes, sizeof bytes, (off_t)at);
+    must(count > 0);
+    put(to, bytes, (size_t)count);
+    at += (size_t)count;
+  }
+}
+
+// Tells how a run ended, and what its files have, which are emptied for the next one.
+static void tell_end(int ends, int status, const int *files) {
+  struct End end = {(unsigned long)status, {0}};
+  for (int at = 0; at < FILES; at++) {
+    off_t size = lseek(files[at], 0, SEEK_END);
+    must(size >= 0);
+    end.sizes[at] = (unsigned long)size;
+  }
+  put(ends, &end, sizeof end);
+  for (int at = 0; at < FILES; at++) {
+    put_file(ends, files[at], end.sizes[at]);
+    must(ftruncate(files[at], 0) == 0 && lseek(files[at], 0, SEEK_SET) == 0);
+  }
+}
+
+// Makes one run after another, each as a copy of this process: this comes back as each of them.
+static void serve(int jobs, int ends) {
+  struct Job job;
+  int files[FILES];
+  for (int at = 0; at < FILES; at++) {
+    files[at] = memfd_create("run", 0);
+    must(files[at] >= 0);
+  }
+  while (read(jobs, &job, sizeof job) == (ssize_t)sizeof job) {
+    int status;
+    pid_t run = fork();
+    must(run >= 0);
+    if (run == 0) {
+      must(close(jobs) == 0 && close(ends) == 0);
+      become(&job, files);
+      return;
+    }
+    must(waitpid(run, &status, 0) == run);
+    tell_end(ends, status, files);
+  }
+  _exit(0);
+}
+
 // Nothing is refused before: only the loader and the C library have asked for anything.
 __attribute__((constructor)) static void begin(void) {
-  number = strtoul(word_in("REFUSED_NUMBER"), NULL, 10);
-  from = strcmp(word_in("REFUSED_FROM"), "1") == 0;
-  tells = (int)strtol(word_in("REFUSED_TELLS"), NULL, 10);
   mark = word_in("REFUSED_MARK");
+  serve(file_in("REFUSED_JOBS"), file_in("REFUSED_ENDS"));
   if (strcmp(word_in("REFUSED_KIND"), "memory") == 0)
     kind = MEMORY;
   if (strcmp(word_in("REFUSED_KIND"), "threads") == 0)
@@ -53,8 +143,8 @@ static int is_refused(enum Kind of) {
   if (of != kind)
     return 0;
   unsigned long place = atomic_fetch_add(&asked, 1) + 1;
-  if (place == number && write(tells, "1", 1) != 1)
-    abort();
+  if (place == number)
+    put(tells, "!", 1);
   return place == number || (from && place > number);
 }
 
@@ -90,8 +180,7 @@ int posix_memalign(void **out, size_t alignment, size_t size) {
 static void tell_count(void) {
   char line[24];
   int length = snprintf(line, sizeof line, "%lu\n", atomic_load(&asked));
-  if (syscall(SYS_write, tells, line, (size_t)length) != length)
-    abort();
+  put(tells, line, (size_t)length);
 }
 
 ssize_t write(int file, const void *bytes, size_t count) {

@@ -1,10 +1,14 @@
 """Runs the program, and tests of crates, with calls for memory or for threads refused: what without-memory and without-threads share."""
 import argparse
 import concurrent.futures
+import functools
 import itertools
 import os
 import pathlib
+import queue
 import re
+import signal
+import struct
 import subprocess
 import tempfile
 from dataclasses import dataclass, replace
@@ -12,14 +16,21 @@ from typing import Callable, Optional
 
 from bundled import TOP
 
-# Stands for the routing file in the words of a run.
+# Stands for the routing file, and for a script, in the words of a run.
 ROUTE = "ROUTE"
+SCRIPT = "SCRIPT"
 OLD_ROUTING = b"an old routing\n"
 SECONDS = 120
+PROCESSORS = len(os.sched_getaffinity(0))
 # So often a run is made that says nothing.
 TRIES = 5
 # Up to here each call is refused; of later ones, where they are thinned out, each hundredth of what lies behind.
 EACH_CALL = 300
+# A job, and what came of it, as refused_call.c has them.
+JOB = struct.Struct("3L")
+END = struct.Struct("4L")
+# What is told where a call was refused.
+REFUSED = b"!"
 
 
 @dataclass(frozen=True)
@@ -43,7 +54,8 @@ def says_all(_answer):
 
 @dataclass(frozen=True)
 class Run:
-    """A command that is run again and again: its words, what the routing file has before, which answers are right, and which say nothing."""
+    """A command that is run again and again: its words, what the routing file or the script has before, which answers are right, and which
+    say nothing."""
 
     name: str
     words: tuple
@@ -51,45 +63,106 @@ class Run:
     is_right: Callable
     says_nothing: Callable = says_all
 
-    def answer(self, variables, pass_fds=()):
+    def answer(self):
+        """The answer where nothing is refused."""
         with tempfile.TemporaryDirectory() as folder:
-            routing = pathlib.Path(folder, "new.route")
-            if self.before is not None:
-                routing.write_bytes(self.before)
-            words = [str(routing if word == ROUTE else word) for word in self.words]
-            ran = subprocess.run(words, cwd=folder, env=variables, pass_fds=pass_fds, stdin=subprocess.DEVNULL, capture_output=True, timeout=SECONDS)
-            return Answer(ran.returncode, ran.stdout, ran.stderr, routing.read_bytes() if routing.exists() else None)
+            files = Files(folder, self.words)
+            files.put(self.before)
+            ran = subprocess.run(files.words, cwd=folder, env={}, stdin=subprocess.DEVNULL, capture_output=True, timeout=SECONDS)
+            return Answer(ran.returncode, ran.stdout, ran.stderr, files.routing())
 
 
-@dataclass(frozen=True)
+class Files:
+    """The files of runs in a folder: a routing or a script, where the words have one."""
+
+    def __init__(self, folder, words):
+        names = {ROUTE: f"{folder}/new.route", SCRIPT: f"{folder}/script.lab"}
+        self.words = [names.get(word, str(word)) for word in words]
+        self.route = names[ROUTE] if ROUTE in words else None
+        self.script = names[SCRIPT] if SCRIPT in words else None
+        self.there = None
+
+    def put(self, before):
+        """Has the file be as it is before a run."""
+        if self.route and before is None:
+            pathlib.Path(self.route).unlink(missing_ok=True)
+        elif self.route or (self.script and before != self.there):
+            pathlib.Path(self.route or self.script).write_bytes(before)
+            self.there = before
+
+    def routing(self):
+        """What the routing file has, None where there is none."""
+        try:
+            return pathlib.Path(self.route).read_bytes() if self.route else None
+        except FileNotFoundError:
+            return None
+
+
+class Loaded:
+    """A program that is loaded once with the library: each of its runs begins as a copy of it (refused_call.c)."""
+
+    def __init__(self, words, variables):
+        self.folder = tempfile.TemporaryDirectory()
+        self.files = Files(self.folder.name, words)
+        jobs, self.jobs = os.pipe()
+        ends, writer = os.pipe()
+        self.ends = open(ends, "rb")
+        variables = {**variables, "REFUSED_JOBS": str(jobs), "REFUSED_ENDS": str(writer)}
+        nothing = dict.fromkeys(("stdin", "stdout", "stderr"), subprocess.DEVNULL)
+        self.process = subprocess.Popen(self.files.words, cwd=self.folder.name, env=variables, pass_fds=(jobs, writer), **nothing)
+        os.close(jobs)
+        os.close(writer)
+
+    def answer(self, before, number, is_from):
+        """The answer of a run, None where it takes too long, and what is told of its calls."""
+        self.files.put(before)
+        os.write(self.jobs, JOB.pack(number, is_from, SECONDS))
+        status, *sizes = END.unpack(self.ends.read(END.size))
+        printed, complained, told = map(self.ends.read, sizes)
+        status = os.waitstatus_to_exitcode(status)
+        answer = None if status == -signal.SIGALRM else Answer(status, printed, complained, self.files.routing())
+        return answer, told
+
+    def end(self):
+        os.close(self.jobs)
+        self.process.wait()
+        self.ends.close()
+        self.folder.cleanup()
+
+
 class Refusals:
-    """Which kind of call is refused, and by which library."""
+    """A program of which calls of a kind are refused, loaded as often as there are processors. Each makes a run at a time."""
 
-    library: str
-    kind: str
-    each: int = EACH_CALL
-    share: int = 100
+    def __init__(self, library, kind, words, mark="", each=EACH_CALL, share=100):
+        self.kind, self.each, self.share = kind, each, share
+        variables = {"LD_PRELOAD": library, "REFUSED_KIND": kind, "REFUSED_MARK": mark}
+        self.loaded = [Loaded(words, variables) for _ in range(PROCESSORS)]
+        self.idle = queue.SimpleQueue()
+        for loaded in self.loaded:
+            self.idle.put(loaded)
+
+    def __enter__(self):
+        return self
+
+    def __exit__(self, *_):
+        for loaded in self.loaded:
+            loaded.end()
+
+    def made(self, before, number, is_from=False):
+        """The answer of a run by one that is idle, and what is told of its calls."""
+        loaded = self.idle.get()
+        try:
+            return loaded.answer(before, number, is_from)
+        finally:
+            self.idle.put(loaded)
 
     def answer(self, run, number, is_from):
         """The answer of a run where the call of this number is refused, and if wanted all behind it; and whether it was made."""
         for _ in range(TRIES):
-            answer, told = self.answer_once(run, number, is_from)
+            answer, told = self.made(run.before, number, is_from)
             if answer is None or not run.says_nothing(answer):
                 break
-        return answer, told
-
-    def answer_once(self, run, number, is_from):
-        reader, writer = os.pipe()
-        variables = {"LD_PRELOAD": self.library, "REFUSED_KIND": self.kind, "REFUSED_NUMBER": str(number)}
-        variables |= {"REFUSED_FROM": str(int(is_from)), "REFUSED_TELLS": str(writer)}
-        try:
-            answer = run.answer(variables, (writer,))
-        except subprocess.TimeoutExpired:
-            answer = None
-        os.close(writer)
-        told = os.read(reader, 1)
-        os.close(reader)
-        return answer, bool(told)
+        return answer, REFUSED in told
 
     def count(self, run):
         """How many calls of the kind a run makes: the greatest number that one of them has, narrowed down from both sides."""
@@ -108,18 +181,14 @@ class Refusals:
             yield number
             number += 1 + (number // self.share if is_thinned and number >= self.each else 0)
 
-    def counts_at(self, run, mark):
-        """The answer of a run to which nothing is refused, and how many calls it made before each line that is a mark."""
-        with tempfile.TemporaryFile() as told:
-            variables = {"LD_PRELOAD": self.library, "REFUSED_KIND": self.kind, "REFUSED_NUMBER": "0", "REFUSED_FROM": "0"}
-            variables |= {"REFUSED_TELLS": str(told.fileno()), "REFUSED_MARK": mark}
-            answer = run.answer(variables, (told.fileno(),))
-            told.seek(0)
-            return answer, [int(line) for line in told]
+    def counts_at_marks(self, script):
+        """The answer of a script to which nothing is refused, and how many calls it made before each line that is a mark."""
+        answer, told = self.made(script, 0)
+        return answer, [int(line) for line in told.splitlines()]
 
     def answers(self, run, is_from, numbers):
         """Refuses one call after another until the run makes no more: the number of each, the answer, and whether the call was made."""
-        with concurrent.futures.ThreadPoolExecutor(len(os.sched_getaffinity(0))) as pool:
+        with concurrent.futures.ThreadPoolExecutor(PROCESSORS) as pool:
             for chunk in chunks(numbers):
                 given = list(pool.map(lambda number: self.answer(run, number, is_from), chunk))
                 yield from ((number, *answered) for number, answered in zip(chunk, given))
@@ -155,7 +224,7 @@ def chunks(numbers):
 
 def usual_of(words, before=None):
     """The answer of a command to which nothing is refused."""
-    return Run("", words, before, None).answer({})
+    return Run("", words, before, None).answer()
 
 
 def run_of(name, words, before=None, refusals=(b"error: memory\n",)):
@@ -177,9 +246,10 @@ def run_that_complains(name, words, refusals):
     return Run(name, words, None, is_right)
 
 
+@functools.lru_cache
 def is_legal(program, design, width, routing):
     """Whether a program finds a routing of a design legal at a width."""
-    judged = Run("", (program, "check", *design, ROUTE, "--width", width), routing, None).answer({})
+    judged = usual_of((program, "check", *design, ROUTE, "--width", width), routing)
     return judged.status == 0 and judged.printed == b"legal\n"
 
 
@@ -203,7 +273,7 @@ def route_by_workers(name, program, design, width, workers, before=None):
 
 def search_by_workers(name, program, design, start, workers, before=None):
     """A run that searches for the least width of a design by several workers."""
-    words = (program, "width", *design, ROUTE, "--start", start, "--workers", workers, "--no-bound")
+    words = (program, "width", *design, ROUTE, "--start", start, "--workers", workers, "--no-bound", "--iterations", "10")
 
     def width_of(printed):
         told = re.fullmatch(rb"(?:width \d+: (?:not )?routed\n)+least routed width: (\d+)\n", printed)
@@ -226,6 +296,25 @@ def run_of_test(crate, program, name):
     return Run(f"{crate} {name}", (program, name), None, lambda given: given.status == 0 and given.printed.endswith(b"test result: ok\n"))
 
 
+def runs_of_crates(crates, suffix):
+    """The tests of these crates, or of all, whose names end so."""
+    for crate in crates or sorted(path.name for path in (TOP / "crates").iterdir()):
+        yield from tests_of(crate, suffix)
+
+
+def built_library(folder):
+    """The library that refuses calls, built in a folder."""
+    library = f"{folder}/refused_call.so"
+    subprocess.run([os.environ.get("CC", "cc"), "-O1", "-shared", "-fPIC", "-o", library, TOP / "tests/refused_call.c", "-ldl"], check=True)
+    return library
+
+
+def refuse_run(library, kind, run, ways, is_thinned):
+    """Refuses the calls of a run, one by one and in another way from each one on; how many were refused and how many answers wrong, by way."""
+    with Refusals(library, kind, run.words) as refusals:
+        return [refusals.refuse(run, is_from, is_thinned) for is_from in ways]
+
+
 def main(kind, runs_of_program):
     """Refuses the calls of a kind in the program's runs, or in tests of crates; the status to exit with."""
     words = argparse.ArgumentParser(description=f"Runs a program with {kind} refused.")
@@ -235,16 +324,12 @@ def main(kind, runs_of_program):
     given = words.parse_args()
     if (given.program is None) == (given.crates is None):
         words.error("either a program or --crates")
+    program = given.program and os.path.abspath(given.program)
+    # behind a refusal a test of a crate calls again, which must succeed: so none is refused from some call on
+    ways, runs = ((False, True), runs_of_program(program)) if program else ((False,), runs_of_crates(given.crates, f"_without_{kind}"))
     with tempfile.TemporaryDirectory() as folder:
-        library = f"{folder}/refused_call.so"
-        subprocess.run([os.environ.get("CC", "cc"), "-O1", "-shared", "-fPIC", "-o", library, TOP / "tests/refused_call.c", "-ldl"], check=True)
-        refusals = Refusals(library, kind)
-        if given.program:
-            counts = [refusals.refuse(run, is_from, not given.all) for run in runs_of_program(os.path.abspath(given.program)) for is_from in (False, True)]
-        else:
-            # behind a refusal such a test calls again, which must succeed: so none is refused from some call on
-            crates = given.crates or sorted(path.name for path in (TOP / "crates").iterdir())
-            counts = [refusals.refuse(run, False, False) for crate in crates for run in tests_of(crate, f"_without_{kind}")]
+        library = built_library(folder)
+        counts = [count for run in runs for count in refuse_run(library, kind, run, ways, not given.all)]
     failed = sum(wrong > 0 for _, wrong in counts)
     print(f"{len(counts)} runs, {sum(refused for refused, _ in counts)} refusals of {kind}, {sum(wrong for _, wrong in counts)} wrong answers")
     print(f"{len(counts) - failed} passed, {failed} failed")

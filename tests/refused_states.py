@@ -1,9 +1,6 @@
 """What stands in a session of lab behind a call that lacked memory or a thread: what refusals compares with what stood before it."""
-import pathlib
 import re
 from dataclasses import dataclass
-
-from refused_calls import Run
 
 # A number that no answer has: behind it begins the answer to the next call.
 MARK = "3141592653"
@@ -18,6 +15,8 @@ BOOK = ("dump_book",)
 # Of a greater device not all nodes are printed.
 MOST_WIRES = 400
 LOST = ["refused: there is no book"]
+GATES_THAT_WAIT = ("meeting", "holding")
+GATES = (*GATES_THAT_WAIT, "counting")
 # These hand the book to workers, and a fault lets it go.
 LETS_GO = ("iterate", "iterate_nets", "iterate_in", "iterate_nets_in", "desk")
 STOPPED = re.compile(r"memory after (\d+) events")
@@ -34,6 +33,16 @@ class Call:
         """The word that names it, or the call that it makes many times."""
         words = self.lines[0].split()
         return words[2] if words[0] in ("time", "repeat") else words[0]
+
+    @property
+    def kind(self):
+        """What it has in common with other calls: its name, and the gate that it is made with, if there is one."""
+        return self.name, next((gate for gate in GATES if gate in self.lines[0].split()), None)
+
+    @property
+    def waits(self):
+        """Whether it is made with a gate in which threads wait for one another."""
+        return self.kind[1] in GATES_THAT_WAIT
 
     def cut(self, count):
         """The same list of events without those behind so many."""
@@ -56,8 +65,12 @@ def calls_of(script):
 
 
 def text_of(calls, before=()):
-    """A script of calls."""
-    return "\n".join([*before, *(line for call in calls for line in call.lines), ""])
+    """A script of calls, as bytes."""
+    return bytes_of([*before, *(line for call in calls for line in call.lines)])
+
+
+def bytes_of(lines):
+    return "\n".join([*lines, ""]).encode("utf-8", "surrogateescape")
 
 
 def dumps_of(calls):
@@ -70,8 +83,8 @@ def dumps_of(calls):
 class States:
     """A script, of which calls are refused memory or a thread: which of these each of its calls makes, what stands behind it, and what should."""
 
-    def __init__(self, refusals, lab, script, folder):
-        self.refusals, self.lab, self.name, self.folder = refusals, lab, script.stem, pathlib.Path(folder)
+    def __init__(self, refusals, script):
+        self.refusals, self.name = refusals, script.stem
         self.calls = calls_of(script)
         self.dumps = dumps_of(self.calls)
         self.wanted = {}
@@ -79,37 +92,30 @@ class States:
         # each asks for.
         self.offset, self.starts, self.asked = self.count()
 
-    def run(self, name, text):
-        """A run of a script."""
-        file = self.folder / f"{self.name}.{name}.lab"
-        if not file.exists():
-            file.write_text(text, errors="surrogateescape")
-        return Run("", (self.lab, file), None, None)
-
     def count(self):
         """Counts what is asked for up to a mark before each call. Two marks stand at the end, so that what one asks for can be taken off."""
         mark = f"number {MARK}"
-        marked = self.run("marked", "".join(text_of([call], (mark,)) for call in self.calls) + f"{mark}\n{mark}\n")
-        answer, counts = self.refusals.counts_at(marked, MARK)
+        marked = b"".join(text_of([call], (mark,)) for call in self.calls) + bytes_of((mark, mark))
+        answer, counts = self.refusals.counts_at_marks(marked)
         lines = lines_of(answer)
         starts = [line - place for place, line in enumerate(line for line, text in enumerate(lines) if text == MARK)]
         own = counts[-1] - counts[-2]
         after = [count - own * (place + 1) for place, count in enumerate(counts[:-1])]
-        _, again = self.refusals.counts_at(self.run("again", f"again\n{mark}\n"), MARK)
+        _, again = self.refusals.counts_at_marks(bytes_of(("again", mark)))
         offset = again[0] - counts[0]
         return offset, starts, [range(begin + offset + 1, end + offset + 1) for begin, end in zip(after, after[1:])]
 
     def script_behind(self, place, calls):
         """A script of the calls before one, and of some in its place, with all that stands then."""
         dumps = [f"number {MARK}", *(line for dump in self.dumps for line in (dump, f"number {MARK}"))]
-        return text_of([*self.calls[:place], *calls]) + "\n".join([*dumps, ""])
+        return text_of([*self.calls[:place], *calls]) + bytes_of(dumps)
 
     def wanted_behind(self, place, stood):
         """What should stand behind a call that was refused, of which so many events stand where it is a list of some."""
         key = (place, stood)
         if key not in self.wanted:
             events = [self.calls[place].cut(stood)] if stood else []
-            answer = self.run(f"wanted.{place}.{stood}", self.script_behind(place, events)).answer({})
+            answer, _ = self.refusals.made(self.script_behind(place, events), 0)
             self.wanted[key] = parts_of(lines_of(answer))[1:]
         return self.wanted[key]
 
@@ -119,8 +125,7 @@ class States:
 
     def compare(self, number, place, lacks):
         """Whether all stands as it should behind a call for which one of this number is refused; None where it didn't come to that."""
-        run = self.run(f"refused.{place}", self.script_behind(place, [self.calls[place]]))
-        answer, _ = self.refusals.answer(run, number - self.offset, False)
+        answer, _ = self.refusals.made(self.script_behind(place, [self.calls[place]]), number - self.offset)
         if answer is None or answer.status != 0 or answer.complained:
             return None
         before, *given = parts_of(lines_of(answer))

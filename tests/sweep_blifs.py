@@ -3,6 +3,7 @@ import os
 import re
 import shutil
 import subprocess
+import sys
 
 from bundled import EXAMPLES, TOP
 from sweep_checks import COLUMNS, SweepChecks
@@ -59,7 +60,7 @@ class BlifChecks(SweepChecks):
             ("netlist", ["pack", blif, line["architecture"], "-o", "x.net"]),
             ("placement", ["place", line["netlist"], line["architecture"], "-o", "x.place", "--seed", seed, "--effort", "0.02"]),
         ):
-            subprocess.run([TOP / "tools" / words[0], *words[1:]], cwd=self.folder, capture_output=True, check=True)
+            subprocess.run([sys.executable, self.tool.with_name(words[0]), *words[1:]], cwd=self.folder, capture_output=True, check=True)
             self.expect(f"{line[made]}", self.read_file(line[made]), self.read_file(words[4]))
 
     def of_blifs_that_fail(self):

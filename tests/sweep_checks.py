@@ -8,9 +8,8 @@ import subprocess
 import sys
 import time
 
-from bundled import COUNTER, TOP, UART
+from bundled import COUNTER, UART
 
-SWEEP = TOP / "tools/sweep"
 COLUMNS = (
     "architecture netlist placement options sum status bound least_width trials width iterations"
     " wirelength nets blocks array occupancy width_seconds route_seconds message"
@@ -54,6 +53,7 @@ class SweepChecks:
         self.program, self.folder, self.passed, self.failed = program, folder, 0, 0
         self.begun = []
         folder.mkdir()
+        self.tool = folder.parent / "tools/sweep"
         self.stand_in = self.script("pathfinder", STAND_IN.replace("PROGRAM", shlex.quote(program)))
         for path in (*COUNTER, *UART):
             shutil.copy(path, folder)
@@ -82,7 +82,7 @@ class SweepChecks:
 
     def words(self, *words):
         """A sweep's words; -S shows that it wants the standard library alone."""
-        return [sys.executable, "-S", SWEEP, "--program", self.stand_in, *words]
+        return [sys.executable, "-S", self.tool, "--program", self.stand_in, *words]
 
     def sweep(self, *words, status=0):
         """The text and the complaints of a sweep, whose status is looked at."""

@@ -9,7 +9,7 @@ import sys
 
 from bundled import TOP
 from gates import script
-from sweep_checks import COLUMNS, HEAD, SWEEP, SweepChecks
+from sweep_checks import COLUMNS, HEAD, SweepChecks
 
 # It does what Slurm does with an array of tasks, but for their time: it takes at most 1,000, which
 # begin in no order. Without --wait it leaves them, as if they came later.
@@ -135,7 +135,7 @@ class ManyChecks(SweepChecks):
             "sweep: 2 of 3: k4n1.arch nowhere.net not run; 1 left, some N",
             "sweep: 3 of 3: k4n1.arch uart.net routed, 4 tracks; none left, after N",
         ])
-        left = script(SWEEP).left
+        left = script(self.tool).left
         for number, many, seconds, wanted in (
             (1, 2, 0.1, "1 left, some 1 s"), (3, 12, 29, "9 left, some 87 s"), (3, 12, 30, "9 left, some 2 min"),
             (1, 100, 60, "99 left, some 2 h"), (10, 1000, 1000, "990 left, some 28 h"), (4, 4, 240, "none left, after 4 min"),

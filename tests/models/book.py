@@ -27,8 +27,7 @@ class Book:
 
     def overuse(self):
         """Of each node that more nets use than may, by how many, ascending by node."""
-        over = ((node, used - self.device.capacity(self.device.nodes[node])) for node, used in enumerate(self.uses()))
-        return [(node, by) for node, by in over if by > 0]
+        return [(node, used - room) for node, (used, room) in enumerate(zip(self.uses(), self.device.capacities)) if used > room]
 
     def draw(self, worker, view):
         if len(view) != len(self.device.nodes):
@@ -55,7 +54,7 @@ class Book:
             return "refused: there is no such net"
         if len(view) != len(self.device.nodes):
             return "refused: the view is of other nodes"
-        now, room = self.uses(net), [self.device.capacity(node) for node in self.device.nodes]
+        now, room = self.uses(net), self.device.capacities
         filled = any(view.others[a] < room[a] <= now[a] for a, _ in rows if a < len(room))
         return "true" if filled else "false"
 

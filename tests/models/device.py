@@ -62,9 +62,16 @@ class Device:
 
     def __init__(self, arch, nx, ny, width, is_global=False):
         self.arch, self.nx, self.ny, self.width, self.is_global = arch, nx, ny, width, is_global
+        # The number of each track's type, the wires, and which of them is where.
+        self.types = [self.type_number(track) for track in range(width)]
         self.spans = dict(self.wires())
+        self.wires_at = dict(self.wire_places())
         self.nodes = sorted([*self.terminals(), *self.spans])
         self.ids = {node: number for number, node in enumerate(self.nodes)}
+        self.sinks = {number for number, node in enumerate(self.nodes) if node.kind == SINK}
+        # Of each node, by its number, its first and its last place, and its capacity.
+        self.places_of = [self.span(node) for node in self.nodes]
+        self.capacities = [self.capacity(node) for node in self.nodes]
         self.successors = [[] for _ in self.nodes]
         for begin, end in {*self.terminal_edges(), *self.tap_edges(), *self.wire_edges()}:
             self.successors[self.ids[begin]].append(self.ids[end])
@@ -102,8 +109,8 @@ class Device:
 
     def track_type(self, track):
         """The type of a track, and how many tracks of that type are before it."""
-        kind = self.type_number(track)
-        return self.arch.segments[kind], sum(self.type_number(t) == kind for t in range(track))
+        kind = self.types[track]
+        return self.arch.segments[kind], self.types[:track].count(kind)
 
     def runs(self, track, length):
         """The wires of a track in a channel of so many places: their first and last ones."""
@@ -153,20 +160,10 @@ class Device:
         count = min(max((2 * exact + ONE) // (2 * ONE), 1), self.width)
         return {(pin + i * self.width // count) % self.width for i in range(count)}
 
-    def wire_at(self, kind, x, y, track):
-        """The wire of a track through a place of a channel."""
-        for node, (x1, y1, x2, y2) in self.spans_by_track[kind, track]:
-            if x1 <= x <= x2 and y1 <= y <= y2:
-                return node
-        raise KeyError((kind, x, y, track))
-
-    @property
-    def spans_by_track(self):
-        if not hasattr(self, "_by_track"):
-            self._by_track = defaultdict(list)
-            for node, span in self.spans.items():
-                self._by_track[node.kind, node.number].append((node, span))
-        return self._by_track
+    def wire_places(self):
+        """Each place of a channel and each track, and the wire of that track through that place."""
+        for wire, (x1, y1, x2, y2) in self.spans.items():
+            yield from (((wire.kind, x, y, wire.number), wire) for x in range(x1, x2 + 1) for y in range(y1, y2 + 1))
 
     def channels_beside(self, x, y, sides):
         """The channel places beside a logic block's sides, or beside a pad."""
@@ -195,7 +192,7 @@ class Device:
     def taps_of(self, node, channels, tracks):
         for channel in channels:
             for track in tracks:
-                wire = self.wire_at(*channel, track)
+                wire = self.wires_at[(*channel, track)]
                 yield (node, wire) if node.kind == OPIN else (wire, node)
 
     def corners(self, wire):

@@ -59,8 +59,7 @@ def overuse(device, problem, lists):
     for (source, _), pairs in zip(problem, lists):
         for node in covered(source, pairs) if pairs is not None else ():
             uses[node] += 1
-    over = ((node, used - device.capacity(device.nodes[node])) for node, used in enumerate(uses))
-    return [(node, by) for node, by in over if by > 0]
+    return [(node, used - room) for node, (used, room) in enumerate(zip(uses, device.capacities)) if used > room]
 
 
 def verdict(device, design, lists):

@@ -1,9 +1,14 @@
 """The search of a net's tree, the negotiation between nets by one worker, and the search of widths, from their rules."""
+import functools
 import heapq
 from dataclasses import dataclass
 
 from device import IPIN, KINDS, SINK, Device
 from judge import covered, overuse
+
+
+# Of the kinds of nodes of which it isn't 20.
+BASE_COSTS = {SINK: 0, IPIN: 19}
 
 
 @dataclass(frozen=True)
@@ -46,8 +51,8 @@ class Box:
 
 
 def cost(device, node, others, history, present):
-    base = {SINK: 0, IPIN: 19}.get(device.nodes[node].kind, 20)
-    return (base + history) * (16 + present * max(0, others + 1 - device.capacity(device.nodes[node])))
+    base = BASE_COSTS.get(device.nodes[node].kind, 20)
+    return (base + history) * (16 + present * max(0, others + 1 - device.capacities[node]))
 
 
 def search(device, net, others, histories, present, margin):
@@ -60,10 +65,11 @@ def grow(device, net, others, histories, present, margin):
     """The pairs of a net's tree as far as it grows, and the sinks that it doesn't reach."""
     source, sinks = net
     box, pairs, open_sinks = Box(device, [source, *sinks], margin), [], set(sinks)
+    cost_of = functools.cache(lambda node: cost(device, node, others[node], histories[node], present))
     tree = {source}
     while open_sinks:
         starts = tree - {source} or {source}
-        path = way(device, tree, starts, open_sinks, box, lambda node: cost(device, node, others[node], histories[node], present))
+        path = way(device, tree, starts, open_sinks, box, cost_of)
         if path is None:
             break
         pairs += zip(path, path[1:])
@@ -85,12 +91,15 @@ def way(device, tree, starts, open_sinks, box, cost_of):
         if node in open_sinks:
             return back(before, node)
         for after in device.successors[node]:
-            where = device.nodes[after]
-            if after in tree or not box.has(device.span(where)) or (where.kind == SINK and after not in open_sinks):
+            if after in tree or (after in device.sinks and after not in open_sinks) or not box.has(device.places_of[after]):
                 continue
-            if after not in least or total + cost_of(after) < least[after]:
-                least[after], before[after] = total + cost_of(after), node
-                heapq.heappush(waiting, (least[after], after))
+            # No cost is below 0, so that a node which was reached for less is never reached for even less.
+            if after in least and least[after] <= total:
+                continue
+            reached = total + cost_of(after)
+            if after not in least or reached < least[after]:
+                least[after], before[after] = reached, node
+                heapq.heappush(waiting, (reached, after))
     return None
 
 

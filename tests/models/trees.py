@@ -66,7 +66,7 @@ def wander(random, device, net):
     for sink in random.sample(sinks, len(sinks)):
         met = {node for node, _ in rows}
         places = range(1, len(rows)) if len(rows) > 1 else [0]
-        ways = ((place, stroll(random, device, met, rows[place][0], sink)) for place in random.sample(places, len(places)))
+        ways = ((place, stroll(random, device, met, rows[place][0], sink)) for place in shuffled(random, places))
         place, way = next(((place, way) for place, way in ways if way), (None, None))
         if way is None:
             return None
@@ -74,9 +74,14 @@ def wander(random, device, net):
     return rows
 
 
+def shuffled(random, things):
+    return sorted(things, key=lambda _: random.random())
+
+
 def stroll(random, device, met, start, sink):
-    """The nodes of a way to a sink that enters no node that was met, by chance; None where there is none."""
-    seen, way, left = {*met, start}, [], [random.sample(device.successors[start], len(device.successors[start]))]
+    """The nodes of a way to a sink that enters no node that was met, by chance; None where there is none, and all that were entered are met
+    then, since none of them leads there."""
+    seen, way, left = {*met, start}, [], [shuffled(random, device.successors[start])]
     while left:
         if not left[-1]:
             left.pop()
@@ -85,10 +90,11 @@ def stroll(random, device, met, start, sink):
         node = left[-1].pop()
         if node == sink:
             return [*way, node]
-        if node not in seen and device.nodes[node].kind != SINK:
+        if node not in seen and node not in device.sinks:
             seen.add(node)
             way.append(node)
-            left.append(random.sample(device.successors[node], len(device.successors[node])))
+            left.append(shuffled(random, device.successors[node]))
+    met |= seen
     return None
 
 

@@ -31,24 +31,24 @@ class View:
 
 def light(random):
     """Few nets and small histories, so that many ways cost the same."""
-    return int(random.random() < 0.25), 20 * random.randrange(4)
+    return int(random.random() < 0.25), 20 * int(4 * random.random())
 
 
 def dense(random):
-    return random.randint(0, MOST_OTHERS), random.randrange(2**16)
+    return int((MOST_OTHERS + 1) * random.random()), int(2**16 * random.random())
 
 
 def old(random):
-    return int(random.random() < 0.25), random.randint(0, MOST_HISTORY)
+    return int(random.random() < 0.25), int((MOST_HISTORY + 1) * random.random())
 
 
 def greatest(random):
-    return MOST_OTHERS - random.randrange(3), MOST_HISTORY - random.randrange(3)
+    return MOST_OTHERS - int(3 * random.random()), MOST_HISTORY - int(3 * random.random())
 
 
 def steps(random):
     """Histories that differ in multiples of 2^32 alone."""
-    return int(random.random() < 0.25), random.randrange(8) * 2**32
+    return int(random.random() < 0.25), int(8 * random.random()) * 2**32
 
 
 def walls(random):
