@@ -4,11 +4,11 @@ _pathfinder() {
   local word=${COMP_WORDS[COMP_CWORD]} before=${COMP_WORDS[COMP_CWORD - 1]} words= values=
   case ${COMP_WORDS[1]} in
     route)
-      values='--width --rest --workers --iterations --first-pres --init-pres --mult --acc --bb --log'
+      values='--width --rest --workers --iterations --first-pres --init-pres --mult --acc --bb --log --schedule --follow'
       words="$values --global --explain -h --help"
       ;;
     width)
-      values='--start --verify --keep --workers --iterations --first-pres --init-pres --mult --acc --bb --log'
+      values='--start --verify --keep --workers --iterations --first-pres --init-pres --mult --acc --bb --log --schedule --follow'
       words="$values --upward --no-bound --global --explain -h --help"
       ;;
     check)
