@@ -9,8 +9,9 @@ use crate::files::{BehindProgress, RunFile};
 use crate::identity::{STANDARD_ERROR, STANDARD_OUTPUT, is_name_of, leads_to};
 use crate::names::ShownNames;
 use crate::opened::{Input, OpenedDesign};
+use crate::run_gates::RunGates;
 use crate::schedule::{
-    InputSums, RunFault, ScheduleGates, both_gates, route_text, schedule_in, width_text, workers_of,
+    InputSums, RunFault, ScheduleGates, route_text, schedule_in, width_text, workers_of,
 };
 use crate::shown::{Plain, PlainWriter};
 use crate::side::{RestFile, TrialFiles, free_name, log_of, others_of};
@@ -20,6 +21,8 @@ use command_line::command::{
     BoundWords, CheckWords, GraphWords, ReportWords, RouteWords, WidthWords,
 };
 use iteration::Outcome;
+use net_workers::Gate;
+use node_cost::Settings;
 use report_run::report_run;
 use route_check::RouteFault;
 use route_explain::explain_run;
@@ -34,7 +37,7 @@ use std::io::{Printer, Read, Write};
 use std::rt::Runtime;
 use std::sync::Wait;
 use std::thread::Threads;
-use vpr_text::Adapted;
+use vpr_text::{Adapted, ByteSink};
 use width_search::WidthReport;
 
 /// Whether standard output and standard error are terminals, which somebody may watch.
@@ -126,6 +129,49 @@ fn written_file<'a>(
     RunFile::of_name(rt, progress, route).map_err(|_| AppFault::Memory)
 }
 
+/// Routes a design while these gates watch.
+fn route_watched<R, P: Gate + Sync, L: Gate + Sync>(
+    handle: &R,
+    gates: &ScheduleGates<'_, R>,
+    progress: &P,
+    log: &L,
+    rest: &RestFile<'_>,
+    design: &mut OpenedDesign<File>,
+    sums: &InputSums,
+    route: &mut RunFile<'_>,
+    out: &mut impl ByteSink,
+    width: u32,
+    mode: Mode,
+    settings: &Settings,
+    workers: u32,
+) -> Result<Outcome, AppFault>
+where
+    R: Runtime + Threads + Wait + Sync + AllocGlobal,
+    requires tracks { (1 ≤ width) × (width ≤ most_tracks) }
+    requires workers { (1 ≤ workers) × (workers ≤ most_workers) }
+{
+    let gate = RunGates {
+        follower: &gates.follower,
+        recorder: &gates.recorder,
+        progress,
+        log,
+    };
+    route_run(
+        handle,
+        &mut Summed::new(handle, &mut design.net, gates.wanted(&sums.net)),
+        &mut Summed::new(handle, &mut design.arch, gates.wanted(&sums.arch)),
+        &mut Summed::new(handle, &mut design.place, gates.wanted(&sums.place)),
+        route,
+        out,
+        width,
+        mode,
+        settings,
+        workers,
+        &gate,
+        rest,
+    )
+}
+
 /// Runs the `route` command. The inputs were opened in reading order, before one is read, and stay
 /// open to the end. So the routing file never gets the descriptor of a standard stream that was
 /// closed.
@@ -174,22 +220,9 @@ pub fn route<'a, R: Runtime + Threads + Wait + Sync + AllocGlobal>(
         progress,
     };
     let gates = ScheduleGates::new(handle, rt.alloc(), &schedule, &run, given.workers, recorded);
-    let watchers = both_gates(progress, &log);
-    let recording = both_gates(&gates.recorder, &watchers);
-    let gate = both_gates(&gates.follower, &recording);
-    let result = route_run(
-        handle,
-        &mut Summed::new(handle, &mut design.net, gates.wanted(&sums.net)),
-        &mut Summed::new(handle, &mut design.arch, gates.wanted(&sums.arch)),
-        &mut Summed::new(handle, &mut design.place, gates.wanted(&sums.place)),
-        &mut route,
-        &mut out,
-        width,
-        mode,
-        &settings,
-        workers,
-        &gate,
-        &rest,
+    let result = route_watched(
+        handle, &gates, progress, &log, &rest, design, &sums, &mut route, &mut out, width, mode,
+        &settings, workers,
     );
     let outcome = gates.result_of(result)?;
     gates.end(rt, progress, given.follow, recorded, &run);
@@ -210,6 +243,49 @@ fn plan_of(start: u32, upward: bool, below: u32, shows_bound: bool) -> WidthPlan
             shows_bound,
         }
     }
+}
+
+/// Searches for the least width of a design while these gates watch.
+fn width_watched<R, P: Gate + Sync, L: Gate + Sync>(
+    handle: &R,
+    gates: &ScheduleGates<'_, R>,
+    progress: &P,
+    log: &L,
+    kept: &TrialFiles<'_>,
+    design: &mut OpenedDesign<File>,
+    sums: &InputSums,
+    route: &mut RunFile<'_>,
+    out: &mut impl ByteSink,
+    plan: WidthPlan,
+    mode: Mode,
+    settings: &Settings,
+    workers: u32,
+) -> Result<WidthReport, AppFault>
+where
+    R: Runtime + Threads + Wait + Sync + AllocGlobal,
+    requires start { (1 ≤ start_of plan) × (start_of plan ≤ most_tracks) }
+    requires workers { (1 ≤ workers) × (workers ≤ most_workers) }
+{
+    let gate = RunGates {
+        follower: &gates.follower,
+        recorder: &gates.recorder,
+        progress,
+        log,
+    };
+    width_run(
+        handle,
+        &mut Summed::new(handle, &mut design.net, gates.wanted(&sums.net)),
+        &mut Summed::new(handle, &mut design.arch, gates.wanted(&sums.arch)),
+        &mut Summed::new(handle, &mut design.place, gates.wanted(&sums.place)),
+        route,
+        out,
+        plan,
+        mode,
+        settings,
+        workers,
+        &gate,
+        kept,
+    )
 }
 
 /// Runs the `width` command. Its files were opened like those of `route`.
@@ -256,22 +332,9 @@ pub fn width<'a, R: Runtime + Threads + Wait + Sync + AllocGlobal>(
         progress,
     };
     let gates = ScheduleGates::new(handle, rt.alloc(), &schedule, &run, given.workers, recorded);
-    let watchers = both_gates(progress, &log);
-    let recording = both_gates(&gates.recorder, &watchers);
-    let gate = both_gates(&gates.follower, &recording);
-    let result = width_run(
-        handle,
-        &mut Summed::new(handle, &mut design.net, gates.wanted(&sums.net)),
-        &mut Summed::new(handle, &mut design.arch, gates.wanted(&sums.arch)),
-        &mut Summed::new(handle, &mut design.place, gates.wanted(&sums.place)),
-        &mut route,
-        &mut out,
-        plan,
-        mode,
-        &settings,
-        workers,
-        &gate,
-        &kept,
+    let result = width_watched(
+        handle, &gates, progress, &log, &kept, design, &sums, &mut route, &mut out, plan, mode,
+        &settings, workers,
     );
     let report = gates.result_of(result)?;
     gates.end(rt, progress, given.follow, recorded, &run);

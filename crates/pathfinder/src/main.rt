@@ -9,6 +9,7 @@ mod log_file;
 mod names;
 mod opened;
 mod replacement;
+mod run_gates;
 mod schedule;
 mod shown;
 mod side;

@@ -7,7 +7,6 @@ use crate::begun::refused;
 use crate::files::RunFile;
 use crate::shown::Plain;
 use command_line::help::VERSION;
-use net_workers::BothGates;
 use node_cost::Settings;
 use rr_graph::Mode;
 use run_inputs::AppFault;
@@ -187,11 +186,6 @@ pub fn width_text(
         format!(in alloc; "width, start {start}, verify {verify}, {mode}")
     };
     text.map_err(|_| RunFault::Run(AppFault::Memory))
-}
-
-/// Returns both gates as one, in this order.
-pub fn both_gates<'g, A, B>(first: &'g A, second: &'g B) -> BothGates<'g, A, B> {
-    BothGates { first, second }
 }
 
 /// What follows the schedule of a run, and what records it, if it does either.
