@@ -1,4 +1,4 @@
--- Keys stand in the order of their buckets.
+-- Keys are in the order of their buckets.
 use Rattle.std.proofs.Common.{ℕ, ◌<◌, ◌≤◌, arith}
 use Rattle.std.proofs.lemmas.Bool.Decides.{nat_tests}
 use Rattle.wave_queue.specs.kept.Buckets.{most_buckets, low_bucket_of, bucket_of}

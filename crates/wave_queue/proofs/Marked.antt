@@ -1,4 +1,4 @@
--- Marks of places, and which rows they tell of.
+-- Marks of places, and the rows that they are for.
 use Rattle.std.proofs.Common.{◌≡◌, ◌≢◌, ℕ, ◌+◌, ◌*◌, ◌-◌, ◌/◌, ◌%◌, ◌^◌, ◌<◌, ◌≤◌, List, [], length, get_or, set, replicate, refl, sym, ap, subst, ◌∙◌, inl, inr, arith}
 use Rattle.std.specs.Int.{bit_at}
 use Rattle.std.proofs.lemmas.Bool.{cases_eq, cases_lt}
@@ -9,7 +9,7 @@ use Rattle.wave_queue.specs.kept.Bits.{PutsBit, DropsBit, NoneBelow}
 use Rattle.wave_queue.specs.kept.Buckets.{most_buckets}
 use Rattle.wave_queue.specs.kept.Marks.{mark_at, Marks, Unmarks, AreMarksFrom, AreUsed}
 
--- the marks of other places stay where the other bits of a word do
+-- the marks of other places stay if the other bits of the word do
 others_stay : (words : List ℕ) (place word : ℕ) → place < 64 * length words → ((j : ℕ) → j ≢ place % 64 → bit_at word j ≡ bit_at (get_or words (place / 64) 0) j)
     → (i : ℕ) → i ≢ place → mark_at (set words (place / 64) word) i ≡ mark_at words i
 unfolding mark_at
@@ -73,7 +73,7 @@ none_before words at bits first marks one below i from until =
     let e : at + (i - at) ≡ i = omega (arith, from) in
     ap (mark_at words) (sym e) ∙ (sym (marks.within (i - at) (omega (arith, within, from, until))) ∙ below (i - at) (omega (arith, from, until)))
 
--- ---- none has any
+-- ---- no marks
 abbrev nought : ℕ
 nought = 0
 
@@ -95,7 +95,7 @@ used_none = record {
   on = λ i one. absurd (let zero = unmarked_zero (most_buckets / 64 + 1) i in omega (arith, zero, one));
 }
 
--- rows that have the same, but for rows at the end without any
+-- rows with the same elements, but for empty rows at the end
 pub used_same : {X : Type 0} (rows now : List (List X)) (words : List ℕ) → ((i : ℕ) → get_or now i [] ≡ get_or rows i []) → length now ≤ most_buckets → AreUsed rows words → AreUsed now words
 used_same rows now words same few used = record {
   each = used.each;

@@ -4,7 +4,7 @@ ghost use Rattle.std.specs.Prelude.{◌≡◌, ◌<◌, IfSome};
 ghost use Rattle.std.specs.Int.{bit_at};
 ghost use Rattle.wave_queue.specs.kept.Bits.{TakesBit, PutsBit, DropsBit, NoneBelow, IsOnlyBit};
 
-/// Takes the lowest bit that is 1 out of a set, and answers its place.
+/// Removes the lowest bit that is 1 from a set and returns its place.
 #[inline(always)]
 pub fn take_bit(bits: &mut u64) -> u32
     requires { 0 < bits.old }
@@ -16,7 +16,7 @@ pub fn take_bit(bits: &mut u64) -> u32
     bit
 }
 
-/// A set with one bit more.
+/// Returns a set with a bit added.
 #[inline(always)]
 pub fn with_bit(bits: u64, bit: u32) -> u64
     requires { bit < 64 }
@@ -25,7 +25,7 @@ pub fn with_bit(bits: u64, bit: u32) -> u64
     bits | (1u64 << bit)
 }
 
-/// A set without a bit.
+/// Returns a set without a bit.
 #[inline(always)]
 pub(crate) fn without_bit(bits: u64, bit: u32) -> u64
     requires { bit < 64 }
@@ -34,7 +34,7 @@ pub(crate) fn without_bit(bits: u64, bit: u32) -> u64
     bits & !(1u64 << bit)
 }
 
-/// The place of the one bit that is 1, if there is one alone.
+/// Returns the place of the only bit that is 1, if exactly one is.
 #[inline(always)]
 pub fn only_bit(bits: u64) -> Option<u32>
     ensures { IfSome result (IsOnlyBit bits) }
@@ -47,7 +47,7 @@ pub fn only_bit(bits: u64) -> Option<u32>
     if rest == 0 { Some(bit) } else { None }
 }
 
-/// The place of the lowest bit that is 1.
+/// Returns the place of the lowest bit that is 1.
 #[inline(always)]
 pub fn lowest_bit(bits: u64) -> u32
     requires { 0 < bits }

@@ -25,7 +25,7 @@ impl<K> Model for Bucket<K> {
 }
 
 impl<K: Copy + Drop> Bucket<K> {
-    /// No entries.
+    /// Makes a bucket without entries.
     fn new(alloc: Global) -> Bucket<K>
         ensures { result ≡ [] }
     {
@@ -34,7 +34,7 @@ impl<K: Copy + Drop> Bucket<K> {
         }
     }
 
-    /// Puts an entry behind the others. An `Err` changes nothing.
+    /// Adds an entry at the end. An `Err` changes nothing.
     #[inline(always)]
     fn push(&mut self, entry: QueueEntry<K>) -> Result<(), AllocError>
         ensures ok { OnOk result (self.new ≡ self.old ++ entry ∷ []) }
@@ -44,7 +44,7 @@ impl<K: Copy + Drop> Bucket<K> {
         Ok(())
     }
 
-    /// Takes the last entry out.
+    /// Removes the last entry and returns it.
     fn take_last(&mut self) -> QueueEntry<K>
         requires { 0 < length self.old }
         ensures { self.old ≡ self.new ++ result ∷ [] }
@@ -52,14 +52,14 @@ impl<K: Copy + Drop> Bucket<K> {
         self.entries.pop().unwrap()
     }
 
-    /// Takes all entries out, and keeps their memory.
+    /// Removes all entries and keeps their memory.
     fn clear(&mut self)
         ensures { self.new ≡ [] }
     {
         self.entries.clear();
     }
 
-    /// Whether it has no entries.
+    /// Returns whether the bucket has no entries.
     fn is_empty(&self) -> bool
         ensures { result ≡ eqb (length self.now) 0 }
     {
@@ -67,7 +67,7 @@ impl<K: Copy + Drop> Bucket<K> {
     }
 }
 
-/// Makes buckets without entries up to one.
+/// Adds buckets without entries until there is one at a place.
 #[inline(never)]
 fn add_buckets<K: Copy + Drop>(
     alloc: Global,
@@ -76,6 +76,7 @@ fn add_buckets<K: Copy + Drop>(
 ) -> Result<(), AllocError>
     ensures room { OnOk result (at < length buckets.new.items) }
     ensures few { length buckets.new.items ≤ max (length buckets.old.items) (at + 1) }
+    ensures more { length buckets.old.items ≤ length buckets.new.items }
     ensures same { (i : ℕ) →
         slice_index_or buckets.new.items i [] ≡ slice_index_or buckets.old.items i [] }
 {
@@ -85,7 +86,7 @@ fn add_buckets<K: Copy + Drop>(
     Ok(())
 }
 
-/// Puts an entry into a bucket. An `Err` changes nothing.
+/// Adds an entry to a bucket. An `Err` changes nothing.
 #[inline(always)]
 fn put<K: Copy + Drop>(
     buckets: &mut Vec<Bucket<K>>,
@@ -101,7 +102,7 @@ fn put<K: Copy + Drop>(
     Ok(())
 }
 
-/// Takes the last entry out of a bucket.
+/// Removes the last entry of a bucket and returns it.
 fn take_from<K: Copy + Drop>(buckets: &mut Vec<Bucket<K>>, at: usize) -> QueueEntry<K>
     requires within { at < vec_len buckets.old }
     requires used { 0 < length (slice_index_or buckets.old.items at []) }
@@ -112,8 +113,8 @@ fn take_from<K: Copy + Drop>(buckets: &mut Vec<Bucket<K>>, at: usize) -> QueueEn
     buckets[at].take_last()
 }
 
-/// Buckets, as many as were needed so far, with a bit for each that tells whether it has entries.
-/// Contracts see a list of lists.
+/// The buckets that were needed so far, and a bit for each: whether it has entries. Contracts see a
+/// list of lists.
 #[derive(Drop)]
 pub(crate) struct Buckets<K> {
     rows: Vec<Bucket<K>>,
@@ -134,7 +135,7 @@ impl<K> Model for Buckets<K> {
 }
 
 impl<K: Copy + Drop> Buckets<K> {
-    /// None.
+    /// Makes a list without buckets.
     pub(crate) fn new(alloc: Global) -> Result<Buckets<K>, AllocError>
         ensures { IfOk result (λ b. b ≡ []) }
     {
@@ -146,19 +147,12 @@ impl<K: Copy + Drop> Buckets<K> {
         })
     }
 
-    /// How many there are.
-    #[inline(always)]
-    pub(crate) fn len(&self) -> usize
-        ensures { result ≡ length self.now }
-    {
-        self.rows.len()
-    }
-
-    /// Makes buckets up to one, where there are fewer. Those that come to it have no entries.
+    /// Adds buckets without entries until there is one at a place.
     #[inline(always)]
     pub(crate) fn make_room(&mut self, at: usize) -> Result<(), AllocError>
         requires { at < most_buckets }
         ensures room { OnOk result (at < length self.new) }
+        ensures more { length self.old ≤ length self.new }
         ensures same { (i : ℕ) → slice_index_or self.new i [] ≡ slice_index_or self.old i [] }
     {
         if at < self.rows.len() {
@@ -167,7 +161,8 @@ impl<K: Copy + Drop> Buckets<K> {
         add_buckets(self.alloc, &mut self.rows, at)
     }
 
-    /// The first place from one on and before another whose bucket has entries, if there is one.
+    /// Returns the first place from `low` on whose bucket has entries. If there is none before
+    /// `end`, the result is not before `end`.
     pub(crate) fn first_used(&self, low: usize, end: usize) -> usize
         requires { end ≤ length self.now }
         ensures from { low ≤ result }
@@ -177,7 +172,7 @@ impl<K: Copy + Drop> Buckets<K> {
         first_marked(&self.used, low, end)
     }
 
-    /// Takes all entries out of a bucket.
+    /// Removes all entries of a bucket.
     fn empty_at(&mut self, at: usize)
         requires { at < length self.old }
         ensures { self.new ≡ slice_set self.old at [] }
@@ -186,13 +181,13 @@ impl<K: Copy + Drop> Buckets<K> {
         unmark(&mut self.used, at);
     }
 
-    /// Takes all entries out of the buckets from one on.
-    pub(crate) fn clear(&mut self, low: usize)
-        ensures empty { (i : ℕ) → low ≤ i → slice_index_or self.new i [] ≡ [] }
+    /// Removes all entries of the buckets from `low` on and before `end`.
+    pub(crate) fn clear(&mut self, low: usize, end: usize)
+        requires { end ≤ length self.old }
+        ensures empty { (i : ℕ) → low ≤ i → i < end → slice_index_or self.new i [] ≡ [] }
         ensures kept { (i : ℕ) → slice_index_or self.old i [] ≡ []
             → slice_index_or self.new i [] ≡ [] }
     {
-        let end = self.rows.len();
         let mut at = self.first_used(low, end);
         while at < end {
             self.empty_at(at);
@@ -200,7 +195,7 @@ impl<K: Copy + Drop> Buckets<K> {
         }
     }
 
-    /// Puts an entry into a bucket. An `Err` changes nothing.
+    /// Adds an entry to a bucket. An `Err` changes nothing.
     #[inline(always)]
     pub(crate) fn put(&mut self, at: usize, entry: QueueEntry<K>) -> Result<(), AllocError>
         requires { at < length self.old }
@@ -213,7 +208,7 @@ impl<K: Copy + Drop> Buckets<K> {
         Ok(())
     }
 
-    /// Takes the last entry out of a bucket.
+    /// Removes the last entry of a bucket and returns it.
     pub(crate) fn take_from(&mut self, at: usize) -> QueueEntry<K>
         requires within { at < length self.old }
         requires used { 0 < length (slice_index_or self.old at []) }

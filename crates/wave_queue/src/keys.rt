@@ -1,44 +1,44 @@
-//! The widths in which costs are kept.
+//! Keys: costs in a number of 32 or 128 bits.
 
 ghost use Rattle.std.specs.Prelude.{◌≡◌, ◌<◌, ◌≤◌, ◌+◌, ◌-◌, ◌^◌, ◌↔◌, ℕ, IsTrue, min};
 ghost use Rattle.std.proofs.Common.{arith};
 ghost use Rattle.wave_queue.specs.kept.Buckets.{most_buckets, low_bucket_of, bucket_of};
 
-/// How many buckets there are.
+/// The number of buckets.
 pub(crate) const BUCKETS: usize = 8193;
 
-/// A cost as it is kept: up to the greatest of its width, which stands for all that is above.
+/// A cost in a number of fixed width. The greatest number means that cost or any greater one.
 pub trait Key: Copy + Drop {
     ghost value: { Self → ℕ };
 
     ghost greatest: { ℕ };
 
-    /// Nothing.
+    /// Returns a cost of 0.
     fn zero() -> Self
         ensures { value result ≡ 0 };
 
-    /// The greatest of the width.
+    /// Returns the greatest number.
     fn greatest() -> Self
         ensures { value result ≡ greatest };
 
-    /// A cost, or the greatest where it doesn't fit.
+    /// Returns a cost, or the greatest number if the cost doesn't fit.
     fn cut(cost: u128) -> Self
         ensures { value result ≡ min cost greatest };
 
-    /// The sum, or the greatest where it doesn't fit.
+    /// Returns the sum, or the greatest number if the sum doesn't fit.
     fn plus(self, more: Self) -> Self
         ensures { value result ≡ min (value self + value more) greatest };
 
-    /// Whether it is less than another.
+    /// Returns whether it is less than another.
     fn is_below(self, other: Self) -> bool
         ensures { IsTrue result ↔ (value self < value other) };
 
-    /// The number that is kept.
+    /// Returns the number.
     fn wide(self) -> u128
         ensures exact { result ≡ value self }
         ensures within { result ≤ greatest };
 
-    /// The bucket of a key.
+    /// Returns the bucket of a key.
     fn bucket(self) -> usize
         ensures exact { result ≡ bucket_of (value self) }
         ensures within { result < most_buckets };
@@ -143,7 +143,7 @@ impl Key for u128 {
     ghost some = { omega arith };
 }
 
-/// The bucket of a key below 2 ^ 28.
+/// Returns the bucket of a key below 2 ^ 28.
 #[inline(always)]
 #[tactic(auto, unfolding(crate::specs::kept::Buckets::low_bucket_of))]
 fn low_bucket_of(key: u32) -> usize
@@ -162,7 +162,7 @@ fn low_bucket_of(key: u32) -> usize
     6144 + key / 262_144
 }
 
-/// The bucket of a key that fits.
+/// Returns the bucket of a key of 32 bits.
 #[inline(always)]
 #[tactic(auto, unfolding(crate::specs::kept::Buckets::bucket_of))]
 fn bucket_of(key: u32) -> usize

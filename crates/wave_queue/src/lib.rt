@@ -1,4 +1,4 @@
-//! The queue of a search: keys of costs, and buckets of entries that wait for their turn.
+//! The queue of a search: keys, which are costs, and buckets of entries that wait.
 #![tactic(auto)]
 
 mod bits;

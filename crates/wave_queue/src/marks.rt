@@ -1,4 +1,4 @@
-//! Marks of places, a bit each, 64 in a word.
+//! Marks of places: a bit for each place, 64 in a word.
 
 ghost use Rattle.std.specs.Prelude.{◌≡◌, ℕ, ◌*◌, ◌<◌, ◌≤◌, length};
 ghost use Rattle.wave_queue.specs.kept.Marks.{AreMarksFrom, mark_at, Marks, Unmarks};
@@ -15,7 +15,7 @@ pub(crate) fn mark(words: &mut [u64], place: usize)
     *word = with_bit(*word, (place % 64) as u32);
 }
 
-/// Takes the mark of a place off.
+/// Removes the mark of a place.
 #[inline(always)]
 pub(crate) fn unmark(words: &mut [u64], place: usize)
     requires { place < 64 * length words.old }
@@ -25,7 +25,7 @@ pub(crate) fn unmark(words: &mut [u64], place: usize)
     *word = without_bit(*word, (place % 64) as u32);
 }
 
-/// The marks of a word from a place on.
+/// Returns the marks from a place on, as far as they are in its word.
 #[inline(always)]
 fn marks_from(words: &[u64], place: usize) -> u64
     requires { place < 64 * length words.now }
@@ -34,7 +34,8 @@ fn marks_from(words: &[u64], place: usize) -> u64
     words[place / 64] >> (place % 64)
 }
 
-/// The first marked place from one on, or one that isn't before the end.
+/// Returns the first marked place from `low` on. If none is marked before `end`, the result is not
+/// before `end`.
 pub(crate) fn first_marked(words: &[u64], low: usize, end: usize) -> usize
     requires { end ≤ 64 * length words.now }
     ensures from { low ≤ result }

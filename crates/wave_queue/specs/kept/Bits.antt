@@ -2,14 +2,14 @@
 use Rattle.std.specs.Prelude.{◌≡◌, ◌≢◌, ℕ, ◌<◌}
 use Rattle.std.specs.Int.{bit_at}
 
--- a bit that is 1 is taken out, and no other changes
+-- a bit that was 1 becomes 0, and no other changes
 pub record TakesBit (old new bit : ℕ) : Type 0 where
   pub within : bit < 64
   pub was : bit_at old bit ≡ 1
   pub gone : bit_at new bit ≡ 0
   pub others : (i : ℕ) → i ≢ bit → bit_at new i ≡ bit_at old i
 
--- a bit is put in, and no other changes
+-- a bit becomes 1, and no other changes
 pub record PutsBit (old new bit : ℕ) : Type 0 where
   pub here : bit_at new bit ≡ 1
   pub others : (i : ℕ) → i ≢ bit → bit_at new i ≡ bit_at old i

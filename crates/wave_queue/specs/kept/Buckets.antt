@@ -1,7 +1,7 @@
--- The buckets that keys stand in: narrow ones for low keys, wider ones for high keys.
+-- The buckets of keys: narrow ones for low keys, wide ones for high keys.
 use Rattle.std.specs.Prelude.{ℕ, ◌+◌, ◌/◌, nat_lt, if◌then◌else◌}
 
--- how many buckets there are
+-- the number of buckets
 abbrev pub most_buckets : ℕ
 most_buckets = 8193
 

@@ -2,11 +2,11 @@ use Rattle.std.proofs.Common.{◌≡◌, ℕ, ◌≤◌, ◌-◌, [], length, sl
 use Rattle.wave_queue.proofs.Rows.{AreEmpty}
 use Rattle.wave_queue.proofs.buckets.Buckets.clear.Given as goal
 
--- those so far are empty, and so are those that were
+-- the buckets so far are empty, and so are those that were empty
 abbrev pub invariant-loop-at : goal.invariant-loop-at
 invariant-loop-at g l = record {
   from : l.low ≤ l.at;
-  count : length l.self ≡ l.end;
+  within : l.end ≤ length l.self;
   empty : AreEmpty l.self l.low l.at;
   kept : (j : ℕ) → slice_index_or l.fn.self j [] ≡ [] → slice_index_or l.self j [] ≡ [];
 }
