@@ -1,5 +1,5 @@
--- Looks at boxes that stand side by side.
-use Rattle.std.proofs.Common.{◌≡◌, ◌∙◌, ℕ, ◌+◌, ◌-◌, ◌*◌, ◌/◌, ◌<◌, ◌≤◌, List, true, false, ap, cond, arith, inl, inr, slice_index, sym}
+-- Bounds to boxes that are stored side by side.
+use Rattle.std.proofs.Common.{◌≡◌, ◌∙◌, ℕ, ◌+◌, ◌-◌, ◌*◌, ◌/◌, ◌<◌, ◌≤◌, List, true, false, ap, cond, arith, inl, inr, slice_index, subst, sym}
 use Rattle.std.proofs.lemmas.Bool.{cases_lt}
 use Rattle.std.proofs.lemmas.Nat.{mul-le}
 use Rattle.std.proofs.Math.Nat.{le-div_iff_mul-le, div-mul-le_self, mul-le-mul_left, mul-le-mul_right}
@@ -9,9 +9,10 @@ use Rattle.wavefront.specs.kept.Bounds.{WireShape, gap, wires_for, wires_over, w
 use Rattle.wavefront.proofs.WiresOver.{for_more}
 use Rattle.wave_ground.specs.declared.eight_boxes.EightBoxes.{EightBoxes}
 use Rattle.wave_ground.specs.declared.eight_boxes.Outlook.{Outlook}
-use Rattle.wave_ground.specs.kept.EightBoxes.{IsOutlook, IsShare, KeepsBox, cut}
+use Rattle.wave_ground.specs.declared.eight_boxes.BoxSides.{BoxSides}
+use Rattle.wave_ground.specs.kept.EightBoxes.{IsOutlook, IsShare, KeepsBox, columns_of, cut, gap_at, gap_beside, rows_of}
 
--- a share that is rounded up divides no more often
+-- the product with a rounded share is at most the quotient
 pub shared : (steps share low places : ℕ) → IsShare steps share → low ≤ places + steps → low < 512 → low * share / 65536 ≤ wires_over steps places
 unfolding wires_over
 shared steps share low places is up few =
@@ -27,11 +28,11 @@ shared steps share low places is up few =
       | inr fits ↦ omega (arith, up, fits)
     ]
 
--- what is nearer tells of no more wires
+-- a bound for shorter distances is one for greater distances
 pub nearer : (steps along across far beyond wires : ℕ) → along ≤ far → across ≤ beyond → wires ≤ wires_for steps along across → wires ≤ wires_for steps far beyond
 nearer steps along across far beyond wires up over low = let more = for_more steps along across far beyond up over in omega (arith, low, more)
 
--- how far off a wire lies, by what is kept
+-- the distance of a wire, by the numbers that are kept
 seen_at : (lows highs : List ℕ) (lane low high first last keptFirst keptLast : ℕ) → slice_index lows lane ≡ cut low → slice_index highs lane ≡ cut high → keptFirst ≡ cut first → keptLast ≡ cut last → gap (slice_index lows lane) (slice_index highs lane) keptFirst keptLast ≤ gap low high first last
 seen_at lows highs lane low high first last keptFirst keptLast l h f e = omega (arith, l, h, f, e)
 
@@ -39,17 +40,30 @@ seen_beside : (lows highs : List ℕ) (lane low high first last keptFirst keptLa
 seen_beside lows highs lane low high first last keptFirst keptLast l h f e = omega (arith, l, h, f, e)
 
 module _ (o : Outlook) (boxes : EightBoxes) (wire : WireShape) (lane : ℕ) (place : BoundingBox) (wires : ℕ) (is : IsOutlook o wire) (keeps : KeepsBox boxes lane place) where
-  -- what a wire of a column sees, and one of a row
-  pub column_seen : o.is_column ≡ true → wires ≤ wires_for o.steps (gap (slice_index boxes.bottom lane) (slice_index boxes.top lane) o.y1 o.y2) (gap (slice_index boxes.left lane - 1) (slice_index boxes.right lane) o.x1 o.x2) → wires ≤ wires_to place wire
-  column_seen column low =
+  column_kept : o.is_column ≡ true → wires ≤ wires_for o.steps (gap_at (rows_of o boxes) lane) (gap_beside (columns_of o boxes) lane) → wires ≤ wires_to place wire
+  column_kept column low =
       let kind : wire.kind ≡ Chany = is.kind ∙ ap (λ c. cond c Chany Chanx) column in
       rw (kind, sym is.steps) (nearer o.steps _ _ _ _ wires
       (seen_at boxes.bottom boxes.top lane place.bottom place.top wire.span.y1 wire.span.y2 o.y1 o.y2 keeps.bottom keeps.top is.y1 is.y2)
       (seen_beside boxes.left boxes.right lane place.left place.right wire.span.x1 wire.span.x2 o.x1 o.x2 keeps.left keeps.right is.x1 is.x2) low)
 
-  pub row_seen : o.is_column ≡ false → wires ≤ wires_for o.steps (gap (slice_index boxes.left lane) (slice_index boxes.right lane) o.x1 o.x2) (gap (slice_index boxes.bottom lane - 1) (slice_index boxes.top lane) o.y1 o.y2) → wires ≤ wires_to place wire
-  row_seen row low =
+  row_kept : o.is_column ≡ false → wires ≤ wires_for o.steps (gap_at (columns_of o boxes) lane) (gap_beside (rows_of o boxes) lane) → wires ≤ wires_to place wire
+  row_kept row low =
       let kind : wire.kind ≡ Chanx = is.kind ∙ ap (λ c. cond c Chany Chanx) row in
       rw (kind, sym is.steps) (nearer o.steps _ _ _ _ wires
       (seen_at boxes.left boxes.right lane place.left place.right wire.span.x1 wire.span.x2 o.x1 o.x2 keeps.left keeps.right is.x1 is.x2)
       (seen_beside boxes.bottom boxes.top lane place.bottom place.top wire.span.y1 wire.span.y2 o.y1 o.y2 keeps.bottom keeps.top is.y1 is.y2) low)
+
+  module _ (columns rows : BoxSides) (steps : ℕ) (c : columns ≡ columns_of o boxes) (r : rows ≡ rows_of o boxes) (s : o.steps ≡ steps) where
+    -- a bound for a wire of a column, and for one of a row
+    pub column_seen : o.is_column ≡ true → wires ≤ wires_for steps (gap_at rows lane) (gap_beside columns lane) → wires ≤ wires_to place wire
+    column_seen column low =
+        let by_columns = subst (λ sides. wires ≤ wires_for steps (gap_at rows lane) (gap_beside sides lane)) c low in
+        let by_rows = subst (λ sides. wires ≤ wires_for steps (gap_at sides lane) (gap_beside (columns_of o boxes) lane)) r by_columns in
+        column_kept column (subst (λ n. wires ≤ wires_for n (gap_at (rows_of o boxes) lane) (gap_beside (columns_of o boxes) lane)) (sym s) by_rows)
+
+    pub row_seen : o.is_column ≡ false → wires ≤ wires_for steps (gap_at columns lane) (gap_beside rows lane) → wires ≤ wires_to place wire
+    row_seen row low =
+        let by_columns = subst (λ sides. wires ≤ wires_for steps (gap_at sides lane) (gap_beside rows lane)) c low in
+        let by_rows = subst (λ sides. wires ≤ wires_for steps (gap_at (columns_of o boxes) lane) (gap_beside sides lane)) r by_columns in
+        row_kept row (subst (λ n. wires ≤ wires_for n (gap_at (columns_of o boxes) lane) (gap_beside (rows_of o boxes) lane)) (sym s) by_rows)

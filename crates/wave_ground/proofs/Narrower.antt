@@ -1,4 +1,4 @@
--- A box inside another tells of no fewer wires.
+-- A box inside another needs no fewer wires.
 use Rattle.std.proofs.Common.{ℕ, ◌-◌, ◌≤◌, arith}
 use Rattle.routing_problem.specs.node.Kind.{Kind}
 use Rattle.routing_problem.specs.node.Kind.TheVariants.{Source, Sink, Opin, Ipin, Chanx, Chany}

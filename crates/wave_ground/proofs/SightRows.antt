@@ -1,4 +1,4 @@
--- What is known of groups, by stamps, and boxes that come and go.
+-- Bounds of groups by stamps, and boxes that are added, replaced and removed.
 use Rattle.std.proofs.Common.{◌≡◌, ℕ, ◌<◌, ◌≤◌, ◌++◌, get_or, List, [], ◌∷◌, All, map, replicate, length, refl, sym, ap, subst, ◌∙◌, arith, slice_set, eq-eqb, false, ◌==◌, Option, Some, None}
 use Rattle.std.specs.List.{AllByRecursion, swap_remove}
 use Rattle.std.specs.List.Sorted.{IsPermutation}
@@ -29,21 +29,21 @@ all_unknown : (now later : ℕ) (ks : List Known) → now < later → AllByRecur
 all_unknown now later [] up old = refl
 all_unknown now later (k ∷ ks) up (first, rest) = rw (unknown now later k up first, all_unknown now later ks up rest) refl
 
--- at a later stamp nothing is known
+-- at a later stamp no bound is known
 pub none_known : (now later count : ℕ) (ks : List Known) → now < later → All (λ k. k.stamp ≤ now) ks → length ks ≡ count → map (known_of later) ks ≡ replicate count None
 none_known now later count ks up old size = all_unknown now later ks up (recursion_from_All _ _ old) ∙ ap (λ n. replicate n None) size
 
--- what is put is known
+-- a kept bound is known
 pub known_put : (now : ℕ) (ks : List Known) (known : List (Option ℕ)) (group : ℕ) (k : Known) → k.stamp ≡ now → map (known_of now) ks ≡ known → map (known_of now) (slice_set ks group k) ≡ slice_set known group (Some k.sight.wires)
 known_put now ks known group k at e = map-set (known_of now) ks group k ∙ rw (e, at, eq-eqb now now refl) refl
 
 -- ---- boxes
 module _ (boxes : List kept.SinkBox) (b : kept.SinkBox) where
-  -- one more box
+  -- one box added
   pub pushed_box : (now : List kept.SinkBox) (old : List SinkBox) → map sink_box boxes ≡ old → now ≡ boxes ++ b ∷ [] → map sink_box now ≡ old ++ sink_box b ∷ []
   pushed_box now old is more = rw more (map-append sink_box boxes (b ∷ []) ∙ ap (λ bs. bs ++ sink_box b ∷ []) is)
 
-  -- a box in the place of another
+  -- one box replaced
   pub box_put : (old : List SinkBox) (at : ℕ) → map sink_box boxes ≡ old → map sink_box (slice_set boxes at b) ≡ slice_set old at (sink_box b)
   box_put old at is = map-set sink_box boxes at b ∙ ap (λ bs. slice_set bs at (sink_box b)) is
 
@@ -54,6 +54,6 @@ module _ (boxes : List kept.SinkBox) (b : kept.SinkBox) where
     pub box_found : sink_box b ≡ get_or old at (sink_box b)
     box_found = ap sink_box found ∙ sym (get_or-map sink_box boxes at b (sink_box b) within) ∙ ap (λ bs. get_or bs at (sink_box b)) is
 
-    -- one box less
+    -- one box removed
     pub box_gone : (now : List kept.SinkBox) → now ≡ swap_remove boxes at b → IsPermutation old (sink_box b ∷ map sink_box now)
     box_gone now left = subst (λ bs. IsPermutation bs (sink_box b ∷ map sink_box now)) is (rw left (IsPermutation-map sink_box boxes (b ∷ swap_remove boxes at b) (IsPermutation-swap_remove boxes at b within found)))

@@ -1,4 +1,4 @@
-//! The box in which a net is routed.
+//! Bounding boxes: the box in which a net is routed, and those around its sinks.
 
 ghost use Rattle.std.specs.Prelude.{◌≡◌, ◌<◌, ℕ, length, IfOk};
 ghost use Rattle.wavefront.specs.Boxes.{box_around, box_of_net, box_of_node, box_of_span, box_with, touches};
@@ -9,7 +9,7 @@ ghost use Rattle.wave_ground.specs.kept.Boxes.{AreFirstBoxes, IsWidened, box_sha
 use routing_problem::{Device, Problem, Span};
 use std::alloc::{AllocError, Global};
 
-/// The columns and rows from one place to another, both included.
+/// Columns from `left` to `right` and rows from `bottom` to `top`, all included.
 #[derive(Clone, Copy, Debug, Drop)]
 pub struct BoundingBox {
     pub left: u32,
@@ -18,7 +18,7 @@ pub struct BoundingBox {
     pub top: u32,
 }
 
-/// The boxes of a device's sources and sinks, which are its first nodes.
+/// Returns the boxes of a device's sources and sinks, which are its first nodes.
 pub(crate) fn terminal_boxes(alloc: Global, device: &Device) -> Result<Vec<BoundingBox>, AllocError>
     ensures { IfOk result (λ boxes. AreFirstBoxes device.now boxes.items) }
 {
@@ -33,7 +33,7 @@ pub(crate) fn terminal_boxes(alloc: Global, device: &Device) -> Result<Vec<Bound
 }
 
 impl BoundingBox {
-    /// A box of no places: the least one around it and another is the other.
+    /// A box without places: the least box around it and another is the other.
     pub const NOTHING: BoundingBox = BoundingBox {
         left: u32::MAX,
         right: 0,
@@ -41,7 +41,7 @@ impl BoundingBox {
         top: 0,
     };
 
-    /// The places of a span.
+    /// Returns the box of a span.
     fn of_span(span: Span) -> BoundingBox
         ensures { boxed result ≡ box_of_span span }
     {
@@ -53,7 +53,7 @@ impl BoundingBox {
         }
     }
 
-    /// The places of a node.
+    /// Returns the box of a node.
     pub(crate) fn of_node(device: &Device, node: u32) -> BoundingBox
         ensures { boxed result ≡ box_of_node device.now node }
     {
@@ -68,7 +68,7 @@ impl BoundingBox {
         }
     }
 
-    /// The same, where the boxes of the device's first nodes are at hand.
+    /// Returns the box of a node, from the boxes of the device's first nodes if it is one of them.
     pub(crate) fn of_node_in(boxes: &[BoundingBox], device: &Device, node: u32) -> BoundingBox
         requires { AreFirstBoxes device.now boxes.now }
         ensures { boxed result ≡ box_of_node device.now node }
@@ -79,7 +79,7 @@ impl BoundingBox {
         }
     }
 
-    /// The least box around two.
+    /// Returns the least box around two.
     pub fn around(self, other: BoundingBox) -> BoundingBox
         ensures { boxed result ≡ box_around (boxed self) (boxed other) }
     {
@@ -91,7 +91,7 @@ impl BoundingBox {
         }
     }
 
-    /// What two boxes share.
+    /// Returns the intersection of two boxes.
     pub fn shared_with(self, other: BoundingBox) -> BoundingBox
         ensures { boxed result ≡ box_shared (boxed self) (boxed other) }
     {
@@ -103,7 +103,7 @@ impl BoundingBox {
         }
     }
 
-    /// The least box around this one and nodes.
+    /// Returns the least box around this one and nodes.
     fn with(self, boxes: &[BoundingBox], device: &Device, nodes: &[u32]) -> BoundingBox
         requires { AreFirstBoxes device.now boxes.now }
         ensures { boxed result ≡ box_with device.now (boxed self) nodes.now }
@@ -115,7 +115,7 @@ impl BoundingBox {
         around
     }
 
-    /// The bounding box of a net's terminals.
+    /// Returns the bounding box of a net's terminals.
     #[tactic(auto, using(crate::proofs::Opened::net_box))]
     pub(crate) fn of_net(boxes: &[BoundingBox], problem: &Problem, net: u32) -> BoundingBox
         requires net { net < length problem.now.nets }
@@ -129,7 +129,7 @@ impl BoundingBox {
         source.with(boxes, device, problem.sinks(net))
     }
 
-    /// The box with so many columns and rows more on each side.
+    /// Returns the box with `bb` more columns and rows on each side.
     pub fn widened(self, bb: u32) -> BoundingBox
         ensures { IsWidened bb (boxed self) (boxed result) }
     {
@@ -141,7 +141,7 @@ impl BoundingBox {
         }
     }
 
-    /// Whether the box, which was widened, has one of the places of a span.
+    /// Returns whether the box, which was widened, has a place of a span.
     #[inline(always)]
     pub(crate) fn has_place_of(self, span: Span) -> bool
         ensures { (bb : ℕ) (narrow : plain.BoundingBox) → IsWidened bb narrow (boxed self)

@@ -1,17 +1,17 @@
-//! Boxes side by side, so that eight of them are looked at at once.
+//! Boxes in groups of eight, so that a loop over eight becomes vector instructions.
 
 ghost use Rattle.std.specs.Prelude.{◌≡◌, ◌<◌, ◌≤◌, ◌+◌, ◌*◌, ◌/◌, ℕ, IfSome, OnOk, length};
 ghost use Rattle.wavefront.specs.Boxes as plain;
 ghost use Rattle.wavefront.specs.kept.Bounds.{WireShape, gap, wires_for, wires_over, wires_to};
 ghost use Rattle.wave_ground.specs.kept.Boxes.{boxed, wire_of};
-ghost use Rattle.wave_ground.specs.kept.EightBoxes.{IsOutlook, IsShare, KeepsBox, StandsAt, cut, gap_at, gap_beside};
+ghost use Rattle.wave_ground.specs.kept.EightBoxes.{IsOutlook, IsShare, KeepsBox, StandsAt, columns_of, cut, gap_at, gap_beside, rows_of};
 
 use crate::boxes::BoundingBox;
 use routing_problem::Kind;
 use std::alloc::AllocError;
 use track_groups::Group;
 
-/// What is kept of a coordinate: itself, or the greatest that is kept.
+/// Returns a coordinate in 16 bits: itself, or the greatest number if it doesn't fit.
 #[inline(always)]
 fn cut(coordinate: u32) -> u16
     ensures { result ≡ cut coordinate }
@@ -19,8 +19,8 @@ fn cut(coordinate: u32) -> u16
     coordinate.min(65_535) as u16
 }
 
-/// By how much the numbers from `first` to `last` lie outside those from `low` to `high`, or the
-/// greatest number.
+/// Returns the distance between the numbers from `first` to `last` and those from `low` to `high`,
+/// or the greatest number if the distance doesn't fit.
 #[inline(always)]
 fn gap(low: u16, high: u16, first: u16, last: u16) -> u16
     ensures { result ≤ gap low high first last }
@@ -29,8 +29,8 @@ fn gap(low: u16, high: u16, first: u16, last: u16) -> u16
         .saturating_add(first.saturating_sub(high))
 }
 
-/// A 65,536th of how often this is divides by one more than the steps, rounded up. What short wires
-/// divide by is known: a division takes as long as a look at eight boxes.
+/// Returns 65,536 divided by `steps + 1`, rounded up. The quotients for short wires are constants:
+/// a division takes as long as the bound to eight boxes.
 #[inline(always)]
 fn share_of(steps: u16) -> u16
     requires some { 0 < steps }
@@ -49,7 +49,7 @@ fn share_of(steps: u16) -> u16
     }
 }
 
-/// How many wires lead over so many places, at least.
+/// Returns a lower bound on the wires that cover so many places.
 #[inline(always)]
 fn wires_over(share: u16, steps: u16, places: u16) -> u16
     requires { IsShare steps share }
@@ -59,8 +59,8 @@ fn wires_over(share: u16, steps: u16, places: u16) -> u16
     (u32::from(rounded) * u32::from(share) / 65_536) as u16
 }
 
-/// How many wires of one place lead on from one that lies so far off along its channel, and so far
-/// across, at least.
+/// Returns a lower bound on the wires to a box at these distances along and across the channel of
+/// the first wire, if every wire has one place.
 #[inline(always)]
 #[tactic(auto, using(wavefront::proofs::WiresOver::one_place))]
 fn short_wires(along: u16, across: u16) -> u16
@@ -69,7 +69,7 @@ fn short_wires(along: u16, across: u16) -> u16
     along.max(across.min(1)).saturating_add(across)
 }
 
-/// How many wires that go on over so many steps do, at least.
+/// Returns the same bound for wires that have at most `steps + 1` places.
 #[inline(always)]
 fn long_wires(share: u16, steps: u16, along: u16, across: u16) -> u16
     requires { IsShare steps share }
@@ -86,7 +86,7 @@ fn long_wires(share: u16, steps: u16, along: u16, across: u16) -> u16
     last_along.min(last_across)
 }
 
-/// As many wires in front of a number below 64.
+/// Packs a count of wires and a number below 64. A greater count becomes 1,023.
 #[inline(always)]
 fn numbered(wires: u16, number: u16) -> u16
     requires { number < 64 }
@@ -95,7 +95,7 @@ fn numbered(wires: u16, number: u16) -> u16
     wires.min(1023) * 64 + number
 }
 
-/// The sides of eight boxes in one direction, and the first and last place of a wire there.
+/// The sides of eight boxes in one direction, and the first and last place of a wire in it.
 #[derive(Clone, Copy, Drop)]
 struct BoxSides {
     lows: [u16; 8],
@@ -105,7 +105,7 @@ struct BoxSides {
 }
 
 impl BoxSides {
-    /// How far off the wire lies from one of the boxes.
+    /// Returns the distance from the wire to one of the boxes.
     #[inline(always)]
     fn gap_at(&self, lane: usize) -> u16
         requires { lane < 8 }
@@ -114,7 +114,7 @@ impl BoxSides {
         gap(self.lows[lane], self.highs[lane], self.first, self.last)
     }
 
-    /// How far off it lies from one of them, or from the place before that.
+    /// Returns the distance from the wire to one of the boxes or to the place before it.
     #[inline(always)]
     fn gap_beside(&self, lane: usize) -> u16
         requires { lane < 8 }
@@ -125,8 +125,18 @@ impl BoxSides {
     }
 }
 
-/// The fewest wires of one place that lead on from one, and the last six bits of the number of the
-/// box to which they do.
+/// Returns the bound to the first box if every wire has one place, with the last six bits of the
+/// box's number.
+#[inline(always)]
+fn first_short(along: &BoxSides, across: &BoxSides, numbers: &[u16; 8]) -> u16
+    ensures { result / 64 ≤ wires_for 0 (gap_at along.now 0) (gap_beside across.now 0) }
+{
+    let wires = short_wires(along.gap_at(0), across.gap_beside(0));
+    numbered(wires, numbers[0] % 64)
+}
+
+/// Returns the least of the bounds to eight boxes if every wire has one place, with the last six
+/// bits of its box's number.
 #[inline(always)]
 fn fewest_short(along: &BoxSides, across: &BoxSides, numbers: &[u16; 8]) -> u16
     ensures { (lane : ℕ) → lane < 8
@@ -140,15 +150,19 @@ fn fewest_short(along: &BoxSides, across: &BoxSides, numbers: &[u16; 8]) -> u16
     fewest
 }
 
-/// The same of wires that go on over so many steps.
+/// Returns the same for wires that have at most `steps + 1` places.
 #[inline(always)]
-fn fewest_long(along: &BoxSides, across: &BoxSides, numbers: &[u16; 8], steps: u16) -> u16
-    requires some { 0 < steps }
-    requires few { steps < 128 }
+fn fewest_long(
+    along: &BoxSides,
+    across: &BoxSides,
+    numbers: &[u16; 8],
+    share: u16,
+    steps: u16,
+) -> u16
+    requires { IsShare steps share }
     ensures { (lane : ℕ) → lane < 8
         → result / 64 ≤ wires_for steps (gap_at along.now lane) (gap_beside across.now lane) }
 {
-    let share = share_of(steps);
     let mut fewest = u16::MAX;
     for lane in 0..8 {
         let wires = long_wires(share, steps, along.gap_at(lane), across.gap_beside(lane));
@@ -157,33 +171,19 @@ fn fewest_long(along: &BoxSides, across: &BoxSides, numbers: &[u16; 8], steps: u
     fewest
 }
 
-/// The same of all wires.
-#[inline(always)]
-fn fewest_from(along: &BoxSides, across: &BoxSides, numbers: &[u16; 8], steps: u16) -> u16
-    requires few { steps < 128 }
-    ensures { (lane : ℕ) → lane < 8
-        → result / 64 ≤ wires_for steps (gap_at along.now lane) (gap_beside across.now lane) }
-{
-    if steps == 0 {
-        fewest_short(along, across, numbers)
-    } else {
-        fewest_long(along, across, numbers, steps)
-    }
-}
-
-/// Eight boxes, coordinate by coordinate.
+/// Eight boxes, one array for each side.
 #[derive(Clone, Copy, Drop)]
 pub(crate) struct EightBoxes {
     left: [u16; 8],
     right: [u16; 8],
     bottom: [u16; 8],
     top: [u16; 8],
-    /// The numbers of the boxes, of which the last six bits are told.
+    /// The numbers of the boxes. A bound has only their last six bits.
     numbers: [u16; 8],
 }
 
 impl EightBoxes {
-    /// Eight that are as far off as can be.
+    /// Eight boxes at the greatest distance from every wire.
     pub(crate) const FAR: EightBoxes = EightBoxes {
         left: [u16::MAX; 8],
         right: [0; 8],
@@ -192,7 +192,7 @@ impl EightBoxes {
         numbers: [0; 8],
     };
 
-    /// Puts a box of a number in one of the places.
+    /// Puts a box with a number into one of the eight places.
     pub(crate) fn put(&mut self, lane: usize, place: BoundingBox, number: u16)
         requires { lane < 8 }
         ensures put { KeepsBox self.new lane (boxed place) }
@@ -207,7 +207,7 @@ impl EightBoxes {
     }
 }
 
-/// A wire from which boxes are looked at.
+/// A wire from which bounds are computed.
 #[derive(Clone, Copy, Drop)]
 pub(crate) struct Outlook {
     is_column: bool,
@@ -219,7 +219,8 @@ pub(crate) struct Outlook {
 }
 
 impl Outlook {
-    /// That of a group's wires, unless they go on over more steps than any array has places.
+    /// Makes the outlook of a group's wires. None if the group has no wires, or if they have more
+    /// places than a channel.
     #[inline(always)]
     pub(crate) fn of(group: &Group) -> Option<Outlook>
         ensures { IfSome result (λ outlook. IsOutlook outlook (wire_of group.now)) }
@@ -243,35 +244,84 @@ impl Outlook {
         })
     }
 
-    /// How many wires lead on to the nearest of eight boxes at least, by 64 times as much, and the
-    /// last six bits of that box's number.
+    /// Returns the sides of eight boxes along a row.
     #[inline(always)]
-    pub(crate) fn fewest(self, boxes: &EightBoxes) -> u16
-        requires few { self.steps < 128 }
-        ensures { (wire : WireShape) (lane : ℕ) (place : plain.BoundingBox) → IsOutlook self wire
-            → lane < 8 → KeepsBox boxes.now lane place → result / 64 ≤ wires_to place wire }
+    fn columns(self, boxes: &EightBoxes) -> BoxSides
+        ensures { result ≡ columns_of self boxes.now }
     {
-        let columns = BoxSides {
+        BoxSides {
             lows: boxes.left,
             highs: boxes.right,
             first: self.x1,
             last: self.x2,
-        };
-        let rows = BoxSides {
+        }
+    }
+
+    /// Returns the sides of eight boxes along a column.
+    #[inline(always)]
+    fn rows(self, boxes: &EightBoxes) -> BoxSides
+        ensures { result ≡ rows_of self boxes.now }
+    {
+        BoxSides {
             lows: boxes.bottom,
             highs: boxes.top,
             first: self.y1,
             last: self.y2,
-        };
+        }
+    }
+
+    /// Returns the bound to the first of eight boxes if every wire has one place, with the last six
+    /// bits of the box's number.
+    #[inline(always)]
+    fn first_short(self, boxes: &EightBoxes) -> u16
+        requires steps { self.steps ≡ 0 }
+        ensures { (wire : WireShape) (place : plain.BoundingBox) → IsOutlook self wire
+            → KeepsBox boxes.now 0 place → result / 64 ≤ wires_to place wire }
+    {
+        let columns = self.columns(boxes);
+        let rows = self.rows(boxes);
         if self.is_column {
-            fewest_from(&rows, &columns, &boxes.numbers, self.steps)
+            first_short(&rows, &columns, &boxes.numbers)
         } else {
-            fewest_from(&columns, &rows, &boxes.numbers, self.steps)
+            first_short(&columns, &rows, &boxes.numbers)
+        }
+    }
+
+    /// Returns the least of the bounds to eight boxes if every wire has one place, with the last
+    /// six bits of its box's number.
+    #[inline(always)]
+    fn fewest_short(self, boxes: &EightBoxes) -> u16
+        requires steps { self.steps ≡ 0 }
+        ensures { (wire : WireShape) (lane : ℕ) (place : plain.BoundingBox) → IsOutlook self wire
+            → lane < 8 → KeepsBox boxes.now lane place → result / 64 ≤ wires_to place wire }
+    {
+        let columns = self.columns(boxes);
+        let rows = self.rows(boxes);
+        if self.is_column {
+            fewest_short(&rows, &columns, &boxes.numbers)
+        } else {
+            fewest_short(&columns, &rows, &boxes.numbers)
+        }
+    }
+
+    /// Returns the same for wires that have more places.
+    #[inline(always)]
+    fn fewest_long(self, share: u16, boxes: &EightBoxes) -> u16
+        requires share { IsShare self.steps share }
+        ensures { (wire : WireShape) (lane : ℕ) (place : plain.BoundingBox) → IsOutlook self wire
+            → lane < 8 → KeepsBox boxes.now lane place → result / 64 ≤ wires_to place wire }
+    {
+        let columns = self.columns(boxes);
+        let rows = self.rows(boxes);
+        if self.is_column {
+            fewest_long(&rows, &columns, &boxes.numbers, share, self.steps)
+        } else {
+            fewest_long(&columns, &rows, &boxes.numbers, share, self.steps)
         }
     }
 }
 
-/// Makes room for a box behind so many, where there is none.
+/// Makes room for one box after so many others, if there is none.
 pub(crate) fn make_room(eights: &mut Vec<EightBoxes>, count: usize) -> Result<(), AllocError>
     requires { count ≤ 8 * length eights.old.items }
     ensures room { OnOk result (count < 8 * length eights.new.items) }
@@ -285,7 +335,7 @@ pub(crate) fn make_room(eights: &mut Vec<EightBoxes>, count: usize) -> Result<()
     Ok(())
 }
 
-/// Puts a box of a number in one of the places.
+/// Puts a box with a number into one of the places.
 pub(crate) fn put_box(eights: &mut Vec<EightBoxes>, at: usize, place: BoundingBox, number: u16)
     requires { at < 8 * length eights.old.items }
     ensures count { length eights.new.items ≡ length eights.old.items }
@@ -296,19 +346,55 @@ pub(crate) fn put_box(eights: &mut Vec<EightBoxes>, at: usize, place: BoundingBo
     eights[at / 8].put(at % 8, place, number);
 }
 
-/// How many wires lead on from one of a group to the nearest of boxes at least, by 64 times as
-/// much, and the last six bits of that box's number.
+/// Returns the least of the bounds to boxes if every wire has one place, with the last six bits of
+/// its box's number.
 #[inline(always)]
-pub(crate) fn fewest_in(eights: &[EightBoxes], group: &Group) -> u16
-    ensures { (at : ℕ) (place : plain.BoundingBox) → at < 8 * length eights.now
-        → StandsAt eights.now at place → result / 64 ≤ wires_to place (wire_of group.now) }
+fn fewest_short_in(eights: &[EightBoxes], outlook: Outlook) -> u16
+    requires steps { outlook.steps ≡ 0 }
+    ensures { (wire : WireShape) (at : ℕ) (place : plain.BoundingBox) → IsOutlook outlook wire
+        → at < 8 * length eights.now → StandsAt eights.now at place
+        → result / 64 ≤ wires_to place wire }
+{
+    let mut fewest = u16::MAX;
+    for at in 0..eights.len() {
+        fewest = fewest.min(outlook.fewest_short(&eights[at]));
+    }
+    fewest
+}
+
+/// Returns the same for wires that have more places.
+#[inline(always)]
+fn fewest_long_in(eights: &[EightBoxes], outlook: Outlook) -> u16
+    requires some { 0 < outlook.steps }
+    requires few { outlook.steps < 128 }
+    ensures { (wire : WireShape) (at : ℕ) (place : plain.BoundingBox) → IsOutlook outlook wire
+        → at < 8 * length eights.now → StandsAt eights.now at place
+        → result / 64 ≤ wires_to place wire }
+{
+    let share = share_of(outlook.steps);
+    let mut fewest = u16::MAX;
+    for at in 0..eights.len() {
+        fewest = fewest.min(outlook.fewest_long(share, &eights[at]));
+    }
+    fewest
+}
+
+/// Returns a lower bound on the wires from a group to the nearest of so many boxes, times 64, plus
+/// the last six bits of that box's number.
+#[inline(always)]
+pub(crate) fn fewest_in(eights: &[EightBoxes], boxes: usize, group: &Group) -> u16
+    requires { boxes ≤ 8 * length eights.now }
+    ensures { (at : ℕ) (place : plain.BoundingBox) → at < boxes → StandsAt eights.now at place
+        → result / 64 ≤ wires_to place (wire_of group.now) }
 {
     let Some(outlook) = Outlook::of(group) else {
         return 0;
     };
-    let mut fewest = u16::MAX;
-    for at in 0..eights.len() {
-        fewest = fewest.min(outlook.fewest(&eights[at]));
+    if outlook.steps > 0 {
+        return fewest_long_in(eights, outlook);
     }
-    fewest
+    if boxes == 1 {
+        return outlook.first_short(&eights[0]);
+    }
+    fewest_short_in(eights, outlook)
 }

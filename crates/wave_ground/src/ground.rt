@@ -1,4 +1,4 @@
-//! What the search of one net goes over.
+//! The ground of a search: what one net may enter, at what cost, and the groups of wires.
 
 ghost use Rattle.std.specs.Prelude.{◌≡◌, ◌<◌, ◌≤◌, ◌+◌, ◌*◌, ◌^◌, ◌↔◌, ℕ, Contains, IfSome, OnOk, IsTrue, length, get_or, slice_index, true, [], Some};
 ghost use Rattle.routing_problem.specs.node.Kind.TheVariants.{Ipin};
@@ -27,8 +27,8 @@ use std::alloc::AllocError;
 use std::marker::Model;
 use track_groups::{Drive, Group, GroupTrack, PinDrives, Tap, TrackGroups};
 
-/// A net of a problem, what it sees of the others, and the groups of the device's wires. Contracts
-/// see the record of what decides.
+/// A net of a problem, its view of the other nets, and the groups of the device's wires. Contracts
+/// see the parts on which a search depends.
 #[derive(Drop)]
 pub struct Ground<'a> {
     problem: &'a Problem,
@@ -39,7 +39,7 @@ pub struct Ground<'a> {
     view: BorrowedView<'a>,
     present: u32,
     bb: u32,
-    /// Where the net may be routed.
+    /// The box in which the net is routed.
     inside: BoundingBox,
     /// How many nets may use a wire.
     room: u32,
@@ -57,10 +57,10 @@ impl<'a> Model for Ground<'a> {
     ghost invariant = { IsGroundInside };
 }
 
-/// What an input pin costs where nobody else wants it.
+/// What an input pin costs if no other net uses it and it was never overused.
 pub const PIN: u128 = 304;
 
-/// What a node of a kind costs where nobody else wants it.
+/// Returns the base cost of a kind of nodes.
 fn base_cost(kind: Option<Kind>) -> u32
     ensures { result ≡ option_map_or base_cost kind 0 }
 {
@@ -71,7 +71,7 @@ fn base_cost(kind: Option<Kind>) -> u32
     }
 }
 
-/// Whether a number is one of these, which ascend.
+/// Returns whether a number is one of these, which are in ascending order.
 fn is_one_of(numbers: &[u32], number: u32) -> bool
     requires { IsStrictlyIncreasing numbers.now }
     ensures { IsTrue result ↔ Contains numbers.now number }
@@ -79,7 +79,7 @@ fn is_one_of(numbers: &[u32], number: u32) -> bool
     numbers.binary_search(&number).is_ok()
 }
 
-/// How many nets may use a wire of a device.
+/// Returns how many nets may use a wire of a device.
 fn wire_room(device: &Device) -> u32
     ensures room { result ≡ wire_capacity device.now.mode device.now.width }
     ensures some { 1 ≤ result }
@@ -92,7 +92,7 @@ fn wire_room(device: &Device) -> u32
 }
 
 impl<'a> Ground<'a> {
-    /// What the search of a net goes over.
+    /// Makes the ground of the search for a net.
     pub fn new(
         problem: &'a Problem,
         groups: &'a TrackGroups,
@@ -131,35 +131,35 @@ impl<'a> Ground<'a> {
         }
     }
 
-    /// How many nodes there are.
+    /// Returns the count of nodes.
     pub fn nodes(&self) -> usize
         ensures { result ≡ node_count self.now.space }
     {
         self.problem.device().node_count() as usize
     }
 
-    /// How many groups there are.
+    /// Returns the count of groups.
     pub fn groups(&self) -> usize
         ensures { result ≡ length (groups_of self.now) }
     {
         self.groups.len() as usize
     }
 
-    /// The node at which the net begins.
+    /// Returns the source of the net.
     pub fn source(&self) -> u32
         ensures { result ≡ self.now.space.net.source }
     {
         self.problem.source(self.net)
     }
 
-    /// The sinks of the net, ascending.
+    /// Returns the sinks of the net, in ascending order.
     pub fn sinks(&self) -> &[u32]
         ensures { result.now ≡ self.now.space.net.sinks }
     {
         self.problem.sinks(self.net)
     }
 
-    /// Whether the node is one of the net's sinks.
+    /// Returns whether a node is one of the net's sinks.
     pub fn wants(&self, node: u32) -> bool
         requires { IsGround self.now }
         ensures { IsTrue result ↔ IsWanted self.now.space node }
@@ -167,7 +167,7 @@ impl<'a> Ground<'a> {
         is_one_of(self.sinks(), node)
     }
 
-    /// Whether one of the places of a span is inside the net's box.
+    /// Returns whether a place of a span is inside the net's box.
     #[inline(always)]
     pub fn is_span_inside(&self, span: Span) -> bool
         ensures { result ≡ touches self.now.space.bb
@@ -176,7 +176,7 @@ impl<'a> Ground<'a> {
         self.inside.has_place_of(span)
     }
 
-    /// Whether the node is inside the net's box.
+    /// Returns whether a node is inside the net's box.
     #[tactic(auto, using(crate::proofs::Opened::inside_is))]
     pub fn is_inside(&self, node: u32) -> bool
         ensures { result ≡ is_in_box self.now.space.device self.now.space.bb self.now.space.net
@@ -188,7 +188,7 @@ impl<'a> Ground<'a> {
         }
     }
 
-    /// What it costs to enter a node of this base cost, which so many nets may use.
+    /// Returns what it costs to enter a node with a base cost, which `room` nets may use.
     #[inline(always)]
     fn cost_by(&self, base: u32, room: u32, node: u32) -> u128
         requires base { base ≤ 20 }
@@ -206,7 +206,7 @@ impl<'a> Ground<'a> {
         )
     }
 
-    /// What it costs to enter a node.
+    /// Returns what it costs to enter a node.
     #[tactic(auto, using(crate::proofs::Opened::cost_is, wavefront::proofs::Spaces::room_is, wavefront::proofs::Spaces::some_room))]
     pub fn cost(&self, node: u32) -> u128
         requires { node < node_count self.now.space }
@@ -218,7 +218,7 @@ impl<'a> Ground<'a> {
         self.cost_by(base, capacity, node)
     }
 
-    /// How many nets may use a wire.
+    /// Returns how many nets may use a wire.
     #[inline(always)]
     fn wire_room(&self) -> u32
         ensures room { result ≡
@@ -228,7 +228,7 @@ impl<'a> Ground<'a> {
         self.room
     }
 
-    /// What it costs to enter a wire.
+    /// Returns what it costs to enter a wire.
     #[inline(always)]
     #[tactic(auto, using(crate::proofs::Opened::wire_paid))]
     pub fn wire_cost(&self, wire: u32) -> u128
@@ -239,7 +239,7 @@ impl<'a> Ground<'a> {
         self.cost_by(20, self.wire_room(), wire)
     }
 
-    /// What it costs to enter an input pin.
+    /// Returns what it costs to enter an input pin.
     #[tactic(auto, using(crate::proofs::Opened::pin_paid, crate::proofs::Opened::free_pin_paid))]
     pub fn pin_cost(&self, pin: u32) -> u128
         requires node_in { pin < node_count self.now.space }
@@ -252,7 +252,7 @@ impl<'a> Ground<'a> {
         self.cost_by(19, 1, pin)
     }
 
-    /// What it costs to enter a sink: nothing, where it was never overused.
+    /// Returns what it costs to enter a sink: 0 if it was never overused.
     #[tactic(auto, using(crate::proofs::Opened::new_sink_paid))]
     pub fn sink_cost(&self, sink: u32) -> u128
         requires node_in { sink < node_count self.now.space }
@@ -265,8 +265,8 @@ impl<'a> Ground<'a> {
         self.cost(sink)
     }
 
-    /// Whether a wire costs what any wire costs at least: nobody else uses it, and it was never
-    /// overused.
+    /// Returns true only if a wire has the least cost of a wire: no other net uses it, and it was
+    /// never overused.
     #[inline(always)]
     #[tactic(auto, using(crate::proofs::Opened::free_paid))]
     pub fn is_free(&self, wire: u32) -> bool
@@ -277,14 +277,15 @@ impl<'a> Ground<'a> {
         self.view.is_free(wire)
     }
 
-    /// The box of a node's places.
+    /// Returns the box of a node.
     pub fn box_of(&self, node: u32) -> BoundingBox
         ensures { boxed result ≡ box_of_node self.now.space.device node }
     {
         BoundingBox::of_node_in(self.boxes, self.problem.device(), node)
     }
 
-    /// The least box around the sinks from one place of their list to the one before another.
+    /// Returns the least box around the sinks from place `from` of their list to the one before
+    /// `until`.
     pub fn box_around(&self, from: usize, until: usize) -> BoundingBox
         requires some { from < until }
         requires there { until ≤ length self.now.space.net.sinks }
@@ -300,14 +301,14 @@ impl<'a> Ground<'a> {
         around
     }
 
-    /// A node's kind; None for what is no node.
+    /// Returns a node's kind, or None if there is no such node.
     pub fn kind(&self, node: u32) -> Option<Kind>
         ensures { result ≡ kind_of_node self.now.space.device node }
     {
         self.problem.device().kind(node)
     }
 
-    /// The nodes to which an edge leads from a node.
+    /// Lists the nodes to which edges lead from a node.
     pub fn successors(&self, node: u32, list: &mut SmallVec<u32, 8>) -> Result<(), AllocError>
         ensures { OnOk result ((to : ℕ) → Contains list.new.items to
             ↔ HasEdge self.now.space node to) }
@@ -315,7 +316,7 @@ impl<'a> Ground<'a> {
         self.problem.device().successors(node, list)
     }
 
-    /// The sink to which an input pin leads, and to nothing else; None for what is no input pin.
+    /// Returns the only sink to which an input pin leads, or None if the node is no input pin.
     #[tactic(auto, using(wavefront::proofs::Spaces::pin_leads))]
     pub fn sink_of(&self, node: u32) -> Option<u32>
         ensures { IfSome result (λ sink. LeadsOnlyTo self.now.space node sink) }
@@ -323,7 +324,7 @@ impl<'a> Ground<'a> {
         self.problem.device().sink_of(node)
     }
 
-    /// A group.
+    /// Returns a group.
     #[inline(always)]
     pub fn group(&self, group: u32) -> Group
         requires { group < length (groups_of self.now) }
@@ -334,7 +335,7 @@ impl<'a> Ground<'a> {
         self.groups.group(group)
     }
 
-    /// The neighbours of a group.
+    /// Returns the neighbours of a group.
     #[inline(always)]
     pub fn neighbours(&self, group: u32) -> &[u32]
         ensures { result.now ≡ neighbours_of self.now.tables group }
@@ -342,7 +343,7 @@ impl<'a> Ground<'a> {
         self.groups.neighbours(group)
     }
 
-    /// The input pins that tap a group.
+    /// Returns the input pins that tap a group.
     #[inline(always)]
     pub fn taps(&self, group: u32) -> &[Tap]
         ensures { result.now ≡ taps_of self.now.tables group }
@@ -350,21 +351,21 @@ impl<'a> Ground<'a> {
         self.groups.taps(group)
     }
 
-    /// What an output pin drives.
+    /// Returns the groups and tracks that an output pin drives.
     pub fn drives(&self, pin: u32) -> &[Drive]
         ensures { result.now ≡ get_or self.now.drives pin [] }
     {
         self.drives.of(pin)
     }
 
-    /// Whether a node is a wire.
+    /// Returns whether a node is a wire.
     pub fn is_wire(&self, node: u32) -> bool
         ensures { IsTrue result ↔ HasPlace self.now.tables.wires node }
     {
         self.groups.is_wire(node)
     }
 
-    /// The group and track of a wire.
+    /// Returns the group and track of a wire.
     pub fn place(&self, wire: u32) -> GroupTrack
         requires { HasPlace self.now.tables.wires wire }
         ensures { result ≡ place_of self.now.tables.wires wire }

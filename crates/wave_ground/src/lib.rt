@@ -1,5 +1,5 @@
-//! The ground of a search: what nodes cost there, where it may go, and how far it is to the nearest
-//! sink.
+//! The ground of a search: which nodes it may enter, what they cost, and lower bounds on the wires
+//! to the nearest sink.
 #![tactic(auto)]
 
 mod boxes;

@@ -1,4 +1,4 @@
-//! How many wires lead on from a group to the nearest sink, at least.
+//! Lower bounds on the wires from a group to the nearest sink.
 
 ghost use Rattle.std.specs.Prelude.{◌≡◌, ◌<◌, ◌≤◌, ◌*◌, ◌∷◌, ◌++◌, ℕ, [], All, Some, None, length, map, replicate, get_or, slice_set, IfOk, IfSome, OnOk};
 ghost use Rattle.std.specs.List.Sorted.{IsPermutation};
@@ -13,31 +13,31 @@ use std::alloc::{AllocError, Global};
 use std::marker::Model;
 use track_groups::Group;
 
-/// A box around sinks of a net: those from one place of their list to the one before another.
+/// A box around the sinks of a net from place `from` of their list to the one before `until`.
 #[derive(Clone, Copy, Drop)]
 pub struct SinkBox {
     pub place: BoundingBox,
     pub from: usize,
     pub until: usize,
-    /// By which what was found for groups names the box.
+    /// The number by which the bounds of groups refer to the box.
     number: u16,
 }
 
-/// How many wires lead on to the nearest box, and which that is.
+/// A lower bound on the wires to the nearest box, and the number of that box.
 #[derive(Clone, Copy, Drop)]
 pub struct Sight {
     pub wires: u16,
     number: u16,
 }
 
-/// What was found for a group, and when.
+/// The bound of a group, and the stamp when it was found.
 #[derive(Clone, Copy, Drop)]
 pub(crate) struct Known {
     sight: Sight,
     stamp: u32,
 }
 
-/// So many groups of which nothing is known.
+/// Makes the rows of groups without bounds.
 fn nothing_known(alloc: Global, groups: usize) -> Result<Vec<Known>, AllocError>
     ensures count { IfOk result (λ known. length known.items ≡ groups) }
     ensures blank { IfOk result (λ known. All (λ k. k.stamp ≡ 0) known.items) }
@@ -55,7 +55,7 @@ fn nothing_known(alloc: Global, groups: usize) -> Result<Vec<Known>, AllocError>
     Ok(known)
 }
 
-/// Takes all stamps off.
+/// Removes all stamps.
 fn take_stamps_off(known: &mut Vec<Known>)
     ensures count { length known.new.items ≡ length known.old.items }
     ensures blank { All (λ k. k.stamp ≡ 0) known.new.items }
@@ -65,19 +65,19 @@ fn take_stamps_off(known: &mut Vec<Known>)
     }
 }
 
-/// Makes a number that of a box as it is now. Its last six bits say which of the boxes it is, the
-/// others how often that was made narrower.
+/// Makes a number the current number of a box. Its last six bits say which box it is, the others
+/// how often the box was made narrower.
 fn make_live(live: &mut [u16; 64], number: u16) {
     live[usize::from(number % 64)] = number;
 }
 
-/// Whether the number is that of a box as it is now.
+/// Returns whether a number is the current number of a box.
 #[inline(always)]
 fn is_live(live: &[u16; 64], number: u16) -> bool {
     live[usize::from(number % 64)] == number
 }
 
-/// Puts the box that stands in a place there, if one does.
+/// Copies the box at a place of the list into the groups of eight, if there is one.
 fn put_again(eights: &mut Vec<EightBoxes>, boxes: &[SinkBox], at: usize)
     requires { at < 8 * length eights.old.items }
     ensures count { length eights.new.items ≡ length eights.old.items }
@@ -91,18 +91,18 @@ fn put_again(eights: &mut Vec<EightBoxes>, boxes: &[SinkBox], at: usize)
     }
 }
 
-/// Boxes around the sinks that the wave has yet to take; and of groups, how many wires lead on to
-/// the nearest of them at least, where that was found. Contracts see both.
+/// Boxes around the sinks that are left, and the bounds of groups that were found: lower bounds on
+/// the wires to the nearest box. Contracts see both.
 #[derive(Drop)]
 pub struct Nearest {
     boxes: Vec<SinkBox>,
-    /// The same boxes, eight side by side, and others that are far off.
+    /// The same boxes in groups of eight, filled up with boxes at the greatest distance.
     eights: Vec<EightBoxes>,
-    /// The numbers of the boxes as they are now. One that is taken away or made narrower has
-    /// another number from then on.
+    /// The current numbers of the boxes. A box that is removed or made narrower gets another
+    /// number.
     live: [u16; 64],
     known: Vec<Known>,
-    /// What was found at an earlier stamp was found before all boxes were last taken away.
+    /// Bounds with an earlier stamp were found before all boxes were last removed.
     stamp: u32,
 }
 
@@ -119,7 +119,7 @@ impl Model for Nearest {
 }
 
 impl Nearest {
-    /// No boxes, over so many groups.
+    /// Makes a list without boxes, for so many groups.
     pub fn new(alloc: Global, groups: usize) -> Result<Nearest, AllocError>
         ensures boxes { IfOk result (λ n. n.boxes ≡ []) }
         ensures known { IfOk result (λ n. n.known ≡ replicate groups None) }
@@ -133,14 +133,14 @@ impl Nearest {
         })
     }
 
-    /// How many groups there are.
+    /// Returns the count of groups.
     pub fn len(&self) -> usize
         ensures { result ≡ length self.now.known }
     {
         self.known.len()
     }
 
-    /// Takes all boxes away, and what was found in them.
+    /// Removes all boxes and bounds.
     pub fn clear(&mut self)
         ensures boxes { self.new.boxes ≡ [] }
         ensures known { self.new.known ≡ replicate (length self.old.known) None }
@@ -154,9 +154,9 @@ impl Nearest {
         self.eights.clear();
     }
 
-    /// Puts a box in for sinks from one place of their list to the one before another. What was
-    /// found for groups stays, and may be too much with a box more: so all boxes are put in before
-    /// anything is found.
+    /// Adds a box around the sinks from place `from` of their list to the one before `until`.
+    /// Bounds of groups stay, and may be too high with one more box. So add all boxes before any
+    /// bound is found.
     pub fn push(&mut self, place: BoundingBox, from: usize, until: usize) -> Result<(), AllocError>
         ensures boxes { OnOk result (self.new.boxes ≡ self.old.boxes
             ++ record { place = boxed place; from = from; until = until } ∷ []) }
@@ -176,14 +176,14 @@ impl Nearest {
         Ok(())
     }
 
-    /// How many boxes there are.
+    /// Returns the count of boxes.
     pub fn boxes(&self) -> usize
         ensures { result ≡ length self.now.boxes }
     {
         self.boxes.len()
     }
 
-    /// A box.
+    /// Returns a box.
     pub fn box_at(&self, at: usize) -> SinkBox
         requires { at < length self.now.boxes }
         ensures { sink_box result ≡ get_or self.now.boxes at (sink_box result) }
@@ -191,8 +191,7 @@ impl Nearest {
         self.boxes[at]
     }
 
-    /// Puts a box in the place of one that has all of it. What was found for groups stays, and is
-    /// no more than the boxes now tell.
+    /// Replaces a box by one inside it. Bounds of groups stay, and remain lower bounds.
     pub fn put(&mut self, at: usize, around: SinkBox, place: BoundingBox)
         requires { at < length self.old.boxes }
         ensures boxes { self.new.boxes ≡ slice_set self.old.boxes at
@@ -210,8 +209,7 @@ impl Nearest {
         put_box(&mut self.eights, at, place, number);
     }
 
-    /// Takes a box away. What was found for groups stays, and is no more than the boxes that are
-    /// left tell.
+    /// Removes a box. Bounds of groups stay, and remain lower bounds.
     pub fn remove(&mut self, at: usize) -> SinkBox
         requires { at < length self.old.boxes }
         ensures gone { sink_box result ≡ get_or self.old.boxes at (sink_box result) }
@@ -226,7 +224,7 @@ impl Nearest {
         gone
     }
 
-    /// What was found for a group, unless that is of a box that was taken away.
+    /// Returns the bound of a group, unless it is of a box that was removed or made narrower.
     #[inline(always)]
     pub fn known(&self, group: u32) -> Option<u32>
         requires { group < length self.now.known }
@@ -240,7 +238,7 @@ impl Nearest {
         }
     }
 
-    /// Keeps what was found for a group.
+    /// Keeps the bound of a group.
     pub fn keep(&mut self, group: u32, sight: Sight)
         requires { group < length self.old.known }
         ensures boxes { self.new.boxes ≡ self.old.boxes }
@@ -252,12 +250,12 @@ impl Nearest {
         };
     }
 
-    /// How many wires lead on from one of a group to the nearest box, at least.
+    /// Returns a lower bound on the wires from a group to the nearest box.
     #[inline(always)]
     pub fn fewest(&self, group: &Group) -> Sight
         ensures { IsLow self.now.boxes (wire_of group.now) result.wires }
     {
-        let fewest = fewest_in(&self.eights, group);
+        let fewest = fewest_in(&self.eights, self.boxes.len(), group);
         Sight {
             wires: fewest / 64,
             number: self.live[usize::from(fewest % 64)],

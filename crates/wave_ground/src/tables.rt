@@ -1,4 +1,4 @@
-//! A problem, prepared for searches.
+//! A problem with the tables that all searches share.
 
 ghost use Rattle.std.specs.Prelude.{◌≡◌, IfOk};
 ghost use Rattle.wave_ground.specs.kept.Tables.{AreTablesOf};
@@ -9,8 +9,8 @@ use std::alloc::{AllocError, Global};
 use std::marker::Model;
 use track_groups::{PinDrives, TrackGroups};
 
-/// What all searches over a device share: the groups of its wires, what its output pins drive, and
-/// the boxes of its sources and sinks. Contracts see all three.
+/// The tables that all searches over a device share: the groups of its wires, the groups that its
+/// output pins drive, and the boxes of its sources and sinks. Contracts see all three.
 #[derive(Debug, Drop)]
 pub struct SearchTables {
     pub groups: TrackGroups,
@@ -27,11 +27,11 @@ impl Model for SearchTables {
 }
 
 impl SearchTables {
-    /// The tables of a device.
+    /// Makes the tables of a device.
     ///
     /// # Errors
     ///
-    /// Where memory runs out.
+    /// If memory runs out.
     fn new(alloc: Global, device: &Device) -> Result<SearchTables, AllocError>
         ensures { IfOk result (AreTablesOf device.now) }
     {
@@ -46,8 +46,7 @@ impl SearchTables {
     }
 }
 
-/// A problem with what all searches for its nets share, which depends on its device alone: made
-/// once, and lent to all of them. Contracts see the problem.
+/// A problem with the tables that all searches for its nets share. Contracts see the problem.
 #[derive(Drop)]
 pub struct PreparedProblem {
     problem: Problem,
@@ -66,11 +65,11 @@ impl Model for PreparedProblem {
 }
 
 impl PreparedProblem {
-    /// The problem, with the tables of its device.
+    /// Makes the tables of a problem's device.
     ///
     /// # Errors
     ///
-    /// Where memory runs out.
+    /// If memory runs out.
     pub fn new(alloc: Global, problem: Problem) -> Result<PreparedProblem, AllocError>
         ensures { IfOk result (λ prepared. prepared ≡ problem) }
     {
@@ -78,14 +77,14 @@ impl PreparedProblem {
         Ok(PreparedProblem { problem, tables })
     }
 
-    /// The problem.
+    /// Returns the problem.
     pub fn problem(&self) -> &Problem
         ensures { result.now ≡ self.now }
     {
         &self.problem
     }
 
-    /// The tables.
+    /// Returns the tables.
     pub fn tables(&self) -> &SearchTables
         ensures { AreTablesOf self.now.device result.now }
     {

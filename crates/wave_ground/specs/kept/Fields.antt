@@ -1,4 +1,4 @@
--- What the fields of a search's ground stand for.
+-- What the fields of a search's ground mean.
 use Rattle.std.specs.Prelude.{◌≡◌, ◌<◌, ◌≤◌, length}
 use Rattle.routing_problem.specs.Nodes.{node_count_of, wire_capacity}
 use Rattle.routing_problem.specs.Problems.{net_in}
@@ -11,8 +11,8 @@ use Rattle.wave_ground.specs.kept.Grounds.{Ground}
 abbrev pub ground_inside : Inside → Ground
 ground_inside g = record { space = space_of g.problem.now g.net g.view g.present g.bb; tables = g.groups.now; drives = g.drives.now }
 
--- the net is there, the view, the boxes and the room of wires are of the device, and the box is
--- that of the net
+-- the net exists, the view, the boxes and the room of wires are of the device, and the box is that
+-- of the net
 pub record IsGroundInside (g : Inside) : Type 0 where
   pub net : g.net < length g.problem.now.nets
   pub view : length g.view ≡ node_count_of g.problem.now.device

@@ -1,4 +1,4 @@
--- What a search over groups goes over.
+-- The ground of a search over groups.
 use Rattle.std.specs.Prelude.{◌≡◌, ℕ, ◌<◌, List, true}
 use Rattle.routing_problem.specs.Nodes.{is_wire_at}
 use Rattle.routing_problem.specs.Problems.{is_source}
@@ -9,7 +9,7 @@ use Rattle.track_groups.specs.Drives.{AreDrives}
 use Rattle.wavefront.specs.Space.{Space}
 use Rattle.wavefront.specs.kept.Spaces.{IsSpace, node_count}
 
--- what one net may enter at what cost, and the groups of the device's wires with their edges
+-- what one net may enter and at what cost, and the groups of the device's wires with their edges
 pub record Ground : Type 0 where
   pub space : Space
   pub tables : Tables
@@ -18,7 +18,7 @@ pub record Ground : Type 0 where
 abbrev pub groups_of : Ground → List Group
 groups_of g = g.tables.wires.groups
 
--- what every search finds
+-- what holds of every ground
 pub record IsGround (g : Ground) : Type 0 where
   pub space : IsSpace g.space
   pub tabled : IsTabled g.space.device g.tables

@@ -1,5 +1,5 @@
--- What all searches over a device share (ours; the device is that of `routing_problem`, its groups
--- those of `track_groups`).
+-- The tables that all searches over a device share (ours; the device is that of `routing_problem`,
+-- its groups those of `track_groups`).
 use Rattle.std.specs.Prelude.{List}
 use Rattle.routing_problem.specs.Fabric.{Fabric}
 use Rattle.track_groups.specs.declared.group.Drive.{Drive}
