@@ -1,9 +1,9 @@
--- Each node has room for a net.
-use Rattle.std.proofs.Common.{◌≡◌, ℕ, ◌+◌, ◌≤◌, zero, suc, Bool, true, false, cond, List, [], ◌∷◌, Some, None, if◌then◌else◌, refl, sym, ap, ◌∙◌, subst, arith}
+-- The capacities of nodes: at least 1, and exactly 1 for pins and wires of a detailed device.
+use Rattle.std.proofs.Common.{◌≡◌, ℕ, ◌+◌, ◌<◌, ◌≤◌, inl, inr, Option, zero, suc, Bool, true, false, cond, List, [], ◌∷◌, Some, None, if◌then◌else◌, refl, sym, ap, ◌∙◌, subst, arith}
 use Rattle.std.specs.Prelude.{◌==◌, count_by, slice_get}
 use Rattle.std.specs.List.{filter, find}
 use Rattle.std.specs.Option.{option_map}
-use Rattle.std.proofs.lemmas.Bool.{both_ways}
+use Rattle.std.proofs.lemmas.Bool.{both_ways, cases_lt}
 use Rattle.std.proofs.lemmas.List.Sums.{sum_by-cons}
 use Rattle.std.proofs.lemmas.Option.{none-some, same_Some}
 use Rattle.arch_file.specs.Architecture.{Architecture, class_size, class_direction}
@@ -17,10 +17,11 @@ use Rattle.channel_tables.specs.declared.node.Mode.TheVariants.{Detailed, Global
 use Rattle.channel_tables.specs.declared.node.Node.{Node}
 use Rattle.channel_tables.specs.Fabric.{Fabric, IsFabric, numbers_below, is_block, is_pad}
 use Rattle.channel_tables.specs.Pins.{has_direction, classes_of}
-use Rattle.node_numbers.specs.Nodes.{numbers_at, node_at, capacity_by, capacity_of, wire_capacity, terminals_at}
-use Rattle.node_numbers.proofs.NodesByPlace.{place_of_node}
+use Rattle.node_numbers.specs.Nodes.{numbers_at, node_at, node_count_of, capacity_by, capacity_of, wire_capacity, terminals_at}
+use Rattle.node_numbers.specs.Starts.{kind_start}
+use Rattle.node_numbers.proofs.NodesByPlace.{kind_within, node_count_by_kinds, place_of_node}
 
--- what a filter keeps passes its test
+-- an element that a filter keeps passes its test
 kept_here : (test : ℕ → Bool) (m : ℕ) (kept : List ℕ) (n : ℕ) → ((j : ℕ) → slice_get kept j ≡ Some n → test n ≡ true) →
     (t : Bool) → test m ≡ t → (j : ℕ) → slice_get (if t then m ∷ kept else kept) j ≡ Some n → test n ≡ true
 kept_here test m kept n rest true h zero e = subst (λ k. test k ≡ true) (same_Some m n e) h
@@ -31,7 +32,7 @@ pub kept_passes : (test : ℕ → Bool) (ns : List ℕ) (j n : ℕ) → slice_ge
 kept_passes test [] j n e = absurd (none-some n e)
 kept_passes test (m ∷ ns) j n e = kept_here test m (filter test ns) n (λ i h. kept_passes test ns i n h) (test m) refl j e
 
--- where one is found, one is counted
+-- if one is found, one is counted
 none_directed : (d : Direction) → has_direction d None ≡ true → ⊥
 none_directed Input e = both_ways false refl e
 none_directed Output e = both_ways false refl e
@@ -83,3 +84,22 @@ module _ (f : Fabric) (within : IsFabric f) (i : ℕ) (n : Node) (h : node_at f 
 
   pub some_capacity : 1 ≤ capacity_of f n
   some_capacity = by_kind n.kind refl
+
+-- ---- nodes that one net may use, by their numbers
+one_by_kind : (f : Fabric) (k : Kind) → ((n : Node) → capacity_by k f n ≡ 1) → (o : Option Node) → option_map (λ n. n.kind) o ≡ Some k → option_map (capacity_of f) o ≡ Some 1
+one_by_kind f k one None e = absurd (none-some k e)
+one_by_kind f k one (Some n) e = ap Some (ap (λ kind. capacity_by kind f n) (same_Some n.kind k e) ∙ one n)
+
+-- a pin or a wire of a detailed device
+pub one_net : (f : Fabric) (i : ℕ) → f.mode ≡ Detailed → kind_start f Opin ≤ i → i < node_count_of f → option_map (capacity_of f) (node_at f i) ≡ Some 1
+unfolding kind_start
+one_net f i detailed from l = elim (cases_lt i (kind_start f Ipin)) [
+  | inl opin ↦ one_by_kind f Opin (λ n. refl) (node_at f i) (kind_within f Opin i from opin)
+  | inr ipins ↦ elim (cases_lt i (kind_start f Chanx)) [
+    | inl ipin ↦ one_by_kind f Ipin (λ n. refl) (node_at f i) (kind_within f Ipin i ipins ipin)
+    | inr wires ↦ elim (cases_lt i (kind_start f Chany)) [
+      | inl row ↦ one_by_kind f Chanx (λ n. ap (λ mode. wire_capacity mode f.width) detailed) (node_at f i) (kind_within f Chanx i wires row)
+      | inr column ↦ one_by_kind f Chany (λ n. ap (λ mode. wire_capacity mode f.width) detailed) (node_at f i) (kind_within f Chany i column (omega (arith, l, node_count_by_kinds f)))
+    ]
+  ]
+]

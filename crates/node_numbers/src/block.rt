@@ -1,4 +1,4 @@
-//! What stands at a block: its classes and pins by direction.
+//! The nodes of a block: its classes and pins by direction.
 
 ghost use Rattle.std.specs.Prelude.{◌≡◌, ◌≤◌, length, IfOk};
 ghost use Rattle.arch_file.specs.Architecture.{most_pins};
@@ -10,7 +10,7 @@ use arch_file::Direction;
 use channel_tables::{ChannelTables, Kind};
 use std::alloc::{AllocError, Global};
 
-/// The numbers of a block's nodes, by kind, ascending.
+/// The numbers of a block's nodes by kind, in ascending order.
 #[derive(Debug, Drop)]
 pub(crate) struct BlockNumbers {
     pub(crate) sources: Vec<u32>,
@@ -19,7 +19,7 @@ pub(crate) struct BlockNumbers {
     pub(crate) ipins: Vec<u32>,
 }
 
-/// What stands at a block.
+/// Lists the nodes of a block.
 #[tactic(auto, unfolding(crate::specs::Numbering::block_numbers))]
 pub(crate) fn block_of(alloc: Global, tables: &ChannelTables) -> Result<BlockNumbers, AllocError>
     ensures { IfOk result (IsBlock tables.now) }
@@ -33,7 +33,7 @@ pub(crate) fn block_of(alloc: Global, tables: &ChannelTables) -> Result<BlockNum
     })
 }
 
-/// The numbers of the nodes of a kind at a block, at which no wire stands.
+/// Returns the numbers of the nodes of a kind at a block. A block has no wires.
 #[tactic(auto, unfolding(crate::specs::Numbering::block_numbers))]
 pub(crate) fn numbers(block: &BlockNumbers, kind: Kind) -> &[u32]
     ensures { (f : Fabric) → IsBlock f block.now → result.now ≡ block_numbers f kind }
@@ -47,7 +47,7 @@ pub(crate) fn numbers(block: &BlockNumbers, kind: Kind) -> &[u32]
     }
 }
 
-/// How many nodes of a kind stand at a block.
+/// Returns how many nodes of a kind a block has.
 #[tactic(auto, using(crate::proofs::PlaceStarts::few_numbers))]
 pub(crate) fn count_at_block(block: &BlockNumbers, kind: Kind) -> u32
     requires { (f : Fabric) × IsBlock f block.now }

@@ -1,5 +1,5 @@
-//! The node of a number, and its kind alone, by arithmetic. What makes a node is inlined: through a
-//! call it would pass through memory.
+//! The node of a number, and its kind, by arithmetic. Functions that make a node are inlined, so
+//! that it doesn't pass through memory.
 
 ghost use Rattle.std.specs.Prelude.{◌≡◌, ◌+◌, ◌-◌, ◌*◌, ◌/◌, ◌%◌, ◌≤◌, ◌<◌, true, false, length, slice_get, Some};
 ghost use Rattle.std.specs.Option.{option_map};
@@ -17,14 +17,14 @@ use crate::divisor::Divisor;
 use crate::numbers::NodeNumbers;
 use channel_tables::{Axis, Kind, Layout, Node};
 
-/// A place in a column or a row: the line, and how many nodes stand before it there.
+/// A node in a column or a row: the line, and how many nodes come before it there.
 #[derive(Clone, Copy, Debug)]
 struct LinePlace {
     line: u32,
     rest: u32,
 }
 
-/// The column of a terminal or pin, before which `at` stand, where a block has `count`.
+/// Finds the column of the terminal or pin after `at` others, if a block has `count`.
 #[tactic(auto, unfolding(crate::specs::kept::Columns::columns_length, crate::specs::kept::Columns::column_length, crate::specs::kept::Columns::terminals_length))]
 fn column_found(layout: &Layout, count: u32, at: u32) -> LinePlace
     requires few { count ≤ most_pins }
@@ -55,7 +55,7 @@ fn column_found(layout: &Layout, count: u32, at: u32) -> LinePlace
     }
 }
 
-/// The row of a terminal or pin in a column of blocks, before which `rest` stand there.
+/// Finds the row of the terminal or pin after `rest` others in a column of blocks.
 fn inner_row_found(layout: &Layout, count: u32, rest: u32) -> LinePlace
     requires few { count ≤ most_pins }
     requires within { rest < 2 * layout.now.architecture.io_rat + layout.now.ny * count }
@@ -82,7 +82,7 @@ fn inner_row_found(layout: &Layout, count: u32, rest: u32) -> LinePlace
     }
 }
 
-/// The row of a pad in a column beside the blocks.
+/// Finds the row of a pad in a column beside the blocks.
 fn side_row_found(layout: &Layout, rest: u32) -> LinePlace
     requires { rest < layout.now.ny * layout.now.architecture.io_rat }
     ensures from { 1 ≤ result.line }
@@ -97,21 +97,21 @@ fn side_row_found(layout: &Layout, rest: u32) -> LinePlace
     }
 }
 
-/// Whether blocks stand in column `x`.
+/// Returns whether column `x` has blocks.
 fn has_blocks(layout: &Layout, x: u32) -> bool
     ensures { result ≡ is_between 1 layout.now.nx x }
 {
     1 <= x && x <= layout.nx()
 }
 
-/// Whether blocks stand in row `y`.
+/// Returns whether row `y` has blocks.
 fn is_row_of_blocks(layout: &Layout, y: u32) -> bool
     ensures { result ≡ is_between 1 layout.now.ny y }
 {
     1 <= y && y <= layout.ny()
 }
 
-/// The number of what stands behind `index` others at row `y` of a column of blocks.
+/// Returns the number of the node after `index` others at row `y` of a column of blocks.
 fn inner_number(layout: &Layout, block: &BlockNumbers, kind: Kind, y: u32, index: u32) -> u32
     requires block { IsBlock layout.now block.now }
     requires within { index < inner_place_length layout.now
@@ -128,7 +128,7 @@ fn inner_number(layout: &Layout, block: &BlockNumbers, kind: Kind, y: u32, index
     }
 }
 
-/// The terminal or pin in a column of blocks, before which `rest` stand there.
+/// Returns the terminal or pin after `rest` others in a column of blocks.
 #[inline(always)]
 fn in_block_column(layout: &Layout, block: &BlockNumbers, kind: Kind, x: u32, rest: u32) -> Node
     requires block { IsBlock layout.now block.now }
@@ -148,7 +148,7 @@ fn in_block_column(layout: &Layout, block: &BlockNumbers, kind: Kind, x: u32, re
     }
 }
 
-/// The pad in a column beside the blocks, before which `rest` stand there.
+/// Returns the pad after `rest` others in a column beside the blocks.
 #[inline(always)]
 fn in_side_column(layout: &Layout, kind: Kind, x: u32, rest: u32) -> Node
     requires terminal { is_terminal kind ≡ true }
@@ -166,7 +166,7 @@ fn in_side_column(layout: &Layout, kind: Kind, x: u32, rest: u32) -> Node
     }
 }
 
-/// The column of a terminal or pin of a kind before which `at` of the kind stand.
+/// Finds the column of the terminal or pin after `at` others of its kind.
 #[tactic(auto, using(crate::proofs::PlaceStarts::terminal_length, crate::proofs::NodesFound::terminal_column))]
 fn column_of(layout: &Layout, block: &BlockNumbers, kind: Kind, at: u32) -> LinePlace
     requires block { IsBlock layout.now block.now }
@@ -181,7 +181,7 @@ fn column_of(layout: &Layout, block: &BlockNumbers, kind: Kind, at: u32) -> Line
     column_found(layout, count_at_block(block, kind), at)
 }
 
-/// The terminal or pin of a kind before which `at` of the kind stand.
+/// Returns the terminal or pin after `at` others of its kind.
 #[inline(always)]
 #[tactic(auto, using(crate::proofs::NodesFound::inner_column_length, crate::proofs::NodesFound::side_column_length))]
 fn terminal_found(layout: &Layout, block: &BlockNumbers, kind: Kind, at: u32) -> Node
@@ -199,15 +199,15 @@ fn terminal_found(layout: &Layout, block: &BlockNumbers, kind: Kind, at: u32) ->
 }
 
 impl NodeNumbers {
-    /// How many rows of channels go into a number.
+    /// Divides a number by the count of rows of channels.
     fn by_rows(&self, at: u32) -> u32
         ensures { result ≡ at / (self.now.ny + 1) }
     {
         self.strides.rows.quotient(at)
     }
 
-    /// How often what begins at place `x` of a channel above a row goes into a number, and what is
-    /// left.
+    /// Divides a number by the count of wires that begin at place `x` of a channel above a row.
+    /// Returns quotient and rest.
     #[tactic(auto, using(channel_tables::proofs::Ranges::length_below, channel_tables::proofs::Ranges::get_below))]
     fn by_place(&self, x: u32, rest: u32) -> (u32, u32)
         requires { x ≤ self.now.nx }
@@ -218,7 +218,7 @@ impl NodeNumbers {
         places[x as usize].split(rest)
     }
 
-    /// How often the wires right of a column go into a number, and what is left.
+    /// Divides a number by the count of wires right of a column. Returns quotient and rest.
     fn by_column(&self, at: u32) -> (u32, u32)
         ensures quotient { result.0 ≡ at / column_stride self.now }
         ensures rest { result.1 ≡ at % column_stride self.now }
@@ -226,7 +226,7 @@ impl NodeNumbers {
         self.strides.column.split(at)
     }
 
-    /// The wire above a row before which `at` such wires stand.
+    /// Returns the wire above a row after `at` others.
     #[inline(always)]
     fn above_found(&self, at: u32) -> Node
         requires { at < kind_length self.now Kind.Chanx }
@@ -245,7 +245,7 @@ impl NodeNumbers {
         }
     }
 
-    /// The wire right of a column before which `at` such wires stand.
+    /// Returns the wire right of a column after `at` others.
     #[inline(always)]
     fn right_found(&self, at: u32) -> Node
         requires { at < kind_length self.now Kind.Chany }
@@ -261,7 +261,7 @@ impl NodeNumbers {
         }
     }
 
-    /// The terminal or pin of a kind before which `at` of the kind stand.
+    /// Returns the terminal or pin after `at` others of its kind.
     #[inline(always)]
     fn terminal_of(&self, kind: Kind, at: u32) -> Node
         requires terminal { is_terminal kind ≡ true }
@@ -271,7 +271,7 @@ impl NodeNumbers {
         terminal_found(self.layout(), &self.block, kind, at)
     }
 
-    /// The node of a number.
+    /// Returns the node of a number.
     #[inline(always)]
     #[tactic(auto, using(crate::proofs::NodesByPlace::node_count_by_kinds, crate::proofs::NodesFound::none_past), unfolding(crate::specs::Starts::kind_start))]
     pub(crate) fn node_of(&self, id: u32) -> Option<Node>
@@ -284,7 +284,7 @@ impl NodeNumbers {
         Some(self.node_below(id))
     }
 
-    /// The node of a number that one has.
+    /// Returns the node of a number below the count of nodes.
     #[inline(always)]
     #[tactic(auto, using(crate::proofs::NodesByPlace::node_count_by_kinds), unfolding(crate::specs::Starts::kind_start))]
     fn node_below(&self, id: u32) -> Node
@@ -314,7 +314,7 @@ impl NodeNumbers {
         self.terminal_of(Kind::Source, id)
     }
 
-    /// The kind of the node of a number.
+    /// Returns the kind of the node of a number.
     #[tactic(auto, using(crate::proofs::NodesFound::none_past))]
     pub(crate) fn kind_of(&self, id: u32) -> Option<Kind>
         ensures { result ≡ option_map (λ n. n.kind) (node_at self.now id) }
@@ -325,7 +325,7 @@ impl NodeNumbers {
         Some(self.kind_below(id))
     }
 
-    /// The kind of the node of a number that one has.
+    /// Returns the kind of the node of a number below the count of nodes.
     fn kind_below(&self, id: u32) -> Kind
         requires { id < node_count_of self.now }
         ensures { option_map (λ n. n.kind) (node_at self.now id) ≡ Some result }

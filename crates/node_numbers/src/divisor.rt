@@ -1,4 +1,4 @@
-//! Division by one number over and over, by a multiplication each time (Granlund and Montgomery
+//! Repeated division by the same number, by a multiplication each time (Granlund and Montgomery
 //! 1994).
 
 ghost use Rattle.std.specs.Prelude.{◌≡◌, ℕ, ◌+◌, ◌*◌, ◌/◌, ◌%◌, ◌<◌, ◌≤◌};
@@ -8,11 +8,11 @@ use std::marker::Model;
 /// 2^63.
 const SCALE: u64 = 1 << 63;
 
-/// A number by which others are divided. Contracts see that number.
+/// A divisor with its factor. Contracts see the divisor.
 #[derive(Debug, Drop)]
 pub(crate) struct Divisor {
     number: u32,
-    /// The least number that is above 2^63 divided by it.
+    /// The least number above 2^63 divided by the divisor.
     factor: u64,
 }
 
@@ -28,7 +28,7 @@ impl Model for Divisor {
 }
 
 impl Divisor {
-    /// The divisor of this number.
+    /// Makes a divisor.
     #[tactic(auto, using(crate::proofs::Divisors::factor_made))]
     pub(crate) fn new(number: u32) -> Divisor
         requires { (1 ≤ number) × (number ≤ 2147483648) }
@@ -40,7 +40,7 @@ impl Divisor {
         }
     }
 
-    /// How often it goes into a number.
+    /// Returns the quotient of a number.
 
     pub(crate) fn quotient(&self, number: u32) -> u32
         ensures { result ≡ number / self.now }
@@ -48,7 +48,7 @@ impl Divisor {
         (u128::from(number) * u128::from(self.factor) / u128::from(SCALE)) as u32
     }
 
-    /// How often it goes into a number, and what is left.
+    /// Returns quotient and rest of a number.
 
     pub(crate) fn split(&self, number: u32) -> (u32, u32)
         ensures quotient { result.0 ≡ number / self.now }

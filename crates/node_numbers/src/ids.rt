@@ -12,7 +12,7 @@ ghost use Rattle.node_numbers.specs.kept.WireIds.{wire_id};
 use crate::numbers::NodeNumbers;
 use channel_tables::{Axis, Kind, Node};
 
-/// The place of a number in a list.
+/// Returns the place of a number in a list.
 fn position_of(numbers: &[u32], number: u32) -> Option<usize>
     ensures { result ≡ position (λ n. n == number) numbers.now }
 {
@@ -20,7 +20,7 @@ fn position_of(numbers: &[u32], number: u32) -> Option<usize>
 }
 
 impl NodeNumbers {
-    /// Whether a wire of the track begins at a place of the channels along an axis.
+    /// Returns whether a wire of a track begins at a place of the channels along an axis.
     #[tactic(auto, using(channel_tables::proofs::WireTables::begins_by_first))]
     pub(crate) fn begins(&self, axis: Axis, track: u32, place: u32) -> bool
         requires place { (1 ≤ place) × (place ≤ places_along axis self.now) }
@@ -30,7 +30,8 @@ impl NodeNumbers {
         u32::from(self.tables.wire_at(axis, track, place).first) == place
     }
 
-    /// Whether a wire begins at a place of a channel along an axis, in a track.
+    /// Returns whether a wire begins at a place of a channel along an axis. False if there is no
+    /// such track, place or channel.
     fn is_wire(&self, axis: Axis, track: u32, place: u32, channel: u32) -> bool
         ensures { result ≡ ((is_between 1 (places_along axis self.now) place
             && (nat_le channel (places_along (across axis) self.now)
@@ -43,7 +44,7 @@ impl NodeNumbers {
         is_inside && self.begins(axis, track, place)
     }
 
-    /// The number of a wire above row `y` that begins at `x`.
+    /// Returns the number of the wire above row `y` that begins at `x`.
     #[tactic(auto, using(crate::proofs::NumbersAtPlaces::above_by_row))]
     fn number_above(&self, x: u32, y: u32, track: u32) -> u32
         requires place { (1 ≤ x) × (x ≤ self.now.nx) }
@@ -57,7 +58,7 @@ impl NodeNumbers {
         self.above_first(track, x) + y * step
     }
 
-    /// The number of a wire right of column `x` that begins at `y`.
+    /// Returns the number of the wire right of column `x` that begins at `y`.
     #[tactic(auto, using(crate::proofs::NumbersAtPlaces::right_by_column))]
     fn number_right(&self, x: u32, y: u32, track: u32) -> u32
         requires place { (1 ≤ y) × (y ≤ self.now.ny) }
@@ -71,7 +72,7 @@ impl NodeNumbers {
         self.right_first(track, y) + x * step
     }
 
-    /// The number of a wire above a row; None for what is no wire.
+    /// Returns the number of a wire above a row, or None if there is no such wire.
     fn id_above(&self, x: u32, y: u32, track: u32) -> Option<u32>
         ensures { result ≡ number_of self.now (node_of Kind.Chanx x y track) }
     {
@@ -82,7 +83,7 @@ impl NodeNumbers {
         }
     }
 
-    /// The number of a wire right of a column; None for what is no wire.
+    /// Returns the number of a wire right of a column, or None if there is no such wire.
     fn id_right(&self, x: u32, y: u32, track: u32) -> Option<u32>
         ensures { result ≡ number_of self.now (node_of Kind.Chany x y track) }
     {
@@ -93,7 +94,7 @@ impl NodeNumbers {
         }
     }
 
-    /// The number of a node of a block; None for what is no node.
+    /// Returns the number of a node of a block, or None if there is no such node.
     fn id_at_block(&self, kind: Kind, x: u32, y: u32, number: u32) -> Option<u32>
         requires terminal { is_terminal kind ≡ true }
         requires block { is_block self.now x y ≡ true }
@@ -105,14 +106,14 @@ impl NodeNumbers {
         }
     }
 
-    /// Whether a pad of that number stands at (x, y).
+    /// Returns whether there is a pad with a number at (x, y).
     fn has_pad(&self, x: u32, y: u32, number: u32) -> bool
         ensures { result ≡ (is_pad self.now x y && nat_lt number self.now.architecture.io_rat) }
     {
         self.layout().is_pad(x, y) && number < self.layout().architecture().io_rat()
     }
 
-    /// The number of a pad; None for what is no node.
+    /// Returns the number of a pad's node, or None if there is no such node.
     fn id_of_pad(&self, kind: Kind, x: u32, y: u32, number: u32) -> Option<u32>
         requires terminal { is_terminal kind ≡ true }
         requires perimeter { is_block self.now x y ≡ false }
@@ -125,7 +126,7 @@ impl NodeNumbers {
         }
     }
 
-    /// The number of a terminal or pin; None for what is no node.
+    /// Returns the number of a terminal or pin, or None if there is no such node.
     fn id_of_terminal(&self, kind: Kind, x: u32, y: u32, number: u32) -> Option<u32>
         requires { is_terminal kind ≡ true }
         ensures { result ≡ number_of self.now (node_of kind x y number) }
@@ -137,7 +138,7 @@ impl NodeNumbers {
         }
     }
 
-    /// The number of a node; None for what is no node.
+    /// Returns the number of a node, or None if there is no such node.
     pub(crate) fn id_of(&self, node: Node) -> Option<u32>
         ensures { result ≡ number_of self.now node }
     {

@@ -1,4 +1,4 @@
-//! The nodes of a device's routing-resource graph: which number a node has, and which node a number
+//! The nodes of a device's routing-resource graph: the number of a node, and the node of a number
 //! (Betz, Rose and Marquardt 1999; VPR and T-VPack manual 4.30).
 #![tactic(auto)]
 

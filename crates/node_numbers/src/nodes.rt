@@ -1,4 +1,4 @@
-//! What a node is: its label, its capacity by its kind, and its span.
+//! Properties of a node: its label, its capacity, and its span.
 
 ghost use Rattle.std.specs.Prelude.{◌≡◌};
 ghost use Rattle.channel_tables.specs.Fabric.{Fabric};
@@ -7,7 +7,7 @@ ghost use Rattle.node_numbers.specs.Nodes.{label_of, terminal_capacity, wire_cap
 
 use channel_tables::{Kind, Label, Layout, Mode, Node, Span};
 
-/// What the node's number counts.
+/// Returns what the node's number counts.
 pub(crate) fn label_of(layout: &Layout, node: Node) -> Label
     ensures { result ≡ label_of layout.now node }
 {
@@ -22,7 +22,7 @@ pub(crate) fn label_of(layout: &Layout, node: Node) -> Label
     }
 }
 
-/// How many nets may use a source or a sink: the pins of a block's class; 1 at a pad.
+/// Returns how many nets may use a source or a sink: the pins of a block's class, or 1 at a pad.
 pub(crate) fn terminal_capacity(layout: &Layout, node: Node) -> u32
     ensures { result ≡ terminal_capacity layout.now node }
 {
@@ -33,7 +33,7 @@ pub(crate) fn terminal_capacity(layout: &Layout, node: Node) -> u32
     }
 }
 
-/// How many nets may use a wire.
+/// Returns how many nets may use a wire.
 pub(crate) fn wire_capacity(layout: &Layout) -> u32
     ensures { result ≡ wire_capacity layout.now.mode layout.now.width }
 {
@@ -43,7 +43,7 @@ pub(crate) fn wire_capacity(layout: &Layout) -> u32
     }
 }
 
-/// The first and the last place of the node; `last` is its last along its channel.
+/// Returns the first and the last place of the node; `last` is its last along its channel.
 pub(crate) fn span_of(node: Node, last: u32) -> Span
     ensures { (f : Fabric) → last ≡ last_by node.kind f node → result ≡ span_of f node }
 {

@@ -16,8 +16,8 @@ use crate::numbers::NodeNumbers;
 use crate::starts::kind_start;
 use channel_tables::{Axis, Kind, Layout, Node};
 
-/// How many nodes of a kind of terminals or pins, of which a block has `count`, stand in the
-/// columns before `x`.
+/// Returns how many terminals or pins of a kind are in the columns before `x`, if a block has
+/// `count`.
 #[tactic(auto, unfolding(crate::specs::kept::Columns::columns_length))]
 fn columns_length(layout: &Layout, count: u32, x: u32) -> u32
     requires few { count ≤ most_pins }
@@ -34,7 +34,7 @@ fn columns_length(layout: &Layout, count: u32, x: u32) -> u32
     ny * pads + (x - 1) * inner
 }
 
-/// How many stand in the rows before `y` of column `x`.
+/// Returns how many are in the rows before `y` of column `x`.
 #[tactic(auto, unfolding(crate::specs::kept::Columns::rows_length))]
 fn rows_length(layout: &Layout, count: u32, x: u32, y: u32) -> u32
     requires few { count ≤ most_pins }
@@ -52,7 +52,7 @@ fn rows_length(layout: &Layout, count: u32, x: u32, y: u32) -> u32
 }
 
 impl NodeNumbers {
-    /// The numbers of the nodes of a kind at a block.
+    /// Returns the numbers of the nodes of a kind at a block.
     pub fn numbers(&self, kind: Kind) -> &[u32]
         ensures numbers { result.now ≡ block_numbers self.now kind }
         ensures limits { IsFabric self.now }
@@ -60,7 +60,7 @@ impl NodeNumbers {
         numbers(&self.block, kind)
     }
 
-    /// How many nodes of a kind stand at a block.
+    /// Returns how many nodes of a kind a block has.
     #[tactic(auto, using(crate::proofs::PlaceStarts::few_numbers))]
     pub fn number_count(&self, kind: Kind) -> u32
         ensures count { result ≡ length (block_numbers self.now kind) }
@@ -70,7 +70,7 @@ impl NodeNumbers {
         self.numbers(kind).len() as u32
     }
 
-    /// How many nodes stand before those of a kind.
+    /// Returns how many nodes come before those of a kind.
     #[tactic(auto, using(crate::proofs::NumbersAtPlaces::small_start))]
     pub fn kind_start(&self, kind: Kind) -> u32
         ensures start { result ≡ kind_start self.now kind }
@@ -79,7 +79,7 @@ impl NodeNumbers {
         kind_start(self.starts, kind)
     }
 
-    /// How many nodes stand before the terminals or pins of a kind at (x, y).
+    /// Returns how many nodes come before the terminals or pins of a kind at (x, y).
     #[tactic(auto, using(crate::proofs::PlaceStarts::terminal_start, crate::proofs::PlaceStarts::few_numbers))]
     pub fn terminal_start(&self, kind: Kind, x: u32, y: u32) -> u32
         requires terminal { is_terminal kind ≡ true }
@@ -95,7 +95,7 @@ impl NodeNumbers {
         self.kind_start(kind) + columns + rows
     }
 
-    /// The number of the wire of a track that begins at place `x` above row 0.
+    /// Returns the number of the wire of a track that begins at place `x` above row 0.
     #[tactic(auto, using(crate::proofs::NumbersAtPlaces::above_first, channel_tables::proofs::WireTables::wire_here))]
     pub(crate) fn above_first(&self, track: u32, x: u32) -> u32
         requires place { (1 ≤ x) × (x ≤ self.now.nx) }
@@ -109,7 +109,7 @@ impl NodeNumbers {
         self.kind_start(Kind::Chanx) + (self.layout().ny() * before + number)
     }
 
-    /// The number of the wire of a track that begins at place `y` right of column 0.
+    /// Returns the number of the wire of a track that begins at place `y` right of column 0.
     #[tactic(auto, using(crate::proofs::NumbersAtPlaces::right_first, channel_tables::proofs::WireTables::wire_here))]
     pub(crate) fn right_first(&self, track: u32, y: u32) -> u32
         requires place { (1 ≤ y) × (y ≤ self.now.ny) }
@@ -122,7 +122,7 @@ impl NodeNumbers {
         self.kind_start(Kind::Chany) + u32::from(wire.number)
     }
 
-    /// The last place along its channel of the node of a number; of no wire its x.
+    /// Returns the last place of a node along its channel, or its x if it is no wire.
     #[tactic(auto, using(crate::proofs::NumbersAtPlaces::last_above, crate::proofs::NumbersAtPlaces::last_right, crate::proofs::NumbersAtPlaces::place_above, crate::proofs::NumbersAtPlaces::track_above, crate::proofs::NumbersAtPlaces::place_right, crate::proofs::NumbersAtPlaces::track_right))]
     pub fn last_of(&self, node: Node) -> u32
         requires { (id : ℕ) × (node_at self.now id ≡ Some node) }

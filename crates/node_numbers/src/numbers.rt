@@ -1,6 +1,6 @@
 //! The numbers of a device's nodes, and the nodes of numbers.
 
-ghost use Rattle.std.specs.Prelude.{◌≡◌, ℕ, ◌^◌, ◌<◌, ◌≤◌, nat_le, IfOk, IfSome, Some};
+ghost use Rattle.std.specs.Prelude.{◌≡◌, ℕ, ◌^◌, ◌<◌, ◌≤◌, nat_le, IfOk, IfSome, Some, true};
 ghost use Rattle.std.specs.Option.{option_map};
 ghost use Rattle.channel_tables.specs.Fabric.{IsFabric};
 ghost use Rattle.node_numbers.specs.Nodes.{node_count_of, node_at, kind_of_node, is_wire_at, number_of, label_of, capacity_of, span_of, wire_in};
@@ -9,12 +9,12 @@ use crate::block::{BlockNumbers, block_of};
 use crate::nodes::{label_of, span_of, terminal_capacity, wire_capacity};
 use crate::starts::{Starts, starts_of};
 use crate::strides::{Strides, strides_of};
-use channel_tables::{ChannelTables, Kind, Label, Layout, Node, Span};
+use channel_tables::{ChannelTables, Kind, Label, Layout, Mode, Node, Span};
 use std::alloc::{AllocError, Global};
 use std::marker::Model;
 
-/// The nodes of a device by number: its tables, and how many nodes stand before others.
-/// Contracts see the record of the device.
+/// The nodes of a device by number: its tables, and how many nodes come before others. Contracts
+/// see the record of the device.
 #[derive(Drop)]
 pub struct NodeNumbers {
     pub(crate) tables: ChannelTables,
@@ -37,7 +37,7 @@ impl Model for NodeNumbers {
 }
 
 impl NodeNumbers {
-    /// The numbers of a device's nodes, from its tables.
+    /// Makes the numbers of a device's nodes from its tables.
     pub fn new(alloc: Global, tables: ChannelTables) -> Result<NodeNumbers, AllocError>
         ensures made { IfOk result (λ n. n ≡ tables) }
         ensures limits { IfOk result IsFabric }
@@ -53,14 +53,14 @@ impl NodeNumbers {
         })
     }
 
-    /// A copy.
+    /// Returns a copy.
     pub fn copy(&self, alloc: Global) -> Result<NodeNumbers, AllocError>
         ensures { IfOk result (λ n. n ≡ self.now) }
     {
         NodeNumbers::new(alloc, self.tables.copy(alloc)?)
     }
 
-    /// The tables of the device's channels and pins.
+    /// Returns the tables of the device's channels and pins.
     #[inline(always)]
     pub fn tables(&self) -> &ChannelTables
         ensures tables { result.now ≡ self.now }
@@ -69,7 +69,7 @@ impl NodeNumbers {
         &self.tables
     }
 
-    /// What the device is made from.
+    /// Returns the layout that the device is made from.
     #[inline(always)]
     pub fn layout(&self) -> &Layout
         ensures layout { result.now ≡ self.now }
@@ -78,7 +78,7 @@ impl NodeNumbers {
         self.tables.layout()
     }
 
-    /// How many nodes there are: fewer than 2^23.
+    /// Returns the count of nodes, which is below 2^23.
     #[tactic(auto, using(crate::proofs::Order::node_count_below))]
     pub fn node_count(&self) -> u32
         ensures count { result ≡ node_count_of self.now }
@@ -88,7 +88,7 @@ impl NodeNumbers {
         self.starts.end
     }
 
-    /// The number of the first wire: all nodes from there on are wires, and none before is one.
+    /// Returns the number of the first wire. Exactly the nodes from there on are wires.
     #[tactic(auto, using(crate::proofs::FirstWire::wires_from, crate::proofs::FirstWire::few_before_wires))]
     pub fn first_wire(&self) -> u32
         ensures wires { (i : ℕ) → i < node_count_of self.now
@@ -98,7 +98,7 @@ impl NodeNumbers {
         self.kind_start(Kind::Chanx)
     }
 
-    /// The node of a number.
+    /// Returns the node of a number, or None if there is none.
     #[inline(always)]
     pub fn node(&self, id: u32) -> Option<Node>
         ensures node { result ≡ node_at self.now id }
@@ -107,21 +107,22 @@ impl NodeNumbers {
         self.node_of(id)
     }
 
-    /// The kind of the node of a number, found without the node.
+    /// Returns the kind of the node of a number, without finding the node.
     pub fn kind(&self, id: u32) -> Option<Kind>
         ensures { result ≡ kind_of_node self.now id }
     {
         self.kind_of(id)
     }
 
-    /// What a node's number counts.
+    /// Returns what a node's number counts.
     pub fn label(&self, id: u32) -> Option<Label>
         ensures { result ≡ option_map (label_of self.now) (node_at self.now id) }
     {
         self.node(id).map(|node| label_of(self.layout(), node))
     }
 
-    /// The number of a node: how many nodes stand before it. None for what is no node.
+    /// Returns the number of a node, which is how many nodes come before it, or None if it is no
+    /// node of the device.
     pub fn id(&self, node: Node) -> Option<u32>
         ensures number { result ≡ number_of self.now node }
         ensures inverse { IfSome result (λ i. node_at self.now i ≡ Some node) }
@@ -129,8 +130,35 @@ impl NodeNumbers {
         self.id_of(node)
     }
 
-    /// How many nets may use a node. The node is looked for only where it is a source or a sink.
+    /// Returns how many nets may use a node. Pins and wires of a detailed device are known by their
+    /// numbers.
+    #[inline(always)]
     pub fn capacity(&self, id: u32) -> Option<u32>
+        ensures { result ≡ option_map (capacity_of self.now) (node_at self.now id) }
+    {
+        if self.is_single(id) {
+            return Some(1);
+        }
+        self.capacity_by_kind(id)
+    }
+
+    /// Returns whether a number is that of a pin or a wire of a detailed device. One net may use
+    /// such a node.
+    #[inline(always)]
+    #[tactic(auto, using(crate::proofs::Capacities::one_net))]
+    fn is_single(&self, id: u32) -> bool
+        ensures { result ≡ true
+            → option_map (capacity_of self.now) (node_at self.now id) ≡ Some 1 }
+    {
+        match self.layout().mode() {
+            Mode::Detailed => self.kind_start(Kind::Opin) <= id && id < self.node_count(),
+            Mode::Global => false,
+        }
+    }
+
+    /// Returns how many nets may use a node, by its kind. Only sources and sinks are looked up.
+    #[inline(never)]
+    fn capacity_by_kind(&self, id: u32) -> Option<u32>
         ensures { result ≡ option_map (capacity_of self.now) (node_at self.now id) }
     {
         match self.kind(id) {
@@ -144,7 +172,7 @@ impl NodeNumbers {
         }
     }
 
-    /// The first and the last place of a node; only those of a wire may differ.
+    /// Returns the first and the last place of a node. Only those of a wire may differ.
     pub fn span(&self, id: u32) -> Option<Span>
         ensures { result ≡ option_map (span_of self.now) (node_at self.now id) }
     {
@@ -154,8 +182,8 @@ impl NodeNumbers {
         }
     }
 
-    /// The kind of a wire, the places that it passes, and how many the wires of its track pass at
-    /// most, from one look-up; None for what is no wire.
+    /// Returns the kind of a wire, its first and last place, and the most places of a wire of its
+    /// track, from one look-up. None if the node is no wire.
     #[tactic(auto, unfolding(crate::specs::Nodes::wire_in))]
     pub fn wire(&self, id: u32) -> Option<(Kind, Span, u32)>
         ensures { result ≡ wire_in self.now (node_at self.now id) }

@@ -1,4 +1,4 @@
-//! How many nodes stand before those of a kind, counted by arithmetic.
+//! How many nodes come before those of a kind, by arithmetic.
 
 ghost use Rattle.std.specs.Prelude.{◌≡◌, ◌≤◌, true};
 ghost use Rattle.arch_file.specs.Architecture.{most_pins};
@@ -11,7 +11,7 @@ ghost use Rattle.node_numbers.specs.kept.Numbers.{IsBlock, IsStarts};
 use crate::block::{BlockNumbers, numbers};
 use channel_tables::{Axis, ChannelTables, Kind, Layout};
 
-/// How many nodes stand before those of each kind, and how many there are.
+/// How many nodes come before those of each kind, and the count of nodes.
 #[derive(Clone, Copy, Debug)]
 pub(crate) struct Starts {
     pub(crate) sink: u32,
@@ -22,7 +22,7 @@ pub(crate) struct Starts {
     pub(crate) end: u32,
 }
 
-/// How many nodes there are of a kind of terminals or pins, of which a block has `count`.
+/// Returns how many terminals or pins of a kind there are, if a block has `count`.
 #[tactic(auto, unfolding(crate::specs::kept::Columns::terminals_length))]
 fn terminal_count(layout: &Layout, count: usize) -> u32
     requires { count ≤ most_pins }
@@ -34,7 +34,7 @@ fn terminal_count(layout: &Layout, count: usize) -> u32
     2 * (layout.ny() * pads) + layout.nx() * (2 * pads + blocks)
 }
 
-/// How many nodes there are of a kind of terminals or pins.
+/// Returns how many terminals or pins of a kind there are.
 #[tactic(auto, using(crate::proofs::PlaceStarts::few_numbers, crate::proofs::PlaceStarts::terminal_length))]
 fn terminals_of(tables: &ChannelTables, block: &BlockNumbers, kind: Kind) -> u32
     requires terminal { is_terminal kind ≡ true }
@@ -46,7 +46,7 @@ fn terminals_of(tables: &ChannelTables, block: &BlockNumbers, kind: Kind) -> u32
     terminal_count(layout, numbers(block, kind).len())
 }
 
-/// How many wires lie above rows.
+/// Returns how many wires there are above rows.
 #[tactic(auto, using(crate::proofs::PlaceStarts::above_count))]
 fn wires_above(tables: &ChannelTables) -> u32
     ensures count { result ≡ kind_length tables.now Kind.Chanx }
@@ -56,7 +56,7 @@ fn wires_above(tables: &ChannelTables) -> u32
     (layout.ny() + 1) * tables.wires_before(Axis::Row, layout.nx() + 1)
 }
 
-/// How many wires lie right of columns.
+/// Returns how many wires there are right of columns.
 #[tactic(auto, using(crate::proofs::PlaceStarts::right_count))]
 fn wires_right(tables: &ChannelTables) -> u32
     ensures count { result ≡ kind_length tables.now Kind.Chany }
@@ -65,7 +65,7 @@ fn wires_right(tables: &ChannelTables) -> u32
     (tables.layout().nx() + 1) * tables.right_step()
 }
 
-/// How many nodes stand before those of each kind, and how many there are.
+/// Returns how many nodes come before those of each kind, and the count of nodes.
 #[tactic(auto, unfolding(crate::specs::Starts::kind_start))]
 pub(crate) fn starts_of(tables: &ChannelTables, block: &BlockNumbers) -> Starts
     requires { IsBlock tables.now block.now }
@@ -87,7 +87,7 @@ pub(crate) fn starts_of(tables: &ChannelTables, block: &BlockNumbers) -> Starts
     }
 }
 
-/// How many nodes stand before those of a kind.
+/// Returns how many nodes come before those of a kind.
 #[tactic(auto, unfolding(crate::specs::Starts::kind_start))]
 pub(crate) fn kind_start(starts: Starts, kind: Kind) -> u32
     ensures { (f : Fabric) → IsStarts f starts → result ≡ kind_start f kind }

@@ -1,4 +1,4 @@
-//! By what numbers are divided to find wires: divisors that are made once.
+//! The divisors that find wires by their numbers. They are made once.
 
 ghost use Rattle.std.specs.Prelude.{◌≡◌, ◌+◌, ◌≤◌, map, max, IfOk};
 ghost use Rattle.channel_tables.specs.Fabric.{numbers_below};
@@ -8,18 +8,18 @@ use crate::divisor::Divisor;
 use channel_tables::ChannelTables;
 use std::alloc::{AllocError, Global};
 
-/// The divisors with which a device finds wires by their numbers.
+/// The divisors that find wires by their numbers.
 #[derive(Debug, Drop)]
 pub(crate) struct Strides {
-    /// How many rows of channels there are.
+    /// The count of rows of channels.
     pub(crate) rows: Divisor,
-    /// How many wires a channel right of a column has: 1 at least.
+    /// How many wires a channel right of a column has, at least 1.
     pub(crate) column: Divisor,
-    /// For each place how many wires of a channel above a row begin there: 1 at least.
+    /// For each place, how many wires of a channel above a row begin there, at least 1.
     pub(crate) places: Vec<Divisor>,
 }
 
-/// The divisor of a count, or 1 in place of 0.
+/// Makes the divisor of a count, or of 1 if the count is 0.
 fn divisor_of(count: u32) -> Divisor
     requires { count ≤ 65536 }
     ensures { result ≡ max count 1 }
@@ -27,7 +27,7 @@ fn divisor_of(count: u32) -> Divisor
     Divisor::new(count.max(1))
 }
 
-/// The divisor of a place of a channel above a row.
+/// Makes the divisor of a place of a channel above a row.
 fn place_stride(tables: &ChannelTables, place: u32) -> Divisor
     requires { place ≤ tables.now.nx }
     ensures { result ≡ stride_at tables.now place }
@@ -35,7 +35,7 @@ fn place_stride(tables: &ChannelTables, place: u32) -> Divisor
     divisor_of(tables.above_step(place))
 }
 
-/// The divisor of each place of a channel above a row.
+/// Makes the divisor of each place of a channel above a row.
 #[tactic(auto, using(channel_tables::proofs::Ranges::mapped_next))]
 fn place_strides(alloc: Global, tables: &ChannelTables) -> Result<Vec<Divisor>, AllocError>
     ensures { IfOk result (λ v. v.items ≡ map (stride_at tables.now)
@@ -49,7 +49,7 @@ fn place_strides(alloc: Global, tables: &ChannelTables) -> Result<Vec<Divisor>, 
     Ok(strides)
 }
 
-/// The divisors of a device with these channels.
+/// Makes the divisors of a device with these channels.
 pub(crate) fn strides_of(alloc: Global, tables: &ChannelTables) -> Result<Strides, AllocError>
     ensures { IfOk result (AreStrides tables.now) }
 {
