@@ -4,3 +4,4 @@ pub mod Examples
 pub mod Shifts
 pub mod Packing
 pub mod Noting
+pub mod FlagsAdded

@@ -1,5 +1,5 @@
--- Packed counts: one node's number is put, and all are copied, block by block.
-use Rattle.std.proofs.Common.{◌≡◌, ◌≢◌, ℕ, zero, suc, ◌+◌, ◌*◌, ◌/◌, ◌%◌, ◌<◌, ◌≤◌, List, length, get_or, set, replicate, refl, sym, ◌∙◌, ap, subst, inl, inr, arith}
+-- Packed counts: setting the number of a node, and copying all, block by block.
+use Rattle.std.proofs.Common.{◌≡◌, ◌≢◌, ◌↔◌, ℕ, zero, suc, ◌+◌, ◌*◌, ◌/◌, ◌%◌, ◌<◌, ◌≤◌, List, length, get_or, set, replicate, refl, sym, ◌∙◌, ap, subst, inl, inr, arith}
 use Rattle.std.specs.Prelude.{Bool, true, false, eqb, if◌then◌else◌, min, ◌-◌}
 use Rattle.std.proofs.lemmas.Bool.{cases_eq, cases_lt}
 use Rattle.std.proofs.lemmas.Bool.Decides.{nat_tests}
@@ -7,7 +7,7 @@ use Rattle.std.proofs.lemmas.List.{ext_get_or, get_or_past, get_or-set_same, get
 use Rattle.std.proofs.lemmas.List.Elements.{All-replicate}
 use Rattle.std.proofs.lemmas.List.FromFn.{length-map-range_with_len, get_or-map-range_with_len}
 use Rattle.node_cost.specs.kept.Words.{number_at, IsPut}
-use Rattle.node_cost.specs.kept.Packed.{narrow_of, count_of, counts_of, IsMarked, PutsNarrow, AgreesBelow, CopiesPart, CopiesBlock, IsPacked}
+use Rattle.node_cost.specs.kept.Packed.{narrow_of, flag_of, count_of, counts_of, IsMarked, IsFull, PutsNarrow, AgreesBelow, CopiesPart, CopiesBlock, IsPacked}
 
 pub length_counts : (words wide : List ℕ) → length (counts_of words wide) ≡ length wide
 unfolding counts_of
@@ -42,28 +42,56 @@ counts_put words wide new_words new id n l e here elsewhere =
           elsewhere k apart ∙ (sym (count_is words wide k (omega arith)) ∙ sym (get_or-set_other (counts_of words wide) id k n 0 apart))
     ])
 
--- a number that four bits hold, and one that the table has
-narrow_reported : (bits wide n : ℕ) → bits ≡ n → n < 15 → (if eqb bits 15 then wide else bits) ≡ n
-narrow_reported bits wide n e l = grind (arith, nat_tests)
+-- a number in three bits, and one in the table
+narrow_reported : (number wide n : ℕ) → number ≡ n → n < 7 → (if eqb number 7 then wide else number) ≡ n
+narrow_reported number wide n e l = grind (arith, nat_tests)
 
-wide_reported : (bits wide : ℕ) → bits ≡ 15 → (if eqb bits 15 then wide else bits) ≡ wide
-wide_reported bits wide e = grind (arith, nat_tests)
+wide_reported : (number wide : ℕ) → number ≡ 7 → (if eqb number 7 then wide else number) ≡ wide
+wide_reported number wide e = grind (arith, nat_tests)
 
-pub narrow_put : (words new wide : List ℕ) (id count : ℕ) → id < length wide → count < 15 → PutsNarrow id count words new →
+-- the four bits of a flag and a number
+number_of : (flag n bits : ℕ) → n < 8 → bits ≡ 8 * flag + n → bits % 8 ≡ n
+number_of flag n bits l e = omega (arith, l, e)
+
+pub narrow_put : (words new wide : List ℕ) (id flag count : ℕ) → id < length wide → count < 7 → PutsNarrow id (8 * flag + count) words new →
     counts_of new wide ≡ set (counts_of words wide) id count
 unfolding count_of
-narrow_put words new wide id n l few put =
-    counts_put words wide new wide id n l refl (narrow_reported (narrow_of new id) (get_or wide id 0) n put.here few)
-    (λ k apart. ap (λ b. if eqb b 15 then get_or wide k 0 else b) (put.elsewhere k apart))
+narrow_put words new wide id flag n l few put =
+    counts_put words wide new wide id n l refl (narrow_reported (narrow_of new id % 8) (get_or wide id 0) n (number_of flag n (narrow_of new id) (omega (arith, few)) put.here) few)
+    (λ k apart. ap (λ b. if eqb (b % 8) 7 then get_or wide k 0 else b % 8) (put.elsewhere k apart))
 
-pub wide_put : (words new wide : List ℕ) (id count : ℕ) → id < length wide → PutsNarrow id 15 words new →
+pub wide_put : (words new wide : List ℕ) (id flag count : ℕ) → id < length wide → PutsNarrow id (8 * flag + 7) words new →
     counts_of new (set wide id count) ≡ set (counts_of words wide) id count
 unfolding count_of
-wide_put words new wide id n l put =
+wide_put words new wide id flag n l put =
     counts_put words wide new (set wide id n) id n l (length-set wide id n)
-    (wide_reported (narrow_of new id) (get_or (set wide id n) id 0) put.here ∙ get_or-set_same wide id n 0 l)
-    (λ k apart. ap (λ b. if eqb b 15 then get_or (set wide id n) k 0 else b) (put.elsewhere k apart)
-    ∙ ap (λ w. if eqb (narrow_of words k) 15 then w else narrow_of words k) (get_or-set_other wide id k n 0 apart))
+    (wide_reported (narrow_of new id % 8) (get_or (set wide id n) id 0) (number_of flag 7 (narrow_of new id) (omega arith) put.here) ∙ get_or-set_same wide id n 0 l)
+    (λ k apart. ap (λ b. if eqb (b % 8) 7 then get_or (set wide id n) k 0 else b % 8) (put.elsewhere k apart)
+    ∙ ap (λ w. if eqb (narrow_of words k % 8) 7 then w else narrow_of words k % 8) (get_or-set_other wide id k n 0 apart))
+
+-- setting a number keeps flags
+pub flags_kept : (words new : List ℕ) (id flag n : ℕ) → flag ≡ narrow_of words id / 8 → n < 8 → PutsNarrow id (8 * flag + n) words new → (k : ℕ) → flag_of new k ≡ flag_of words k
+flags_kept words new id flag n is l put k = elim (cases_eq k id) [
+  | inl same ↦
+      let here : narrow_of new k ≡ 8 * flag + n = ap (narrow_of new) same ∙ put.here in
+      let there : narrow_of words k ≡ narrow_of words id = ap (narrow_of words) same in
+      omega (arith, here, there, is, l)
+  | inr apart ↦ ap (λ b. b / 8) (put.elsewhere k apart)
+]
+
+-- setting a flag keeps numbers
+pub numbers_kept : (words new : List ℕ) (id flag : ℕ) → PutsNarrow id (narrow_of words id % 8 + 8 * flag) words new → (k : ℕ) → narrow_of new k % 8 ≡ narrow_of words k % 8
+numbers_kept words new id flag put k = elim (cases_eq k id) [
+  | inl same ↦
+      let here : narrow_of new k ≡ narrow_of words id % 8 + 8 * flag = ap (narrow_of new) same ∙ put.here in
+      let there : narrow_of words k ≡ narrow_of words id = ap (narrow_of words) same in
+      omega (arith, here, there)
+  | inr apart ↦ ap (λ b. b % 8) (put.elsewhere k apart)
+]
+
+pub counts_kept : (words new wide : List ℕ) → ((k : ℕ) → narrow_of new k % 8 ≡ narrow_of words k % 8) → counts_of new wide ≡ counts_of words wide
+unfolding count_of
+counts_kept words new wide same = same_counts new wide words wide refl (λ id l. ap (λ n. if eqb n 7 then get_or wide id 0 else n) (same id))
 
 -- the bits of one node in its word
 pub bits_put : (words : List ℕ) (id number word : ℕ) → id < 16 * length words → IsPut (id % 16) number (get_or words (id / 16) 0) word →
@@ -94,7 +122,7 @@ unfolding count_of narrow_of
 none_counted m n =
     ext_get_or 0 (counts_of (replicate m 0) (replicate n 0)) (replicate n 0) (length_counts (replicate m 0) (replicate n 0))
     (λ i l. count_is (replicate m 0) (replicate n 0) i (omega (arith, length_counts (replicate m 0) (replicate n 0)))
-    ∙ (narrow_reported _ (get_or (replicate n 0) i 0) 0 (ap (λ w. number_at w (i % 16)) (zero_everywhere m (i / 16) 0 refl) ∙ nothing_at (i % 16)) (omega arith)
+    ∙ (narrow_reported _ (get_or (replicate n 0) i 0) 0 (ap (λ b. b % 8) (ap (λ w. number_at w (i % 16)) (zero_everywhere m (i / 16) 0 refl) ∙ nothing_at (i % 16))) (omega arith)
     ∙ sym (zero_everywhere n i 0 refl)))
 
 pub none_packed : (words wide : List ℕ) (marks : List Bool) (nodes : ℕ) → words ≡ replicate (nodes / 16 + 1) 0 → wide ≡ replicate nodes 0 →
@@ -103,36 +131,71 @@ unfolding narrow_of
 none_packed words wide marks n few none blocks = record {
   each = rw (few, none, length-replicate {A = ℕ} (n / 16 + 1) 0, length-replicate {A = ℕ} n 0) refl;
   blocks = rw (none, length-replicate {A = ℕ} n 0) blocks;
-  marked = rw few (λ id full.
-      let nothing = ap (λ w. number_at w (id % 16)) (zero_everywhere (n / 16 + 1) (id / 16) 0 refl) ∙ nothing_at (id % 16) in
-      absurd (omega (arith, full, nothing)));
+  marked = rw few (λ id seven. absurd (let nothing = nothing_in id in omega (arith, seven, nothing)));
+  full = rw few (λ id seven. absurd (let nothing = nothing_in id in omega (arith, seven, nothing)));
+  plain = rw few (λ id. let nothing = nothing_in id in omega (arith, nothing));
   bounded = rw (few, none, none_counted) (All-replicate (λ k. k ≤ 65535) n 0 (omega arith));
 }
+  where
+    nothing_in : (id : ℕ) → number_at (get_or (replicate (n / 16 + 1) 0) (id / 16) 0) (id % 16) ≡ 0
+    nothing_in id = ap (λ w. number_at w (id % 16)) (zero_everywhere (n / 16 + 1) (id / 16) 0 refl) ∙ nothing_at (id % 16)
 
--- the table has the other one's numbers where four bits don't hold them
-either : (bits wide other : ℕ) → (bits ≡ 15 → wide ≡ other) → (if eqb bits 15 then wide else bits) ≡ (if eqb bits 15 then other else bits)
-either bits wide other h = grind (arith, nat_tests)
+-- a copy of words with the same numbers, and of the table's marked blocks
+either : (number wide other : ℕ) → (number ≡ 7 → wide ≡ other) → (if eqb number 7 then wide else number) ≡ (if eqb number 7 then other else number)
+either number wide other h = grind (arith, nat_tests)
 
-pub wide_copied : (words from wide : List ℕ) (marks : List Bool) → length wide ≡ length from → IsMarked words marks →
-    ((id : ℕ) → get_or marks (id / 1024) false ≡ true → get_or wide id 0 ≡ get_or from id 0) → counts_of words wide ≡ counts_of words from
-unfolding count_of
-wide_copied words from wide marks e marked h =
-    same_counts words wide words from e (λ id l. either (narrow_of words id) (get_or wide id 0) (get_or from id 0) (λ full. h id (marked id full)))
+module _ (words from_words from wide : List ℕ) (marks : List Bool) (same : (id : ℕ) → narrow_of words id % 8 ≡ narrow_of from_words id % 8) (marked : IsMarked from_words marks)
+    (copied : (id : ℕ) → get_or marks (id / 1024) false ≡ true → get_or wide id 0 ≡ get_or from id 0) where
+  table_copied : (id : ℕ) → narrow_of words id % 8 ≡ 7 → get_or wide id 0 ≡ get_or from id 0
+  table_copied id seven = copied id (marked id (sym (same id) ∙ seven))
 
--- marks stay right where a number is put
-pub narrow_marked : (words new : List ℕ) (marks : List Bool) (id count : ℕ) → count < 15 → PutsNarrow id count words new → IsMarked words marks → IsMarked new marks
-narrow_marked words new marks id n few put marked k full = elim (cases_eq k id) [
-  | inl same ↦ let here = ap (narrow_of new) same ∙ put.here in absurd (omega (arith, full, here))
-  | inr apart ↦ marked k (sym (put.elsewhere k apart) ∙ full)
+  pub wide_copied : length wide ≡ length from → counts_of words wide ≡ counts_of from_words from
+  unfolding count_of
+  wide_copied e = same_counts words wide from_words from e (λ id l.
+      either (narrow_of words id % 8) (get_or wide id 0) (get_or from id 0) (table_copied id)
+      ∙ ap (λ n. if eqb n 7 then get_or from id 0 else n) (same id))
+
+  pub full_copied : IsFull from_words from → IsFull words wide
+  full_copied full id seven = let there = full id (sym (same id) ∙ seven) in let here = table_copied id seven in omega (arith, there, here)
+
+  pub marks_copied : IsMarked words marks
+  marks_copied id seven = marked id (sym (same id) ∙ seven)
+
+-- marks stay right if a number is set
+pub narrow_marked : (words new : List ℕ) (marks : List Bool) (id flag count : ℕ) → count < 7 → PutsNarrow id (8 * flag + count) words new → IsMarked words marks → IsMarked new marks
+narrow_marked words new marks id flag n few put marked k seven = elim (cases_eq k id) [
+  | inl same ↦ let here = ap (narrow_of new) same ∙ put.here in absurd (omega (arith, seven, here, few))
+  | inr apart ↦ marked k (ap (λ b. b % 8) (sym (put.elsewhere k apart)) ∙ seven)
 ]
 
-pub wide_marked : (words new : List ℕ) (marks : List Bool) (id : ℕ) → id / 1024 < length marks → PutsNarrow id 15 words new → IsMarked words marks →
+pub wide_marked : (words new : List ℕ) (marks : List Bool) (id number : ℕ) → id / 1024 < length marks → PutsNarrow id number words new → IsMarked words marks →
     IsMarked new (set marks (id / 1024) true)
-wide_marked words new marks id l put marked k full = elim (cases_eq (k / 1024) (id / 1024)) [
+wide_marked words new marks id number l put marked k seven = elim (cases_eq (k / 1024) (id / 1024)) [
   | inl same ↦ ap (λ i. get_or (set marks (id / 1024) true) i false) same ∙ get_or-set_same marks (id / 1024) true false l
   | inr apart ↦
-      get_or-set_other marks (id / 1024) (k / 1024) true false apart ∙ marked k (sym (put.elsewhere k (λ e. apart (ap (λ i. i / 1024) e))) ∙ full)
+      get_or-set_other marks (id / 1024) (k / 1024) true false apart ∙ marked k (ap (λ b. b % 8) (sym (put.elsewhere k (λ e. apart (ap (λ i. i / 1024) e)))) ∙ seven)
 ]
+
+-- the table still has only numbers that don't fit
+pub narrow_full : (words new wide : List ℕ) (id flag count : ℕ) → count < 7 → PutsNarrow id (8 * flag + count) words new → IsFull words wide → IsFull new wide
+narrow_full words new wide id flag n few put full k seven = elim (cases_eq k id) [
+  | inl same ↦ let here = ap (narrow_of new) same ∙ put.here in absurd (omega (arith, seven, here, few))
+  | inr apart ↦ full k (ap (λ b. b % 8) (sym (put.elsewhere k apart)) ∙ seven)
+]
+
+pub wide_full : (words new wide : List ℕ) (id number count : ℕ) → id < length wide → 7 ≤ count → PutsNarrow id number words new → IsFull words wide → IsFull new (set wide id count)
+wide_full words new wide id number n l many put full k seven = elim (cases_eq k id) [
+  | inl same ↦ let here = ap (λ i. get_or (set wide id n) i 0) same ∙ get_or-set_same wide id n 0 l in omega (arith, here, many)
+  | inr apart ↦ let there = full k (ap (λ b. b % 8) (sym (put.elsewhere k apart)) ∙ seven) in let here = get_or-set_other wide id k n 0 apart in omega (arith, there, here)
+]
+
+-- no net uses a node
+few_used : (number wide : ℕ) → (if eqb number 7 then wide else number) ≡ 0 → (number ≡ 7 → 7 ≤ wide) → number ≡ 0
+few_used number wide none full = grind (arith, nat_tests)
+
+pub none_used : (words wide : List ℕ) (id : ℕ) → IsFull words wide → (narrow_of words id % 8 ≡ 0) ↔ (count_of words wide id ≡ 0)
+unfolding count_of
+none_used words wide id full = (λ none. narrow_reported (narrow_of words id % 8) (get_or wide id 0) 0 none (omega arith), λ none. few_used (narrow_of words id % 8) (get_or wide id 0) none (full id))
 
 pub block_kept : (from wide : List ℕ) (block : ℕ) (is_marked : Bool) → is_marked ≡ false → CopiesBlock block is_marked from wide wide
 block_kept from wide block m none = record { here = λ yes id at. cc; before = λ id b. refl }

@@ -23,14 +23,13 @@ unfolding number_at
 number_below word zero = omega arith
 number_below word (suc p) = number_below (word / 16) p
 
--- what stands at a place is no more than the word
+-- the number at a place, shifted there, is at most the word
 number_within : (word place : ℕ) → number_at word place * 2 ^ (4 * place) ≤ word
 unfolding number_at
 number_within word zero = omega arith
 number_within word (suc p) = omega (arith, shifted_next (number_at (word / 16) p) p, number_within (word / 16) p)
 
--- the new word is the old one where what stood at the place is taken off and this number is added
--- there
+-- the new word is the old one without its number at the place, plus this number there
 abbrev IsExchanged : (place number word new : ℕ) → Type 0
 IsExchanged place number word new = new + number_at word place * 2 ^ (4 * place) ≡ word + number * 2 ^ (4 * place)
 
@@ -51,7 +50,7 @@ elsewhere (suc k) (suc p) word new n b e d =
 put_there : (place word new number : ℕ) → number < 16 → IsExchanged place number word new → IsPut place number word new
 put_there p word new n b e = record { here = here p word new n b e; elsewhere = λ k d. elsewhere k p word new n b e d }
 
--- a word of so many places stays one
+-- a word of so many places keeps to them
 put_fits : (places place word new number : ℕ) → number < 16 → place < places → word < 16 ^ places → IsExchanged place number word new →
     new < 16 ^ places
 unfolding number_at
@@ -66,13 +65,13 @@ put_fits (suc m) (suc p) word new n b l w e =
 shifted_whole : (number place : ℕ) → number < 16 → place < 16 → number * 2 ^ (4 * place) % 2 ^ 64 ≡ number * 2 ^ (4 * place)
 shifted_whole n p b l = shl_whole n 4 (4 * p) 64 b (omega arith)
 
--- what stands at a place can be taken off
+-- the number at a place can be subtracted
 pub taken_within : (word place taken : ℕ) → place < 16 → taken ≡ number_at word place → taken * 2 ^ (4 * place) % 2 ^ 64 ≤ word
 taken_within word p taken l e =
     let whole = shifted_whole (number_at word p) p (number_below word p) l in
     rw (e, whole) (number_within word p)
 
--- what the shifts of the code make
+-- the word that the shifts of the code make
 exchanged : (word place taken number : ℕ) → place < 16 → taken ≡ number_at word place → number < 16 →
     IsExchanged place number word (word - taken * 2 ^ (4 * place) % 2 ^ 64 + number * 2 ^ (4 * place) % 2 ^ 64)
 exchanged word p taken n l e b =
@@ -91,3 +90,21 @@ put_is word p taken n l e b = put_there p word _ n b (exchanged word p taken n l
 -- the mask of 15
 pub number_masked : (word place : ℕ) → bit_and (word / 2 ^ (4 * place)) 15 ≡ number_at word place
 number_masked word p = and_mask (word / 2 ^ (4 * p)) 4 ∙ number_shifted word p
+
+-- ---- two words whose numbers add up without a carry
+pub added : (places a b : ℕ) → ((p : ℕ) → p < places → number_at a p + number_at b p < 16) → (p : ℕ) → p < places → number_at (a + b) p ≡ number_at a p + number_at b p
+unfolding number_at
+added zero a b fit p l = absurd (omega (arith, l))
+added (suc m) a b fit zero l = let first = fit zero (omega arith) in omega (arith, first)
+added (suc m) a b fit (suc p) l =
+    let first = fit zero (omega arith) in
+    let e : (a + b) / 16 ≡ a / 16 + b / 16 = omega (arith, first) in
+    ap (λ w. number_at w p) e ∙ added m (a / 16) (b / 16) (λ q few. fit (suc q) (omega (arith, few))) p (omega (arith, l))
+
+pub added_within : (places a b : ℕ) → ((p : ℕ) → p < places → number_at a p + number_at b p < 16) → a < 16 ^ places → b < 16 ^ places → a + b < 16 ^ places
+unfolding number_at
+added_within zero a b fit few less = omega (arith, few, less)
+added_within (suc m) a b fit few less =
+    let first = fit zero (omega arith) in
+    let rest = added_within m (a / 16) (b / 16) (λ q l. fit (suc q) (omega (arith, l))) (omega (arith, few, pow-succ' 16 m)) (omega (arith, less, pow-succ' 16 m)) in
+    omega (arith, first, rest, pow-succ' 16 m)

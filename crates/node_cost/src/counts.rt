@@ -1,19 +1,20 @@
 //! How many nets use each node.
 
-ghost use Rattle.std.specs.Prelude.{◌≡◌, ℕ, ◌≤◌, ◌<◌, ◌+◌, ◌-◌, length, get_or, set, replicate, IfOk};
+ghost use Rattle.std.specs.Prelude.{◌≡◌, ℕ, ◌≤◌, ◌<◌, ◌+◌, ◌-◌, ◌/◌, All, length, get_or, set, replicate, IfOk};
+ghost use Rattle.node_cost.specs.kept.Packed.{AreFlags, IsFull, IsMarked, IsPacked, counts_of, flag_of};
 
-use crate::packed::{copy_counts, count, put_count};
+use crate::packed::{copy_counts, copy_with_flags, count, put_count};
 use std::alloc::{AllocError, Global};
 use std::marker::Model;
 
 /// How many nets use each node. Contracts see the list of these numbers.
 #[derive(Debug, Drop)]
 pub struct Counts {
-    /// Four bits a node, which are 15 where its number stands in the table.
+    /// Four bits a node: its number, or 7 if the table has the number.
     words: Vec<u64>,
-    /// A table of all nodes, in use where a number doesn't fit in four bits.
+    /// A table of all nodes, for numbers above 6.
     wide: Vec<u16>,
-    /// The blocks of 1,024 nodes of which one stood in the table.
+    /// The blocks of 1,024 nodes of which one had its number in the table.
     marks: Vec<bool>,
 }
 
@@ -28,39 +29,8 @@ impl Model for Counts {
     ghost invariant = { λ c. IsPacked c.words.items c.wide.items c.marks.items };
 }
 
-/// How many nets use each node, without the marks. Contracts see the list of these numbers.
-#[derive(Drop)]
-pub(crate) struct BorrowedCounts<'a> {
-    words: &'a [u64],
-    wide: &'a [u16],
-}
-
-impl<'a> Model for BorrowedCounts<'a> {
-    ghost use Rattle.std.specs.Prelude.{List, ℕ, ◌≡◌, ◌+◌, ◌/◌, length};
-    ghost use Rattle.node_cost.specs.kept.Packed.{counts_of};
-
-    ghost Value = { List ℕ };
-
-    ghost view = { λ c. counts_of c.words.now c.wide.now };
-
-    ghost invariant = { λ c. length c.words.now ≡ length c.wide.now / 16 + 1 };
-}
-
-impl<'a> BorrowedCounts<'a> {
-    /// How many nets use a node.
-    #[inline(always)]
-    #[tactic(auto, using(crate::proofs::Packing::length_counts, crate::proofs::Packing::count_is))]
-    pub(crate) fn get(&self, id: u32) -> u32
-        requires { id < length self.now }
-        ensures exact { result ≡ get_or self.now id 0 }
-        ensures bounded { result ≤ 65535 }
-    {
-        count(self.words, self.wide, id)
-    }
-}
-
 impl Counts {
-    /// Zero for each of the nodes.
+    /// Makes counts of 0 for so many nodes.
     #[tactic(auto, using(crate::proofs::Packing::none_counted, crate::proofs::Packing::none_packed))]
     pub fn new(alloc: Global, nodes: usize) -> Result<Counts, AllocError>
         ensures { IfOk result (λ c. c ≡ replicate nodes 0) }
@@ -71,7 +41,7 @@ impl Counts {
         Ok(Counts { words, wide, marks })
     }
 
-    /// How many nodes there are.
+    /// Returns the count of nodes.
     #[tactic(auto, using(crate::proofs::Packing::length_counts))]
     pub fn len(&self) -> usize
         ensures count { result ≡ length self.now }
@@ -80,27 +50,18 @@ impl Counts {
         self.wide.len()
     }
 
-    /// The same numbers, with their words and their table at hand.
+    /// Returns how many nets use a node.
     #[inline(always)]
-    pub(crate) fn borrowed(&self) -> BorrowedCounts<'_>
-        ensures { result ≡ self.now }
-    {
-        BorrowedCounts {
-            words: &self.words,
-            wide: &self.wide,
-        }
-    }
-
-    /// How many nets use a node.
+    #[tactic(auto, using(crate::proofs::Packing::length_counts, crate::proofs::Packing::count_is))]
     pub fn get(&self, id: u32) -> u32
         requires { id < length self.now }
         ensures exact { result ≡ get_or self.now id 0 }
         ensures bounded { result ≤ 65535 }
     {
-        self.borrowed().get(id)
+        count(&self.words, &self.wide, id)
     }
 
-    /// So many nets use a node.
+    /// Sets how many nets use a node.
     #[tactic(auto, using(crate::proofs::Packing::length_counts))]
     pub fn set(&mut self, id: u32, count: u32)
         requires there { id < length self.old }
@@ -110,7 +71,7 @@ impl Counts {
         put_count(&mut self.words, &mut self.wide, &mut self.marks, id, count);
     }
 
-    /// One more net uses a node.
+    /// Adds a net that uses a node.
     pub fn add_one(&mut self, id: u32)
         requires there { id < length self.old }
         requires bounded { get_or self.old id 0 < 65535 }
@@ -119,7 +80,7 @@ impl Counts {
         self.set(id, self.get(id) + 1);
     }
 
-    /// One net less uses a node.
+    /// Removes a net that uses a node.
     pub fn take_one(&mut self, id: u32)
         requires there { id < length self.old }
         requires used { 1 ≤ get_or self.old id 0 }
@@ -128,7 +89,7 @@ impl Counts {
         self.set(id, self.get(id) - 1);
     }
 
-    /// Becomes what the other one is, of as many nodes.
+    /// Copies the counts of as many nodes.
     #[tactic(auto, using(crate::proofs::Packing::length_counts))]
     pub fn copy_from(&mut self, other: &Counts)
         requires { length self.old ≡ length other.now }
@@ -142,5 +103,38 @@ impl Counts {
             &other.marks,
         );
         self.marks.copy_from_slice(&other.marks);
+    }
+
+    /// Writes the counts as packed counts of as many nodes, with flags.
+    #[tactic(auto, using(crate::proofs::Packing::length_counts))]
+    pub(crate) fn write_with_flags(
+        &self,
+        words: &mut [u64],
+        wide: &mut [u16],
+        marks: &mut [bool],
+        flags: &[u64],
+    )
+        requires wide { length wide.old ≡ length self.now }
+        requires words { length words.old ≡ length self.now / 16 + 1 }
+        requires marks { length marks.old ≡ length self.now / 1024 + 1 }
+        requires flags { length flags.now ≡ length self.now / 16 + 1 }
+        requires only { AreFlags flags.now }
+        ensures counts { counts_of words.new wide.new ≡ self.now }
+        ensures bounded { All (λ n. n ≤ 65535) self.now }
+        ensures marked { IsMarked words.new marks.new }
+        ensures full { IsFull words.new wide.new }
+        ensures flags { (id : ℕ) → flag_of words.new id ≡ flag_of flags.now id }
+    {
+        copy_with_flags(words, wide, &self.words, &self.wide, &self.marks, flags);
+        marks.copy_from_slice(&self.marks);
+    }
+
+    /// Returns the packed counts: words, table and marks.
+    pub(crate) fn into_parts(self) -> (Vec<u64>, Vec<u16>, Vec<bool>)
+        ensures counts { counts_of result.0.items result.1.items ≡ self }
+        ensures packed { IsPacked result.0.items result.1.items result.2.items }
+    {
+        let Counts { words, wide, marks } = self;
+        (words, wide, marks)
     }
 }

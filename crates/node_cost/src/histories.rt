@@ -1,19 +1,19 @@
 //! The history of each node.
 
-ghost use Rattle.std.specs.Prelude.{◌≡◌, ℕ, ◌≤◌, ◌<◌, length, get_or, set, replicate, IfOk, IsTrue, ◌↔◌};
+ghost use Rattle.std.specs.Prelude.{◌≡◌, ℕ, ◌≤◌, ◌<◌, ◌+◌, ◌*◌, ◌/◌, ◌^◌, All, min, length, get_or, set, replicate, IfOk, IsTrue, ◌↔◌};
+ghost use Rattle.node_cost.specs.kept.Noted.{IsNoted};
 
 use crate::entry_cost::GREATEST_HISTORY;
-use crate::packed::{narrow, put_narrow};
+use crate::packed::{is_blank, put_narrow};
 use std::alloc::{AllocError, Global};
 use std::marker::Model;
 
-/// The history of each node: what its overuse in the iterations so far adds to its cost. Contracts
-/// see the list of these numbers.
+/// The history of each node, which its overuse so far adds to its base cost. Contracts see the list
+/// of histories.
 #[derive(Debug, Drop)]
 pub struct Histories {
     histories: Vec<u64>,
-    /// Four bits a node, which are 0 where its history is: most are, and the table needn't be
-    /// looked at.
+    /// Four bits a node: a flag that says whether its history is above 0, and no number.
     some: Vec<u64>,
 }
 
@@ -28,58 +28,15 @@ impl Model for Histories {
     ghost invariant = { λ h. AreHistories h.histories.items h.some.items };
 }
 
-/// Four bits, which are 0 exactly where a history is.
+/// Returns the four bits of a node with a history.
 fn note_of(history: u64) -> u64
-    ensures few { result < 16 }
-    ensures none { (result ≡ 0) ↔ (history ≡ 0) }
+    ensures { result ≡ 8 * min history 1 }
 {
-    u64::from(history != 0)
-}
-
-/// The history of each node, where it stands. Contracts see the list of these numbers.
-#[derive(Drop)]
-pub(crate) struct BorrowedHistories<'a> {
-    histories: &'a [u64],
-    some: &'a [u64],
-}
-
-impl<'a> Model for BorrowedHistories<'a> {
-    ghost use Rattle.std.specs.Prelude.{List, ℕ};
-    ghost use Rattle.node_cost.specs.kept.Noted.{AreHistories};
-
-    ghost Value = { List ℕ };
-
-    ghost view = { λ h. h.histories.now };
-
-    ghost invariant = { λ h. AreHistories h.histories.now h.some.now };
-}
-
-impl<'a> BorrowedHistories<'a> {
-    /// Whether a node's history is 0, which is told quicker than how much it is.
-    #[inline(always)]
-    pub(crate) fn is_none(&self, id: u32) -> bool
-        requires { id < length self.now }
-        ensures { IsTrue result ↔ (get_or self.now id 0 ≡ 0) }
-    {
-        narrow(self.some, id) == 0
-    }
-
-    /// The history of a node.
-    #[inline(always)]
-    pub(crate) fn get(&self, id: u32) -> u64
-        requires { id < length self.now }
-        ensures exact { result ≡ get_or self.now id 0 }
-        ensures bounded { result ≤ GREATEST_HISTORY }
-    {
-        if self.is_none(id) {
-            return 0;
-        }
-        self.histories[id as usize]
-    }
+    8 * history.min(1)
 }
 
 impl Histories {
-    /// Zero for each of the nodes.
+    /// Makes histories of 0 for so many nodes.
     pub fn new(alloc: Global, nodes: usize) -> Result<Histories, AllocError>
         ensures { IfOk result (λ h. h ≡ replicate nodes 0) }
     {
@@ -88,7 +45,7 @@ impl Histories {
         Ok(Histories { histories, some })
     }
 
-    /// A copy of these histories.
+    /// Returns a copy.
     pub fn copy(&self, alloc: Global) -> Result<Histories, AllocError>
         ensures { IfOk result (λ h. h ≡ self.now) }
     {
@@ -97,7 +54,7 @@ impl Histories {
         Ok(Histories { histories, some })
     }
 
-    /// How many nodes there are.
+    /// Returns the count of nodes.
     pub fn len(&self) -> usize
         ensures count { result ≡ length self.now }
         ensures bounded { (id : ℕ) → get_or self.now id 0 ≤ GREATEST_HISTORY }
@@ -105,35 +62,41 @@ impl Histories {
         self.histories.len()
     }
 
-    /// The same histories, with what tells of them at hand.
+    /// Returns the list of histories.
     #[inline(always)]
-    pub(crate) fn borrowed(&self) -> BorrowedHistories<'_>
-        ensures { result ≡ self.now }
+    pub(crate) fn values(&self) -> &[u64]
+        ensures values { result.now ≡ self.now }
+        ensures bounded { All (λ k. k ≤ 2 ^ 42) result.now }
     {
-        BorrowedHistories {
-            histories: &self.histories,
-            some: &self.some,
-        }
+        &self.histories
     }
 
-    /// Whether a node's history is 0, which is told quicker than how much it is.
+    /// Returns words with a flag for each node: whether its history is above 0.
+    pub(crate) fn flags(&self) -> &[u64]
+        ensures each { length result.now ≡ length self.now / 16 + 1 }
+        ensures noted { IsNoted self.now result.now }
+    {
+        &self.some
+    }
+
+    /// Returns whether a node's history is 0.
     pub fn is_none(&self, id: u32) -> bool
         requires { id < length self.now }
         ensures { IsTrue result ↔ (get_or self.now id 0 ≡ 0) }
     {
-        self.borrowed().is_none(id)
+        is_blank(&self.some, id)
     }
 
-    /// The history of a node.
+    /// Returns the history of a node.
     pub fn get(&self, id: u32) -> u64
         requires { id < length self.now }
         ensures exact { result ≡ get_or self.now id 0 }
         ensures bounded { result ≤ GREATEST_HISTORY }
     {
-        self.borrowed().get(id)
+        self.histories[id as usize]
     }
 
-    /// Gives a node a history.
+    /// Sets the history of a node.
     #[tactic(auto, using(crate::proofs::Noting::noted_set))]
     pub fn set(&mut self, id: u32, history: u64)
         requires there { id < length self.old }
@@ -144,7 +107,7 @@ impl Histories {
         self.histories[id as usize] = history;
     }
 
-    /// Becomes what the other one is, of as many nodes.
+    /// Copies the histories of as many nodes.
     pub fn copy_from(&mut self, other: &Histories)
         requires { length self.old ≡ length other.now }
         ensures { self.new ≡ other.now }

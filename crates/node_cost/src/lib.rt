@@ -1,5 +1,5 @@
-//! What a net pays for a node, and what a net sees of the others when it is routed
-//! (McMurchie and Ebeling 1995; Betz, Rose and Marquardt 1999).
+//! The cost of a node for a net, and the view of a net: the occupancies by other nets and the
+//! histories (McMurchie and Ebeling 1995; Betz, Rose and Marquardt 1999).
 #![tactic(auto)]
 
 mod counts;

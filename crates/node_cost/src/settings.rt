@@ -1,4 +1,4 @@
-//! What a user chooses of the negotiation.
+//! The settings of a negotiation.
 
 ghost use Rattle.std.specs.Prelude.{◌≡◌, ◌≤◌};
 ghost use Rattle.node_cost.specs.Options.{AreWithinLimits, options_within, standard_options, present_of, present_after, next_present, most_iterations, most_mult};
@@ -30,8 +30,7 @@ pub enum Range {
     Iterations,
 }
 
-/// What a user chooses of the negotiation, all within its ranges. Contracts see the record of the
-/// options.
+/// The settings of a negotiation, all within their ranges. Contracts see the record of the options.
 #[derive(Clone, Copy, Debug, PartialEq, Eq)]
 pub struct Settings {
     first: u32,
@@ -65,7 +64,7 @@ impl Model for Settings {
 }
 
 impl Settings {
-    /// These settings, or the first of them that is out of range.
+    /// Makes settings, or returns the first that is out of range.
     #[tactic(auto, unfolding(crate::specs::Options::options_within))]
     pub fn new(
         first: u32,
@@ -112,7 +111,7 @@ impl Settings {
         })
     }
 
-    /// What is chosen where nothing else is said.
+    /// Returns the default settings.
     pub fn standard() -> Settings
         ensures { result ≡ standard_options }
     {
@@ -126,7 +125,7 @@ impl Settings {
         }
     }
 
-    /// The present-congestion factor of the first iteration.
+    /// Returns the present-congestion factor of the first iteration.
     pub fn first(&self) -> u32
         ensures exact { result ≡ self.now.first }
         ensures limits { AreWithinLimits self.now }
@@ -134,28 +133,28 @@ impl Settings {
         self.first
     }
 
-    /// The present-congestion factor of the second iteration.
+    /// Returns the present-congestion factor of the second iteration.
     pub fn init(&self) -> u32
         ensures { result ≡ self.now.init }
     {
         self.init
     }
 
-    /// By how many sixteenths the factor grows from then on.
+    /// Returns the multiplier of the factor from then on, in sixteenths.
     pub fn mult(&self) -> u32
         ensures { result ≡ self.now.mult }
     {
         self.mult
     }
 
-    /// How much a node's history grows for each net of overuse.
+    /// Returns how much a node's history grows for each net of overuse.
     pub fn acc(&self) -> u16
         ensures { result ≡ self.now.acc }
     {
         self.acc
     }
 
-    /// How far from its terminals' bounding box a net may be routed.
+    /// Returns how far from its terminals' bounding box a net may be routed.
     pub fn bb(&self) -> u32
         ensures exact { result ≡ self.now.bb }
         ensures limits { AreWithinLimits self.now }
@@ -163,7 +162,7 @@ impl Settings {
         self.bb
     }
 
-    /// The most iterations.
+    /// Returns the greatest number of iterations.
     pub fn iterations(&self) -> u32
         ensures exact { result ≡ self.now.iterations }
         ensures limits { AreWithinLimits self.now }
@@ -171,7 +170,7 @@ impl Settings {
         self.iterations
     }
 
-    /// The present-congestion factor of an iteration, counted from 1.
+    /// Returns the present-congestion factor of an iteration, counted from 1.
     #[tactic(auto, unfolding(crate::specs::Options::present_of))]
     pub fn present(&self, iteration: u32) -> u32
         requires least { 1 ≤ iteration }
@@ -185,7 +184,7 @@ impl Settings {
         self.present_after(iteration - 2)
     }
 
-    /// The factor so many iterations after the second.
+    /// Returns the factor so many iterations after the second.
     fn present_after(&self, iterations: u32) -> u32
         ensures exact { result ≡ present_after self.now.mult iterations self.now.init }
         ensures bounded { result ≤ GREATEST_PRESENT }
@@ -198,7 +197,7 @@ impl Settings {
     }
 }
 
-/// The present-congestion factor of the next iteration.
+/// Returns the present-congestion factor of the next iteration.
 fn next_present(mult: u32, present: u32) -> u32
     requires mult { mult ≤ most_mult }
     requires present { present ≤ GREATEST_PRESENT }

@@ -1,19 +1,19 @@
-//! Histories that may be another's.
+//! Histories that may be shared.
 
-ghost use Rattle.std.specs.Prelude.{◌≡◌, ℕ, ◌≤◌, ◌<◌, length, get_or, set, replicate, IfOk, IsTrue, ◌↔◌};
+ghost use Rattle.std.specs.Prelude.{◌≡◌, ℕ, ◌≤◌, ◌<◌, ◌^◌, All, length, get_or, set, replicate, IfOk};
 ghost use Rattle.std.specs.Arc.{arc_value};
 
 use crate::entry_cost::GREATEST_HISTORY;
-use crate::histories::{BorrowedHistories, Histories};
+use crate::histories::Histories;
 use std::alloc::{AllocError, Global};
 use std::marker::Model;
 use std::sync::Arc;
 
-/// Histories that are shared with others, or its own. Contracts see the list of the histories.
+/// Histories that are shared with others, or its own ones. Contracts see the list of histories.
 #[derive(Drop)]
 pub(crate) struct SharedHistories {
     shared: Option<Arc<Histories, Global>>,
-    /// Histories of as many nodes, in use where nothing is shared.
+    /// Histories of as many nodes, in use if none are shared.
     own: Histories,
 }
 
@@ -30,7 +30,7 @@ impl Model for SharedHistories {
 }
 
 impl SharedHistories {
-    /// Zero for each of the nodes.
+    /// Makes histories of 0 for so many nodes.
     pub(crate) fn new(alloc: Global, nodes: usize) -> Result<SharedHistories, AllocError>
         ensures { IfOk result (λ h. h ≡ replicate nodes 0) }
     {
@@ -38,7 +38,7 @@ impl SharedHistories {
         Ok(SharedHistories { shared: None, own })
     }
 
-    /// How many nodes there are.
+    /// Returns the count of nodes.
     pub(crate) fn len(&self) -> usize
         ensures count { result ≡ length self.now }
         ensures bounded { (id : ℕ) → get_or self.now id 0 ≤ GREATEST_HISTORY }
@@ -49,18 +49,19 @@ impl SharedHistories {
         }
     }
 
-    /// The histories, wherever they stand.
+    /// Returns the list of histories.
     #[inline(always)]
-    pub(crate) fn borrowed(&self) -> BorrowedHistories<'_>
-        ensures { result ≡ self.now }
+    pub(crate) fn values(&self) -> &[u64]
+        ensures values { result.now ≡ self.now }
+        ensures bounded { All (λ k. k ≤ 2 ^ 42) result.now }
     {
         match &self.shared {
-            Some(shared) => shared.borrowed(),
-            None => self.own.borrowed(),
+            Some(shared) => shared.values(),
+            None => self.own.values(),
         }
     }
 
-    /// Gives a node a history, which others don't see.
+    /// Sets the history of a node. Others don't see it.
     pub(crate) fn set(&mut self, id: u32, history: u64)
         requires there { id < length self.old }
         requires bounded { history ≤ GREATEST_HISTORY }
@@ -73,8 +74,7 @@ impl SharedHistories {
         self.own.set(id, history);
     }
 
-    /// Becomes what these histories of as many nodes are: it shares them, or where that can't be
-    /// had copies them.
+    /// Shares histories of as many nodes, or copies them if there are too many sharers.
     pub(crate) fn share(&mut self, histories: &Arc<Histories, Global>)
         requires { length self.old ≡ length (arc_value histories.now) }
         ensures { self.new ≡ arc_value histories.now }

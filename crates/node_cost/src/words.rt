@@ -3,7 +3,7 @@
 ghost use Rattle.std.specs.Prelude.{◌≡◌, ◌<◌};
 ghost use Rattle.node_cost.specs.kept.Words.{number_at, IsPut};
 
-/// The number at a place of a word.
+/// Returns the number at a place of a word.
 #[tactic(auto, using(crate::proofs::Shifts::number_masked, crate::proofs::Shifts::number_below))]
 pub(crate) fn number_at(word: u64, place: u32) -> u64
     requires { place < 16 }
@@ -13,7 +13,7 @@ pub(crate) fn number_at(word: u64, place: u32) -> u64
     (word >> (4 * place)) & 15
 }
 
-/// The word with a number put at a place.
+/// Returns a word with another number at a place.
 #[tactic(auto, using(crate::proofs::Shifts::taken_within, crate::proofs::Shifts::put_within))]
 pub(crate) fn put_number(word: u64, place: u32, number: u64) -> u64
     requires place { place < 16 }
