@@ -24,7 +24,7 @@ use Rattle.group_wave.specs.kept.Steps.{NoOrigins, SameOrigins}
 use Rattle.group_wave.specs.kept.Starts.{HasNoBoxes, IsAimed, IsBestPut, IsCleared, IsLeastCost, IsAroundLeft, IsBoxPut, IsNarrowed, IsNearerOf, IsWithin, IsWithout, ServesMore}
 use Rattle.track_groups.specs.Groups.{group_at}
 use Rattle.wave_ground.proofs.Narrower.{told_within}
-use Rattle.group_wave.proofs.Lower.{entered_same, keeps, same_origins, still_covered, still_dead, still_open, still_serves}
+use Rattle.group_wave.proofs.Lower.{bound_out, entered_same, keeps, same_origins, still_covered, still_open, still_serves}
 
 pub blank_at : {X : Type 0} (d : X) (n k : ℕ) → get_or (replicate n d) k d ≡ d
 blank_at d zero k = refl
@@ -43,7 +43,7 @@ module _ (g : Ground) (s t : Wave) (labels : t.labels ≡ s.labels) (queue : t.q
   origins_stay = same_origins s t label_stays
 
   went_stays : (v b : ℕ) → WentOn g s (cost_at s v) b → WentOn g t (cost_at t v) b
-  went_stays v b (inl dead) = inl (still_dead g s t b (keeps s t origins_stay) dead)
+  went_stays v b (inl out) = inl (bound_out g s t b _ _ (keeps s t origins_stay) (omega (arith, limit)) (let from = cost_stays v in omega (arith, from)) out)
   went_stays v b (inr went) = inr (let from = cost_stays v in let to = cost_stays b in omega (arith, from, to, limit, went))
 
   pub complete_stays : IsComplete g s → IsComplete g t

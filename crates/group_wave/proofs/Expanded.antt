@@ -22,7 +22,7 @@ use Rattle.group_wave.specs.kept.WaveState.{Wave}
 use Rattle.group_wave.specs.kept.Wave.{AreTracks, Holds, IsCompleteBut, IsEdgeCovered, IsOf, IsWave, WentAlong, WentOn, cost_at}
 use Rattle.group_wave.specs.kept.Steps.{GoesOn, IsPushed, Settles, Spreads, TookNearer, TookTaps, TookWires}
 use Rattle.group_wave.proofs.Grouped.{far_pin, group_bound, is_wire_here}
-use Rattle.group_wave.proofs.Lower.{complete_lower, complete_went, origins_then, still_of, went_lower}
+use Rattle.group_wave.proofs.Lower.{complete_lower, complete_went, dead_bound, origins_then, still_of, went_lower}
 use Rattle.group_wave.proofs.Pushed.{pushed_cost, pushed_in, pushed_label, pushed_lowers, pushed_wave, pushed_work}
 use Rattle.group_wave.proofs.Sinks.{sinks_best}
 
@@ -65,7 +65,7 @@ module _ (g : Ground) (ok : IsGround g) (e : Waiting) (d : Tap) where
     pin_went : (v : ℕ) (of : IsOf g w e v) (b : ℕ) → HasEdge g.space v b → IsInside g.space b → kind_of_node g.space.device b ≡ Some Ipin
         → (k : ℕ) → k < length (taps_of g.tables e.group) → (get_or (taps_of g.tables e.group) k d).pin ≡ b → bit_at (get_or (taps_of g.tables e.group) k d).tracks of.holds.track ≡ 1 → WentOn g w (cost_at w v) b
     pin_went v of b edge inside kind k lt at bit = elim pins [
-      | inl far ↦ inl (far_pin g ok (on_track e.group of.holds.track) (tracks of.holds.track of.holds.bit) w wave.boxes wires low b far (rw of.holds.wire edge) kind)
+      | inl far ↦ inl (dead_bound g w b _ (far_pin g ok (on_track e.group of.holds.track) (tracks of.holds.track of.holds.bit) w wave.boxes wires low b far (rw of.holds.wire edge) kind))
       | inr took ↦ subst (λ l. WentOn g w l b) of.label (subst (WentOn g w e.label) at (took k d lt lt of.holds.track of.holds.bit bit (subst (IsInside g.space) (sym at) inside)))
     ]
 

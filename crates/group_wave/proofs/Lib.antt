@@ -6,6 +6,7 @@ mod Costs
 -- steps of the wave
 pub mod Lower
 pub mod Pushed
+pub mod PricedNodes
 pub mod Popped
 pub mod Nearests
 pub mod Noted

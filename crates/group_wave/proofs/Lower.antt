@@ -1,5 +1,5 @@
 -- What the lowering of labels keeps.
-use Rattle.std.proofs.Common.{◌≡◌, ℕ, ◌+◌, ◌*◌, ◌<◌, ◌≤◌, ◌∷◌, length, slice_index_or, ◌⊎◌, inl, inr, refl, sym, ap, ◌∙◌, arith, sum_by, get_or-set_other, get_or-set_same}
+use Rattle.std.proofs.Common.{◌≡◌, ℕ, ◌+◌, ◌-◌, ◌*◌, ◌<◌, ◌≤◌, ◌∷◌, length, slice_index_or, ◌⊎◌, inl, inr, refl, sym, ap, ◌∙◌, arith, sum_by, get_or-set_other, get_or-set_same}
 use Rattle.std.specs.Prelude.{Contains}
 use Rattle.std.proofs.lemmas.List.Sums.{sum_by-set}
 use Rattle.std.proofs.lemmas.List.{length-set}
@@ -40,12 +40,20 @@ module _ (g : Ground) where
   pub still_serves : (s t : Wave) → t.boxes ≡ s.boxes → KeepsOrigins s t → Serves g s → Serves g t
   still_serves s t boxes starts serves p lt target = rw boxes (serves p lt (still_open s t _ starts target))
 
+  -- a dead end has any bound
+  pub dead_bound : (w : Wave) (v k : ℕ) → IsDead g w v → IsBound g w v k
+  dead_bound w v k dead b way target walk = absurd (dead b way target walk)
+
+  -- each way on that was left out still is, where no cost is greater
+  pub bound_out : (s t : Wave) (v from to : ℕ) → KeepsOrigins s t → t.limit ≤ s.limit → from ≤ to → IsBound g s v (s.limit - from) → IsBound g t v (t.limit - to)
+  bound_out s t v from to starts limit up bound b way target walk = let low = bound b way (still_open s t b starts target) walk in omega (arith, low, limit, up)
+
   pub went_up : (w : Wave) (label more b : ℕ) → label ≤ more → WentOn g w label b → WentOn g w more b
-  went_up w label more b up (inl dead) = inl dead
+  went_up w label more b up (inl out) = inl (bound_out w w b _ _ (λ v o. o) (omega arith) (omega (arith, up)) out)
   went_up w label more b up (inr went) = inr (omega (arith, up, went))
 
   pub went_lower : (s t : Wave) (New : ℕ → Type 0) (label b : ℕ) → Lowers g s t New → WentOn g s label b → WentOn g t label b
-  went_lower s t New label b low (inl dead) = inl (still_dead s t b (keeps s t low.origins) dead)
+  went_lower s t New label b low (inl out) = inl (bound_out s t b _ _ (keeps s t low.origins) low.limit (omega arith) out)
   went_lower s t New label b low (inr went) = inr (let d = low.down b in let limit = low.limit in omega (arith, d, limit, went))
 
   -- an entry of a node that waits covers each edge from it

@@ -1,5 +1,5 @@
 -- What is offered to each track of a group.
-use Rattle.std.proofs.Common.{◌≡◌, ℕ, ◌+◌, ◌*◌, ◌-◌, ◌<◌, ◌≤◌, inl, inr, refl, sym, ap, subst, arith}
+use Rattle.std.proofs.Common.{◌≡◌, ℕ, ◌+◌, ◌*◌, ◌-◌, ◌<◌, ◌≤◌, length, inl, inr, refl, sym, ap, ◌∙◌, subst, arith}
 use Rattle.std.specs.Int.{bit_at}
 use Rattle.std.proofs.lemmas.Bool.{cases_eq}
 use Rattle.std.proofs.lemmas.Nat.Bits.{bit_at-zero}
@@ -7,6 +7,7 @@ use Rattle.track_groups.specs.declared.group.Group.{Group}
 use Rattle.track_groups.specs.Groups.{IsOn, group_at, on_track, wire_on}
 use Rattle.wavefront.specs.Space.{HasEdge, IsInside}
 use Rattle.wavefront.specs.kept.Bounds.{left_over}
+use Rattle.wavefront.proofs.WaysLeft.{wire_paid}
 use Rattle.wave_ground.specs.kept.Boxes.{IsLow, wire_of}
 use Rattle.wave_queue.specs.kept.Bits.{PutsBit}
 use Rattle.wave_ground.specs.kept.Grounds.{Ground, IsGround, groups_of}
@@ -14,8 +15,9 @@ use Rattle.wave_queue.specs.kept.Queues.{Waiting}
 use Rattle.group_wave.specs.kept.WaveState.{FAR, Wave}
 use Rattle.group_wave.specs.kept.Wave.{AreTracks, IsBound, IsOf, IsWave}
 use Rattle.group_wave.specs.kept.Steps.{IsOffer, IsNoted, IsStep, IsTarget, Relaxes, RelaxesSome, WaitsFresh, fresh_entry}
+use Rattle.group_wave.proofs.Entered.{noted_spreads}
 use Rattle.group_wave.proofs.Lower.{lowers_then, still_of, went_lower}
-use Rattle.group_wave.proofs.Noted.{noted_lowers, noted_sinks, noted_work}
+use Rattle.group_wave.proofs.Noted.{noted_lowers, noted_sinks, noted_wave, noted_work}
 use Rattle.group_wave.proofs.RelaxedTracks.{relaxed_put}
 use Rattle.group_wave.proofs.Sinks.{sinks_then}
 use Rattle.group_wave.proofs.Grouped.{group_bound, is_wire_here, wire_within}
@@ -48,6 +50,16 @@ module _ (g : Ground) (ok : IsGround g) (old s : Wave) (label least first step g
         is = rw same at (is_wire_here g ok (on_track group track) on);
         within = rw same at (wire_within g ok (on_track group track) on);
       }
+
+-- what is offered is left out, since the least that it costs to enter a wire is too much
+pub offer_dropped : (g : Ground) (ok : IsGround g) (s t : Wave) (label first step group tracks out : ℕ) → IsWave g s → IsOffer g s label first step group tracks → IsNoted s t out → t.known ≡ s.known → out ≤ label + 320 → Relaxes g s t label group tracks
+offer_dropped g ok s t label first step group tracks out wave offer noted known dear = record {
+  spreads = noted_spreads g s t out noted (noted_wave g s t out noted wave (ap length known ∙ wave.sized) (rw (noted.boxes, known) wave.known));
+  went = λ j one.
+      let limit = noted.limit in
+      let paid = wire_paid g.space (wire_on (groups_of g) (on_track group j)) (is_wire_here g ok (on_track group j) (offer.on j one)) in
+      inr (omega (arith, limit, dear, paid));
+}
 
 -- tracks that are yet to wait: no way over them costs less than what they and the ways on cost at
 -- least

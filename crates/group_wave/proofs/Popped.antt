@@ -12,7 +12,7 @@ use Rattle.wave_ground.specs.kept.Grounds.{Ground}
 use Rattle.wave_queue.specs.kept.Queues.{Waiting}
 use Rattle.group_wave.specs.kept.Wave.{AreTracks, IsBest, IsComplete, IsCompleteBut, IsOf, IsOpen, IsWave, WentOn, cost_at, label_at, unreached, weight_of, work_of}
 use Rattle.group_wave.specs.kept.Steps.{IsAbove, IsLeastKey, IsPopped, IsTaken, SameOrigins}
-use Rattle.group_wave.proofs.Lower.{keeps, entered_same, same_origins, still_bound, still_dead, still_of, still_open, still_serves}
+use Rattle.group_wave.proofs.Lower.{bound_out, keeps, entered_same, same_origins, still_bound, still_of, still_open, still_serves}
 
 module _ (g : Ground) (s t : Wave) (x : Waiting) (p : IsPopped s t x) where
   popped_label : (v : ℕ) → label_at t v ≡ label_at s v
@@ -58,7 +58,7 @@ module _ (g : Ground) (s t : Wave) (x : Waiting) (p : IsPopped s t x) where
       omega (arith, labels, moved)
 
   popped_went : (v b : ℕ) → WentOn g s (cost_at s v) b → WentOn g t (cost_at t v) b
-  popped_went v b (inl dead) = inl (still_dead g s t b (keeps s t popped_origins) dead)
+  popped_went v b (inl out) = inl (bound_out g s t b _ _ (keeps s t popped_origins) (let same = p.limit in omega (arith, same)) (let m = popped_cost v in omega (arith, m)) out)
   popped_went v b (inr went) = inr (let k = popped_cost b in let m = popped_cost v in let limit = p.limit in omega (arith, k, m, limit, went))
 
   -- what the entry covered is owed
@@ -104,7 +104,7 @@ way_bound g w within complete (u ∷ us) v b k (edge, inside, rest) target above
           | inl covered ↦ inr (inl (covered.entry, covered.there, let low = covered.low b us target rest in omega (arith, low, above, sum)))
         ]
         | inl went ↦ elim went [
-          | inl dead ↦ absurd (dead b us target rest)
+          | inl out ↦ inl (let low = out b us target rest in omega (arith, low, above, sum))
           | inr step ↦ elim (cases_lt (k + entry_cost g.space u) (cost_at w u)) [
             | inl dearer ↦ inl (omega (arith, step, above, sum, dearer))
             | inr paid ↦ below_up g w _ _ (omega (arith, sum)) (way_bound g w within complete us u b (k + entry_cost g.space u) rest target (omega (arith, paid)))
@@ -131,6 +131,6 @@ taken g w sink wave complete best above target at reached within = record {
   least = λ a b way start aim walk. let least = best_least g w wave complete best above a b way start aim walk in omega (arith, least, at, within);
 }
 
--- where none is reached, no way is left but what is left out
-pub none_taken : (g : Ground) (w : Wave) → IsWave g w → IsComplete g w → IsBest g w → IsAbove w → w.best ≡ FAR → IsLeastKey g w w.limit
-none_taken g w wave complete best above none a b way start aim walk = let least = best_least g w wave complete best above a b way start aim walk in let within = wave.within in omega (arith, least, none, within)
+-- where none is reached for less than what may be left out, no way costs less than that
+pub none_taken : (g : Ground) (w : Wave) → IsWave g w → IsComplete g w → IsBest g w → IsAbove w → w.limit ≤ w.best → IsLeastKey g w w.limit
+none_taken g w wave complete best above none a b way start aim walk = let least = best_least g w wave complete best above a b way start aim walk in omega (arith, least, none)

@@ -9,7 +9,7 @@ use Rattle.wave_ground.specs.kept.Grounds.{Ground, IsGround}
 use Rattle.wave_queue.specs.kept.Queues.{Waiting}
 use Rattle.group_wave.specs.kept.Wave.{AreTracks, IsBound, IsOf, IsWave, WentOn, cost_at, weight_of, work_of}
 use Rattle.group_wave.specs.kept.Steps.{IsLabelled, IsNoted, IsPushed, IsStep, KeepsLabel, KeepsSinks, Lowers, RelaxesTrack, Spreads}
-use Rattle.group_wave.proofs.Lower.{label_here, label_there, lowers_then, set_enters, set_keeps, set_lowers, set_same_work, set_wave, set_work}
+use Rattle.group_wave.proofs.Lower.{keeps, label_here, label_there, lowers_then, set_enters, set_keeps, set_lowers, set_same_work, set_wave, set_work, still_open}
 use Rattle.group_wave.proofs.Noted.{noted_label, noted_lowers, noted_sinks, noted_wave, noted_work}
 use Rattle.group_wave.proofs.Pushed.{new_wait, pushed_cost, pushed_label, pushed_wave, pushed_work}
 use Rattle.group_wave.proofs.Sinks.{sinks_best, sinks_then, wire_no_sink}
@@ -43,18 +43,30 @@ module _ (g : Ground) (ok : IsGround g) (s : Wave) (wave : IsWave g s) (label wi
   pub relaxed_low : (least : ℕ) → cost_at s wire < least → least ≤ label + 320 → RelaxesTrack g s s label least wire false
   relaxed_low least low up = relaxed_stays least (let c = paid in omega (arith, low, up, c))
 
-  -- what doesn't fit is left out
-  pub relaxed_out : (t : Wave) (greatest least : ℕ) → IsNoted s t greatest → IsWave g t → greatest ≤ label + entry_cost g.space wire → RelaxesTrack g s t label least wire false
-  relaxed_out t greatest least noted wave_then out = record {
-    wave = wave_then;
-    lowers =
-        let low = noted_lowers g s t greatest noted in
-        record { down = low.down; wait = λ v. inl (ap (λ l. l.cost) (noted_label g s t greatest noted v)); origins = low.origins; kept = low.kept; limit = low.limit; boxes = low.boxes };
-    at = λ e. absurd (false≢true e);
-    went = inr (let limit = noted.limit in omega (arith, limit, out));
-    work = let same = noted_work g s t greatest noted in omega (arith, same);
-    sinks = noted_sinks g s t greatest noted;
-  }
+  -- it is left out
+  module _ (t : Wave) (out least : ℕ) (noted : IsNoted s t out) (known : t.known ≡ s.known) where
+    left_by : WentOn g t label wire → RelaxesTrack g s t label least wire false
+    left_by went = record {
+      wave = noted_wave g s t out noted wave (ap length known ∙ wave.sized) (rw (noted.boxes, known) wave.known);
+      lowers =
+          let low = noted_lowers g s t out noted in
+          record { down = low.down; wait = λ v. inl (ap (λ l. l.cost) (noted_label g s t out noted v)); origins = low.origins; kept = low.kept; limit = low.limit; boxes = low.boxes };
+      at = λ e. absurd (false≢true e);
+      went = went;
+      work = let same = noted_work g s t out noted in omega (arith, same);
+      sinks = noted_sinks g s t out noted;
+    }
+
+    -- since it costs too much
+    pub relaxed_out : out ≤ label + entry_cost g.space wire → RelaxesTrack g s t label least wire false
+    relaxed_out dear = left_by (inr (let limit = noted.limit in omega (arith, limit, dear)))
+
+    -- since each way on over it does
+    pub relaxed_past : IsBound g s wire (out - (label + entry_cost g.space wire)) → RelaxesTrack g s t label least wire false
+    relaxed_past bound = left_by (inl (λ b way target walk.
+        let low = bound b way (still_open g s t b (keeps s t (noted_lowers g s t out noted).origins) target) walk in
+        let limit = noted.limit in
+        omega (arith, low, limit)))
 
   module _ (t : Wave) (cost : ℕ) (set : IsLabelled s t wire (record { cost = cost; parent = parent })) (best : t.best ≡ s.best) where
     set_sinks : KeepsSinks g s t
@@ -134,9 +146,7 @@ module _ (g : Ground) (ok : IsGround g) (s : Wave) (wave : IsWave g s) (label wi
         sinks = set_sinks t cost same.set same.best;
       }
   relaxed_kept t cost greatest least narrow sum (inr (inr left)) =
-      relaxed_out t greatest least left.noted
-      (noted_wave g s t greatest left.noted wave (ap length left.known ∙ wave.sized) (rw (left.noted.boxes, left.known) wave.known))
-      (let out = left.out in omega (arith, out, sum))
+      relaxed_out t greatest least left.noted left.known (let out = left.out in omega (arith, out, sum))
 
 -- what is known of groups changes before a wire is offered the way
 pub track_after : (g : Ground) (old s t : Wave) (label least wire limit : ℕ) → IsNoted old s limit → RelaxesTrack g s t label least wire false → RelaxesTrack g old t label least wire false

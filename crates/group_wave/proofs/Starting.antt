@@ -17,7 +17,7 @@ use Rattle.group_wave.specs.kept.WaveState.{FAR, NodeLabel, Wave}
 use Rattle.group_wave.specs.kept.Wave.{AreTracks, IsBest, IsComplete, IsCompleteBut, IsOf, IsOrigin, IsSettled, IsWave, WentAlong, WentOn, cost_at, label_at}
 use Rattle.group_wave.specs.kept.Steps.{IsLabelled, IsNoted, IsPushed, KeepsOrigins, MoreOrigins, Spreads}
 use Rattle.group_wave.specs.kept.Starts.{IsEnd, StartsAt}
-use Rattle.group_wave.proofs.Lower.{complete_lower, complete_went, entered_lower, label_here, label_there, same_origin, set_down, still_covered, still_dead, still_open, still_serves, waiting_settled, went_up}
+use Rattle.group_wave.proofs.Lower.{bound_out, complete_lower, complete_went, dead_bound, entered_lower, label_here, label_there, same_origin, set_down, still_covered, still_dead, still_open, still_serves, waiting_settled, went_up}
 use Rattle.group_wave.proofs.Noted.{noted_lowers}
 use Rattle.group_wave.proofs.Pushed.{pushed_lowers, pushed_waits, pushed_wave}
 use Rattle.group_wave.proofs.Grouped.{group_bound, wire_within}
@@ -79,7 +79,7 @@ module _ (g : Ground) (s t : Wave) (node : ℕ) (set : IsLabelled s t node (star
   }
 
   went_start : (v b : ℕ) → cost_at t v ≡ cost_at s v → WentOn g s (cost_at s v) b → WentOn g t (cost_at t v) b
-  went_start v b same (inl dead) = inl (still_dead g s t b start_keeps dead)
+  went_start v b same (inl out) = inl (bound_out g s t b _ _ start_keeps (let limit = set.limit in omega (arith, limit)) (omega (arith, same)) out)
   went_start v b same (inr went) = inr (let d = down b in let limit = set.limit in omega (arith, d, limit, same, went))
 
   -- all but the start is as it was
@@ -118,7 +118,7 @@ module _ (g : Ground) (s t : Wave) (node : ℕ) (set : IsLabelled s t node (star
   pub end_starts : IsWave g s → IsComplete g s → IsEnd g s node → StartsAt g s t node
   end_starts wave complete end = record {
     wave = start_wave wave;
-    complete = complete_went g t (λ v. v ≡ node) (start_but complete) (λ v e b edge inside. inl (still_dead g s t b start_keeps (end b (rw e at edge))));
+    complete = complete_went g t (λ v. v ≡ node) (start_but complete) (λ v e b edge inside. inl (dead_bound g t b _ (still_dead g s t b start_keeps (end b (rw e at edge)))));
     origins = start_origins;
   }
 

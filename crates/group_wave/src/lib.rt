@@ -2,6 +2,7 @@
 //! of them at once (McMurchie and Ebeling 1995; Dijkstra 1959).
 #![tactic(auto)]
 
+mod ceiling;
 mod labels;
 mod route;
 mod scratch;

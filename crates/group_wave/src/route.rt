@@ -14,6 +14,7 @@ ghost use Rattle.group_wave.specs.kept.Wave.{IsBest, IsComplete, IsOrigin, IsWav
 ghost use Rattle.group_wave.specs.kept.Steps.{IsTaken, NoOrigins};
 ghost use Rattle.group_wave.specs.kept.WaveState.{FAR};
 
+use crate::ceiling::{ceiling_after, ceiling_of};
 use crate::scratch::{Scratch, WaveScratch, make_fit};
 use crate::wave::Wave;
 use node_cost::{GREATEST_PRESENT, View};
@@ -28,6 +29,9 @@ use wavefront::{Found, SearchFault};
 /// cost. A way costs what its nodes cost to enter, of equal ones the least-numbered nodes are taken
 /// first, and a node is entered from the least-numbered that leads there.
 ///
+/// `before` are the rows of a tree that the net had, or none. The search is faster by them; what it
+/// finds doesn't depend on them.
+///
 /// # Errors
 ///
 /// ViewSize exactly where the view's length is not the node count; Memory.
@@ -38,6 +42,7 @@ pub fn route_net(
     view: &View,
     present: u32,
     bb: u32,
+    before: &[Row],
     scratch: &mut Scratch,
 ) -> Result<Found, SearchFault>
     requires net { net < length prepared.now.nets }
@@ -65,11 +70,30 @@ pub fn route_net(
         present,
         bb,
     );
-    if let Some(found) = grow_in(alloc, &ground, &mut scratch.narrow)? {
+    if let Some(found) = grow_narrow(alloc, &ground, &mut scratch.narrow, before)? {
         return Ok(found);
     }
     let found = grow_wide(alloc, &ground, &mut scratch.wide)?;
     Ok(found)
+}
+
+/// The tree of a net in the narrow keys: by the tree that it had before, if it had one; and again
+/// without that, where it isn't known then whether there is a tree. None where it still isn't.
+fn grow_narrow<K: Key>(
+    alloc: Global,
+    ground: &Ground<'_>,
+    scratch: &mut WaveScratch<K>,
+    before: &[Row],
+) -> Result<Option<Found>, AllocError>
+    requires { IsGround ground.now }
+    ensures answer { IfOk result (λ found. IfSome found (IsAnswer ground.now.space)) }
+{
+    if !before.is_empty() {
+        if let Some(found) = grow_in(alloc, ground, scratch, before)? {
+            return Ok(Some(found));
+        }
+    }
+    grow_in(alloc, ground, scratch, &[])
 }
 
 /// The tree of a net whose costs don't fit the narrow keys.
@@ -85,7 +109,7 @@ fn grow_wide(
         Some(wide) => wide,
         None => WaveScratch::new(alloc, ground.nodes(), ground.groups())?,
     };
-    let found = grow_in(alloc, ground, &mut wide)?;
+    let found = grow_in(alloc, ground, &mut wide, &[])?;
     *scratch = Some(wide);
     Ok(found.unwrap())
 }
@@ -96,13 +120,14 @@ fn grow_in<K: Key>(
     alloc: Global,
     ground: &Ground<'_>,
     scratch: &mut WaveScratch<K>,
+    before: &[Row],
 ) -> Result<Option<Found>, AllocError>
     requires { IsGround ground.now }
     ensures answer { IfOk result (λ found. IfSome found (IsAnswer ground.now.space)) }
     ensures narrow { IfOk result (λ found. IfNone found (K.greatest < FAR)) }
 {
     make_fit(alloc, scratch, ground.nodes(), ground.groups())?;
-    grow_tree(alloc, ground, scratch)
+    grow_tree(alloc, ground, scratch, before)
 }
 
 /// A tree from the source to all of the sinks, each way added to it one of least cost. None where
@@ -111,6 +136,7 @@ pub(crate) fn grow_tree<K: Key>(
     alloc: Global,
     ground: &Ground<'_>,
     scratch: &mut WaveScratch<K>,
+    before: &[Row],
 ) -> Result<Option<Found>, AllocError>
     requires ground { IsGround ground.now }
     requires fits { IsSized ground.now scratch.old.wave }
@@ -119,12 +145,12 @@ pub(crate) fn grow_tree<K: Key>(
     ensures fits { OnOk result (IsSized ground.now scratch.new.wave) }
 {
     let mut tree = Tree::start(alloc, ground.source())?;
-    if !begin(ground, scratch, &mut tree)? {
+    if !begin(ground, scratch, &mut tree, before)? {
         return Ok(no_path(&scratch.wave, first_sink(ground)));
     }
     for sink in ground.sinks() {
         while !scratch.wave.starts_at(*sink) {
-            if !add_way(ground, scratch, &mut tree)? {
+            if !add_way(ground, scratch, &mut tree, before)? {
                 return Ok(no_path(&scratch.wave, *sink));
             }
         }
@@ -148,6 +174,7 @@ fn begin<K: Key>(
     ground: &Ground<'_>,
     scratch: &mut WaveScratch<K>,
     tree: &mut Tree,
+    before: &[Row],
 ) -> Result<bool, AllocError>
     requires ground { IsGround ground.now }
     requires fits { IsSized ground.now scratch.old.wave }
@@ -158,8 +185,10 @@ fn begin<K: Key>(
         IsShut ground.now.space []) }
     ensures fits { OnOk result (IsSized ground.now scratch.new.wave) }
 {
-    scratch.wave.begin(ground)?;
-    match only_output(ground, &mut scratch.next)? {
+    let only = only_output(ground, &mut scratch.next)?;
+    let ceiling = ceiling_of(ground, before, only.is_none());
+    scratch.wave.begin(ground, ceiling)?;
+    match only {
         Some(pin) => add_first_way(ground, scratch, tree, pin),
         None => {
             scratch.wave.start_source(ground, &mut scratch.next)?;
@@ -260,6 +289,7 @@ fn add_way<K: Key>(
     ground: &Ground<'_>,
     scratch: &mut WaveScratch<K>,
     tree: &mut Tree,
+    before: &[Row],
 ) -> Result<bool, AllocError>
     requires ground { IsGround ground.now }
     requires growth { IsGrowth ground.now tree.old scratch.old.wave }
@@ -277,7 +307,7 @@ fn add_way<K: Key>(
         return Ok(false);
     };
     let start = scratch.wave.trace(sink, &mut scratch.way)?;
-    leave_source(ground, &mut scratch.wave, tree)?;
+    leave_source(ground, &mut scratch.wave, tree, &scratch.way, before)?;
     tree.attach(row_of(tree.as_slice(), start), &scratch.way)?;
     scratch.wave.start_way(ground, &scratch.way)?;
     scratch.wave.renew(ground, sink);
@@ -285,11 +315,14 @@ fn add_way<K: Key>(
 }
 
 /// After the first way the source is no start any more, and the wave begins anew where it started
-/// there.
+/// there. If that way leaves the source over another pin than the tree before, what that tree costs
+/// is no ceiling any more.
 fn leave_source<K: Key>(
     ground: &Ground<'_>,
     wave: &mut Wave<K>,
     tree: &Tree,
+    way: &[u32],
+    before: &[Row],
 ) -> Result<(), AllocError>
     requires ground { IsGround ground.now }
     requires wave { IsWave ground.now wave.old }
@@ -297,7 +330,7 @@ fn leave_source<K: Key>(
     ensures { OnOk result (StartsAnew ground.now (pairs_of tree.now) wave.old wave.new) }
 {
     if tree.pairs() == 0 {
-        return wave.begin(ground);
+        return wave.begin(ground, ceiling_after(wave.ceiling(), way, before));
     }
     Ok(())
 }

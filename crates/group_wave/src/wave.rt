@@ -1,6 +1,7 @@
 //! A wave of labels that spreads from a tree over groups of wires.
 
 ghost use Rattle.std.specs.Prelude.{◌≡◌, ◌<◌, ◌≤◌};
+ghost use Rattle.group_wave.specs.kept.WaveState.{FAR};
 ghost use Rattle.wavefront.specs.kept.Bounds.{left_over};
 
 mod boxes;
@@ -28,7 +29,9 @@ pub(crate) struct Wave<K: Key> {
     nearest: Nearest,
     /// The least cost of a way that was found to a sink that the wave has yet to take.
     best: K,
-    /// Whether something may have been left out since its cost doesn't fit.
+    /// No way that costs more is looked for.
+    ceiling: K,
+    /// Whether a way may have been left out, since its cost doesn't fit or is above the ceiling.
     left_out: bool,
 }
 
@@ -44,6 +47,17 @@ impl<K: Key> Model for Wave<K> {
     ghost invariant = { IsWaveInside K.value K.greatest };
 }
 
+/// A cost as a ceiling. Where all costs fit there is none.
+fn as_ceiling<K: Key>(cost: K) -> K
+    ensures { FAR ≤ K.greatest → K.greatest ≤ K.value result }
+{
+    if K::greatest().wide() < u128::MAX {
+        cost
+    } else {
+        K::greatest()
+    }
+}
+
 /// What a way on costs at least, over so many wires and an input pin.
 fn bound_over<K: Key>(wires: u32) -> K
     ensures { K.value result ≤ left_over wires }
@@ -57,7 +71,6 @@ impl<K: Key> Wave<K> {
     ghost use Rattle.wave_ground.specs.kept.Boxes.{IsLow, wire_of};
     ghost use Rattle.wave_ground.specs.kept.Grounds.{groups_of};
     ghost use Rattle.wave_queue.specs.kept.Queues.{entry_of};
-    ghost use Rattle.group_wave.specs.kept.WaveState.{FAR};
     ghost use Rattle.group_wave.specs.kept.Labels.{label_of};
     ghost use Rattle.group_wave.specs.kept.Wave.{IsWave, cost_at, label_at};
     ghost use Rattle.group_wave.specs.kept.Steps.{IsLabelled, IsNoted, IsPushed, KeepsLabel};

@@ -136,5 +136,5 @@ fn search_in(
     if !(1..=255).contains(&bb) {
         return Err(Unanswered::Refused("a margin is one of 1 to 255"));
     }
-    Ok(route_net(alloc, prepared, net, view, present, bb, scratch)?)
+    Ok(route_net(alloc, prepared, net, view, present, bb, &[], scratch)?)
 }

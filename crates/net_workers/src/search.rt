@@ -81,6 +81,7 @@ pub(crate) fn search<G: Gate>(
         view,
         options.present,
         options.bb,
+        &[],
         scratch,
     ) {
         Ok(Found::Tree(tree)) => Ok(Some(tree)),

@@ -55,7 +55,7 @@ pub record IsPopped (w t : Wave) (e : Waiting) : Type 0 where
 pub record IsNoted (w t : Wave) (out : ℕ) : Type 0 where
   pub labels : t.labels ≡ w.labels
   pub queue : t.queue ≡ w.queue
-  pub limit : t.limit ≡ min w.limit out
+  pub limit : t.limit ≤ min w.limit out
   pub best : t.best ≡ w.best
   pub boxes : t.boxes ≡ w.boxes
 

@@ -90,9 +90,12 @@ pub record IsEdgeCovered (g : Ground) (w : Wave) (v b : ℕ) : Type 0 where
   pub is : IsOf g w entry v
   pub low : IsBound g w b (entry.key - (cost_at w v + entry_cost g.space b))
 
--- the label went on along the edge to b, but into a dead end, and unless it is left out
+-- the label went on along the edge to b, unless that is left out, or each way on over it to an
+-- open sink
 abbrev pub WentOn : Ground → Wave → (label b : ℕ) → Type 0
-WentOn g w label b = IsDead g w b ⊎ (min (cost_at w b) w.limit ≤ label + entry_cost g.space b)
+WentOn g w label b =
+    IsBound g w b (w.limit - (label + entry_cost g.space b))
+    ⊎ (min (cost_at w b) w.limit ≤ label + entry_cost g.space b)
 
 -- along each edge from v the label went on
 abbrev pub WentAlong : Ground → Wave → (v label : ℕ) → Type 0

@@ -1,7 +1,7 @@
 //! How wires of a group are offered a way: those that get the least label there can be wait as one
 //! entry, each other one by itself. What is done for each track is inlined.
 
-ghost use Rattle.std.specs.Prelude.{◌≡◌, ◌+◌, ◌*◌, ◌^◌, ◌<◌, ◌≤◌, true, min};
+ghost use Rattle.std.specs.Prelude.{◌≡◌, ◌+◌, ◌-◌, ◌*◌, ◌^◌, ◌<◌, ◌≤◌, true, min};
 ghost use Rattle.routing_problem.specs.Nodes.{is_wire_at};
 ghost use Rattle.wavefront.specs.Space.{entry_cost};
 ghost use Rattle.wavefront.specs.kept.Bounds.{least_wire_cost};
@@ -56,17 +56,119 @@ fn label_by<K: Key>(ground: &Ground<'_>, step: Relaxing<K>, wire: u32) -> K
 }
 
 impl<K: Key> Wave<K> {
-    ghost use Rattle.std.specs.Prelude.{length, Contains, OnOk, IfOk, IsTrue, false};
+    ghost use Rattle.std.specs.Prelude.{length, Contains, OnOk, IfOk, IsTrue, IsFalse, false};
     ghost use Rattle.track_groups.specs.Groups.{group_at};
     ghost use Rattle.track_groups.specs.Joints.{neighbours_of};
     ghost use Rattle.wave_queue.specs.kept.Bits.{IsOnlyBit};
     ghost use Rattle.wave_ground.specs.kept.Grounds.{IsGround, groups_of};
     ghost use Rattle.group_wave.specs.kept.Labels.{label_of};
-    ghost use Rattle.group_wave.specs.kept.Wave.{IsWave, cost_at, label_at};
-    ghost use Rattle.group_wave.specs.kept.Steps.{IsLive, IsOffer, IsStep, IsTarget, Relaxes, RelaxesSome, RelaxesTrack, Spreads, TookWires, WaitsFresh, fresh_entry, IsOut};
+    ghost use Rattle.group_wave.specs.kept.Wave.{IsBound, IsWave, cost_at, label_at};
+    ghost use Rattle.group_wave.specs.kept.Steps.{IsLive, IsNoted, IsOffer, IsStep, IsTarget, Relaxes, RelaxesSome, RelaxesTrack, Spreads, TookWires, WaitsFresh, fresh_entry, IsOut};
     ghost use Rattle.wave_queue.specs.kept.Queues.{entry_of};
 
-    /// Lowers a wire's label, and lets the wire wait by itself.
+    /// Leaves out what costs so much, if that is above the ceiling. Answers whether it is.
+    #[inline(always)]
+    fn drops(&mut self, cost: K) -> bool
+        ensures noted { IsTrue result → IsNoted self.old self.new (K.value cost) }
+        ensures known { IsTrue result → self.new.known ≡ self.old.known }
+        ensures same { IsFalse result → self.new ≡ self.old }
+    {
+        if self.ceiling.is_below(cost) {
+            self.left_out = true;
+            return true;
+        }
+        false
+    }
+
+    /// Lowers a wire's label, and lets the wire wait by itself, by this key.
+    #[inline(always)]
+    fn lower_to(
+        &mut self,
+        ground: &Ground<'_>,
+        step: Relaxing<K>,
+        to: Target,
+        cost: K,
+        key: K,
+    ) -> Result<(), AllocError>
+        requires ground { IsGround ground.now }
+        requires wave { IsWave ground.now self.old }
+        requires from { IsStep ground.now self.old (K.value step.label) to.wire to.parent }
+        requires to { IsTarget ground.now step.group to.track to.wire }
+        requires few { to.track < 64 }
+        requires cost { K.value cost ≡ K.value step.label + entry_cost ground.now.space to.wire }
+        requires fits { K.value cost < K.greatest }
+        requires less { K.value cost < cost_at self.old to.wire }
+        requires key { K.value key ≤ K.greatest }
+        requires low { IsBound ground.now self.old to.wire (K.value key - K.value cost) }
+        ensures { OnOk result (RelaxesTrack ground.now self.old self.new
+            (K.value step.label) (K.value step.least) to.wire false) }
+    {
+        self.set(to.wire, cost, to.parent)?;
+        self.wait(QueueEntry {
+            key,
+            label: cost,
+            group: step.group,
+            tracks: with_bit(0, to.track),
+            is_begun: false,
+        })
+    }
+
+    /// Lowers a wire's label, and lets the wire wait by itself, by this key, if that isn't above
+    /// the ceiling.
+    #[inline(always)]
+    fn lower_by(
+        &mut self,
+        ground: &Ground<'_>,
+        step: Relaxing<K>,
+        to: Target,
+        cost: K,
+        key: K,
+    ) -> Result<(), AllocError>
+        requires ground { IsGround ground.now }
+        requires wave { IsWave ground.now self.old }
+        requires from { IsStep ground.now self.old (K.value step.label) to.wire to.parent }
+        requires to { IsTarget ground.now step.group to.track to.wire }
+        requires few { to.track < 64 }
+        requires cost { K.value cost ≡ K.value step.label + entry_cost ground.now.space to.wire }
+        requires fits { K.value cost < K.greatest }
+        requires less { K.value cost < cost_at self.old to.wire }
+        requires key { K.value key ≤ K.greatest }
+        requires low { IsBound ground.now self.old to.wire (K.value key - K.value cost) }
+        ensures { OnOk result (RelaxesTrack ground.now self.old self.new
+            (K.value step.label) (K.value step.least) to.wire false) }
+    {
+        if self.drops(key) {
+            return Ok(());
+        }
+        self.lower_to(ground, step, to, cost, key)
+    }
+
+    /// Lowers a wire's label, and lets the wire wait by itself, if no more is left from there than
+    /// the ceiling lets through.
+    #[inline(always)]
+    fn lower_bounded(
+        &mut self,
+        ground: &Ground<'_>,
+        step: Relaxing<K>,
+        to: Target,
+        cost: K,
+    ) -> Result<(), AllocError>
+        requires ground { IsGround ground.now }
+        requires wave { IsWave ground.now self.old }
+        requires from { IsStep ground.now self.old (K.value step.label) to.wire to.parent }
+        requires to { IsTarget ground.now step.group to.track to.wire }
+        requires few { to.track < 64 }
+        requires cost { K.value cost ≡ K.value step.label + entry_cost ground.now.space to.wire }
+        requires fits { K.value cost < K.greatest }
+        requires less { K.value cost < cost_at self.old to.wire }
+        ensures { OnOk result (RelaxesTrack ground.now self.old self.new
+            (K.value step.label) (K.value step.least) to.wire false) }
+    {
+        let wires = self.wires_left(ground, step.group);
+        self.lower_by(ground, step, to, cost, cost.plus(bound_over(wires)))
+    }
+
+    /// Lowers a wire's label, and lets the wire wait by itself, if it isn't above the ceiling.
     #[inline(always)]
     fn lower_alone(
         &mut self,
@@ -86,15 +188,10 @@ impl<K: Key> Wave<K> {
         ensures { OnOk result (RelaxesTrack ground.now self.old self.new
             (K.value step.label) (K.value step.least) to.wire false) }
     {
-        let wires = self.wires_left(ground, step.group);
-        self.set(to.wire, cost, to.parent)?;
-        self.wait(QueueEntry {
-            key: cost.plus(bound_over(wires)),
-            label: cost,
-            group: step.group,
-            tracks: with_bit(0, to.track),
-            is_begun: false,
-        })
+        if self.drops(cost) {
+            return Ok(());
+        }
+        self.lower_bounded(ground, step, to, cost)
     }
 
     /// Lowers a wire's label. Where that is not the least there can be, the wire waits by itself;
@@ -202,7 +299,33 @@ impl<K: Key> Wave<K> {
         Ok(fresh)
     }
 
-    /// Offers tracks of a group a way.
+    /// Offers tracks of a group a way, by the label and the least that there can be.
+    #[inline(always)]
+    fn relax_by(
+        &mut self,
+        ground: &Ground<'_>,
+        step: Relaxing<K>,
+        offer: Offer<K>,
+        tracks: u64,
+    ) -> Result<(), AllocError>
+        requires ground { IsGround ground.now }
+        requires wave { IsWave ground.now self.old }
+        requires there { step.group < length (groups_of ground.now) }
+        requires offer { IsOffer ground.now self.old (K.value offer.label) offer.first offer.step
+            step.group tracks }
+        requires first { offer.first + 64 * offer.step < 2 ^ 30 }
+        requires near { K.value offer.label < K.greatest }
+        requires label { K.value step.label ≡ K.value offer.label }
+        requires least { K.value step.least ≡
+            min (K.value step.label + least_wire_cost) K.greatest }
+        ensures { OnOk result (Relaxes ground.now self.old self.new (K.value offer.label)
+            step.group tracks) }
+    {
+        let fresh = self.relax_tracks(ground, step, offer, &ground.group(step.group), tracks)?;
+        self.put_fresh(ground, step, fresh)
+    }
+
+    /// Offers tracks of a group a way, if the least that it costs there isn't above the ceiling.
     #[inline(always)]
     pub(crate) fn relax(
         &mut self,
@@ -226,8 +349,10 @@ impl<K: Key> Wave<K> {
             least: offer.label.plus(K::cut(WIRE)),
             group,
         };
-        let fresh = self.relax_tracks(ground, step, offer, &ground.group(group), tracks)?;
-        self.put_fresh(ground, step, fresh)
+        if self.drops(step.least) {
+            return Ok(());
+        }
+        self.relax_by(ground, step, offer, tracks)
     }
 
     /// Lets those tracks wait whose labels are the least there can be.

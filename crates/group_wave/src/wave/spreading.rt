@@ -244,6 +244,17 @@ impl<K: Key> Wave<K> {
         first
     }
 
+    /// Whether a sink is reached for no more than what may have been left out costs.
+    fn is_reached(&self) -> bool
+        ensures reached { IsTrue result → (self.now.best < FAR) × (self.now.best ≤ self.now.limit) }
+        ensures none { IsFalse result → self.now.limit ≤ self.now.best }
+    {
+        if !self.best.is_below(K::greatest()) {
+            return false;
+        }
+        !self.left_out || !self.ceiling.is_below(self.best)
+    }
+
     /// The nearest sink, if one is reached.
     fn nearest_sink(&self, ground: &Ground<'_>) -> Option<u32>
         requires ground { IsGround ground.now }
@@ -252,9 +263,9 @@ impl<K: Key> Wave<K> {
         ensures some { IfSome result (IsNearest ground.now self.now) }
         ensures reached { IfSome result
             (λ sink. (self.now.best < FAR) × (self.now.best ≤ self.now.limit)) }
-        ensures none { IfNone result (self.now.best ≡ FAR) }
+        ensures none { IfNone result (self.now.limit ≤ self.now.best) }
     {
-        if !self.best.is_below(K::greatest()) {
+        if !self.is_reached() {
             return None;
         }
         self.first_nearest(ground)

@@ -4,7 +4,7 @@ ghost use Rattle.std.specs.Prelude.{◌≡◌, ◌<◌, ◌≤◌, ◌↔◌, �
 ghost use Rattle.routing_problem.specs.node.Kind.TheVariants.{Opin};
 
 use super::relaxing::Offer;
-use super::{Wave, bound_over};
+use super::{Wave, as_ceiling, bound_over};
 use crate::labels::Labels;
 use routing_problem::Kind;
 use smallvec::SmallVec;
@@ -48,6 +48,7 @@ impl<K: Key> Wave<K> {
             queue,
             nearest,
             best: K::greatest(),
+            ceiling: K::greatest(),
             left_out: false,
         })
     }
@@ -60,7 +61,12 @@ impl<K: Key> Wave<K> {
         self.labels.len() == nodes && self.nearest.len() == groups
     }
 
-    /// Whether a way may have been left out since its cost doesn't fit.
+    /// The cost above which it looks for no way.
+    pub(crate) fn ceiling(&self) -> K {
+        self.ceiling
+    }
+
+    /// Whether a way may have been left out.
     pub(crate) fn leaves_out(&self) -> bool
         ensures narrow { IsTrue result → K.greatest < FAR }
         ensures all { IsFalse result → self.now.limit ≡ FAR }
@@ -79,17 +85,19 @@ impl<K: Key> Wave<K> {
     }
 
     /// Takes all labels off and all entries out.
-    fn clear(&mut self)
+    fn clear(&mut self, ceiling: K)
         ensures { IsCleared self.old self.new }
     {
         self.labels.clear();
         self.queue.clear();
         self.best = K::greatest();
+        self.ceiling = as_ceiling(ceiling);
         self.left_out = false;
     }
 
-    /// Takes all labels off and all entries out, and puts boxes around the sinks.
-    pub(crate) fn begin(&mut self, ground: &Ground<'_>) -> Result<(), AllocError>
+    /// Takes all labels off and all entries out, and puts boxes around the sinks. From here on no
+    /// way is looked for that costs more than the ceiling, where costs may not fit.
+    pub(crate) fn begin(&mut self, ground: &Ground<'_>, ceiling: K) -> Result<(), AllocError>
         requires ground { IsGround ground.now }
         requires rows { length self.old.labels ≡ node_count ground.now.space }
         requires known { length self.old.known ≡ length (groups_of ground.now) }
@@ -100,7 +108,7 @@ impl<K: Key> Wave<K> {
         ensures rows { length self.new.labels ≡ length self.old.labels }
         ensures groups { length self.new.known ≡ length self.old.known }
     {
-        self.clear();
+        self.clear(ceiling);
         self.aim(ground)
     }
 

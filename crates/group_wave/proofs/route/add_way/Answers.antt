@@ -27,7 +27,7 @@ pub start_way-requires-clause-walk : goal.start_way-requires-clause-walk
 start_way-requires-clause-walk g c =
     let taken = rw c.in-Some.is at c.in_ok-sink.ensures.taken in
     let traced = taken_traced c.args.ground.now c.take_sink.new.self _ _ c.in-Some.sink c.requires.ground c.in_ok-sink.ensures.settles.wave taken c.in_ok-start.ensures in
-    rw c.deref-2.ensures.value (record {
+    rw c.deref-3.ensures.value (record {
       from = c.in_ok-start.start;
       sink = c.in-Some.sink;
       walk = traced.walk;
@@ -43,13 +43,13 @@ added g c = record {
   taken = rw c.in-Some.is at c.in_ok-sink.ensures.taken;
   traced = taken_traced c.args.ground.now c.take_sink.new.self _ _ c.in-Some.sink c.requires.ground c.in_ok-sink.ensures.settles.wave (rw c.in-Some.is at c.in_ok-sink.ensures.taken) c.in_ok-start.ensures;
   left = c.in_ok-leave_source.ensures;
-  started = rw c.deref-2.ensures.value at c.in_ok-start_way.ensures.started;
+  started = rw c.deref-3.ensures.value at c.in_ok-start_way.ensures.started;
 }
 
 pub returns-clause-growth : goal.returns-clause-growth
 returns-clause-growth g c _ = added_growth _ _ _ _ _ _ _ _ _ (added g c) c.attach.new.self c.renew.new.self
     (ap (λ rows. node_in rows 0) c.in_ok-attach.ensures.rows ∙ same_root c.args.tree.now _ c.as_slice.ensures.tree ∙ c.requires.growth.root)
-    (c.in_ok-attach.ensures.pairs ∙ ap (λ a. pairs_of c.args.tree.now ++ pairs_along a c.deref.result.now) (ap (λ rows. node_in rows c.row_of.result) (sym c.as_slice.ensures.rows) ∙ c.row_of.ensures.node) ∙ ap (λ way. pairs_of c.args.tree.now ++ pairs_along c.in_ok-start.start way) c.deref.ensures.value)
+    (c.in_ok-attach.ensures.pairs ∙ ap (λ a. pairs_of c.args.tree.now ++ pairs_along a c.deref-2.result.now) (ap (λ rows. node_in rows c.row_of.result) (sym c.as_slice.ensures.rows) ∙ c.row_of.ensures.node) ∙ ap (λ way. pairs_of c.args.tree.now ++ pairs_along c.in_ok-start.start way) c.deref-2.ensures.value)
     c.renew.ensures.wave c.renew.ensures.complete c.renew.ensures.best c.renew.ensures.origins
 
 pub returns-clause-kept : goal.returns-clause-kept

@@ -6,6 +6,7 @@ use Rattle.group_wave.proofs.wave.Wave.pop.Goals as goal
 pub invariant_of-self : goal.invariant_of-self
 invariant_of-self g c = record {
   best = c.self.invariant.best;
+  ceiling = c.self.invariant.ceiling;
   entries = left_fit g.K.Key.value g.K.Key.greatest c.self.inside.queue c.pop_to.new.self c.self.invariant.entries c.pop_to.result (g.K.Key.value c.self.inside.best) c.pop_to.ensures.some c.pop_to.ensures.none;
 }
 

@@ -1,27 +1,19 @@
-use Rattle.std.proofs.Common.{◌<◌, arith, inl, inr}
-use Rattle.std.proofs.lemmas.Bool.{cases_eq}
-use Rattle.std.proofs.lemmas.Result.{on_ok_weaker}
-use Rattle.group_wave.proofs.Offered.{fresh_put}
-use Rattle.group_wave.proofs.RelaxedTracks.{relaxed_all}
-use Rattle.group_wave.proofs.Waited.{on_ok}
+use Rattle.std.proofs.Common.{arith}
+use Rattle.group_wave.proofs.Offered.{offer_dropped}
 use Rattle.group_wave.proofs.wave.Wave.relax.Goals as goal
 
+pub returns-then-drops : goal.returns-then-drops
+returns-then-drops g c =
+    let least = c.plus.ensures in
+    let wire = c.cut.ensures in
+    offer_dropped c.args.ground.now c.requires.ground c.args.self.now c.drops.new.self (g.K.Key.value c.args.offer.label) c.args.offer.first c.args.offer.step c.args.group c.args.tracks (g.K.Key.value c.plus.result)
+    c.requires.wave c.requires.offer (c.drops.ensures.noted c.if-drops.true) (c.drops.ensures.known c.if-drops.true) (omega (arith, least, wire))
+
+pub relax_by-requires-clause-wave : goal.relax_by-requires-clause-wave
+relax_by-requires-clause-wave g c = rw (c.drops.ensures.same c.if-drops.false) c.requires.wave
+
+pub relax_by-requires-clause-offer : goal.relax_by-requires-clause-offer
+relax_by-requires-clause-offer g c = rw (c.drops.ensures.same c.if-drops.false) c.requires.offer
+
 pub returns : goal.returns
-returns g c =
-    let value = g.K.Key.value in
-    let ground = c.args.ground.now in
-    let was = c.args.self.now in
-    let some = c.in_ok-fresh.ensures.relaxed in
-    let fresh = c.in_ok-fresh.fresh in
-    let label = value c.args.offer.label in
-    let least = value c.plus.result in
-    elim (cases_eq fresh 0) [
-      | inl none ↦
-          let same = c.put_fresh.ensures.none none in
-          on_ok c.put_fresh.result (rw same (relaxed_all ground was c.relax_tracks.new.self label least c.args.group c.args.tracks (rw none at some)))
-      | inr more ↦
-          let put : 0 < fresh = omega (arith, more) in
-          on_ok_weaker c.put_fresh.result
-          (fresh_put ground c.requires.ground was c.relax_tracks.new.self c.put_fresh.new.self label least c.args.group c.args.tracks fresh some put)
-          (c.put_fresh.ensures.some put)
-    ]
+returns g c = rw (c.drops.ensures.same c.if-drops.false) at c.relax_by.ensures
