@@ -17,7 +17,7 @@ use crate::search::{SearchOptions, search};
 use gates::Gate;
 use group_wave::Scratch;
 use node_cost::View;
-use route_tree::Tree;
+use route_tree::{Row, Tree};
 use std::alloc::{AllocError, Global};
 use std::marker::Model;
 use wave_ground::PreparedProblem;
@@ -119,6 +119,14 @@ impl<'a, L: Logged> Board<'a, L> {
         &self.opening[net as usize]
     }
 
+    /// Returns the rows of the tree with which the iteration opens for a net, or none.
+    fn opening_rows(&self, net: u32) -> &[Row] {
+        match self.opening.get(net as usize) {
+            Some(Some(tree)) => tree.as_slice(),
+            _ => &[],
+        }
+    }
+
     /// Searches for the tree of a net in this view.
     pub(crate) fn search<G: Gate>(
         &self,
@@ -135,7 +143,17 @@ impl<'a, L: Logged> Board<'a, L> {
         ensures routes { IfOk result (RoutesNet L.plan.opening.problem net) }
         ensures fits { scratch.new ≡ scratch.old }
     {
-        search(alloc, self.prepared, net, view, self.options, scratch, gate)
+        let before = self.opening_rows(net);
+        search(
+            alloc,
+            self.prepared,
+            net,
+            view,
+            self.options,
+            before,
+            scratch,
+            gate,
+        )
     }
 
     /// Returns the page in a cell, if there is one by now.

@@ -12,7 +12,7 @@ use crate::fault::WorkFault;
 use gates::Gate;
 use group_wave::{Scratch, route_net};
 use node_cost::{Settings, View};
-use route_tree::Tree;
+use route_tree::{Row, Tree};
 use std::alloc::Global;
 use wave_ground::PreparedProblem;
 use wavefront::{Found, SearchFault};
@@ -57,13 +57,14 @@ impl SearchOptions {
 }
 
 /// Searches for the tree of a net. Returns the tree, or none if the net is stuck. In that case the
-/// gate is called.
+/// gate is called. The net's tree has had the rows `before`, or there was none.
 pub(crate) fn search<G: Gate>(
     alloc: Global,
     prepared: &PreparedProblem,
     net: u32,
     view: &View,
     options: SearchOptions,
+    before: &[Row],
     scratch: &mut Scratch,
     gate: &G,
 ) -> Result<Option<Tree>, WorkFault>
@@ -81,7 +82,7 @@ pub(crate) fn search<G: Gate>(
         view,
         options.present,
         options.bb,
-        &[],
+        before,
         scratch,
     ) {
         Ok(Found::Tree(tree)) => Ok(Some(tree)),
