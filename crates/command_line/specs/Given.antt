@@ -11,6 +11,7 @@ use Rattle.command_line.specs.declared.command.CheckWords.{CheckWords}
 use Rattle.command_line.specs.declared.command.ReportWords.{ReportWords}
 use Rattle.command_line.specs.declared.command.BoundWords.{BoundWords}
 use Rattle.command_line.specs.declared.command.GraphWords.{GraphWords}
+use Rattle.command_line.specs.declared.command.NetsWords.{NetsWords}
 
 -- the text that was given under a name, if one was: a file
 abbrev pub text_given : ArgMatches → List ℕ → Option (List ℕ)
@@ -119,3 +120,12 @@ pub record IsGraphGiven (m : ArgMatches) (g : GraphWords) : Type 0 where
   pub width : IsNumberGiven m (codes "W") g.width
   pub global : IsFlagGiven m (codes "global") g.global
   pub explain : IsFlagGiven m (codes "explain") g.explain
+
+-- what was given to `nets`
+pub record IsNetsGiven (m : ArgMatches) (n : NetsWords) : Type 0 where
+  pub net : IsTextGiven m (codes "NET") n.net
+  pub arch : IsTextGiven m (codes "ARCH") n.arch
+  pub place : IsTextGiven m (codes "PLACE") n.place
+  pub width : IsNumberGiven m (codes "width") n.width
+  pub global : IsFlagGiven m (codes "global") n.global
+  pub explain : IsFlagGiven m (codes "explain") n.explain

@@ -3,7 +3,7 @@
 ghost use Rattle.std.specs.Prelude.{◌≤◌, IfSome};
 ghost use Rattle.rr_graph.specs.Fabric.{longest_side, most_tracks};
 ghost use Rattle.node_cost.specs.Options.{most_workers};
-ghost use Rattle.command_line.specs.Given.{IsRouteGiven, IsWidthGiven, IsCheckGiven, IsReportGiven, IsBoundGiven, IsGraphGiven};
+ghost use Rattle.command_line.specs.Given.{IsRouteGiven, IsWidthGiven, IsCheckGiven, IsReportGiven, IsBoundGiven, IsGraphGiven, IsNetsGiven};
 
 use crate::choices::{GREATEST_SIDE, MOST_TRACKS, MOST_WORKERS, from_to};
 use crate::given::{
@@ -127,6 +127,16 @@ fn graph_command<'a>(alloc: Global) -> Result<Command<'a>, AllocError> {
         .arg(explain_flag(alloc, help::EXPLAIN))
 }
 
+fn nets_command<'a>(alloc: Global) -> Result<Command<'a>, AllocError> {
+    let command = Command::new(alloc, "nets")
+        .about("Print the nodes that the nets of a placed netlist join")
+        .after_help(help::NETS);
+    with_design(alloc, command)?
+        .arg(width(alloc))?
+        .arg(global_flag(alloc))?
+        .arg(explain_flag(alloc, help::EXPLAIN))
+}
+
 /// Returns the command line of the program.
 #[inline(never)]
 pub fn command<'a>(alloc: Global) -> Result<Command<'a>, AllocError> {
@@ -141,7 +151,8 @@ pub fn command<'a>(alloc: Global) -> Result<Command<'a>, AllocError> {
         .subcommand(check_command(alloc)?)?
         .subcommand(report_command(alloc)?)?
         .subcommand(bound_command(alloc)?)?
-        .subcommand(graph_command(alloc)?)
+        .subcommand(graph_command(alloc)?)?
+        .subcommand(nets_command(alloc)?)
 }
 
 /// The values given to the `route` command.
@@ -236,6 +247,17 @@ pub struct GraphWords<'a> {
     pub arch: &'a str,
     pub nx: u32,
     pub ny: u32,
+    pub width: u32,
+    pub global: bool,
+    pub explain: bool,
+}
+
+/// The values given to the `nets` command.
+#[derive(Clone, Copy)]
+pub struct NetsWords<'a> {
+    pub net: &'a str,
+    pub arch: &'a str,
+    pub place: &'a str,
     pub width: u32,
     pub global: bool,
     pub explain: bool,
@@ -355,6 +377,22 @@ pub fn graph_words<'a>(matches: &ArgMatches<'a>) -> Option<GraphWords<'a>>
         nx: number_within(matches, "NX", GREATEST_SIDE)?,
         ny: number_within(matches, "NY", GREATEST_SIDE)?,
         width: number_within(matches, "W", MOST_TRACKS)?,
+        global: flag(matches, "global"),
+        explain: flag(matches, "explain"),
+    })
+}
+
+/// Returns the values given to the `nets` command, or `None` if one is out of its range.
+pub fn nets_words<'a>(matches: &ArgMatches<'a>) -> Option<NetsWords<'a>>
+    ensures tracks { IfSome result (λ n. (1 ≤ n.width) × (n.width ≤ most_tracks)) }
+    ensures given { IfSome result (λ w. IsNetsGiven matches.now w) }
+{
+    let design = design_files(matches)?;
+    Some(NetsWords {
+        net: design.net,
+        arch: design.arch,
+        place: design.place,
+        width: number_within(matches, "width", MOST_TRACKS)?,
         global: flag(matches, "global"),
         explain: flag(matches, "explain"),
     })

@@ -164,6 +164,25 @@ Exit status:
   5  reading or writing failed
   6  memory ran out";
 
+/// The end of the help of `nets`.
+pub const NETS: &str = "\
+It prints a line for each net that is to be routed: its number and its name in the netlist, and, by
+their numbers in `graph`, the node that it begins at and those that it must reach. The device is
+that of the placement's array.
+
+Example, in examples/uart:
+  $ pathfinder nets uart.net k4n1.arch uart.place --width 6
+  net 0 rx source 96 sinks 341 375
+  net 2 tx source 28 sinks 218
+  ..
+
+Exit status:
+  0  printed
+  2  words that the command line may not have
+  4  bad input, as `error: net line 10: BadLine`
+  5  reading or writing failed
+  6  memory ran out";
+
 /// The help of `--explain`.
 pub const EXPLAIN: &str = "\
 Where a file is refused, also tell on standard error the line, the

@@ -18,10 +18,11 @@ use crate::side::{RestFile, TrialFiles, free_name, log_of, others_of};
 use crate::warning::hindrance_of;
 use bound_run::bound_run;
 use command_line::command::{
-    BoundWords, CheckWords, GraphWords, ReportWords, RouteWords, WidthWords,
+    BoundWords, CheckWords, GraphWords, NetsWords, ReportWords, RouteWords, WidthWords,
 };
 use iteration::Outcome;
 use net_workers::Gate;
+use nets_run::nets_run;
 use node_cost::Settings;
 use report_run::report_run;
 use route_check::RouteFault;
@@ -475,5 +476,27 @@ pub fn graph<F: Read>(
         width,
         mode_of(given.global),
         &mut out,
+    )
+}
+
+/// Runs the `nets` command.
+pub fn nets(
+    rt: &HostRuntime,
+    given: NetsWords<'_>,
+    design: &mut OpenedDesign<File>,
+    watched: Watched,
+) -> Result<(), AppFault>
+    requires { (1 ≤ given.width) × (given.width ≤ most_tracks) }
+{
+    let mut out = Adapted::new(output(rt, watched));
+    let (width, mode) = (given.width, mode_of(given.global));
+    nets_run(
+        rt.alloc(),
+        &mut design.net,
+        &mut design.arch,
+        &mut design.place,
+        &mut out,
+        width,
+        mode,
     )
 }

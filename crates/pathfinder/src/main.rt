@@ -86,6 +86,7 @@ fn run<R: Runtime + Threads + Wait + Sync + AllocGlobal>(
         Some(("report", given)) => run_report(rt, given, watched),
         Some(("bound", given)) => run_bound(rt, given, watched),
         Some(("graph", given)) => run_graph(rt, given, watched),
+        Some(("nets", given)) => run_nets(rt, given, watched),
         _ => BAD_WORDS,
     }
 }
@@ -325,6 +326,23 @@ fn list_graph<F: Read + Drop>(
                 names.with_bytes(&[], bytes, &[], &[]),
             )
         }
+    }
+}
+
+/// Runs `nets`, and returns its exit status.
+fn run_nets(rt: &HostRuntime, given: &ArgMatches<'_>, watched: Watched) -> u8 {
+    let Some(given) = command::nets_words(given) else {
+        return BAD_WORDS;
+    };
+    let files = [given.net, given.arch, given.place, ""];
+    let is_explained = given.explain;
+    let (names, mut design) = match begin(rt, files, FurtherNames::none(), is_explained) {
+        Ok(begun) => begun,
+        Err(status) => return status,
+    };
+    match commands::nets(rt, given, &mut design, watched) {
+        Ok(()) => 0,
+        Err(fault) => refused_with(rt, fault, is_explained, read_of(&names, &design, &[])),
     }
 }
 

@@ -1,0 +1,8 @@
+//! The `nets` command over any sources and sink: the routed nets of a placed design, by the numbers
+//! of the nodes that they join.
+#![tactic(auto)]
+
+mod lines;
+mod run;
+
+pub use run::nets_run;
