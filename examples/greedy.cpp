@@ -1,6 +1,6 @@
 // A router to begin with: each net breadth first, past all that earlier nets have taken.
 // usage: greedy NX NY GRAPH NETS >ROUTE
-// GRAPH is what `pathfinder graph ARCH NX NY WIDTH` prints, and NETS what nets.py prints.
+// GRAPH is what `pathfinder graph ARCH NX NY WIDTH` prints, and NETS what `pathfinder nets` prints.
 #include <cstdio>
 #include <cstdlib>
 #include <deque>

@@ -4,6 +4,7 @@
 
     design = vpr430.read_design("uart.net", "k4n1.arch", "uart.place")
     graph = vpr430.graph_of(listing)  # what `pathfinder graph k4n1.arch 11 11 6` prints
+    nets = vpr430.read_nets("nets")  # what `pathfinder nets .. --width 6` prints, in a file
     sections = vpr430.read_routing("uart.route", design.netlist, design.placement, graph)
     log = vpr430.read_log("run.log")  # what `pathfinder route .. --log run.log` writes
 
@@ -643,6 +644,41 @@ def graph_of(listing, name="graph"):
         nodes.append(Node(kind, int(x), int(y), int(end_x or x), int(end_y or y), label, int(at)))
         capacities.append(int(capacity))
     return Graph(nodes, capacities, lines[many:])
+
+
+class RoutedNet(typing.NamedTuple):
+    """A net that is to be routed, by its number: the numbers of its source and of its sinks."""
+
+    number: int
+    name: str
+    source: int
+    sinks: tuple
+
+
+def _routed_net_of(line):
+    """The net of a line as `net 0 rx source 96 sinks 341 375`."""
+    words = line.words
+    if len(words) < 7 or (words[0], words[3], words[5]) != ("net", "source", "sinks"):
+        raise line.fault("it has not the form `net N NAME source N sinks N ..`")
+    number, source, *sinks = (line.number_of(word) for word in (words[1], words[4], *words[6:]))
+    return RoutedNet(number, words[2], source, tuple(sinks))
+
+
+def nets_of(listing, name="nets"):
+    """The nets of the listing that `pathfinder nets` prints, by whatever name, in their order."""
+    nets = []
+    for at, row in enumerate(listing.splitlines(), 1):
+        line = Line(name, at, tuple(row.split()))
+        net = _routed_net_of(line)
+        if nets and nets[-1].number >= net.number:
+            raise line.fault("its number isn't greater than that of the net before")
+        nets.append(net)
+    return nets
+
+
+def read_nets(path):
+    """The nets of a file that has what `pathfinder nets` prints."""
+    return nets_of(read_source(path).decode(**TEXT), path)
 
 
 # ---- Routings ------------------------------------------------------------------------------------
