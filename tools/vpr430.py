@@ -596,6 +596,7 @@ class Node(typing.NamedTuple):
 WIRES = ("CHANX", "CHANY")
 LISTED_NODE = re.compile(
     r"(\d+) (\w+) \((\d+),(\d+)\)(?: to \((\d+),(\d+)\))? (\w+): (\d+) cap (\d+)"
+    r"(?: type (\d+))?"
 )
 
 
@@ -603,12 +604,15 @@ LISTED_NODE = re.compile(
 class Graph:
     """The nodes of a device by their numbers, for how many nets each has room, and the edges.
 
-    An edge is a line of the listing, as `84 -> 64`.
+    An edge is a line of the listing, as `84 -> 64`. In the listing of `graph --types` a wire has a
+    type, and an edge into a wire a switch.
     """
 
     nodes: list
     capacities: list
     edges: list
+    # Of each node the type; None for what is no wire, and where the listing has none.
+    types: list = dataclasses.field(default_factory=list)
 
     @functools.cached_property
     def numbers(self):
@@ -618,32 +622,42 @@ class Graph:
     @functools.cached_property
     def successors(self):
         """Of each node the numbers of the nodes to which it leads."""
-        successors, many = [[] for _ in self.nodes], len(self.nodes)
+        return [[end for end, _ in ends] for ends in self.steps]
+
+    @functools.cached_property
+    def steps(self):
+        """Of each node the numbers of the nodes to which it leads, each with the switch or None."""
+        steps, many = [[] for _ in self.nodes], len(self.nodes)
         for edge in self.edges:
-            start, _, end = edge.partition(" -> ")
-            are_numbers = start.isdecimal() and end.isdecimal()
+            start, _, rest = edge.partition(" -> ")
+            end, has_switch, switch = rest.partition(" switch ")
+            are_numbers = all(map(str.isdecimal, (start, end, switch if has_switch else "0")))
             if not are_numbers or max(int(start), int(end)) >= many:
                 raise Fault(f"graph: `{edge}` is no edge between two of its nodes")
-            successors[int(start)].append(int(end))
-        return successors
+            steps[int(start)].append((int(end), int(switch) if has_switch else None))
+        return steps
 
 
 def graph_of(listing, name="graph"):
-    """The graph of the listing that `pathfinder graph` prints, by whatever name."""
+    """The graph of the listing that `pathfinder graph` prints, with types or without.
+
+    The name is that of the listing in faults.
+    """
     head, *lines = listing.splitlines() or [""]
     counts = re.fullmatch(r"(\d+) nodes, (\d+) edges", head)
     if not counts or int(counts[1]) + int(counts[2]) != len(lines):
         raise Fault(f"{name}:1: it is no listing of `pathfinder graph`")
     many = int(counts[1])
-    nodes, capacities = [], []
+    nodes, capacities, types = [], [], []
     for number, line in enumerate(lines[:many]):
         found = LISTED_NODE.fullmatch(line)
         if not found or int(found[1]) != number:
             raise Fault(f"{name}:{number + 2}: it is not the line of node {number}")
-        _, kind, x, y, end_x, end_y, label, at, capacity = found.groups()
+        _, kind, x, y, end_x, end_y, label, at, capacity, wire_type = found.groups()
         nodes.append(Node(kind, int(x), int(y), int(end_x or x), int(end_y or y), label, int(at)))
         capacities.append(int(capacity))
-    return Graph(nodes, capacities, lines[many:])
+        types.append(None if wire_type is None else int(wire_type))
+    return Graph(nodes, capacities, lines[many:], types)
 
 
 class RoutedNet(typing.NamedTuple):

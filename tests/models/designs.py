@@ -26,10 +26,12 @@ def arch_text(arch):
     for segment in arch.segments:
         length = segment.length or "longline"
         lines.append(
-            f"segment frequency: {fixed(segment.frequency)} length: {length} wire_switch: 0 opin_switch: 0"
-            " Frac_cb: 1 Frac_sb: 1 Rmetal: 0 Cmetal: 0"
+            f"segment frequency: {fixed(segment.frequency)} length: {length} wire_switch: {segment.wire_switch}"
+            f" opin_switch: {segment.opin_switch} Frac_cb: 1 Frac_sb: 1 Rmetal: 0 Cmetal: 0"
         )
-    return "\n".join([*lines, "switch 0 buffered: yes R: 0 Cin: 0 Cout: 0 Tdel: 0", ""])
+    switches = {switch for segment in arch.segments for switch in (segment.wire_switch, segment.opin_switch)}
+    lines += [f"switch {number} buffered: yes R: 0 Cin: 0 Cout: 0 Tdel: 0" for number in sorted(switches)]
+    return "\n".join([*lines, ""])
 
 
 def draw_pins(random):

@@ -22,10 +22,13 @@ class Pin:
 
 @dataclass(frozen=True)
 class Segment:
-    """A type of wire: how often it is, in units of 10^-9, and how many places long; None is a longline."""
+    """A type of wire: how often it is, in units of 10^-9, how many places long (None is a longline), and what drives it."""
 
     frequency: int
     length: Optional[int]
+    # The switches by which a wire and an output pin drive it.
+    wire_switch: int = 0
+    opin_switch: int = 0
 
 
 @dataclass(frozen=True)
@@ -227,8 +230,24 @@ class Device:
         """A node as `graph` and `check` print it."""
         return f"{KINDS[node.kind]} {self.place_text(node)} {self.label(node)}: {node.number}"
 
-    def listing(self):
-        """What `graph` prints."""
-        edges = [f"{begin} -> {end}\n" for begin, ends in enumerate(self.successors) for end in ends]
-        nodes = [f"{number} {self.text(node)} cap {self.capacity(node)}\n" for number, node in enumerate(self.nodes)]
+    def type_text(self, node):
+        """What the line of a node says of its type."""
+        return f" type {self.type_number(node.number)}" if node.kind in (CHANX, CHANY) else ""
+
+    def switch_text(self, begin, end):
+        """What the line of an edge says of its switch."""
+        if end.kind not in (CHANX, CHANY):
+            return ""
+        segment = self.arch.segments[self.type_number(end.number)]
+        return f" switch {segment.opin_switch if begin.kind == OPIN else segment.wire_switch}"
+
+    def listing(self, is_typed=False):
+        """What `graph` prints, or `graph --types`."""
+        edges, nodes = [], []
+        for number, (node, ends) in enumerate(zip(self.nodes, self.successors)):
+            kind = self.type_text(node) if is_typed else ""
+            nodes.append(f"{number} {self.text(node)} cap {self.capacity(node)}{kind}\n")
+            for end in ends:
+                switch = self.switch_text(node, self.nodes[end]) if is_typed else ""
+                edges.append(f"{number} -> {end}{switch}\n")
         return f"{len(nodes)} nodes, {len(edges)} edges\n" + "".join(nodes) + "".join(edges)

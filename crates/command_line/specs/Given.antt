@@ -119,6 +119,7 @@ pub record IsGraphGiven (m : ArgMatches) (g : GraphWords) : Type 0 where
   pub ny : IsNumberGiven m (codes "NY") g.ny
   pub width : IsNumberGiven m (codes "W") g.width
   pub global : IsFlagGiven m (codes "global") g.global
+  pub types : IsFlagGiven m (codes "types") g.types
   pub explain : IsFlagGiven m (codes "explain") g.explain
 
 -- what was given to `nets`

@@ -124,6 +124,13 @@ fn graph_command<'a>(alloc: Global) -> Result<Command<'a>, AllocError> {
         ))?
         .arg(ranged(alloc, "W", MOST_TRACKS, "Tracks in each channel, 1 to 256"))?
         .arg(global_flag(alloc))?
+        .arg(
+            Arg::new(alloc, "types")
+                .long("types")
+                .action(ArgAction::SetTrue)
+                .help("Also the type of each wire, and the switch of each edge into a wire")
+                .conflicts_with("global")?,
+        )?
         .arg(explain_flag(alloc, help::EXPLAIN))
 }
 
@@ -249,6 +256,7 @@ pub struct GraphWords<'a> {
     pub ny: u32,
     pub width: u32,
     pub global: bool,
+    pub types: bool,
     pub explain: bool,
 }
 
@@ -378,6 +386,7 @@ pub fn graph_words<'a>(matches: &ArgMatches<'a>) -> Option<GraphWords<'a>>
         ny: number_within(matches, "NY", GREATEST_SIDE)?,
         width: number_within(matches, "W", MOST_TRACKS)?,
         global: flag(matches, "global"),
+        types: flag(matches, "types"),
         explain: flag(matches, "explain"),
     })
 }

@@ -149,7 +149,9 @@ Exit status:
 
 /// The end of the help of `graph`.
 pub const GRAPH: &str = "\
-It prints how many nodes and edges there are, a line for each node, and a line for each edge.
+It prints how many nodes and edges there are, a line for each node, and a line for each edge. With
+`--types` the line of a wire ends in its type, as ` type 0`, and that of an edge into a wire in the
+switch that drives it, as ` switch 0`; docs/FORMATS.md has both.
 
 Example, in examples/uart:
   $ pathfinder graph k4n1.arch 1 1 1

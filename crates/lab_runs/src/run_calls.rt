@@ -78,6 +78,7 @@ fn run_graph(
         width,
         mode,
         &mut printed,
+        false,
     );
     put_print(alloc, answer.map(|_| 0), printed.into_inner(), out)
 }

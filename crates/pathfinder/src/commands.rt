@@ -476,6 +476,7 @@ pub fn graph<F: Read>(
         width,
         mode_of(given.global),
         &mut out,
+        given.types,
     )
 }
 

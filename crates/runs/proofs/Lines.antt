@@ -1,5 +1,5 @@
 -- The lines of a listing, one after the other.
-use Rattle.std.proofs.Common.{◌≡◌, ℕ, zero, suc, ◌+◌, ◌-◌, ◌≤◌, true, List, [], ◌++◌, Some, None, refl, sym, ap, subst, ◌∙◌, append_assoc, arith, codes, decimal, add-zero}
+use Rattle.std.proofs.Common.{◌≡◌, ℕ, zero, suc, ◌+◌, ◌-◌, ◌≤◌, Bool, true, List, [], ◌++◌, Some, None, refl, sym, ap, subst, ◌∙◌, append_assoc, arith, codes, decimal, add-zero}
 use Rattle.std.specs.Prelude.{Result, Ok, Err, IsOk, OnOk}
 use Rattle.std.specs.List.{flat_map}
 use Rattle.std.specs.Option.{option_map}
@@ -14,6 +14,7 @@ use Rattle.rr_graph.specs.Fabric.{Fabric, numbers_below}
 use Rattle.rr_graph.specs.Nodes.{node_at, label_of, span_of, capacity_of}
 use Rattle.run_inputs.proofs.Lines.{lines_more}
 use Rattle.runs.specs.Texts.{node_line}
+use Rattle.runs.specs.ListedTypes.{if_asked, type_text}
 use Rattle.text_output.specs.NodeTexts.{node_text}
 use Rattle.runs.specs.Listing.{line_at, line_of}
 use Rattle.route_file.proofs.NodeTexts.{some_is}
@@ -46,21 +47,21 @@ sends_broken_lines {s} {t} line i n le p broken =
     let rest = lines_begin line i n le in subst (Sends s t) rest.1 (sends_broken rest.0 p broken)
 
 -- what is printed for a node is its line
-pub line_text : (f : Fabric) (i : ℕ) (n : Node) (s : Span) (l : Label) (c : ℕ)
+pub line_text : (is_typed : Bool) (f : Fabric) (i : ℕ) (n : Node) (s : Span) (l : Label) (c : ℕ)
     → Some n ≡ node_at f i → Some s ≡ option_map (span_of f) (node_at f i) → Some l ≡ option_map (label_of f) (node_at f i) → Some c ≡ option_map (capacity_of f) (node_at f i)
-    → decimal i ++ (codes " " ++ (node_text n.kind s l n.number ++ (codes " cap " ++ (decimal c ++ codes "\n")))) ≡ line_at f i
+    → decimal i ++ (codes " " ++ (node_text n.kind s l n.number ++ (codes " cap " ++ (decimal c ++ (if_asked is_typed (type_text f n) ++ codes "\n"))))) ≡ line_at is_typed f i
 unfolding line_at node_line
-line_text f i n s l c e es el ec =
+line_text is_typed f i n s l c e es el ec =
     let s-is = some_is (span_of f) (node_at f i) n s e es in
     let l-is = some_is (label_of f) (node_at f i) n l e el in
     let c-is = some_is (capacity_of f) (node_at f i) n c e ec in
-    let same : decimal i ++ (codes " " ++ (node_text n.kind s l n.number ++ (codes " cap " ++ (decimal c ++ codes "\n")))) ≡ node_line f i n = rw (s-is, l-is, c-is) refl in
-    same ∙ ap (line_of f i) e
+    let same : decimal i ++ (codes " " ++ (node_text n.kind s l n.number ++ (codes " cap " ++ (decimal c ++ (if_asked is_typed (type_text f n) ++ codes "\n"))))) ≡ node_line is_typed f i n = rw (s-is, l-is, c-is) refl in
+    same ∙ ap (line_of is_typed f i) e
 
 -- a number of no node has no line
-pub no_line : (f : Fabric) (i : ℕ) → None ≡ node_at f i → [] ≡ line_at f i
+pub no_line : (is_typed : Bool) (f : Fabric) (i : ℕ) → None ≡ node_at f i → [] ≡ line_at is_typed f i
 unfolding line_at
-no_line f i e = ap (line_of f i) e
+no_line is_typed f i e = ap (line_of is_typed f i) e
 
 -- what holds where a call succeeds, at a call that does
 pub ok_gives : {T E P : Type 0} (r : Result T E) → IsOk r → OnOk r P → P

@@ -1,5 +1,5 @@
 -- What a run of `graph` answers and prints (ours).
-use Rattle.std.specs.Prelude.{Result}
+use Rattle.std.specs.Prelude.{Bool, Result}
 use Rattle.arch_file.specs.Architecture.{Architecture}
 use Rattle.rr_graph.specs.Fabric.{Fabric}
 use Rattle.run_inputs.specs.declared.fault.AppFault.{AppFault}
@@ -8,5 +8,5 @@ use Rattle.run_inputs.specs.Runs.{StopsOrGoesOn, PrintsText, TakesNothing, Writi
 
 -- A run of `graph`, memory aside: where an architecture is read, the listing of its device is
 -- printed.
-abbrev pub RunsGraph : (out : Writing) → (Architecture → Fabric) → Result Architecture AppFault → Result (Unit {0}) AppFault → Type 0
-RunsGraph out fabric = StopsOrGoesOn (TakesNothing out) (λ a result. PrintsText out (listing_of (fabric a)) tt result)
+abbrev pub RunsGraph : (is_typed : Bool) → (out : Writing) → (Architecture → Fabric) → Result Architecture AppFault → Result (Unit {0}) AppFault → Type 0
+RunsGraph is_typed out fabric = StopsOrGoesOn (TakesNothing out) (λ a result. PrintsText out (listing_of is_typed (fabric a)) tt result)

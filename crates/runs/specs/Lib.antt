@@ -1,4 +1,5 @@
 pub mod Texts
+pub mod ListedTypes
 pub mod Listing
 pub mod GraphRun
 pub mod Verdict

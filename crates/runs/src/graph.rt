@@ -17,24 +17,30 @@ use text_output::{ByteSink, OutputBuffer};
 use vpr_text::ByteSource;
 
 /// Prints the listing of a device. Nothing is printed if memory runs out.
-fn print_listing<W: ByteSink>(alloc: Global, device: &Device, out: &mut W) -> Result<(), AppFault>
+fn print_listing<W: ByteSink>(
+    alloc: Global,
+    device: &Device,
+    out: &mut W,
+    is_typed: bool,
+) -> Result<(), AppFault>
     ensures memory { result ≡ Err AppFault.Memory
         → TakesNothing (writing_to W.taken W.failed out.old out.new) }
     ensures printed { result ≢ Err AppFault.Memory
         → PrintsText (writing_to W.taken W.failed out.old out.new)
-        (listing_of device.now) tt result }
+        (listing_of is_typed device.now) tt result }
 {
     let mut list: SmallVec<u32, 8> = SmallVec::new(alloc);
     make_room(device, &mut list)?;
     let mut buffer = OutputBuffer::new();
-    put_listing(&mut buffer, out, device, &mut list);
+    put_listing(&mut buffer, out, device, &mut list, is_typed);
     match buffer.finish(out) {
         Ok(()) => Ok(()),
         Err(_) => Err(AppFault::Unwritten),
     }
 }
 
-/// Reads an architecture, and prints the nodes and edges of a device of it.
+/// Reads an architecture, and prints the nodes and edges of a device of it. If that is asked for,
+/// each wire has its type, and each edge into a wire its switch.
 ///
 /// # Errors
 /// Each fault exactly when it comes first; only `Memory` is unspecified. First comes `Unread`, if
@@ -49,6 +55,7 @@ pub fn graph_run<S: ByteSource, W: ByteSink>(
     width: u32,
     mode: Mode,
     out: &mut W,
+    is_typed: bool,
 ) -> Result<(), AppFault>
     requires columns { (1 ≤ nx) × (nx ≤ longest_side) }
     requires rows { (1 ≤ ny) × (ny ≤ longest_side) }
@@ -56,7 +63,7 @@ pub fn graph_run<S: ByteSource, W: ByteSink>(
     // The file decides. If it gives an architecture, the listing of its device is printed.
     ensures runs { result ≢ Err AppFault.Memory
         → Meets (reading (S.remaining arch.old) (S.failed arch.new))
-        (λ a. RunsGraph (writing_to W.taken W.failed out.old out.new)
+        (λ a. RunsGraph is_typed (writing_to W.taken W.failed out.old out.new)
         (fabric_with nx ny width mode) (arch_in a) result) }
     // Nothing is written if memory runs out.
     ensures memory { result ≡ Err AppFault.Memory
@@ -64,5 +71,5 @@ pub fn graph_run<S: ByteSource, W: ByteSink>(
 {
     let arch = read_arch(alloc, arch)?;
     let device = Device::with_mode(alloc, &arch, nx, ny, width, mode)?;
-    print_listing(alloc, &device, out)
+    print_listing(alloc, &device, out, is_typed)
 }

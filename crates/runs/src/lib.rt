@@ -8,6 +8,7 @@ mod kept_trials;
 mod known;
 mod left_trees;
 mod lesser_widths;
+mod listed_types;
 mod listing;
 mod outcome;
 mod plan;

@@ -9,6 +9,7 @@ ghost use Rattle.rr_graph.specs.Edges.{successors_of};
 ghost use Rattle.runs.specs.Texts.{counts_line, node_line, edge_line};
 ghost use Rattle.runs.specs.Listing.{line_at, edge_lines_at, listing_of};
 
+use crate::listed_types::{put_switch_if, put_type_if};
 use rr_graph::{Device, Node};
 use smallvec::SmallVec;
 use std::alloc::AllocError;
@@ -32,8 +33,15 @@ fn put_counts<W: ByteSink>(out: &mut OutputBuffer, sink: &mut W, nodes: u32, edg
 }
 
 /// Prints the line of the node of a number, or nothing if there is no such node.
-fn put_line<W: ByteSink>(out: &mut OutputBuffer, sink: &mut W, device: &Device, id: u32)
-    ensures { SendsTo W.taken W.failed sink.old sink.new out.old out.new (line_at device.now id) }
+fn put_line<W: ByteSink>(
+    out: &mut OutputBuffer,
+    sink: &mut W,
+    device: &Device,
+    id: u32,
+    is_typed: bool,
+)
+    ensures { SendsTo W.taken W.failed sink.old sink.new out.old out.new
+        (line_at is_typed device.now id) }
 {
     let node = match device.node(id) {
         Some(node) => node,
@@ -56,16 +64,17 @@ fn put_line<W: ByteSink>(out: &mut OutputBuffer, sink: &mut W, device: &Device, 
     put_node(out, sink, node.kind, span, label, node.number);
     out.push(sink, b" cap ");
     put_number(out, sink, capacity);
+    put_type_if(out, sink, device, node, is_typed);
     out.push(sink, b"\n");
 }
 
 /// Prints the lines of all nodes. Stops if the sink breaks.
-fn put_lines<W: ByteSink>(out: &mut OutputBuffer, sink: &mut W, device: &Device)
+fn put_lines<W: ByteSink>(out: &mut OutputBuffer, sink: &mut W, device: &Device, is_typed: bool)
     ensures { SendsTo W.taken W.failed sink.old sink.new out.old out.new
-        (flat_map (line_at device.now) (numbers_below (node_count_of device.now))) }
+        (flat_map (line_at is_typed device.now) (numbers_below (node_count_of device.now))) }
 {
     for id in 0..device.node_count() {
-        put_line(out, sink, device, id);
+        put_line(out, sink, device, id, is_typed);
         if out.is_broken() {
             return;
         }
@@ -73,22 +82,38 @@ fn put_lines<W: ByteSink>(out: &mut OutputBuffer, sink: &mut W, device: &Device)
 }
 
 /// Prints the line of an edge.
-fn put_edge_line<W: ByteSink>(out: &mut OutputBuffer, sink: &mut W, from: u32, to: u32)
-    ensures { SendsTo W.taken W.failed sink.old sink.new out.old out.new (edge_line from to) }
+fn put_edge_line<W: ByteSink>(
+    out: &mut OutputBuffer,
+    sink: &mut W,
+    device: &Device,
+    from: u32,
+    to: u32,
+    is_typed: bool,
+)
+    ensures { SendsTo W.taken W.failed sink.old sink.new out.old out.new
+        (edge_line is_typed device.now from to) }
 {
     put_number(out, sink, from);
     out.push(sink, b" -> ");
     put_number(out, sink, to);
+    put_switch_if(out, sink, device, from, to, is_typed);
     out.push(sink, b"\n");
 }
 
 /// Prints the lines of the edges from a node to the nodes of a list.
-fn put_edge_lines<W: ByteSink>(out: &mut OutputBuffer, sink: &mut W, from: u32, list: &[u32])
+fn put_edge_lines<W: ByteSink>(
+    out: &mut OutputBuffer,
+    sink: &mut W,
+    device: &Device,
+    from: u32,
+    list: &[u32],
+    is_typed: bool,
+)
     ensures { SendsTo W.taken W.failed sink.old sink.new out.old out.new
-        (flat_map (edge_line from) list.now) }
+        (flat_map (edge_line is_typed device.now from) list.now) }
 {
     for to in list {
-        put_edge_line(out, sink, from, *to);
+        put_edge_line(out, sink, device, from, *to, is_typed);
     }
 }
 
@@ -99,14 +124,15 @@ fn put_edges_of<W: ByteSink>(
     device: &Device,
     id: u32,
     list: &mut SmallVec<u32, 8>,
+    is_typed: bool,
 )
     requires { length (successors_of device.now id) ≤ list.old.capacity }
     ensures sends { SendsTo W.taken W.failed sink.old sink.new out.old out.new
-        (edge_lines_at device.now id) }
+        (edge_lines_at is_typed device.now id) }
     ensures kept { list.old.capacity ≤ list.new.capacity }
 {
     device.successors(id, list).unwrap();
-    put_edge_lines(out, sink, id, list.as_slice());
+    put_edge_lines(out, sink, device, id, list.as_slice(), is_typed);
 }
 
 /// Makes room in a list for the successors of any node, so that no later call needs memory.
@@ -123,31 +149,34 @@ fn put_edges<W: ByteSink>(
     sink: &mut W,
     device: &Device,
     list: &mut SmallVec<u32, 8>,
+    is_typed: bool,
 )
     requires { (i : ℕ) → length (successors_of device.now i) ≤ list.old.capacity }
     ensures { SendsTo W.taken W.failed sink.old sink.new out.old out.new
-        (flat_map (edge_lines_at device.now) (numbers_below (node_count_of device.now))) }
+        (flat_map (edge_lines_at is_typed device.now) (numbers_below (node_count_of device.now))) }
 {
     for id in 0..device.node_count() {
-        put_edges_of(out, sink, device, id, list);
+        put_edges_of(out, sink, device, id, list, is_typed);
         if out.is_broken() {
             return;
         }
     }
 }
 
-/// Prints the listing of a device. Stops if the sink breaks. The list has room for the successors
-/// of any node.
+/// Prints the listing of a device, with the types of its wires if they are asked for. Stops if the
+/// sink breaks. The list has room for the successors of any node.
 pub(crate) fn put_listing<W: ByteSink>(
     out: &mut OutputBuffer,
     sink: &mut W,
     device: &Device,
     list: &mut SmallVec<u32, 8>,
+    is_typed: bool,
 )
     requires { (i : ℕ) → length (successors_of device.now i) ≤ list.old.capacity }
-    ensures { SendsTo W.taken W.failed sink.old sink.new out.old out.new (listing_of device.now) }
+    ensures { SendsTo W.taken W.failed sink.old sink.new out.old out.new
+        (listing_of is_typed device.now) }
 {
     put_counts(out, sink, device.node_count(), device.edge_count());
-    put_lines(out, sink, device);
-    put_edges(out, sink, device, list);
+    put_lines(out, sink, device, is_typed);
+    put_edges(out, sink, device, list, is_typed);
 }

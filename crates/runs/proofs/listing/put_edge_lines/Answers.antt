@@ -11,6 +11,6 @@ loop-to-preserved g c =
     let sink = g.W.ByteSink in
     let s = stream (sink.taken c.args.sink.now) (sink.failed c.args.sink.now) c.args.out.now in
     let t = stream (sink.taken c.put_edge_line.new.sink) (sink.failed c.put_edge_line.new.sink) c.put_edge_line.new.out in
-    let line = edge_line c.args.from in
+    let line = edge_line c.args.is_typed c.args.device.now c.args.from in
     let more = flat_map_more line [] (take c.loop-to.to-index c.args.list.now) _ ∙ ap (flat_map line) (sym (take_more c.args.list.now c.loop-to.to-index 0 c.loop-to-test.true)) in
     subst (Sends s t) more (sends_then c.loop-to.invariant c.put_edge_line.ensures)

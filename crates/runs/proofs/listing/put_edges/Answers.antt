@@ -12,13 +12,13 @@ loop-id-preserved g c =
     let sink = g.W.ByteSink in
     let s = stream (sink.taken c.args.sink.now) (sink.failed c.args.sink.now) c.args.out.now in
     let t = stream (sink.taken c.put_edges_of.new.sink) (sink.failed c.put_edges_of.new.sink) c.put_edges_of.new.out in
-    (subst (Sends s t) (lines_more (edge_lines_at c.args.device.now) c.loop-id.id) (sends_then c.loop-id.invariant.0 c.put_edges_of.ensures.sends), omega arith)
+    (subst (Sends s t) (lines_more (edge_lines_at c.args.is_typed c.args.device.now) c.loop-id.id) (sends_then c.loop-id.invariant.0 c.put_edges_of.ensures.sends), omega arith)
 
 pub returns-then-is_broken : goal.returns-then-is_broken
 returns-then-is_broken g c =
     let sink = g.W.ByteSink in
     let s = stream (sink.taken c.args.sink.now) (sink.failed c.args.sink.now) c.args.out.now in
     let t = stream (sink.taken c.put_edges_of.new.sink) (sink.failed c.put_edges_of.new.sink) c.put_edges_of.new.out in
-    sends_broken_lines (edge_lines_at c.args.device.now) (c.loop-id.id + 1) (node_count_of c.args.device.now) (omega (arith, c.node_count-id-end.ensures.count))
-    (subst (Sends s t) (lines_more (edge_lines_at c.args.device.now) c.loop-id.id) (sends_then c.loop-id.invariant.0 c.put_edges_of.ensures.sends))
+    sends_broken_lines (edge_lines_at c.args.is_typed c.args.device.now) (c.loop-id.id + 1) (node_count_of c.args.device.now) (omega (arith, c.node_count-id-end.ensures.count))
+    (subst (Sends s t) (lines_more (edge_lines_at c.args.is_typed c.args.device.now) c.loop-id.id) (sends_then c.loop-id.invariant.0 c.put_edges_of.ensures.sends))
     (sym c.is_broken.ensures ∙ c.if-is_broken.true)

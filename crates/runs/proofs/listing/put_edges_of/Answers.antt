@@ -13,4 +13,4 @@ returns-clause-sends g c =
     let s = stream (sink.taken c.args.sink.now) (sink.failed c.args.sink.now) c.args.out.now in
     let t = stream (sink.taken c.put_edge_lines.new.sink) (sink.failed c.put_edge_lines.new.sink) c.put_edge_lines.new.out in
     let listed = ok_gives c.successors.result (c.successors.ensures.room c.requires) c.successors.ensures.listed in
-    subst (Sends s t) (ap (flat_map (edge_line c.args.id)) (c.as_slice.ensures ∙ listed)) c.put_edge_lines.ensures
+    subst (Sends s t) (ap (flat_map (edge_line c.args.is_typed c.args.device.now c.args.id)) (c.as_slice.ensures ∙ listed)) c.put_edge_lines.ensures
