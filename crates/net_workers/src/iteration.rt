@@ -1,6 +1,6 @@
 //! An iteration of several workers on one book.
 
-ghost use Rattle.std.specs.Prelude.{◌≡◌, ◌<◌, ◌≤◌, true, map, IfOk};
+ghost use Rattle.std.specs.Prelude.{◌≡◌, ◌<◌, ◌≤◌, true, map, [], IfOk};
 ghost use Rattle.node_cost.specs.Options.{present_of, most_iterations, most_workers};
 ghost use Rattle.congestion_book.specs.Contents.{IsSound, IsFresh};
 ghost use Rattle.net_workers.specs.Agreement.{Agrees};
@@ -13,7 +13,7 @@ use crate::course::Course;
 use crate::desk::Desk;
 use crate::fault::WorkFault;
 use crate::gathering::{gather, reports_of, schedule_of};
-use crate::history::{Logged, Opened};
+use crate::history::{Front, Head, Logged, Opened};
 use crate::made_turn::MadeTurn;
 use crate::opening::trees_of;
 use crate::page::Cell;
@@ -51,6 +51,25 @@ fn are_accepted<G: Gate>(
     Ok(gate.accepts(iteration, &schedule))
 }
 
+/// Returns the turns of the history, from the cells, if the gate accepts them.
+fn accepted_turns<L: Logged, G: Gate>(
+    alloc: Global,
+    row: Vec<Cell<L>>,
+    front: &Front<L>,
+    iteration: u32,
+    gate: &G,
+) -> Result<Vec<MadeTurn>, WorkFault>
+    ensures turns { IfOk result (λ turns. turns.items ≡ front.now) }
+    ensures accepted { IfOk result
+        (λ turns. G.accepted gate.now iteration (map turn_in_schedule turns.items)) }
+{
+    let turns = gather(alloc, row, front)?;
+    if !are_accepted(alloc, &turns, iteration, gate)? {
+        return Err(WorkFault::Astray);
+    }
+    Ok(turns)
+}
+
 /// Returns the book and the reports, if each net had its turn and the gate accepts the turns.
 fn settle<L: Logged, G: Gate>(
     alloc: Global,
@@ -70,10 +89,7 @@ fn settle<L: Logged, G: Gate>(
     if !is_done(&book) {
         return Err(WorkFault::Astray);
     }
-    let turns = gather(alloc, row, &front)?;
-    if !are_accepted(alloc, &turns, iteration, gate)? {
-        return Err(WorkFault::Astray);
-    }
+    let turns = accepted_turns(alloc, row, &front, iteration, gate)?;
     let reports = reports_of(alloc, turns, workers)?;
     Ok((book, reports))
 }
@@ -158,6 +174,54 @@ fn work_at<L: Logged + Send + Sync, R: Threads + Wait + Sync, G: Gate + Sync>(
     }
 }
 
+/// Returns the board of an iteration that opens with the trees of a book. `kept` are some that it
+/// may record.
+fn board_of<'a, L: Logged>(
+    alloc: Global,
+    prepared: &'a PreparedProblem,
+    options: SearchOptions,
+    book: &Book,
+    kept: Vec<Option<Tree>>,
+    head: Head<L>,
+) -> Result<Board<'a, L>, AllocError>
+    requires problem { prepared.now ≡ book.now.problem }
+    requires book { book.now ≡ L.opening }
+    requires options { (options.present ≡ L.present) × (options.bb ≡ L.bb) }
+    requires plan { L.plan ≡ plan_of L.opening L.present L.bb L.workers }
+{
+    let opening = trees_of(alloc, book, kept)?;
+    Board::new(alloc, prepared, options, opening, head)
+}
+
+/// Opens a desk of a book, and lets workers work at it until no net is left, or until the turns of
+/// the gate's schedule are made. They take the tools that were left, and leave theirs.
+fn work_on<L: Logged + Send + Sync, R: Threads + Wait + Sync, G: Gate + Sync>(
+    rt: &R,
+    alloc: Global,
+    board: &Board<'_, L>,
+    book: Book,
+    workers: u32,
+    blank: Blank,
+    front: Front<L>,
+    tools: &mut Vec<Tools>,
+    gate: &G,
+) -> Result<TurnDesk<L>, WorkFault>
+    requires fresh { IsFresh book }
+    requires few { workers ≤ most_workers }
+    requires workers { workers ≡ L.workers }
+    requires book { book ≡ L.opening }
+    requires plan { L.plan ≡ plan_of L.opening L.present L.bb L.workers }
+    requires name { blank.name ≡ L.name }
+    requires parts { blank.parts ≡ L.parts }
+    requires one_each { blank.parts ≡ workers }
+    requires none { front ≡ [] }
+{
+    let (desk, shares) = Desk::<L>::new(alloc, book, workers, blank)?;
+    let staff = hire_all(alloc, board, &desk, &front, shares, tools)?;
+    let desk = TurnDesk::new(desk, front);
+    work_at(rt, alloc, desk, board, staff, tools, gate)
+}
+
 /// Makes an iteration in a round that names its workers, its options and its book. The workers take
 /// the tools that were left, and leave theirs. `trees` are some that may be recorded, and become
 /// those with which the iteration opened.
@@ -191,12 +255,9 @@ fn iterate_as<L: Logged + Send + Sync, R: Threads + Wait + Sync, G: Gate + Sync>
         (λ r. AreAllowed (G.accepted gate.now) options.iteration r.0 r.1.items) }
 {
     let (head, front) = opened.named::<L>();
-    let opening = trees_of(alloc, &book, mem::replace(trees, Vec::new(alloc)))?;
-    let board = Board::new(alloc, prepared, options, opening, head)?;
-    let (desk, shares) = Desk::<L>::new(alloc, book, workers, blank)?;
-    let staff = hire_all(alloc, &board, &desk, &front, shares, tools)?;
-    let desk = TurnDesk::new(desk, front);
-    let desk = work_at(rt, alloc, desk, &board, staff, tools, gate)?;
+    let kept = mem::replace(trees, Vec::new(alloc));
+    let board = board_of(alloc, prepared, options, &book, kept, head)?;
+    let desk = work_on(rt, alloc, &board, book, workers, blank, front, tools, gate)?;
     let (row, opening) = board.into_parts();
     *trees = opening;
     settle(alloc, desk, row, options.iteration, workers, gate)

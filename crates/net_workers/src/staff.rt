@@ -12,6 +12,7 @@ use crate::replica::Replica;
 use crate::share::Share;
 use crate::worker::Worker;
 use crate::workspace::Tools;
+use node_cost::View;
 use std::alloc::{AllocError, Global};
 
 /// Records that none of this many nets had a turn.
@@ -20,6 +21,26 @@ fn set_none_turned(turned: &mut Vec<bool>, nets: u32) -> Result<(), AllocError>
 {
     turned.clear();
     turned.resize(nets as usize, false)
+}
+
+/// Returns a replica that has seen no turn. It shows the desk's book as the iteration opens.
+fn replica_of<L: Logged>(
+    nets: u32,
+    desk: &Desk<L>,
+    front: &Front<L>,
+    view: View,
+    turned: Vec<bool>,
+) -> Result<Replica<L>, WorkFault>
+    requires nets { nets ≡ net_count L.plan.opening }
+    requires opens { desk.now ≡ L.plan.opening }
+    requires none { front.now ≡ [] }
+{
+    let (mut view, mut turned) = (view, turned);
+    set_none_turned(&mut turned, nets)?;
+    match desk.look_at_all(&mut view) {
+        Ok(()) => Ok(Replica::new(view, turned, front.again())),
+        Err(_) => Err(WorkFault::Astray),
+    }
 }
 
 /// Returns the worker of a share. It sees the desk's book as the iteration opens, and takes the
@@ -36,16 +57,13 @@ fn hire<L: Logged>(
     requires none { front.now ≡ [] }
 {
     let Tools {
-        mut view,
-        mut turned,
+        view,
+        turned,
         room,
         scratch,
     } = Tools::fitting(alloc, board.prepared(), left)?;
-    set_none_turned(&mut turned, board.prepared().problem().nets())?;
-    if desk.look_at_all(&mut view).is_err() {
-        return Err(WorkFault::Astray);
-    }
-    let replica = Replica::new(view, turned, front.again());
+    let nets = board.prepared().problem().nets();
+    let replica = replica_of(nets, desk, front, view, turned)?;
     Ok(Worker::new(alloc, share, replica, room, scratch))
 }
 

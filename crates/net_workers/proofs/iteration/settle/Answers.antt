@@ -6,7 +6,7 @@ use Rattle.net_workers.proofs.iteration.settle.Goals as goal
 pub reports_of-requires : goal.reports_of-requires
 reports_of-requires g c =
     let parts = c.into_parts-book.ensures in
-    let turns : c.in_ok-turns.turns.items ≡ c.args.desk = c.in_ok-turns.ensures ∙ parts.history in
+    let turns : c.in_ok-turns.turns.items ≡ c.args.desk = c.in_ok-turns.ensures.turns ∙ parts.history in
     let legal : IsLegal (plan_of g.L.Round.opening g.L.Round.present g.L.Round.bb g.L.Round.workers) c.args.desk = rw parts.plan at parts.legal in
     rw (turns, c.requires.workers) (λ k d low. (legal.each k d low).worker)
 
@@ -14,7 +14,7 @@ pub returns-clause-agrees : goal.returns-clause-agrees
 returns-clause-agrees g c =
     let round = g.L.Round in
     let parts = c.into_parts-book.ensures in
-    let turns : c.in_ok-turns.turns.items ≡ c.args.desk = c.in_ok-turns.ensures ∙ parts.history in
+    let turns : c.in_ok-turns.turns.items ≡ c.args.desk = c.in_ok-turns.ensures.turns ∙ parts.history in
     let legal : IsLegal (plan_of round.opening round.present round.bb round.workers) c.args.desk = rw parts.plan at parts.legal in
     let reports = c.in_ok-reports.ensures in
     let done = c.is_done.ensures in
@@ -26,13 +26,11 @@ returns-clause-agrees g c =
 pub returns-clause-allowed : goal.returns-clause-allowed
 returns-clause-allowed g c =
     let parts = c.into_parts-book.ensures in
-    let turns : c.in_ok-turns.turns.items ≡ c.args.desk = c.in_ok-turns.ensures ∙ parts.history in
+    let turns : c.in_ok-turns.turns.items ≡ c.args.desk = c.in_ok-turns.ensures.turns ∙ parts.history in
     let reports = c.in_ok-reports.ensures in
-    let count : length c.in_ok-reports.reports.items ≡ c.args.workers = search rules in
-    let shown : c.deref.result.now ≡ c.args.desk = c.deref.ensures.value ∙ turns in
-    let accepted = c.in_ok-are_accepted.ensures c.if-not-branch.false in (
+    let count : length c.in_ok-reports.reports.items ≡ c.args.workers = search rules in (
       map turn_in_schedule c.args.desk,
       schedule_by c.into_parts-book.result.0 c.args.workers c.args.desk c.in_ok-reports.reports.items parts.turns count
           (λ w low. reports.each w low ∙ ap (entries_of w) turns),
-      subst (λ ts. g.G.Gate.accepted c.args.gate.now c.args.iteration (map turn_in_schedule ts)) shown accepted,
+      subst (λ ts. g.G.Gate.accepted c.args.gate.now c.args.iteration (map turn_in_schedule ts)) turns c.in_ok-turns.ensures.accepted,
     )
