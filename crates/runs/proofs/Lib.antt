@@ -5,3 +5,4 @@ pub mod Writing
 pub mod Widths
 pub mod Leaving
 pub mod Verified
+pub mod ReadAgain
