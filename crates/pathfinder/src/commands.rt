@@ -15,6 +15,7 @@ use crate::schedule::{
 };
 use crate::shown::{Plain, PlainWriter};
 use crate::side::{RestFile, TrialFiles, free_name, log_of, others_of};
+use crate::terminal::{Watched, output};
 use crate::warning::hindrance_of;
 use bound_run::bound_run;
 use command_line::command::{
@@ -34,24 +35,12 @@ use run_schedule::Summed;
 use runs::{WidthPlan, check_run, graph_run, route_run, width_run};
 use std::fs::{File, Files};
 use std::io;
-use std::io::{Printer, Read, Write};
+use std::io::{Read, Write};
 use std::rt::Runtime;
 use std::sync::Wait;
 use std::thread::Threads;
 use vpr_text::{Adapted, ByteSink};
 use width_search::WidthReport;
-
-/// Whether standard output and standard error are terminals, which somebody may watch.
-#[derive(Clone, Copy)]
-pub struct Watched {
-    pub output: bool,
-    pub errors: bool,
-}
-
-/// Returns standard output, without control characters if it is a terminal.
-pub fn output(rt: &HostRuntime, watched: Watched) -> PlainWriter<Printer<'_, HostRuntime>> {
-    PlainWriter::new(io::writer(rt), watched.output)
-}
 
 /// Returns the mode in which nets are routed.
 fn mode_of(global: bool) -> Mode {
