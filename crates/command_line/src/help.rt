@@ -19,6 +19,9 @@ Exit status, of all commands:
   5  reading or writing failed
   6  memory ran out, or a thread could not be started
 
+One of the files that are read may be -, standard input. ROUTE, where it is written, may be
+/dev/stdout.
+
 All answers and errors are printed on standard output. Standard error has warnings of files that
 can't be written or would be written over another one; what is asked for there, as with `--explain`
 what is wrong with a file or a routing; and, on a terminal, what is wrong with a file, and how far

@@ -19,26 +19,25 @@ mod warning;
 ghost use Rattle.std.specs.Prelude.{◌≤◌};
 ghost use Rattle.rr_graph.specs.Fabric.{longest_side, most_tracks};
 
-use begun::{begin, begin_with_route, read_of, refused, refused_with};
+use begun::{begin, begin_with_route, read_of, refused, refused_name, refused_with};
 use clap::error::ErrorKind;
 use clap::{ArgMatches, Error as ClapError};
 use command_line::command;
 use command_line::command::GraphWords;
 use names::{FurtherNames, ShownNames};
-use opened::{Input, Kept, open};
-use refusals::{FilesRead, tell_vpr_options};
+use opened::{Input, open, standard_input};
+use refusals::{FilesRead, NameFault, is_standard_input, tell_vpr_options};
 use run_inputs::{AppFault, InputFile, status};
 use run_log::Progress;
 use runs::{outcome_status, report_status, verdict_status};
 use schedule::{RunFault, read_followed, refused_schedule};
-use std::io::{IsTerminal, Read, Write};
+use std::io::{IsTerminal, Write};
 use std::process::ExitCode;
 use std::rt::Runtime;
 use std::sync::Wait;
 use std::thread::Threads;
 use std::{env, io};
 use terminal::{Watched, columns, output, takes_lines_back};
-use vpr_text::Adapted;
 
 /// The exit status of an invalid command line.
 const BAD_WORDS: u8 = 2;
@@ -101,6 +100,9 @@ fn run_route<R: Runtime + Threads + Wait + Sync + AllocGlobal>(
     let Some(given) = command::route_words(given) else {
         return BAD_WORDS;
     };
+    if is_standard_input(given.route) {
+        return refused_name(rt, NameFault::Written);
+    }
     let files = [given.net, given.arch, given.place, given.route];
     let (is_explained, followed) = (watched.explains(given.explain), given.follow);
     let further = FurtherNames {
@@ -148,6 +150,9 @@ fn run_width<R: Runtime + Threads + Wait + Sync + AllocGlobal>(
     let Some(given) = command::width_words(given) else {
         return BAD_WORDS;
     };
+    if is_standard_input(given.route) {
+        return refused_name(rt, NameFault::Written);
+    }
     let files = [given.net, given.arch, given.place, given.route];
     let (is_explained, followed) = (watched.explains(given.explain), given.follow);
     let further = FurtherNames {
@@ -292,8 +297,7 @@ fn run_graph(rt: &HostRuntime, given: &ArgMatches<'_>, watched: Watched) -> u8 {
     };
     let is_explained = watched.explains(given.explain);
     if given.arch == "stdin" {
-        let arch = Adapted::new(Kept::new(rt.alloc(), rt.reader(), is_explained));
-        return list_graph(rt, given, &names, arch, watched);
+        return list_graph(rt, given, &names, standard_input(rt, is_explained), watched);
     }
     match open(rt, given.arch, InputFile::Arch, is_explained) {
         Ok(arch) => list_graph(rt, given, &names, arch, watched),
@@ -302,11 +306,11 @@ fn run_graph(rt: &HostRuntime, given: &ArgMatches<'_>, watched: Watched) -> u8 {
 }
 
 /// Prints the listing of a device of an architecture, and returns the exit status.
-fn list_graph<F: Read + Drop>(
+fn list_graph(
     rt: &HostRuntime,
     given: GraphWords<'_>,
     names: &ShownNames,
-    mut arch: Input<F>,
+    mut arch: Input,
     watched: Watched,
 ) -> u8
     requires columns { (1 ≤ given.nx) × (given.nx ≤ longest_side) }
