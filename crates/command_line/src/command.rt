@@ -108,7 +108,7 @@ fn graph_command<'a>(alloc: Global) -> Result<Command<'a>, AllocError> {
         .arg(input(
             alloc,
             "ARCH",
-            "The architecture file, .arch; `stdin` is standard input",
+            "The architecture file, .arch; - or stdin is standard input",
         ))?
         .arg(ranged(
             alloc,

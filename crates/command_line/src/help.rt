@@ -19,9 +19,13 @@ Exit status, of all commands:
   5  reading or writing failed
   6  memory ran out, or a thread could not be started
 
+One of the files that are read may be -, standard input. ROUTE, where it is written, may be
+/dev/stdout.
+
 All answers and errors are printed on standard output. Standard error has warnings of files that
 can't be written or would be written over another one; what is asked for there, as with `--explain`
-what is wrong with a file or a routing; and, on a terminal, how far the routing is.";
+what is wrong with a file or a routing; and, on a terminal, what is wrong with a file, and how far
+the routing is.";
 
 /// The end of the help of `route`.
 pub const ROUTE: &str = "\
@@ -188,12 +192,13 @@ Exit status:
 /// The help of `--explain`.
 pub const EXPLAIN: &str = "\
 Where a file is refused, also tell on standard error the line, the
-word and what to do";
+word and what to do; on a terminal that is always told";
 
 /// The help of `check --explain`.
 pub const EXPLAIN_CHECK: &str = "\
 Also tell on standard error what is wrong, net by net and in words, or
-where a file is refused the line, the word and what to do";
+where a file is refused (on a terminal always) the line, the word and
+what to do";
 
 /// The help of `--workers`.
 pub const WORKERS: &str = "\

@@ -1,13 +1,17 @@
 //! `lab` runs a script of calls to the router's libraries, and prints their answers.
 #![tactic(auto)]
 
+mod answer;
 mod calls;
+mod help;
+mod mark;
 mod runner;
 mod shown;
+mod table;
 mod usage;
 
 use lab_session::session::Session;
-use runner::run_script;
+use runner::{Watched, run_script};
 use shown::Shown;
 use std::io::{ErrorKind, IsTerminal};
 use std::process::ExitCode;
@@ -15,7 +19,7 @@ use std::rt::Runtime;
 use std::sync::Wait;
 use std::thread::Threads;
 use std::{env, fs, io};
-use usage::USAGE;
+use usage::{USAGE, VERSION};
 
 /// The exit status if an answer was not as expected, or a script could not be read.
 const NOT_AS_WANTED: u8 = 1;
@@ -27,8 +31,11 @@ const BAD_WORDS: u8 = 2;
 const STDIN: &str = "stdin";
 
 fn main(rt: HostRuntime) -> ExitCode {
-    let is_watched = rt.stdout().is_terminal();
-    match run(&rt, is_watched) {
+    let watched = Watched {
+        input: rt.stdin().is_terminal(),
+        output: rt.stdout().is_terminal(),
+    };
+    match run(&rt, watched) {
         Ok(status) => ExitCode::from(status),
         Err(error) => {
             let _ = eprintln!(rt; "lab: {error}");
@@ -37,14 +44,13 @@ fn main(rt: HostRuntime) -> ExitCode {
     }
 }
 
-/// Runs the command line and returns the exit status. `is_watched` is whether standard output is a
-/// terminal.
+/// Runs the command line and returns the exit status.
 fn run(
     rt: &(impl Runtime + Threads + Wait + Sync + AllocGlobal),
-    is_watched: bool,
+    watched: Watched,
 ) -> io::Result<u8> {
     match words(rt) {
-        Ok(words) => run_words(rt, words.get(1..).unwrap_or(&[]), is_watched),
+        Ok(words) => run_words(rt, words.get(1..).unwrap_or(&[]), watched),
         Err(error) if error.kind() == ErrorKind::OutOfMemory => Err(error),
         Err(_) => {
             let _ = eprintln!(rt; "lab: a word of the command line is no text");
@@ -63,11 +69,11 @@ fn words(rt: &(impl Runtime + AllocGlobal)) -> io::Result<Vec<String>> {
 fn run_words(
     rt: &(impl Runtime + Threads + Wait + Sync + AllocGlobal),
     words: &[String],
-    is_watched: bool,
+    watched: Watched,
 ) -> io::Result<u8> {
     match words.iter().find(|word| word.starts_with('-')) {
         Some(option) => answer_option(rt, option.as_str()),
-        None => Ok(status_of(run_scripts(rt, words, is_watched)?)),
+        None => Ok(status_of(run_scripts(rt, words, watched)?)),
     }
 }
 
@@ -76,10 +82,15 @@ fn status_of(is_good: bool) -> u8 {
     if is_good { 0 } else { NOT_AS_WANTED }
 }
 
-/// Prints the usage, or reports an unknown option, and returns the exit status.
+/// Prints the usage or the version, or reports an unknown option, and returns the exit status.
 fn answer_option(rt: &impl Runtime, option: &str) -> io::Result<u8> {
-    if option == "--help" {
-        print!(rt; "{USAGE}")?;
+    let text = match option {
+        "--help" => USAGE,
+        "--version" => VERSION,
+        _ => "",
+    };
+    if !text.is_empty() {
+        print!(rt; "{text}")?;
         return Ok(0);
     }
     let option = Shown::within_line(option);
@@ -92,14 +103,14 @@ fn answer_option(rt: &impl Runtime, option: &str) -> io::Result<u8> {
 fn run_scripts(
     rt: &(impl Runtime + Threads + Wait + Sync + AllocGlobal),
     names: &[String],
-    is_watched: bool,
+    watched: Watched,
 ) -> io::Result<bool> {
     if names.is_empty() {
-        return run_script(rt, STDIN, rt.reader(), Session::new(), is_watched);
+        return run_script(rt, STDIN, rt.reader(), Session::new(), watched);
     }
     let mut is_good = true;
     for name in names {
-        is_good &= run_file(rt, name.as_str(), is_watched)?;
+        is_good &= run_file(rt, name.as_str(), watched)?;
     }
     Ok(is_good)
 }
@@ -109,10 +120,16 @@ fn run_scripts(
 fn run_file(
     rt: &(impl Runtime + Threads + Wait + Sync + AllocGlobal),
     name: &str,
-    is_watched: bool,
+    watched: Watched,
 ) -> io::Result<bool> {
     match fs::open(rt, name) {
-        Ok(file) => run_script(rt, name, file, Session::new(), is_watched),
+        Ok(file) => {
+            let watched = Watched {
+                input: false,
+                output: watched.output,
+            };
+            run_script(rt, name, file, Session::new(), watched)
+        }
         Err(error) => {
             let _ = eprintln!(rt; "lab: {}: {error}", Shown::within_line(name));
             Ok(false)

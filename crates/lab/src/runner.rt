@@ -1,15 +1,18 @@
 //! Runs a script: reads its lines, makes its calls, prints their answers and compares them with the
 //! expected ones.
 
+use crate::answer::{Answer, Difference};
 use crate::calls::make_call;
+use crate::help::{Written, put_help, why_of, wrong_name};
+use crate::mark::Mark;
 use crate::shown::Shown;
-use lab_session::answer::added;
 use lab_session::session::Session;
+use lab_session::sources::BELOW;
 use lab_session::unanswered::Unanswered;
-use lab_session::words::{Call, code_of, has_text, words};
+use lab_session::words::{Call, NO_WORDS, code_of, has_text, words};
 use std::alloc::Global;
 use std::fmt::Display;
-use std::io::{BufRead, BufReader, Read, Result as IoResult};
+use std::io::{BufRead, BufReader, Eprint, Read, Result as IoResult};
 use std::rt::Runtime;
 use std::sync::Wait;
 use std::thread::Threads;
@@ -27,6 +30,20 @@ const AGAIN: &str = "again";
 /// The answer to that line after a call.
 const LATE_AGAIN: Unanswered = Unanswered::Misread("again as the first line");
 
+/// The prompts for a call, and for a line of a text below one.
+const PROMPT: &str = "lab> ";
+
+const TEXT_PROMPT: &str = "  >> ";
+
+/// Which of the streams are terminals.
+#[derive(Clone, Copy)]
+pub struct Watched {
+    /// Standard input, whose script gets a prompt for each line.
+    pub input: bool,
+    /// Standard output, where control characters are replaced.
+    pub output: bool,
+}
+
 /// The lines of a script.
 #[derive(Drop)]
 struct Script<'a, I> {
@@ -34,11 +51,21 @@ struct Script<'a, I> {
     input: I,
     /// The number of the line that was read last, counted from 1.
     line: u64,
+    /// Whether somebody types the lines, who gets prompts.
+    is_typed: bool,
 }
 
 impl<I: BufRead> Script<'_, I> {
-    /// Reads the next line. Returns false at the end.
-    fn read(&mut self, line: &mut Vec<u8>) -> IoResult<bool> {
+    /// Prints a text for somebody who types the lines.
+    fn ask(&self, rt: &impl Eprint, text: &str) {
+        if self.is_typed {
+            let _ = eprint!(rt; "{text}");
+        }
+    }
+
+    /// Reads the next line, after a prompt. Returns false at the end.
+    fn read(&mut self, rt: &impl Eprint, prompt: &str, line: &mut Vec<u8>) -> IoResult<bool> {
+        self.ask(rt, prompt);
         line.clear();
         self.line = self.line.saturating_add(1);
         let count = self.input.read_until(b'\n', line)?;
@@ -46,10 +73,10 @@ impl<I: BufRead> Script<'_, I> {
     }
 
     /// Reads the text up to the line that ends it. Returns false if the script ends first.
-    fn read_text(&mut self, below: &mut Below) -> IoResult<bool> {
+    fn read_text(&mut self, rt: &impl Eprint, below: &mut Below) -> IoResult<bool> {
         below.text.clear();
         for _ in 0..u64::MAX {
-            if !self.read(&mut below.line)? {
+            if !self.read(rt, TEXT_PROMPT, &mut below.line)? {
                 break;
             }
             if below.line.as_slice().trim_ascii() == END_OF_TEXT {
@@ -77,62 +104,6 @@ impl Below {
     }
 }
 
-/// The answer to the last call, and how far it was compared.
-#[derive(Drop)]
-struct Answer {
-    text: String,
-    /// Where in `text` the next line to compare begins.
-    compared: usize,
-    /// Whether the script has an expected line for it.
-    is_asked: bool,
-}
-
-/// Returns the line at a position of a text, and the position of the next line; `None` at the end.
-fn line_at(text: &[u8], place: usize) -> Option<(&[u8], usize)> {
-    let rest = text.get(place..)?;
-    if rest.is_empty() {
-        return None;
-    }
-    let length = rest
-        .iter()
-        .position(|byte| *byte == b'\n')
-        .unwrap_or(rest.len());
-    let line = rest.get(..length)?;
-    Some((line, place.saturating_add(length).saturating_add(1)))
-}
-
-impl Answer {
-    /// Returns whether the next line of the answer is the expected one, apart from blanks at its
-    /// end, and moves on to the line after it.
-    fn goes_on_with(&mut self, wanted: &str) -> bool {
-        self.is_asked = true;
-        let Some((line, next)) = line_at(self.text.as_bytes(), self.compared) else {
-            return false;
-        };
-        let is_same = line.trim_ascii_end() == wanted.as_bytes();
-        self.compared = next;
-        is_same
-    }
-
-    /// Returns whether lines are left that had to be compared.
-    fn is_left(&self) -> bool {
-        self.is_asked && self.compared < self.text.len()
-    }
-
-    /// Clears the answer for another one.
-    fn begin(&mut self) {
-        self.text.clear();
-        self.compared = 0;
-        self.is_asked = false;
-    }
-
-    /// Replaces the answer with the reason why there is none.
-    fn refuse(&mut self, why: &Unanswered) -> Result<(), Unanswered> {
-        self.begin();
-        added(writeln!(self.text, "{why}"))
-    }
-}
-
 /// A script that is being run.
 #[derive(Drop)]
 struct ScriptRun<'a, R, I> {
@@ -144,6 +115,10 @@ struct ScriptRun<'a, R, I> {
     call_line: u64,
     /// Whether a call that lacked memory or a thread is made again.
     repeats: bool,
+    /// What is printed after each answer.
+    mark: Mark,
+    /// Whether the script was ended by a call.
+    has_ended: bool,
     /// Whether standard output is a terminal.
     is_watched: bool,
     /// Whether all answers were as expected.
@@ -155,6 +130,8 @@ impl<R: Runtime + Threads + Wait + Sync + AllocGlobal, I: BufRead> ScriptRun<'_,
     fn run(&mut self) -> IoResult<bool> {
         let mut line = Vec::with_capacity(self.rt.alloc(), ROOM)?;
         let mut below = Below::new(self.rt.alloc())?;
+        self.script
+            .ask(self.rt, "`help` answers with all calls, `quit` ends\n");
         match self.run_lines(&mut line, &mut below) {
             Ok(()) => self.settle(),
             Err(error) => self.complain(error),
@@ -165,10 +142,14 @@ impl<R: Runtime + Threads + Wait + Sync + AllocGlobal, I: BufRead> ScriptRun<'_,
     /// Processes all lines.
     fn run_lines(&mut self, line: &mut Vec<u8>, below: &mut Below) -> IoResult<()> {
         for _ in 0..u64::MAX {
-            if !self.script.read(line)? {
+            if !self.script.read(self.rt, PROMPT, line)? {
+                self.script.ask(self.rt, "\n");
                 break;
             }
             self.step(line.as_slice(), below)?;
+            if self.has_ended {
+                break;
+            }
         }
         Ok(())
     }
@@ -189,7 +170,12 @@ impl<R: Runtime + Threads + Wait + Sync + AllocGlobal, I: BufRead> ScriptRun<'_,
     /// Reports an answer with more lines than expected, and clears it for another one.
     fn settle(&mut self) {
         if self.answer.is_left() {
-            self.complain("more was answered above than is wanted");
+            self.is_good = false;
+            let more = Shown::within_line(self.answer.next_line().unwrap_or(""));
+            let (name, line) = (Shown::within_line(self.script.name), self.script.line);
+            let _ = eprintln!(self.rt;
+                "{name}:{line}: more was answered above than is wanted: {more}"
+            );
         }
         self.answer.begin();
     }
@@ -198,7 +184,7 @@ impl<R: Runtime + Threads + Wait + Sync + AllocGlobal, I: BufRead> ScriptRun<'_,
     fn step(&mut self, line: &[u8], below: &mut Below) -> IoResult<()> {
         let Ok(read) = str::from_utf8(line) else {
             self.complain("the line is no text");
-            return Ok(());
+            return self.print_mark();
         };
         let read = read.trim();
         if let Some(wanted) = read.strip_prefix('=') {
@@ -210,9 +196,12 @@ impl<R: Runtime + Threads + Wait + Sync + AllocGlobal, I: BufRead> ScriptRun<'_,
 
     /// Compares the next line of the answer with the expected one, and reports a difference.
     fn compare(&mut self, wanted: &str) {
-        if !self.answer.goes_on_with(wanted) {
-            self.complain("the answer is not the one that is wanted");
+        if let Some(difference) = self.answer.difference(wanted) {
+            self.is_good = false;
+            let (name, line) = (Shown::within_line(self.script.name), self.script.line);
+            let _ = eprintln!(self.rt; "{name}:{line}: {difference}");
         }
+        self.answer.go_on();
     }
 
     /// Makes the call of a line, if it has one.
@@ -225,17 +214,32 @@ impl<R: Runtime + Threads + Wait + Sync + AllocGlobal, I: BufRead> ScriptRun<'_,
         let is_first = self.call_line == 0;
         self.call_line = self.script.line;
         if code == AGAIN {
-            self.begin_again(is_first)
+            self.begin_again(is_first)?;
         } else {
-            self.call_with_text(code, below)
+            self.call_with_text(code, below)?;
         }
+        self.print_mark()
+    }
+
+    /// Prints the mark after the answer, if there is one.
+    fn print_mark(&mut self) -> IoResult<()> {
+        if self.mark.is_none() {
+            return Ok(());
+        }
+        let mark = Shown::within_line(self.mark.word());
+        let start = if self.answer.has_open_line() {
+            "\n"
+        } else {
+            ""
+        };
+        print!(self.rt; "{start}{mark}\n")
     }
 
     /// Makes calls that lack memory or a thread be made again from now on. Refuses that after
     /// another call.
     fn begin_again(&mut self, is_first: bool) -> IoResult<()> {
         if !is_first {
-            return self.refuse(&LATE_AGAIN);
+            return self.refuse(&LATE_AGAIN, AGAIN);
         }
         self.repeats = true;
         Ok(())
@@ -256,7 +260,7 @@ impl<R: Runtime + Threads + Wait + Sync + AllocGlobal, I: BufRead> ScriptRun<'_,
     /// end.
     fn read_below(&mut self, code: &str, below: &mut Below) -> IoResult<bool> {
         if has_text(code) {
-            self.script.read_text(below)
+            self.script.read_text(self.rt, below)
         } else {
             below.text.clear();
             Ok(true)
@@ -276,7 +280,7 @@ impl<R: Runtime + Threads + Wait + Sync + AllocGlobal, I: BufRead> ScriptRun<'_,
     fn words_of<'b>(&mut self, line: &'b str) -> IoResult<Option<Vec<&'b str>>> {
         match words(self.rt.alloc(), line) {
             Ok(words) => return Ok(Some(words)),
-            Err(why) => self.refuse(&why)?,
+            Err(why) => self.refuse(&why, "")?,
         }
         if !self.repeats {
             return Ok(None);
@@ -303,28 +307,64 @@ impl<R: Runtime + Threads + Wait + Sync + AllocGlobal, I: BufRead> ScriptRun<'_,
         Ok(())
     }
 
+    /// Makes a call, of the script itself or of the libraries.
+    fn make(&mut self, call: Call<'_>) -> Result<(), Unanswered> {
+        if !matches!(call.name, "help" | "mark" | "quit") {
+            return make_call(self.rt, &mut self.session, call, &mut self.answer.text);
+        }
+        if call.given.contains(&BELOW) {
+            return Err(Unanswered::Misread("the call with no text below it"));
+        }
+        self.make_own(call)
+    }
+
+    /// Makes a call of the script itself.
+    fn make_own(&mut self, call: Call<'_>) -> Result<(), Unanswered> {
+        match (call.name, call.given) {
+            ("help", given) => put_help(&mut self.answer.text, given),
+            ("mark", given) => self.mark.set(given),
+            (_, []) => {
+                self.has_ended = true;
+                Ok(())
+            }
+            _ => Err(NO_WORDS),
+        }
+    }
+
     /// Makes a call and prints its answer. Returns whether it lacked memory or a thread.
     fn answer_once(&mut self, call: Call<'_>) -> IoResult<bool> {
         self.answer.begin();
-        match make_call(self.rt, &mut self.session, call, &mut self.answer.text) {
+        match self.make(call) {
             Ok(()) => {
                 self.print()?;
                 Ok(false)
             }
             Err(why) => {
-                self.refuse(&why)?;
+                self.refuse(&why, wrong_name(call))?;
                 Ok(why.is_for_want())
             }
         }
     }
 
-    /// Prints why there is no answer. If the line is no valid call, also reports it as an error.
-    fn refuse(&mut self, why: &Unanswered) -> IoResult<()> {
-        if matches!(why, Unanswered::NoCall | Unanswered::Misread(_)) {
+    /// Prints why the call of this name has no answer. If the line is no valid call, also reports
+    /// it as an error.
+    fn refuse(&mut self, why: &Unanswered, name: &str) -> IoResult<()> {
+        if let Unanswered::Misread(_) = why {
+            return self.correct(name, why_of(why));
+        }
+        if matches!(why, Unanswered::NoCall) {
             let line = self.call_line;
             self.complain_at(line, why);
         }
         let _ = self.answer.refuse(why);
+        self.print()
+    }
+
+    /// Prints how the call of this name is written, and reports an error.
+    fn correct<'b>(&mut self, name: &'b str, why: &'b str) -> IoResult<()> {
+        let line = self.call_line;
+        self.complain_at(line, Written { name, why });
+        let _ = self.answer.correct(Written { name, why });
         self.print()
     }
 
@@ -340,14 +380,14 @@ impl<R: Runtime + Threads + Wait + Sync + AllocGlobal, I: BufRead> ScriptRun<'_,
     }
 }
 
-/// Runs a script in a session, and returns whether all answers were as expected. `is_watched` is
-/// whether standard output is a terminal.
+/// Runs a script in a session, and returns whether all answers were as expected. `watched` is which
+/// of its input and of standard output are terminals.
 pub fn run_script<R: Runtime + Threads + Wait + Sync + AllocGlobal, I: Read + Drop>(
     rt: &R,
     name: &str,
     input: I,
     session: Session,
-    is_watched: bool,
+    watched: Watched,
 ) -> IoResult<bool> {
     let mut text = String::new(rt.alloc());
     text.reserve(ROOM)?;
@@ -357,16 +397,15 @@ pub fn run_script<R: Runtime + Threads + Wait + Sync + AllocGlobal, I: Read + Dr
             name,
             input: BufReader::new(rt.alloc(), input)?,
             line: 0,
+            is_typed: watched.input,
         },
         session,
-        answer: Answer {
-            text,
-            compared: 0,
-            is_asked: false,
-        },
+        answer: Answer::new(text),
         call_line: 0,
         repeats: false,
-        is_watched,
+        mark: Mark::none(rt.alloc()),
+        has_ended: false,
+        is_watched: watched.output,
         is_good: true,
     };
     run.run()

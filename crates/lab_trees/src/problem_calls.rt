@@ -63,7 +63,8 @@ fn look_at_all(
     }
 }
 
-/// Makes a problem, and adds its number of nets.
+/// Makes a problem, and adds its number of nets. The device of a problem at a width becomes the
+/// device.
 fn make(
     alloc: Global,
     session: &mut Session,
@@ -72,9 +73,21 @@ fn make(
 ) -> Result<(), Unanswered> {
     let problem = made(alloc, &session.design, &session.device, call)?;
     let nets = problem.nets();
+    if has_width(call.given) {
+        session.device = Some(problem.device().copy(alloc)?);
+    }
     session.problem = Some(problem);
     session.searching = None;
     added(writeln!(out, "{nets} nets"))
+}
+
+/// Returns whether the words of a call give the width of a device.
+fn has_width(given: &[&str]) -> bool {
+    match given {
+        [] => false,
+        [word] => *word != BELOW,
+        _ => true,
+    }
 }
 
 /// Returns the problem that a call asks for.

@@ -1,15 +1,16 @@
 //! The beginning of the runs with a design, and the end of any run by a fault.
 
+use crate::BAD_WORDS;
+use crate::identity::lacks_standard_input;
 use crate::names::{FurtherNames, ShownNames};
 use crate::opened::{Input, OpenedDesign, open, open_design};
-use refusals::{FilesRead, tell_refusal};
+use refusals::{FilesRead, NameFault, first_standard_input, input_fault, tell_refusal};
 use run_inputs::{AppFault, InputFile, print_fault, status};
-use std::fs::File;
 use std::io;
 use vpr_text::Adapted;
 
 /// The names of a run's files, and the opened files of its design.
-pub type Begun = (ShownNames, OpenedDesign<File>);
+pub type Begun = (ShownNames, OpenedDesign);
 
 /// Opens the files of a design: NET, ARCH and PLACE, before ROUTE. `further` names the other files
 /// of the run.
@@ -24,6 +25,7 @@ pub fn begin(
     is_explained: bool,
 ) -> Result<Begun, u8> {
     let [net, arch, place, _] = files;
+    test_inputs(rt, [net, arch, place, ""])?;
     let Ok(names) = ShownNames::of(rt.alloc(), files, further) else {
         return Err(refused(rt, AppFault::Memory));
     };
@@ -42,8 +44,9 @@ pub fn begin_with_route(
     rt: &HostRuntime,
     files: [&str; 4],
     is_explained: bool,
-) -> Result<(Begun, Input<File>), u8> {
+) -> Result<(Begun, Input), u8> {
     let [_, _, _, route] = files;
+    test_inputs(rt, files)?;
     let (names, design) = begin(rt, files, FurtherNames::none(), is_explained)?;
     match open(rt, route, InputFile::Route, is_explained) {
         Ok(route) => Ok(((names, design), route)),
@@ -51,10 +54,32 @@ pub fn begin_with_route(
     }
 }
 
+/// Tests, before an input is opened, that at most one is standard input, and that there is one
+/// then: an opened file would take the descriptor of a standard input that was closed.
+///
+/// # Errors
+/// The exit status of the fault, which is printed.
+#[inline(never)]
+fn test_inputs(rt: &HostRuntime, files: [&str; 4]) -> Result<(), u8> {
+    if let Some(fault) = input_fault(files) {
+        return Err(refused_name(rt, fault));
+    }
+    match first_standard_input(files) {
+        Some(file) if lacks_standard_input(rt) => Err(refused(rt, AppFault::Unread(file))),
+        _ => Ok(()),
+    }
+}
+
+/// Prints why the name of a file of the run is refused, and returns the exit status.
+pub fn refused_name(rt: &HostRuntime, fault: NameFault) -> u8 {
+    let _ = println!(rt; "error: {fault}");
+    BAD_WORDS
+}
+
 /// Returns the files of a run with what was read of them.
 pub fn read_of<'a>(
     names: &'a ShownNames,
-    design: &'a OpenedDesign<File>,
+    design: &'a OpenedDesign,
     route: &'a [u8],
 ) -> FilesRead<'a> {
     names.with_bytes(

@@ -6,7 +6,7 @@ ghost use Rattle.node_cost.specs.Options.{most_workers};
 ghost use Rattle.runs.specs.WidthRun.{start_of};
 
 use crate::files::{BehindProgress, RunFile};
-use crate::identity::{STANDARD_ERROR, STANDARD_OUTPUT, is_name_of, leads_to};
+use crate::identity::{STANDARD_ERROR, STANDARD_OUTPUT, is_name_of, leads_to, path_of};
 use crate::names::ShownNames;
 use crate::opened::{Input, OpenedDesign};
 use crate::run_gates::RunGates;
@@ -15,6 +15,7 @@ use crate::schedule::{
 };
 use crate::shown::{Plain, PlainWriter};
 use crate::side::{RestFile, TrialFiles, free_name, log_of, others_of};
+use crate::terminal::{Watched, output};
 use crate::warning::hindrance_of;
 use bound_run::bound_run;
 use command_line::command::{
@@ -32,30 +33,23 @@ use run_inputs::AppFault;
 use run_log::Progress;
 use run_schedule::Summed;
 use runs::{WidthPlan, check_run, graph_run, route_run, width_run};
-use std::fs::{File, Files};
+use std::fs::Files;
 use std::io;
-use std::io::{Printer, Read, Write};
+use std::io::Write;
 use std::rt::Runtime;
 use std::sync::Wait;
 use std::thread::Threads;
 use vpr_text::{Adapted, ByteSink};
 use width_search::WidthReport;
 
-/// Whether standard output and standard error are terminals, which somebody may watch.
-#[derive(Clone, Copy)]
-pub struct Watched {
-    pub output: bool,
-    pub errors: bool,
-}
-
-/// Returns standard output, without control characters if it is a terminal.
-pub fn output(rt: &HostRuntime, watched: Watched) -> PlainWriter<Printer<'_, HostRuntime>> {
-    PlainWriter::new(io::writer(rt), watched.output)
-}
-
 /// Returns the mode in which nets are routed.
 fn mode_of(global: bool) -> Mode {
     if global { Mode::Global } else { Mode::Detailed }
+}
+
+/// Returns the paths of the inputs, and the name of the file that is written.
+fn paths_of<'a>(net: &'a str, arch: &'a str, place: &'a str, written: &'a str) -> [&'a str; 4] {
+    [path_of(net), path_of(arch), path_of(place), written]
 }
 
 /// Returns which input the name ROUTE also leads to, if it leads to one.
@@ -137,7 +131,7 @@ fn route_watched<R, P: Gate + Sync, L: Gate + Sync>(
     progress: &P,
     log: &L,
     rest: &RestFile<'_>,
-    design: &mut OpenedDesign<File>,
+    design: &mut OpenedDesign,
     sums: &InputSums,
     route: &mut RunFile<'_>,
     out: &mut impl ByteSink,
@@ -181,7 +175,7 @@ pub fn route<'a, R: Runtime + Threads + Wait + Sync + AllocGlobal>(
     rt: &'a HostRuntime,
     given: RouteWords<'a>,
     names: &'a ShownNames,
-    design: &mut OpenedDesign<File>,
+    design: &mut OpenedDesign,
     followed_bytes: Option<&'a [u8]>,
     progress: &'a Progress<'a, HostRuntime>,
     watched: Watched,
@@ -189,7 +183,7 @@ pub fn route<'a, R: Runtime + Threads + Wait + Sync + AllocGlobal>(
     requires tracks { (1 ≤ given.width) × (given.width ≤ most_tracks) }
     requires workers { (1 ≤ given.workers) × (given.workers ≤ most_workers) }
 {
-    let files = [given.net, given.arch, given.place, given.route];
+    let files = paths_of(given.net, given.arch, given.place, given.route);
     let mut route = written_file(rt, progress, files, given.follow)?;
     let mut out = Adapted::new(BehindProgress::new(output(rt, watched), progress));
     let schedule = schedule_in(rt.alloc(), followed_bytes, given.workers)?;
@@ -253,7 +247,7 @@ fn width_watched<R, P: Gate + Sync, L: Gate + Sync>(
     progress: &P,
     log: &L,
     kept: &TrialFiles<'_>,
-    design: &mut OpenedDesign<File>,
+    design: &mut OpenedDesign,
     sums: &InputSums,
     route: &mut RunFile<'_>,
     out: &mut impl ByteSink,
@@ -295,7 +289,7 @@ pub fn width<'a, R: Runtime + Threads + Wait + Sync + AllocGlobal>(
     rt: &'a HostRuntime,
     given: WidthWords<'a>,
     names: &'a ShownNames,
-    design: &mut OpenedDesign<File>,
+    design: &mut OpenedDesign,
     followed_bytes: Option<&'a [u8]>,
     progress: &'a Progress<'a, HostRuntime>,
     watched: Watched,
@@ -303,7 +297,7 @@ pub fn width<'a, R: Runtime + Threads + Wait + Sync + AllocGlobal>(
     requires start { (1 ≤ given.start) × (given.start ≤ most_tracks) }
     requires workers { (1 ≤ given.workers) × (given.workers ≤ most_workers) }
 {
-    let files = [given.net, given.arch, given.place, given.route];
+    let files = paths_of(given.net, given.arch, given.place, given.route);
     let mut route = written_file(rt, progress, files, given.follow)?;
     let mut out = Adapted::new(BehindProgress::new(output(rt, watched), progress));
     let schedule = schedule_in(rt.alloc(), followed_bytes, given.workers)?;
@@ -348,8 +342,8 @@ pub fn check(
     rt: &HostRuntime,
     given: CheckWords<'_>,
     names: &ShownNames,
-    design: &mut OpenedDesign<File>,
-    route: &mut Input<File>,
+    design: &mut OpenedDesign,
+    route: &mut Input,
     errors: &mut impl Write,
     watched: Watched,
 ) -> Result<Option<RouteFault>, AppFault>
@@ -388,8 +382,8 @@ pub fn check(
 pub fn report(
     rt: &HostRuntime,
     given: ReportWords<'_>,
-    design: &mut OpenedDesign<File>,
-    route: &mut Input<File>,
+    design: &mut OpenedDesign,
+    route: &mut Input,
     watched: Watched,
 ) -> Result<(), AppFault>
     requires { (1 ≤ given.width) × (given.width ≤ most_tracks) }
@@ -413,12 +407,12 @@ pub fn report(
 pub fn bound<'a>(
     rt: &'a HostRuntime,
     given: BoundWords<'a>,
-    design: &mut OpenedDesign<File>,
+    design: &mut OpenedDesign,
     progress: &'a Progress<'a, HostRuntime>,
     watched: Watched,
 ) -> Result<(), AppFault> {
     if let Some(name) = given.cut {
-        let files = [given.net, given.arch, given.place, name];
+        let files = paths_of(given.net, given.arch, given.place, name);
         return certify(rt, files, design, progress, watched);
     }
     let mut out = Adapted::new(output(rt, watched));
@@ -437,7 +431,7 @@ pub fn bound<'a>(
 fn certify<'a>(
     rt: &'a HostRuntime,
     files: [&'a str; 4],
-    design: &mut OpenedDesign<File>,
+    design: &mut OpenedDesign,
     progress: &'a Progress<'a, HostRuntime>,
     watched: Watched,
 ) -> Result<(), AppFault> {
@@ -456,10 +450,10 @@ fn certify<'a>(
 }
 
 /// Runs the `graph` command.
-pub fn graph<F: Read>(
+pub fn graph(
     rt: &HostRuntime,
     given: GraphWords<'_>,
-    arch: &mut Input<F>,
+    arch: &mut Input,
     watched: Watched,
 ) -> Result<(), AppFault>
     requires columns { (1 ≤ given.nx) × (given.nx ≤ longest_side) }
@@ -484,7 +478,7 @@ pub fn graph<F: Read>(
 pub fn nets(
     rt: &HostRuntime,
     given: NetsWords<'_>,
-    design: &mut OpenedDesign<File>,
+    design: &mut OpenedDesign,
     watched: Watched,
 ) -> Result<(), AppFault>
     requires { (1 ≤ given.width) × (given.width ≤ most_tracks) }

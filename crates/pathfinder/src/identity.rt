@@ -1,5 +1,6 @@
 //! The file that a name leads to, whether the file exists or not.
 
+use refusals::is_standard_input;
 use std::fs;
 use std::fs::{Files, Metadata};
 use std::io::{Error, ErrorKind, Result};
@@ -11,6 +12,8 @@ use std::rt::Runtime;
 const MOST_LINKS: u32 = 40;
 
 /// The paths of a process's standard streams.
+pub const STANDARD_INPUT: &str = "/proc/self/fd/0";
+
 pub const STANDARD_OUTPUT: &str = "/proc/self/fd/1";
 
 pub const STANDARD_ERROR: &str = "/proc/self/fd/2";
@@ -27,6 +30,20 @@ pub fn leads_to<R: Files>(rt: &R, name: &str, found: &Metadata) -> bool {
         Ok(other) => is_same(&other, found),
         Err(_) => false,
     }
+}
+
+/// Returns the path of an input: that of standard input for `-`.
+pub fn path_of(input: &str) -> &str {
+    if is_standard_input(input) {
+        STANDARD_INPUT
+    } else {
+        input
+    }
+}
+
+/// Returns whether the process has no standard input, as far as that can be known.
+pub fn lacks_standard_input<R: Files>(rt: &R) -> bool {
+    rt.metadata(STANDARD_INPUT).is_err() && rt.metadata("/proc/self/fd").is_ok()
 }
 
 /// Returns the folder that a file is in.

@@ -19,27 +19,25 @@ mod warning;
 ghost use Rattle.std.specs.Prelude.{◌≤◌};
 ghost use Rattle.rr_graph.specs.Fabric.{longest_side, most_tracks};
 
-use begun::{begin, begin_with_route, read_of, refused, refused_with};
+use begun::{begin, begin_with_route, read_of, refused, refused_name, refused_with};
 use clap::error::ErrorKind;
 use clap::{ArgMatches, Error as ClapError};
 use command_line::command;
 use command_line::command::GraphWords;
-use commands::{Watched, output};
 use names::{FurtherNames, ShownNames};
-use opened::{Input, Kept, open};
-use refusals::FilesRead;
+use opened::{Input, open, standard_input};
+use refusals::{FilesRead, NameFault, is_standard_input, tell_vpr_options};
 use run_inputs::{AppFault, InputFile, status};
 use run_log::Progress;
 use runs::{outcome_status, report_status, verdict_status};
 use schedule::{RunFault, read_followed, refused_schedule};
-use std::io::{IsTerminal, Read, Write};
+use std::io::{IsTerminal, Write};
 use std::process::ExitCode;
 use std::rt::Runtime;
 use std::sync::Wait;
 use std::thread::Threads;
 use std::{env, io};
-use terminal::{columns, takes_lines_back};
-use vpr_text::Adapted;
+use terminal::{Watched, columns, output, takes_lines_back};
 
 /// The exit status of an invalid command line.
 const BAD_WORDS: u8 = 2;
@@ -77,7 +75,7 @@ fn run<R: Runtime + Threads + Wait + Sync + AllocGlobal>(
     };
     let matches = match command.try_get_matches_from(words.as_slice()) {
         Ok(matches) => matches,
-        Err(error) => return explained(rt, &error, watched),
+        Err(error) => return explained(rt, &error, words.as_slice(), watched),
     };
     match matches.subcommand() {
         Some(("route", given)) => run_route(handle, rt, given, watched),
@@ -102,8 +100,11 @@ fn run_route<R: Runtime + Threads + Wait + Sync + AllocGlobal>(
     let Some(given) = command::route_words(given) else {
         return BAD_WORDS;
     };
+    if is_standard_input(given.route) {
+        return refused_name(rt, NameFault::Written);
+    }
     let files = [given.net, given.arch, given.place, given.route];
-    let (is_explained, followed) = (given.explain, given.follow);
+    let (is_explained, followed) = (watched.explains(given.explain), given.follow);
     let further = FurtherNames {
         log: given.log,
         schedule: given.schedule,
@@ -149,8 +150,11 @@ fn run_width<R: Runtime + Threads + Wait + Sync + AllocGlobal>(
     let Some(given) = command::width_words(given) else {
         return BAD_WORDS;
     };
+    if is_standard_input(given.route) {
+        return refused_name(rt, NameFault::Written);
+    }
     let files = [given.net, given.arch, given.place, given.route];
-    let (is_explained, followed) = (given.explain, given.follow);
+    let (is_explained, followed) = (watched.explains(given.explain), given.follow);
     let further = FurtherNames {
         log: given.log,
         schedule: given.schedule,
@@ -221,7 +225,7 @@ fn run_check(
         return BAD_WORDS;
     };
     let files = [given.net, given.arch, given.place, given.route];
-    let is_explained = given.explain;
+    let is_explained = watched.explains(given.explain);
     let ((names, mut design), mut route) = match begin_with_route(rt, files, is_explained) {
         Ok(begun) => begun,
         Err(status) => return status,
@@ -250,7 +254,7 @@ fn run_report(rt: &HostRuntime, given: &ArgMatches<'_>, watched: Watched) -> u8 
         return BAD_WORDS;
     };
     let files = [given.net, given.arch, given.place, given.route];
-    let is_explained = given.explain;
+    let is_explained = watched.explains(given.explain);
     let ((names, mut design), mut route) = match begin_with_route(rt, files, is_explained) {
         Ok(begun) => begun,
         Err(status) => return status,
@@ -270,7 +274,7 @@ fn run_bound(rt: &HostRuntime, given: &ArgMatches<'_>, watched: Watched) -> u8 {
         return BAD_WORDS;
     };
     let files = [given.net, given.arch, given.place, ""];
-    let is_explained = given.explain;
+    let is_explained = watched.explains(given.explain);
     let (names, mut design) = match begin(rt, files, FurtherNames::none(), is_explained) {
         Ok(begun) => begun,
         Err(status) => return status,
@@ -291,10 +295,9 @@ fn run_graph(rt: &HostRuntime, given: &ArgMatches<'_>, watched: Watched) -> u8 {
     else {
         return refused(rt, AppFault::Memory);
     };
-    let is_explained = given.explain;
+    let is_explained = watched.explains(given.explain);
     if given.arch == "stdin" {
-        let arch = Adapted::new(Kept::new(rt.alloc(), rt.reader(), is_explained));
-        return list_graph(rt, given, &names, arch, watched);
+        return list_graph(rt, given, &names, standard_input(rt, is_explained), watched);
     }
     match open(rt, given.arch, InputFile::Arch, is_explained) {
         Ok(arch) => list_graph(rt, given, &names, arch, watched),
@@ -303,18 +306,18 @@ fn run_graph(rt: &HostRuntime, given: &ArgMatches<'_>, watched: Watched) -> u8 {
 }
 
 /// Prints the listing of a device of an architecture, and returns the exit status.
-fn list_graph<F: Read + Drop>(
+fn list_graph(
     rt: &HostRuntime,
     given: GraphWords<'_>,
     names: &ShownNames,
-    mut arch: Input<F>,
+    mut arch: Input,
     watched: Watched,
 ) -> u8
     requires columns { (1 ≤ given.nx) × (given.nx ≤ longest_side) }
     requires rows { (1 ≤ given.ny) × (given.ny ≤ longest_side) }
     requires tracks { (1 ≤ given.width) × (given.width ≤ most_tracks) }
 {
-    let is_explained = given.explain;
+    let is_explained = watched.explains(given.explain);
     match commands::graph(rt, given, &mut arch, watched) {
         Ok(()) => 0,
         Err(fault) => {
@@ -335,7 +338,7 @@ fn run_nets(rt: &HostRuntime, given: &ArgMatches<'_>, watched: Watched) -> u8 {
         return BAD_WORDS;
     };
     let files = [given.net, given.arch, given.place, ""];
-    let is_explained = given.explain;
+    let is_explained = watched.explains(given.explain);
     let (names, mut design) = match begin(rt, files, FurtherNames::none(), is_explained) {
         Ok(begun) => begun,
         Err(status) => return status,
@@ -357,10 +360,11 @@ fn words(rt: &HostRuntime) -> io::Result<Vec<String>> {
     Ok(words)
 }
 
-/// Prints clap's message about the words, and returns the exit status: 0 for help or the version if
-/// it was asked for and could be printed.
+/// Prints clap's message about the words, and on standard error what takes the places of VPR's
+/// options among them. Returns the exit status: 0 for help or the version if it was asked for and
+/// could be printed.
 #[inline(never)]
-fn explained(rt: &HostRuntime, error: &ClapError, watched: Watched) -> u8 {
+fn explained(rt: &HostRuntime, error: &ClapError, words: &[String], watched: Watched) -> u8 {
     if error.kind() == ErrorKind::OutOfMemory {
         return refused(rt, AppFault::Memory);
     }
@@ -370,7 +374,10 @@ fn explained(rt: &HostRuntime, error: &ClapError, watched: Watched) -> u8 {
             status(&AppFault::Unwritten)
         }
         ErrorKind::DisplayHelp | ErrorKind::DisplayVersion => 0,
-        _ => BAD_WORDS,
+        _ => {
+            tell_vpr_options(rt, words);
+            BAD_WORDS
+        }
     }
 }
 

@@ -1,23 +1,40 @@
 //! The opened files that a run reads. What is read of them is kept if faults are to be explained.
 
+use refusals::is_standard_input;
 use run_inputs::{AppFault, InputFile};
 use std::alloc::Global;
 use std::fs;
-use std::io::{Read, Result as IoResult};
-use std::rt::Runtime;
+use std::fs::File;
+use std::io::{Read, Result as IoResult, Stdin};
 use vpr_text::Adapted;
 
-/// A reader that keeps what was read, if that is wanted and there is memory.
+/// What an input is read from.
 #[derive(Drop)]
-pub struct Kept<F> {
-    file: F,
+pub enum Source {
+    File(File),
+    Standard(Stdin),
+}
+
+impl Read for Source {
+    fn read(&mut self, buffer: &mut [u8]) -> IoResult<usize> {
+        match self {
+            Source::File(file) => file.read(buffer),
+            Source::Standard(input) => input.read(buffer),
+        }
+    }
+}
+
+/// A source that keeps what was read, if that is wanted and there is memory.
+#[derive(Drop)]
+pub struct Kept {
+    source: Source,
     bytes: Option<Vec<u8>>,
 }
 
-impl<F> Kept<F> {
-    pub fn new(alloc: Global, file: F, is_kept: bool) -> Kept<F> {
+impl Kept {
+    fn new(alloc: Global, source: Source, is_kept: bool) -> Kept {
         Kept {
-            file,
+            source,
             bytes: is_kept.then(|| Vec::new(alloc)),
         }
     }
@@ -40,47 +57,56 @@ impl<F> Kept<F> {
     }
 }
 
-impl<F: Read> Read for Kept<F> {
+impl Read for Kept {
     fn read(&mut self, buffer: &mut [u8]) -> IoResult<usize> {
-        let count = self.file.read(buffer)?;
+        let count = self.source.read(buffer)?;
         self.keep(&buffer[..count]);
         Ok(count)
     }
 }
 
 /// An input file of a run.
-pub type Input<F> = Adapted<Kept<F>>;
+pub type Input = Adapted<Kept>;
 
 /// The opened files of a design.
 #[derive(Drop)]
-pub struct OpenedDesign<F> {
-    pub arch: Input<F>,
-    pub net: Input<F>,
-    pub place: Input<F>,
+pub struct OpenedDesign {
+    pub arch: Input,
+    pub net: Input,
+    pub place: Input,
 }
 
-/// Opens an input file. What is read of it is kept if that is wanted.
-pub fn open<R: Runtime + AllocGlobal>(
-    rt: &R,
+/// Returns standard input as an input file. What is read of it is kept if that is wanted.
+pub fn standard_input(rt: &HostRuntime, is_kept: bool) -> Input {
+    Adapted::new(Kept::new(rt.alloc(), Source::Standard(rt.stdin()), is_kept))
+}
+
+/// Opens an input file, or standard input if the name is `-`. What is read of it is kept if that is
+/// wanted.
+pub fn open(
+    rt: &HostRuntime,
     name: &str,
     file: InputFile,
     is_kept: bool,
-) -> Result<Input<R::File>, AppFault> {
+) -> Result<Input, AppFault> {
+    if is_standard_input(name) {
+        return Ok(standard_input(rt, is_kept));
+    }
     match fs::open(rt, name) {
-        Ok(opened) => Ok(Adapted::new(Kept::new(rt.alloc(), opened, is_kept))),
+        Ok(opened) => Ok(Adapted::new(Kept::new(rt.alloc(), Source::File(opened), is_kept))),
         Err(_) => Err(AppFault::Unread(file)),
     }
 }
 
 /// Opens the files of a design in reading order.
 #[inline(never)]
-pub fn open_design<R: Runtime + AllocGlobal>(
-    rt: &R,
+pub fn open_design(
+    rt: &HostRuntime,
     arch: &str,
     net: &str,
     place: &str,
     is_kept: bool,
-) -> Result<OpenedDesign<R::File>, AppFault> {
+) -> Result<OpenedDesign, AppFault> {
     let arch = open(rt, arch, InputFile::Arch, is_kept)?;
     let net = open(rt, net, InputFile::Net, is_kept)?;
     let place = open(rt, place, InputFile::Place, is_kept)?;

@@ -1,10 +1,33 @@
-//! What is known of the terminal that shows how far a negotiation is.
+//! What is known of the terminals that standard output and standard error go to.
 
+use crate::shown::PlainWriter;
 use std::env::{Env, FillError};
+use std::io;
+use std::io::Printer;
 use vpr_text::number;
 
 /// The number of columns of a terminal whose size is unknown.
 const COLUMNS: u32 = 80;
+
+/// Whether standard output and standard error are terminals, which somebody may watch.
+#[derive(Clone, Copy)]
+pub struct Watched {
+    pub output: bool,
+    pub errors: bool,
+}
+
+impl Watched {
+    /// Returns whether a refused file is explained: if that is asked for, or if standard error is a
+    /// terminal.
+    pub fn explains(self, is_asked: bool) -> bool {
+        is_asked || self.errors
+    }
+}
+
+/// Returns standard output, without control characters if it is a terminal.
+pub fn output(rt: &HostRuntime, watched: Watched) -> PlainWriter<Printer<'_, HostRuntime>> {
+    PlainWriter::new(io::writer(rt), watched.output)
+}
 
 /// Returns whether a line on the terminal can be taken back: `TERM` names a terminal other than a
 /// dumb one.

@@ -1,7 +1,7 @@
 //! Warnings about ROUTE and the other files that a run writes, before anything is routed: that they
 //! can't or shouldn't be written. To find that out, nothing is created and nothing is written.
 
-use crate::identity::{STANDARD_ERROR, STANDARD_OUTPUT, folder_of, is_name_of};
+use crate::identity::{STANDARD_ERROR, STANDARD_INPUT, STANDARD_OUTPUT, folder_of, is_name_of};
 use crate::shown::Plain;
 use std::fmt;
 use std::fs::{Files, Metadata, OpenOptions};
@@ -117,6 +117,7 @@ struct Taken<'a>(&'a str);
 impl fmt::Display for Taken<'_> {
     fn fmt<W: fmt::Write>(&self, f: &mut fmt::Formatter<W>) -> fmt::Result {
         match self.0 {
+            STANDARD_INPUT => write!(f, "standard input comes from it"),
             STANDARD_OUTPUT => write!(f, "standard output goes to it"),
             STANDARD_ERROR => write!(f, "standard error goes to it"),
             name => {

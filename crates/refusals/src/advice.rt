@@ -17,6 +17,8 @@ pub enum Offender {
     Third,
     /// The second word, if the line has only two.
     Value,
+    /// The names of a pinlist: as many as its block doesn't have pins.
+    Names,
     /// No word, but a block that has no row.
     Block(usize),
 }
@@ -158,7 +160,7 @@ fn on_net(fault: NetFault) -> Said {
         ),
         NetFault::PinCount(line) => Said(
             line,
-            Offender::Line,
+            Offender::Names,
             "not as many nets as the block has pins: write `open` for a pin without a net",
         ),
         NetFault::DoubleName(line) => Said(

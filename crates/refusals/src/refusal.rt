@@ -3,6 +3,8 @@
 ghost use Rattle.std.specs.Prelude.{◌<◌, IfSome, length};
 
 use crate::advice::{Advice, Offender, advice_on};
+use crate::foreign::foreign_format;
+use crate::pin_counts::{PinCounts, pin_counts};
 use run_inputs::{AppFault, InputFile};
 use std::alloc::{AllocGlobal, Global};
 use std::io::Eprint;
@@ -13,9 +15,6 @@ const MOST_SHOWN: usize = 200;
 
 /// The greatest number of physical lines shown of a continued line.
 const MOST_LINES: u32 = 8;
-
-/// The advice on an architecture that looks like XML.
-const XML: &str = "this looks like the XML of VTR 7 and later, and this reads VPR 4.30's format";
 
 /// A file of a run: its name as it is shown, and the bytes that were read of it, or no bytes if
 /// they were not kept.
@@ -78,8 +77,10 @@ fn tell(rt: &(impl Eprint + AllocGlobal), advice: &Advice, files: FilesRead<'_>)
     match advice.offender {
         Offender::Block(block) => tell_block(rt, advice, name, files.net.bytes, block),
         _ if advice.line == 0 => {
-            let _ = eprintln!(rt; "{name}: {}", advice.text);
+            let text = text_on(advice, file.bytes);
+            let _ = eprintln!(rt; "{name}: {text}");
         }
+        Offender::Names => tell_names(rt, advice, file, files.arch.bytes),
         _ => tell_line(rt, advice, file),
     }
 }
@@ -120,10 +121,35 @@ fn is_element(lines: &Lines<'_>, line: usize) -> bool {
     }
 }
 
+/// Prints the advice on a pinlist with how many names it has and how many pins its block, and then
+/// the text of the line.
+fn tell_names(rt: &(impl Eprint + AllocGlobal), advice: &Advice, file: FileRead<'_>, arch: &[u8]) {
+    let (name, line) = (file.name, advice.line);
+    match counts_at(rt.alloc(), file.bytes, line, arch) {
+        Some(counts) => {
+            let _ = eprintln!(rt; "{name}:{line}: {counts}");
+            tell_texts(rt, line, file);
+        }
+        None => tell_line(rt, advice, file),
+    }
+}
+
+/// Returns the counts of the pinlist on a line of a netlist, if memory suffices.
+fn counts_at(alloc: Global, net: &[u8], line: u32, arch: &[u8]) -> Option<PinCounts> {
+    let lines = lines(alloc, net).ok()?;
+    let place = line_at(&lines, line)?;
+    pin_counts(alloc, &lines, place, arch)
+}
+
 /// Prints the advice on a refused line, with the offending word, and then the text of the line.
 fn tell_line(rt: &(impl Eprint + AllocGlobal), advice: &Advice, file: FileRead<'_>) {
     tell_word(rt, advice, file);
-    let mut line = advice.line;
+    tell_texts(rt, advice.line, file);
+}
+
+/// Prints the text of a line, and of those that it continues in.
+fn tell_texts(rt: &(impl Eprint + AllocGlobal), first: u32, file: FileRead<'_>) {
+    let mut line = first;
     for _ in 0..MOST_LINES {
         let text = line_of(file.bytes, line);
         tell_text(rt, file.name, line, text);
@@ -167,18 +193,10 @@ fn tell_word(rt: &(impl Eprint + AllocGlobal), advice: &Advice, file: FileRead<'
     }
 }
 
-/// Returns the advice on a line. If an architecture looks like XML, the advice is another one.
+/// Returns the advice on a file, which is another one if it looks like one of a later version of
+/// VPR.
 fn text_on(advice: &Advice, bytes: &[u8]) -> &'static str {
-    let is_xml = advice.file == InputFile::Arch && begins_with_angle(bytes);
-    if is_xml { XML } else { advice.text }
-}
-
-/// Returns whether the first byte that isn't blank is `<`.
-fn begins_with_angle(bytes: &[u8]) -> bool {
-    match bytes.iter().find(|byte| !byte.is_ascii_whitespace()) {
-        Some(byte) => *byte == b'<',
-        None => false,
-    }
+    foreign_format(advice.file, bytes).unwrap_or(advice.text)
 }
 
 /// Returns the bytes of a line of a file, or none if there is no such line.
@@ -228,6 +246,6 @@ fn place_of(offender: Offender, words: usize) -> Option<usize> {
         Offender::Second => Some(1),
         Offender::Third => Some(2),
         Offender::Value if words == 2 => Some(1),
-        Offender::Value | Offender::Line | Offender::Block(_) => None,
+        Offender::Value | Offender::Names | Offender::Line | Offender::Block(_) => None,
     }
 }
