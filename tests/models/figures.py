@@ -1,4 +1,6 @@
 """What `report` prints of a routing, and `check --explain` says of it, counted plainly from the definitions."""
+import functools
+
 from device import CHANX, CHANY
 from judge import covered, tree_fault
 
@@ -116,9 +118,22 @@ class Routing:
             elif node in over:
                 yield f"{name}:{line}: net {net} uses node {over[node]} {node}"
 
+    def mark(self, place):
+        """The character for a place: how much is occupied, or `!` if an overused wire runs through it."""
+        if place in self.overused_places():
+            return "!"
+        count = self.occupied[place]
+        return "0123456789abcdefghijklmnopqrstuvwxyz"[count] if count < 36 else "*"
+
+    @functools.lru_cache(maxsize=1)
+    def overused_places(self):
+        wires = [self.device.nodes[number] for number, _, _ in self.overuses()]
+        return {(wire.kind, *place) for wire in wires if wire in self.device.spans for place in places_of(self.device, wire)}
+
     def map(self):
-        """The array from its top row, two cells of four columns or more for each place."""
+        """The array from its top row, one character for each place, between the numbers of rows and above those of columns."""
         nx, ny = self.device.nx, self.device.ny
+        yield "map" if nx <= 35 else f"map, {2 * nx + 9} characters wide"
         for row in range(2 * ny, -1, -1):
             y = row // 2
             cells = []
@@ -127,12 +142,16 @@ class Routing:
                 if row % 2 and column % 2:
                     cells.append(".")
                 elif column % 2:
-                    cells.append(self.occupied[CHANX, x + 1, y])
+                    cells.append(self.mark((CHANX, x + 1, y)))
                 elif row % 2:
-                    cells.append(self.occupied[CHANY, x, y + 1])
+                    cells.append(self.mark((CHANY, x, y + 1)))
                 else:
                     cells.append("+")
-            yield "".join(f"{cell:>4}" if len(str(cell)) < 4 else f" {cell}" for cell in cells)
+            line = "".join(cells)
+            yield f"{y + 1:3} {line} {y + 1:3}" if row % 2 else f"    {line}"
+        for unit in (100, 10, 1):
+            if unit <= nx:
+                yield "    " + "".join(f" {x // unit % 10}" if x >= unit else "  " for x in range(1, nx + 1))
 
 
 def faults(device, design, lists):
@@ -153,5 +172,5 @@ def report(device, design, lists, bound, text, is_map):
     """What `report` prints of the routing, whose file has this text, with the bound of its netlist."""
     routing = Routing(device, design, lists)
     lines = [*routing.whole(bound), *routing.types(), *routing.channels(), *routing.overused(), *routing.named(text)]
-    lines += ["map", *routing.map()] if is_map else []
+    lines += routing.map() if is_map else []
     return "".join(f"{line}\n" for line in lines)

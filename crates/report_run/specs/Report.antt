@@ -15,17 +15,19 @@ use Rattle.route_report.specs.WireTypes.{wire_types_of}
 use Rattle.width_bound.specs.declared.figures.CutFigures.{CutFigures}
 use Rattle.report_run.specs.Channels.{channel_lines}
 use Rattle.report_run.specs.Figures.{bound_line, device_lines, length_lines, net_count_lines, use_lines}
-use Rattle.report_run.specs.Map.{map_text}
+use Rattle.report_run.specs.Map.{map_text, overused_channels}
 use Rattle.report_run.specs.Named.{naming_lines}
 use Rattle.report_run.specs.Overused.{overuse_lines}
 use Rattle.report_run.specs.WireTypes.{type_lines}
 
--- the figures of a routing, and how many nets cover each node
+-- the figures of a routing, how many nets cover each node, and how many overused wires run through
+-- each place of the channels
 pub record RouteReport : Type 0 where
   pub uses : List ℕ
   pub figures : Figures
   pub types : List WireTypeUse
   pub channels : List Channel
+  pub over : List Channel
   pub overused : List Overuse
 
 abbrev pub route_report_on : RoutingProblem → Lists → RouteReport
@@ -34,6 +36,7 @@ route_report_on p lists = record {
   figures = figures_of p lists;
   types = wire_types_of p.device (uses_of p lists);
   channels = channels_of p.device (uses_of p lists);
+  over = overused_channels p.device (uses_of p lists);
   overused = overused_nodes p lists;
 }
 
@@ -50,7 +53,7 @@ counted_lines netlist p b r =
     ++ (type_lines r.types ++ (channel_lines p.device r.channels ++ overuse_lines netlist p r.overused))
 
 abbrev pub map_if : (is_map : Bool) → Fabric → RouteReport → List ℕ
-map_if is_map f r = if is_map then map_text f r.channels else []
+map_if is_map f r = if is_map then map_text f r.channels r.over else []
 
 -- the lines of a report, those on the lines of the file, and the map where it is asked for
 unfoldable pub route_report_text : (is_map : Bool) → Netlist → RoutingProblem → CutFigures → List Line → RouteReport → List ℕ

@@ -7,6 +7,7 @@ mod figures;
 pub mod laws;
 mod map;
 mod named;
+mod over;
 mod overused;
 mod report;
 mod run;

@@ -8,6 +8,7 @@ use crate::channels::put_channels;
 use crate::figures::put_figures;
 use crate::map::put_map;
 use crate::named::put_naming_lines;
+use crate::over::overused_channels;
 use crate::overused::put_overused;
 use crate::wire_types::put_types;
 use net_file::Netlist;
@@ -31,6 +32,8 @@ pub(crate) struct RouteReport {
     figures: Figures,
     types: Vec<WireTypeUse>,
     channels: Vec<ChannelUse>,
+    /// How many overused wires run through each place of the channels.
+    over: Vec<ChannelUse>,
     overused: Vec<OverusedNode>,
 }
 
@@ -57,12 +60,14 @@ impl RouteReport {
         let figures = figures_of(alloc, problem, routing, &uses)?;
         let types = wire_type_uses(alloc, problem.device(), &uses)?;
         let channels = channel_uses(alloc, problem.device(), &uses)?;
+        let over = overused_channels(alloc, problem.device(), &uses)?;
         let overused = overused_nodes(alloc, problem, routing, &uses)?;
         Ok(RouteReport {
             uses,
             figures,
             types,
             channels,
+            over,
             overused,
         })
     }
@@ -97,7 +102,7 @@ impl RouteReport {
             (map_if is_map device.now self.now) }
     {
         if is_map {
-            put_map(out, sink, device, &self.channels);
+            put_map(out, sink, device, &self.channels, &self.over);
         }
     }
 

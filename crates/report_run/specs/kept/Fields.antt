@@ -8,5 +8,6 @@ report_inside r = record {
   figures = r.figures;
   types = r.types.items;
   channels = r.channels.items;
+  over = r.over.items;
   overused = r.overused.items;
 }
