@@ -118,6 +118,25 @@ class Routing:
             elif node in over:
                 yield f"{name}:{line}: net {net} uses node {over[node]} {node}"
 
+    def each_net(self):
+        """The bends, wires and places of the nets: the sum, the mean over those with a tree, and the most, with the first net."""
+        wires = [[node for node in nodes if node in self.device.spans] for nodes in self.covered]
+        numbers = {
+            "bends": [len(self.bends(pairs or ())) for pairs in self.lists],
+            "wires": [len(nodes) for nodes in wires],
+            "places": [sum(len(places_of(self.device, node)) for node in nodes) for nodes in wires],
+        }
+        listed = sum(pairs is not None for pairs in self.lists)
+        for name, counts in numbers.items():
+            most = max(counts, default=0)
+            first = [f" {net.name}" for net, count in zip(self.nets, counts) if count == most][:1]
+            yield f"net {name} {sum(counts)} mean {hundredths(sum(counts), listed)} most {most}{''.join(first)}"
+
+    def bends(self, pairs):
+        """The wires to which a pair leads from a wire of the other direction."""
+        kinds = [{self.device.nodes[node].kind for node in pair} for pair in pairs]
+        return {end for (_, end), both in zip(pairs, kinds) if both == {CHANX, CHANY}}
+
     def mark(self, place):
         """The character for a place: how much is occupied, or `!` if an overused wire runs through it."""
         if place in self.overused_places():
@@ -168,9 +187,10 @@ def overuse_in_words(device, design, lists, text, name):
     return [*routing.overused(), *routing.uses(text, name)]
 
 
-def report(device, design, lists, bound, text, is_map):
-    """What `report` prints of the routing, whose file has this text, with the bound of its netlist."""
+def report(device, design, lists, bound, text, options):
+    """What `report` prints with these options of the routing, whose file has this text, with the bound of its netlist."""
     routing = Routing(device, design, lists)
     lines = [*routing.whole(bound), *routing.types(), *routing.channels(), *routing.overused(), *routing.named(text)]
-    lines += routing.map() if is_map else []
+    lines += routing.each_net() if "--full-stats" in options else []
+    lines += routing.map() if "--map" in options else []
     return "".join(f"{line}\n" for line in lines)

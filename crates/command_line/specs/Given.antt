@@ -102,6 +102,7 @@ pub record IsReportGiven (m : ArgMatches) (r : ReportWords) : Type 0 where
   pub width : IsNumberGiven m (codes "width") r.width
   pub global : IsFlagGiven m (codes "global") r.global
   pub explain : IsFlagGiven m (codes "explain") r.explain
+  pub full_stats : IsFlagGiven m (codes "full-stats") r.full_stats
   pub map : IsFlagGiven m (codes "map") r.map
 
 -- what was given to `bound`

@@ -84,6 +84,12 @@ fn report_command<'a>(alloc: Global) -> Result<Command<'a>, AllocError> {
         .arg(width(alloc))?
         .arg(global_flag(alloc))?
         .arg(
+            Arg::new(alloc, "full-stats")
+                .long("full-stats")
+                .action(ArgAction::SetTrue)
+                .help("Also bends, wires and places a net: in all, the mean and the most"),
+        )?
+        .arg(
             Arg::new(alloc, "map")
                 .long("map")
                 .action(ArgAction::SetTrue)
@@ -234,6 +240,7 @@ pub struct ReportWords<'a> {
     pub width: u32,
     pub global: bool,
     pub explain: bool,
+    pub full_stats: bool,
     pub map: bool,
 }
 
@@ -355,6 +362,7 @@ pub fn report_words<'a>(matches: &ArgMatches<'a>) -> Option<ReportWords<'a>>
         width: number_within(matches, "width", MOST_TRACKS)?,
         global: flag(matches, "global"),
         explain: flag(matches, "explain"),
+        full_stats: flag(matches, "full-stats"),
         map: flag(matches, "map"),
     })
 }

@@ -5,6 +5,7 @@ pub mod Channels
 pub mod Overused
 pub mod Named
 pub mod Map
+pub mod NetFigures
 pub mod Report
 pub mod ReportRun
 pub mod kept

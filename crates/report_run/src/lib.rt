@@ -4,9 +4,11 @@
 mod channels;
 mod device;
 mod figures;
+mod form;
 pub mod laws;
 mod map;
 mod named;
+mod net_lines;
 mod over;
 mod overused;
 mod report;
@@ -14,6 +16,7 @@ mod run;
 mod text;
 mod wire_types;
 
+pub use form::ReportForm;
 pub use named::overused_on;
 pub use overused::put_overused;
 pub use run::report_run;

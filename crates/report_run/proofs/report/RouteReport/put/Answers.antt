@@ -9,4 +9,4 @@ returns g c =
     let uses : c.deref.result.now ≡ c.args.self.now.uses = c.deref.ensures.value ∙ ap (λ (r : RouteReport). r.uses) c.self.view_is in
     let named = rw (c.device.ensures.device, uses) at c.put_naming_lines.ensures in
     let map = rw c.device-2.ensures.device at c.put_map_if.ensures in
-    sends_then c.put_lines.ensures (sends_then named map)
+    sends_then c.put_lines.ensures (sends_then named (sends_then c.put_nets_if.ensures map))
