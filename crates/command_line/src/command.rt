@@ -95,6 +95,12 @@ fn report_command<'a>(alloc: Global) -> Result<Command<'a>, AllocError> {
                 .action(ArgAction::SetTrue)
                 .help("Also the array, with the occupancy of each place of its channels"),
         )?
+        .arg(
+            Arg::new(alloc, "json")
+                .long("json")
+                .action(ArgAction::SetTrue)
+                .help("The same as one JSON object, in place of lines"),
+        )?
         .arg(explain_flag(alloc, help::EXPLAIN))
 }
 
@@ -242,6 +248,7 @@ pub struct ReportWords<'a> {
     pub explain: bool,
     pub full_stats: bool,
     pub map: bool,
+    pub json: bool,
 }
 
 /// The values given to the `bound` command.
@@ -364,6 +371,7 @@ pub fn report_words<'a>(matches: &ArgMatches<'a>) -> Option<ReportWords<'a>>
         explain: flag(matches, "explain"),
         full_stats: flag(matches, "full-stats"),
         map: flag(matches, "map"),
+        json: flag(matches, "json"),
     })
 }
 

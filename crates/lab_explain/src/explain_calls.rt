@@ -28,7 +28,7 @@ const ROUTE: &[u8] = b"route";
 
 /// The answer to a call of `report_run` with other words.
 const REPORT: Unanswered = Unanswered::Misread(
-    "report_run W, or with `global`, and then `full` and `map`, behind it",
+    "report_run W, or with `global`, and then `full`, `map` and `json`, behind it",
 );
 
 /// Makes a call, and adds its answer.
@@ -51,6 +51,7 @@ fn with_word(form: ReportForm, word: &str) -> Result<ReportForm, Unanswered> {
     match word {
         "full" => Ok(ReportForm { full: true, ..form }),
         "map" => Ok(ReportForm { map: true, ..form }),
+        "json" => Ok(ReportForm { json: true, ..form }),
         _ => Err(REPORT),
     }
 }
@@ -60,6 +61,7 @@ fn form_of(given: &[&str]) -> Result<ReportForm, Unanswered> {
     let mut form = ReportForm {
         full: false,
         map: false,
+        json: false,
     };
     for word in given {
         form = with_word(form, word)?;

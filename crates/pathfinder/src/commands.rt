@@ -399,6 +399,7 @@ pub fn report(
     let form = ReportForm {
         full: given.full_stats,
         map: given.map,
+        json: given.json,
     };
     report_run(
         rt.alloc(),

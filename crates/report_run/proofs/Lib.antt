@@ -4,3 +4,5 @@ pub mod Marking
 pub mod Filled
 pub mod Loops
 pub mod Reading
+pub mod Parts
+pub mod Members

@@ -6,6 +6,8 @@ pub mod Overused
 pub mod Named
 pub mod Map
 pub mod NetFigures
+pub mod Json
+pub mod JsonReport
 pub mod Report
 pub mod ReportRun
 pub mod kept

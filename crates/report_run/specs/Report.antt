@@ -1,5 +1,5 @@
 -- What a report says of a routing, legal or not, and its text (ours).
-use Rattle.std.specs.Prelude.{Bool, if◌then◌else◌, ℕ, List, [], ◌++◌}
+use Rattle.std.specs.Prelude.{if◌then◌else◌, ℕ, List, [], ◌++◌, codes}
 use Rattle.vpr_text.specs.Words.{Line}
 use Rattle.net_file.specs.Netlist.{Netlist}
 use Rattle.rr_graph.specs.Fabric.{Fabric}
@@ -18,6 +18,8 @@ use Rattle.width_bound.specs.declared.figures.CutFigures.{CutFigures}
 use Rattle.report_run.specs.declared.form.ReportForm.{ReportForm}
 use Rattle.report_run.specs.Channels.{channel_lines}
 use Rattle.report_run.specs.Figures.{bound_line, device_lines, length_lines, net_count_lines, use_lines}
+use Rattle.report_run.specs.Json.{object}
+use Rattle.report_run.specs.JsonReport.{figure_members, list_members, longest_member, map_member, net_members, over_members}
 use Rattle.report_run.specs.Map.{map_text, overused_channels}
 use Rattle.report_run.specs.Named.{naming_lines}
 use Rattle.report_run.specs.NetFigures.{net_lines}
@@ -71,3 +73,26 @@ unfoldable pub route_report_text : (form : ReportForm) → Netlist → RoutingPr
 route_report_text form netlist p b lines r =
     counted_lines netlist p b r
     ++ (naming_lines p.device r.uses lines ++ (net_lines_if form netlist p r ++ map_if form p.device r))
+
+-- ---- in JSON
+
+abbrev pub net_members_if : ReportForm → Netlist → RoutingProblem → RouteReport → List (List ℕ)
+net_members_if form netlist p r = if form.full then net_members netlist p r.figures.listed r.nets else []
+
+abbrev pub map_member_if : ReportForm → RouteReport → List (List ℕ)
+map_member_if form r = if form.map then map_member r.channels r.over else []
+
+-- the members of the object: those on the whole routing, on its parts, and on the lines of the file
+abbrev pub report_members : ReportForm → Netlist → RoutingProblem → CutFigures → List Line → RouteReport → List (List ℕ)
+report_members form netlist p b lines r =
+    figure_members netlist p b r.figures ++ (longest_member netlist p r.figures
+    ++ (net_members_if form netlist p r ++ (list_members p.device r.types r.channels
+    ++ (map_member_if form r ++ over_members netlist p r.uses lines r.overused))))
+
+unfoldable pub report_json : ReportForm → Netlist → RoutingProblem → CutFigures → List Line → RouteReport → List ℕ
+report_json form netlist p b lines r = object (report_members form netlist p b lines r) ++ codes "\n"
+
+-- the report as text, or as an object of JSON where that is asked for
+abbrev pub report_text : ReportForm → Netlist → RoutingProblem → CutFigures → List Line → RouteReport → List ℕ
+report_text form netlist p b lines r =
+    if form.json then report_json form netlist p b lines r else route_report_text form netlist p b lines r

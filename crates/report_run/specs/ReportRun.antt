@@ -14,7 +14,7 @@ use Rattle.run_inputs.specs.Runs.{DesignFiles, Input, PrintsText, StopsOrGoesOn,
 use Rattle.vpr_text.specs.Readings.{◌>>=◌}
 use Rattle.bound_run.specs.Bounds.{IsTrueOf, figures_of}
 use Rattle.report_run.specs.declared.form.ReportForm.{ReportForm}
-use Rattle.report_run.specs.Report.{RouteReport, route_report_on, route_report_text}
+use Rattle.report_run.specs.Report.{RouteReport, route_report_on, report_text}
 
 -- a routing, the lines of its file, and the design that it is meant for
 pub record Reported : Type 0 where
@@ -45,7 +45,7 @@ reported_in = after_design reported_on
 abbrev pub PrintsBounded : (form : ReportForm) → (out : Writing) → PlacedNetlist → RoutingProblem → List Line → RouteReport → Result (Unit {0}) AppFault → Type 0
 PrintsBounded form out placed p lines r result =
     (found : Cut)
-    × PrintsText out (route_report_text form placed.netlist p (figures_of placed found) lines r) tt result
+    × PrintsText out (report_text form placed.netlist p (figures_of placed found) lines r) tt result
     × IsTrueOf placed (figures_of placed found)
 
 -- the report of a routing of the placed netlist is printed

@@ -26,6 +26,10 @@ quotient_text n by =
 abbrev pub mean_text : (sum count : ℕ) → List ℕ
 mean_text sum count = quotient_text sum (max count 1)
 
--- the name of net i of the problem, after a blank
+-- the name of net i of the problem
+abbrev pub name_of : Netlist → RoutingProblem → ℕ → List ℕ
+name_of netlist p i = (slice_index_or netlist.nets (net_in p.nets i).number no_net).name
+
+-- the name, after a blank
 unfoldable pub name_text : Netlist → RoutingProblem → ℕ → List ℕ
-name_text netlist p i = codes " " ++ (slice_index_or netlist.nets (net_in p.nets i).number no_net).name
+name_text netlist p i = codes " " ++ name_of netlist p i

@@ -6,7 +6,7 @@ ghost use Rattle.net_file.specs.Routed.{routed_numbers};
 ghost use Rattle.rr_graph.specs.Fabric.{most_tracks};
 ghost use Rattle.run_inputs.specs.Inputs.{design_on, ends_before, placed_in};
 ghost use Rattle.run_inputs.specs.Runs.{Meets, MeetsDesign, PrintsText, TakesNothing, reading, writing_to};
-ghost use Rattle.report_run.specs.Report.{route_report_on, route_report_text};
+ghost use Rattle.report_run.specs.Report.{route_report_on, report_text};
 ghost use Rattle.report_run.specs.ReportRun.{PrintsBounded, PrintsReport, RunsPlaced, RunsReport, reported_of, reported_on, reported_with};
 ghost use Rattle.report_run.specs.kept.Placed.{design_with};
 
@@ -33,7 +33,7 @@ fn print_report<W: ByteSink>(
     form: ReportForm,
 ) -> Result<(), AppFault>
     ensures { PrintsText (writing_to W.taken W.failed out.old out.new)
-        (route_report_text form netlist.now problem.now bound lines.now report.now) tt result }
+        (report_text form netlist.now problem.now bound lines.now report.now) tt result }
 {
     let mut buffer = OutputBuffer::new();
     report.put(&mut buffer, out, netlist, problem, bound, lines, form);

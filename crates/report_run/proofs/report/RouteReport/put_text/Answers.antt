@@ -1,7 +1,7 @@
 use Rattle.std.proofs.Common.{◌≡◌, ap, ◌∙◌}
 use Rattle.vpr_text.proofs.Printing.{sends_then}
 use Rattle.report_run.specs.Report.{RouteReport, route_report_text}
-use Rattle.report_run.proofs.report.RouteReport.put.Goals as goal
+use Rattle.report_run.proofs.report.RouteReport.put_text.Goals as goal
 
 pub returns : goal.returns
 unfolding route_report_text
