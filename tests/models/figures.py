@@ -1,4 +1,6 @@
 """What `report` prints of a routing, and `check --explain` says of it, counted plainly from the definitions."""
+import functools
+
 from device import CHANX, CHANY
 from judge import covered, tree_fault
 
@@ -116,9 +118,41 @@ class Routing:
             elif node in over:
                 yield f"{name}:{line}: net {net} uses node {over[node]} {node}"
 
+    def each_net(self):
+        """The bends, wires and places of the nets: the sum, the mean over those with a tree, and the most, with the first net."""
+        wires = [[node for node in nodes if node in self.device.spans] for nodes in self.covered]
+        numbers = {
+            "bends": [len(self.bends(pairs or ())) for pairs in self.lists],
+            "wires": [len(nodes) for nodes in wires],
+            "places": [sum(len(places_of(self.device, node)) for node in nodes) for nodes in wires],
+        }
+        listed = sum(pairs is not None for pairs in self.lists)
+        for name, counts in numbers.items():
+            most = max(counts, default=0)
+            first = [f" {net.name}" for net, count in zip(self.nets, counts) if count == most][:1]
+            yield f"net {name} {sum(counts)} mean {hundredths(sum(counts), listed)} most {most}{''.join(first)}"
+
+    def bends(self, pairs):
+        """The wires to which a pair leads from a wire of the other direction."""
+        kinds = [{self.device.nodes[node].kind for node in pair} for pair in pairs]
+        return {end for (_, end), both in zip(pairs, kinds) if both == {CHANX, CHANY}}
+
+    def mark(self, place):
+        """The character for a place: how much is occupied, or `!` if an overused wire runs through it."""
+        if place in self.overused_places():
+            return "!"
+        count = self.occupied[place]
+        return "0123456789abcdefghijklmnopqrstuvwxyz"[count] if count < 36 else "*"
+
+    @functools.lru_cache(maxsize=1)
+    def overused_places(self):
+        wires = [self.device.nodes[number] for number, _, _ in self.overuses()]
+        return {(wire.kind, *place) for wire in wires if wire in self.device.spans for place in places_of(self.device, wire)}
+
     def map(self):
-        """The array from its top row, two cells of four columns or more for each place."""
+        """The array from its top row, one character for each place, between the numbers of rows and above those of columns."""
         nx, ny = self.device.nx, self.device.ny
+        yield "map" if nx <= 35 else f"map, {2 * nx + 9} characters wide"
         for row in range(2 * ny, -1, -1):
             y = row // 2
             cells = []
@@ -127,12 +161,16 @@ class Routing:
                 if row % 2 and column % 2:
                     cells.append(".")
                 elif column % 2:
-                    cells.append(self.occupied[CHANX, x + 1, y])
+                    cells.append(self.mark((CHANX, x + 1, y)))
                 elif row % 2:
-                    cells.append(self.occupied[CHANY, x, y + 1])
+                    cells.append(self.mark((CHANY, x, y + 1)))
                 else:
                     cells.append("+")
-            yield "".join(f"{cell:>4}" if len(str(cell)) < 4 else f" {cell}" for cell in cells)
+            line = "".join(cells)
+            yield f"{y + 1:3} {line} {y + 1:3}" if row % 2 else f"    {line}"
+        for unit in (100, 10, 1):
+            if unit <= nx:
+                yield "    " + "".join(f" {x // unit % 10}" if x >= unit else "  " for x in range(1, nx + 1))
 
 
 def faults(device, design, lists):
@@ -149,9 +187,10 @@ def overuse_in_words(device, design, lists, text, name):
     return [*routing.overused(), *routing.uses(text, name)]
 
 
-def report(device, design, lists, bound, text, is_map):
-    """What `report` prints of the routing, whose file has this text, with the bound of its netlist."""
+def report(device, design, lists, bound, text, options):
+    """What `report` prints with these options of the routing, whose file has this text, with the bound of its netlist."""
     routing = Routing(device, design, lists)
     lines = [*routing.whole(bound), *routing.types(), *routing.channels(), *routing.overused(), *routing.named(text)]
-    lines += ["map", *routing.map()] if is_map else []
+    lines += routing.each_net() if "--full-stats" in options else []
+    lines += routing.map() if "--map" in options else []
     return "".join(f"{line}\n" for line in lines)

@@ -102,7 +102,9 @@ pub record IsReportGiven (m : ArgMatches) (r : ReportWords) : Type 0 where
   pub width : IsNumberGiven m (codes "width") r.width
   pub global : IsFlagGiven m (codes "global") r.global
   pub explain : IsFlagGiven m (codes "explain") r.explain
+  pub full_stats : IsFlagGiven m (codes "full-stats") r.full_stats
   pub map : IsFlagGiven m (codes "map") r.map
+  pub json : IsFlagGiven m (codes "json") r.json
 
 -- what was given to `bound`
 pub record IsBoundGiven (m : ArgMatches) (b : BoundWords) : Type 0 where

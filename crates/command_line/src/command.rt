@@ -84,10 +84,22 @@ fn report_command<'a>(alloc: Global) -> Result<Command<'a>, AllocError> {
         .arg(width(alloc))?
         .arg(global_flag(alloc))?
         .arg(
+            Arg::new(alloc, "full-stats")
+                .long("full-stats")
+                .action(ArgAction::SetTrue)
+                .help("Also bends, wires and places a net: in all, the mean and the most"),
+        )?
+        .arg(
             Arg::new(alloc, "map")
                 .long("map")
                 .action(ArgAction::SetTrue)
                 .help("Also the array, with the occupancy of each place of its channels"),
+        )?
+        .arg(
+            Arg::new(alloc, "json")
+                .long("json")
+                .action(ArgAction::SetTrue)
+                .help("The same as one JSON object, in place of lines"),
         )?
         .arg(explain_flag(alloc, help::EXPLAIN))
 }
@@ -234,7 +246,9 @@ pub struct ReportWords<'a> {
     pub width: u32,
     pub global: bool,
     pub explain: bool,
+    pub full_stats: bool,
     pub map: bool,
+    pub json: bool,
 }
 
 /// The values given to the `bound` command.
@@ -355,7 +369,9 @@ pub fn report_words<'a>(matches: &ArgMatches<'a>) -> Option<ReportWords<'a>>
         width: number_within(matches, "width", MOST_TRACKS)?,
         global: flag(matches, "global"),
         explain: flag(matches, "explain"),
+        full_stats: flag(matches, "full-stats"),
         map: flag(matches, "map"),
+        json: flag(matches, "json"),
     })
 }
 

@@ -111,7 +111,8 @@ pub const REPORT: &str = "\
 It prints a figure a line, after its name: the width below which there is no routing, as `bound`
 prints it; nets and trees; wires and places that are used, of all; the wirelength, its mean and the
 greatest of a net; so of each type of wire and of each channel; and what too many nets use, with
-these nets and the lines of ROUTE that name it. docs/FORMATS.md has each line.
+these nets and the lines of ROUTE that name it. docs/FORMATS.md has each line, what `--full-stats`
+and `--map` add, and the members of `--json`.
 
 Example, in examples/uart:
   $ pathfinder report uart.net k4n1.arch uart.place uart.route --width 6

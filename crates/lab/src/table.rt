@@ -254,7 +254,7 @@ width_run START WORKERS [global] [GATE]
 check_run W [global]
   a command of the program over the kept files: its status, the line of its fault, and what
   its sinks took
-report_run W [global] [map]
+report_run W [global] [full] [map] [json]
   a report of the kept files: its status, the line of its fault, and what its sinks took
 explain_run W [global]
   a check with its explanation: its status, the line of its fault, and what its sinks took;

@@ -13,7 +13,7 @@ use lab_session::sources::source;
 use lab_session::unanswered::Unanswered;
 use lab_session::words::{Call, mode, mode_before};
 use net_file::Netlist;
-use report_run::report_run;
+use report_run::{ReportForm, report_run};
 use route_explain::{explain, explain_run};
 use route_tree::Routing;
 use rr_graph::{Mode, Problem};
@@ -28,7 +28,7 @@ const ROUTE: &[u8] = b"route";
 
 /// The answer to a call of `report_run` with other words.
 const REPORT: Unanswered = Unanswered::Misread(
-    "report_run W, or with `global`, and then `map`, behind it",
+    "report_run W, or with `global`, and then `full`, `map` and `json`, behind it",
 );
 
 /// Makes a call, and adds its answer.
@@ -46,13 +46,27 @@ pub fn call(
     }
 }
 
-/// Returns whether words ask for a map.
-fn is_map(given: &[&str]) -> Result<bool, Unanswered> {
-    match given {
-        [] => Ok(false),
-        [word] if *word == "map" => Ok(true),
+/// Adds what a word asks of a report.
+fn with_word(form: ReportForm, word: &str) -> Result<ReportForm, Unanswered> {
+    match word {
+        "full" => Ok(ReportForm { full: true, ..form }),
+        "map" => Ok(ReportForm { map: true, ..form }),
+        "json" => Ok(ReportForm { json: true, ..form }),
         _ => Err(REPORT),
     }
+}
+
+/// Returns the form of a report that words ask for.
+fn form_of(given: &[&str]) -> Result<ReportForm, Unanswered> {
+    let mut form = ReportForm {
+        full: false,
+        map: false,
+        json: false,
+    };
+    for word in given {
+        form = with_word(form, word)?;
+    }
+    Ok(form)
 }
 
 /// Runs `report`.
@@ -67,9 +81,9 @@ fn run_report(
     };
     let width = channel_width(width)?;
     let (mode, rest) = mode_before(rest);
-    let is_map = is_map(rest)?;
+    let form = form_of(rest)?;
     let (design, route) = (kept_design(files)?, kept_route(files)?);
-    report_design(alloc, files, design, route, width, mode, is_map, out)
+    report_design(alloc, files, design, route, width, mode, form, out)
 }
 
 /// Runs `report` on the files of a design and a routing.
@@ -80,7 +94,7 @@ fn report_design(
     route: &RunText,
     width: u32,
     mode: Mode,
-    is_map: bool,
+    form: ReportForm,
     out: &mut String,
 ) -> Result<(), Unanswered>
     requires width { (1 ≤ width) × (width ≤ most_tracks) }
@@ -95,7 +109,7 @@ fn report_design(
         &mut printed,
         width,
         mode,
-        is_map,
+        form,
     );
     put_print(alloc, answer.map(|_| 0), printed.into_inner(), out)
 }

@@ -5,8 +5,8 @@ use lab_session::session::{NO_PROBLEM, NO_ROUTING};
 use lab_session::unanswered::Unanswered;
 use lab_session::words::{Call, NO_WORDS};
 use route_report::{
-    ChannelUse, Figures, OverusedNode, WireTypeUse, channel_uses, figures_of, node_uses,
-    overused_nodes, wire_type_uses, wirelengths,
+    ChannelUse, Figures, NetFigures, NetTotals, OverusedNode, WireTypeUse, channel_uses,
+    figures_of, net_figures, node_uses, overused_nodes, wire_type_uses, wirelengths,
 };
 use route_tree::Routing;
 use rr_graph::Problem;
@@ -25,6 +25,7 @@ pub fn call(
         | "wirelengths"
         | "overused_nodes"
         | "figures_of"
+        | "net_figures"
         | "channel_uses"
         | "wire_type_uses" => {
             if !call.given.is_empty() {
@@ -53,6 +54,7 @@ fn report(
         "wirelengths" => put_wirelengths(alloc, problem, routing, out),
         "overused_nodes" => put_overused(alloc, problem, routing, out),
         "figures_of" => put_figures(alloc, problem, routing, out),
+        "net_figures" => put_net_figures(alloc, problem, routing, out),
         "channel_uses" => put_channels(alloc, problem, routing, out),
         _ => put_wire_types(alloc, problem, routing, out),
     }
@@ -153,6 +155,29 @@ fn put_whole(figures: Figures, out: &mut String) -> Result<(), Unanswered> {
         "wirelength {wirelength}, greatest {greatest}, longest "
     )?;
     put_maybe(out, figures.longest)
+}
+
+/// Adds a line each for the bends, wires and places of the nets.
+fn put_net_figures(
+    alloc: Global,
+    problem: &Problem,
+    routing: &Routing,
+    out: &mut String,
+) -> Result<(), Unanswered> {
+    let nets = net_figures(alloc, problem, routing)?;
+    put_all_totals(nets, out)
+}
+
+fn put_all_totals(nets: NetFigures, out: &mut String) -> Result<(), Unanswered> {
+    put_totals("bends", nets.bends, out)?;
+    put_totals("wires", nets.wires, out)?;
+    put_totals("places", nets.places, out)
+}
+
+/// Adds what a number for each net comes to: the sum, and the greatest with its net.
+fn put_totals(name: &str, totals: NetTotals, out: &mut String) -> Result<(), Unanswered> {
+    write!(out, "{name} {}, most {}, net ", totals.total, totals.most)?;
+    put_maybe(out, totals.first)
 }
 
 /// Adds a line for each channel.

@@ -25,7 +25,7 @@ use iteration::Outcome;
 use net_workers::Gate;
 use nets_run::nets_run;
 use node_cost::Settings;
-use report_run::report_run;
+use report_run::{ReportForm, report_run};
 use route_check::RouteFault;
 use route_explain::explain_run;
 use rr_graph::Mode;
@@ -390,6 +390,11 @@ pub fn report(
 {
     let mut out = Adapted::new(output(rt, watched));
     let (width, mode) = (given.width, mode_of(given.global));
+    let form = ReportForm {
+        full: given.full_stats,
+        map: given.map,
+        json: given.json,
+    };
     report_run(
         rt.alloc(),
         &mut design.net,
@@ -399,7 +404,7 @@ pub fn report(
         &mut out,
         width,
         mode,
-        given.map,
+        form,
     )
 }
 

@@ -47,7 +47,7 @@ const OPTIONS: [VprOption; 48] = [
     ),
     VprOption("-nodisp", "", Counterpart::Always),
     VprOption("-auto", "", Counterpart::Is("tools/draw")),
-    VprOption("-full_stats", "", Counterpart::Is("report")),
+    VprOption("-full_stats", "", Counterpart::Is("report --full-stats")),
     VprOption("-outfile_prefix", "", Counterpart::Lacking),
     VprOption("-place_only", "", Counterpart::Is("tools/place")),
     VprOption("-seed", "", Counterpart::Is("tools/place --seed")),

@@ -5,6 +5,9 @@ pub mod Channels
 pub mod Overused
 pub mod Named
 pub mod Map
+pub mod NetFigures
+pub mod Json
+pub mod JsonReport
 pub mod Report
 pub mod ReportRun
 pub mod kept

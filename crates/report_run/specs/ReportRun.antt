@@ -1,5 +1,5 @@
 -- What a run of `report` answers and prints (ours).
-use Rattle.std.specs.Prelude.{ℕ, Bool, List, [], Result, Ok, Err}
+use Rattle.std.specs.Prelude.{ℕ, List, [], Result, Ok, Err}
 use Rattle.vpr_text.specs.declared.fault.TextFault.{TextFault}
 use Rattle.vpr_text.specs.Text.{lines_of}
 use Rattle.vpr_text.specs.Words.{Line}
@@ -13,7 +13,8 @@ use Rattle.run_inputs.specs.Inputs.{PlacedDesign, PlacedNetlist, after_design, d
 use Rattle.run_inputs.specs.Runs.{DesignFiles, Input, PrintsText, StopsOrGoesOn, TakesNothing, Writing, bytes_in}
 use Rattle.vpr_text.specs.Readings.{◌>>=◌}
 use Rattle.bound_run.specs.Bounds.{IsTrueOf, figures_of}
-use Rattle.report_run.specs.Report.{RouteReport, route_report_on, route_report_text}
+use Rattle.report_run.specs.declared.form.ReportForm.{ReportForm}
+use Rattle.report_run.specs.Report.{RouteReport, route_report_on, report_text}
 
 -- a routing, the lines of its file, and the design that it is meant for
 pub record Reported : Type 0 where
@@ -41,25 +42,25 @@ reported_in = after_design reported_on
 
 -- the text of a report is printed with the bound of some cut of the placed netlist, and that bound
 -- is true
-abbrev pub PrintsBounded : (is_map : Bool) → (out : Writing) → PlacedNetlist → RoutingProblem → List Line → RouteReport → Result (Unit {0}) AppFault → Type 0
-PrintsBounded is_map out placed p lines r result =
+abbrev pub PrintsBounded : (form : ReportForm) → (out : Writing) → PlacedNetlist → RoutingProblem → List Line → RouteReport → Result (Unit {0}) AppFault → Type 0
+PrintsBounded form out placed p lines r result =
     (found : Cut)
-    × PrintsText out (route_report_text is_map placed.netlist p (figures_of placed found) lines r) tt result
+    × PrintsText out (report_text form placed.netlist p (figures_of placed found) lines r) tt result
     × IsTrueOf placed (figures_of placed found)
 
 -- the report of a routing of the placed netlist is printed
-abbrev pub PrintsReport : (is_map : Bool) → (out : Writing) → PlacedNetlist → Reported → Result (Unit {0}) AppFault → Type 0
-PrintsReport is_map out placed r =
+abbrev pub PrintsReport : (form : ReportForm) → (out : Writing) → PlacedNetlist → Reported → Result (Unit {0}) AppFault → Type 0
+PrintsReport form out placed r =
     let p = r.design.problem in
-    PrintsBounded is_map out placed p r.lines (route_report_on p r.routing)
+    PrintsBounded form out placed p r.lines (route_report_on p r.routing)
 
 -- A run over a placed netlist, memory aside: where the routing file says a routing, its report is
 -- printed.
-abbrev pub RunsPlaced : (is_map : Bool) → (out : Writing) → PlacedNetlist → Result Reported AppFault → Result (Unit {0}) AppFault → Type 0
-RunsPlaced is_map out placed = StopsOrGoesOn (TakesNothing out) (PrintsReport is_map out placed)
+abbrev pub RunsPlaced : (form : ReportForm) → (out : Writing) → PlacedNetlist → Result Reported AppFault → Result (Unit {0}) AppFault → Type 0
+RunsPlaced form out placed = StopsOrGoesOn (TakesNothing out) (PrintsReport form out placed)
 
 -- A run of `report`, memory aside: where its files say a placed netlist, and then a routing of it
 -- on the device of this width and mode, the report of the routing is printed.
-abbrev pub RunsReport : (is_map : Bool) → (out : Writing) → (width : ℕ) → Mode → (route : Input) → Result PlacedNetlist AppFault → Result (Unit {0}) AppFault → Type 0
-RunsReport is_map out width mode route =
-    StopsOrGoesOn (TakesNothing out) (λ placed. RunsPlaced is_map out placed (reported_on (design_on width mode placed) route))
+abbrev pub RunsReport : (form : ReportForm) → (out : Writing) → (width : ℕ) → Mode → (route : Input) → Result PlacedNetlist AppFault → Result (Unit {0}) AppFault → Type 0
+RunsReport form out width mode route =
+    StopsOrGoesOn (TakesNothing out) (λ placed. RunsPlaced form out placed (reported_on (design_on width mode placed) route))

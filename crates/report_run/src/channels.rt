@@ -20,7 +20,7 @@ fn axis_name(kind: Kind) -> &'static [u8]
 }
 
 /// Returns the number of places of a channel of this kind.
-fn places_of_channel(device: &Device, kind: Kind) -> u32
+pub(crate) fn places_of_channel(device: &Device, kind: Kind) -> u32
     ensures { result ≡ places_of_channel device.now kind }
 {
     match kind {

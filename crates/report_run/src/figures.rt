@@ -80,7 +80,7 @@ fn put_uses<W: ByteSink>(out: &mut OutputBuffer, sink: &mut W, device: &Device, 
 }
 
 /// Prints the name of the longest net, if there is one.
-fn put_longest<W: ByteSink>(
+pub(crate) fn put_longest<W: ByteSink>(
     out: &mut OutputBuffer,
     sink: &mut W,
     netlist: &Netlist<'_>,

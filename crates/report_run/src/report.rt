@@ -2,18 +2,26 @@
 
 ghost use Rattle.std.specs.Prelude.{◌≡◌, IfOk};
 ghost use Rattle.vpr_text.specs.Output.{SendsTo};
-ghost use Rattle.report_run.specs.Report.{counted_lines, map_if, route_report_on, route_report_text};
+ghost use Rattle.report_run.specs.kept.Members.{before};
+ghost use Rattle.report_run.specs.Report.{counted_lines, map_if, map_member_if, net_lines_if, net_members_if, report_json, report_text, route_report_on, route_report_text};
 
 use crate::channels::put_channels;
 use crate::figures::put_figures;
+use crate::form::ReportForm;
+use crate::json_channels::put_list_members;
+use crate::json_figures::{put_figure_members, put_longest_member, put_net_members};
+use crate::json_map::put_map_member;
+use crate::json_overused::put_over_members;
 use crate::map::put_map;
 use crate::named::put_naming_lines;
+use crate::net_lines::put_net_lines;
+use crate::over::overused_channels;
 use crate::overused::put_overused;
 use crate::wire_types::put_types;
 use net_file::Netlist;
 use route_report::{
-    ChannelUse, Figures, OverusedNode, WireTypeUse, channel_uses, figures_of, node_uses,
-    overused_nodes, wire_type_uses,
+    ChannelUse, Figures, NetFigures, OverusedNode, WireTypeUse, channel_uses, figures_of,
+    net_figures, node_uses, overused_nodes, wire_type_uses,
 };
 use route_tree::Routing;
 use rr_graph::{Device, Problem};
@@ -29,8 +37,11 @@ pub(crate) struct RouteReport {
     /// The number of nets that cover each node, by the node's number.
     uses: Vec<u16>,
     figures: Figures,
+    nets: NetFigures,
     types: Vec<WireTypeUse>,
     channels: Vec<ChannelUse>,
+    /// How many overused wires run through each place of the channels.
+    over: Vec<ChannelUse>,
     overused: Vec<OverusedNode>,
 }
 
@@ -55,14 +66,18 @@ impl RouteReport {
     {
         let uses = node_uses(alloc, problem, routing)?;
         let figures = figures_of(alloc, problem, routing, &uses)?;
+        let nets = net_figures(alloc, problem, routing)?;
         let types = wire_type_uses(alloc, problem.device(), &uses)?;
         let channels = channel_uses(alloc, problem.device(), &uses)?;
+        let over = overused_channels(alloc, problem.device(), &uses)?;
         let overused = overused_nodes(alloc, problem, routing, &uses)?;
         Ok(RouteReport {
             uses,
             figures,
+            nets,
             types,
             channels,
+            over,
             overused,
         })
     }
@@ -85,24 +100,121 @@ impl RouteReport {
         put_overused(out, sink, netlist, problem, &self.overused);
     }
 
+    /// Prints the lines on the bends, wires and places of the nets, if they are asked for.
+    fn put_nets_if<W: ByteSink>(
+        &self,
+        out: &mut OutputBuffer,
+        sink: &mut W,
+        netlist: &Netlist<'_>,
+        problem: &Problem,
+        form: ReportForm,
+    )
+        ensures { SendsTo W.taken W.failed sink.old sink.new out.old out.new
+            (net_lines_if form netlist.now problem.now self.now) }
+    {
+        if form.full {
+            put_net_lines(out, sink, netlist, problem, self.figures.listed, self.nets);
+        }
+    }
+
     /// Prints the map of the channels, if it is asked for.
     fn put_map_if<W: ByteSink>(
         &self,
         out: &mut OutputBuffer,
         sink: &mut W,
         device: &Device,
-        is_map: bool,
+        form: ReportForm,
     )
         ensures { SendsTo W.taken W.failed sink.old sink.new out.old out.new
-            (map_if is_map device.now self.now) }
+            (map_if form device.now self.now) }
     {
-        if is_map {
-            put_map(out, sink, device, &self.channels);
+        if form.map {
+            put_map(out, sink, device, &self.channels, &self.over);
         }
     }
 
     /// Prints the report with the bound of a cut, the lines of the file that name overused nodes,
-    /// and the map if it is asked for.
+    /// and what else is asked for.
+    fn put_text<W: ByteSink>(
+        &self,
+        out: &mut OutputBuffer,
+        sink: &mut W,
+        netlist: &Netlist<'_>,
+        problem: &Problem,
+        bound: CutFigures,
+        lines: &Lines<'_>,
+        form: ReportForm,
+    )
+        ensures { SendsTo W.taken W.failed sink.old sink.new out.old out.new
+            (route_report_text form netlist.now problem.now bound lines.now self.now) }
+    {
+        self.put_lines(out, sink, netlist, problem, bound);
+        put_naming_lines(out, sink, problem.device(), &self.uses, lines);
+        self.put_nets_if(out, sink, netlist, problem, form);
+        self.put_map_if(out, sink, problem.device(), form);
+    }
+
+    /// Prints the members on the bends, wires and places of the nets, if they are asked for.
+    fn put_net_members_if<W: ByteSink>(
+        &self,
+        out: &mut OutputBuffer,
+        sink: &mut W,
+        netlist: &Netlist<'_>,
+        problem: &Problem,
+        form: ReportForm,
+    )
+        ensures { SendsTo W.taken W.failed sink.old sink.new out.old out.new
+            (before (net_members_if form netlist.now problem.now self.now)) }
+    {
+        if form.full {
+            put_net_members(out, sink, netlist, problem, self.figures.listed, self.nets);
+        }
+    }
+
+    /// Prints the member on the map of the channels, if it is asked for.
+    fn put_map_member_if<W: ByteSink>(&self, out: &mut OutputBuffer, sink: &mut W, form: ReportForm)
+        ensures { SendsTo W.taken W.failed sink.old sink.new out.old out.new
+            (before (map_member_if form self.now)) }
+    {
+        if form.map {
+            put_map_member(out, sink, &self.channels, &self.over);
+        }
+    }
+
+    /// Prints the report as an object of JSON.
+    fn put_json<W: ByteSink>(
+        &self,
+        out: &mut OutputBuffer,
+        sink: &mut W,
+        netlist: &Netlist<'_>,
+        problem: &Problem,
+        bound: CutFigures,
+        lines: &Lines<'_>,
+        form: ReportForm,
+    )
+        ensures { SendsTo W.taken W.failed sink.old sink.new out.old out.new
+            (report_json form netlist.now problem.now bound lines.now self.now) }
+    {
+        out.push(sink, b"{");
+        put_figure_members(out, sink, netlist, problem, bound, &self.figures);
+        put_longest_member(out, sink, netlist, problem, &self.figures);
+        self.put_net_members_if(out, sink, netlist, problem, form);
+        put_list_members(out, sink, problem.device(), &self.types, &self.channels);
+        self.put_map_member_if(out, sink, form);
+        put_over_members(
+            out,
+            sink,
+            netlist,
+            problem,
+            &self.uses,
+            lines,
+            &self.overused,
+        );
+        out.push(sink, b"\n");
+    }
+
+    /// Prints the report with the bound of a cut and the lines of the file that name overused
+    /// nodes, in the form that is asked for.
     pub(crate) fn put<W: ByteSink>(
         &self,
         out: &mut OutputBuffer,
@@ -111,13 +223,15 @@ impl RouteReport {
         problem: &Problem,
         bound: CutFigures,
         lines: &Lines<'_>,
-        is_map: bool,
+        form: ReportForm,
     )
         ensures { SendsTo W.taken W.failed sink.old sink.new out.old out.new
-            (route_report_text is_map netlist.now problem.now bound lines.now self.now) }
+            (report_text form netlist.now problem.now bound lines.now self.now) }
     {
-        self.put_lines(out, sink, netlist, problem, bound);
-        put_naming_lines(out, sink, problem.device(), &self.uses, lines);
-        self.put_map_if(out, sink, problem.device(), is_map);
+        if form.json {
+            self.put_json(out, sink, netlist, problem, bound, lines, form);
+        } else {
+            self.put_text(out, sink, netlist, problem, bound, lines, form);
+        }
     }
 }

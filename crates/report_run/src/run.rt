@@ -6,10 +6,11 @@ ghost use Rattle.net_file.specs.Routed.{routed_numbers};
 ghost use Rattle.rr_graph.specs.Fabric.{most_tracks};
 ghost use Rattle.run_inputs.specs.Inputs.{design_on, ends_before, placed_in};
 ghost use Rattle.run_inputs.specs.Runs.{Meets, MeetsDesign, PrintsText, TakesNothing, reading, writing_to};
-ghost use Rattle.report_run.specs.Report.{route_report_on, route_report_text};
+ghost use Rattle.report_run.specs.Report.{route_report_on, report_text};
 ghost use Rattle.report_run.specs.ReportRun.{PrintsBounded, PrintsReport, RunsPlaced, RunsReport, reported_of, reported_on, reported_with};
 ghost use Rattle.report_run.specs.kept.Placed.{design_with};
 
+use crate::form::ReportForm;
 use crate::report::RouteReport;
 use bound_run::find_bound;
 use net_file::Netlist;
@@ -29,13 +30,13 @@ fn print_report<W: ByteSink>(
     bound: CutFigures,
     lines: &Lines<'_>,
     out: &mut W,
-    is_map: bool,
+    form: ReportForm,
 ) -> Result<(), AppFault>
     ensures { PrintsText (writing_to W.taken W.failed out.old out.new)
-        (route_report_text is_map netlist.now problem.now bound lines.now report.now) tt result }
+        (report_text form netlist.now problem.now bound lines.now report.now) tt result }
 {
     let mut buffer = OutputBuffer::new();
-    report.put(&mut buffer, out, netlist, problem, bound, lines, is_map);
+    report.put(&mut buffer, out, netlist, problem, bound, lines, form);
     match buffer.finish(out) {
         Ok(()) => Ok(()),
         Err(_) => Err(AppFault::Unwritten),
@@ -50,10 +51,10 @@ fn report_bounded<W: ByteSink>(
     report: &RouteReport,
     lines: &Lines<'_>,
     out: &mut W,
-    is_map: bool,
+    form: ReportForm,
 ) -> Result<(), AppFault>
     ensures prints { result ≢ Err AppFault.Memory
-        → PrintsBounded is_map (writing_to W.taken W.failed out.old out.new)
+        → PrintsBounded form (writing_to W.taken W.failed out.old out.new)
         placed.now problem.now lines.now report.now result }
     ensures memory { result ≡ Err AppFault.Memory
         → TakesNothing (writing_to W.taken W.failed out.old out.new) }
@@ -64,7 +65,7 @@ fn report_bounded<W: ByteSink>(
     };
     let netlist = placed.netlist();
     let bound = found.figures;
-    print_report(report, netlist, problem, bound, lines, out, is_map)
+    print_report(report, netlist, problem, bound, lines, out, form)
 }
 
 /// Makes the report of a routing of a placed netlist, and prints it.
@@ -75,10 +76,10 @@ fn report_lines<W: ByteSink>(
     routing: &Routing,
     lines: &Lines<'_>,
     out: &mut W,
-    is_map: bool,
+    form: ReportForm,
 ) -> Result<(), AppFault>
     ensures reports { result ≢ Err AppFault.Memory
-        → PrintsBounded is_map (writing_to W.taken W.failed out.old out.new)
+        → PrintsBounded form (writing_to W.taken W.failed out.old out.new)
         placed.now problem.now lines.now (route_report_on problem.now routing.now) result }
     ensures memory { result ≡ Err AppFault.Memory
         → TakesNothing (writing_to W.taken W.failed out.old out.new) }
@@ -88,7 +89,7 @@ fn report_lines<W: ByteSink>(
         Ok(report) => report,
         Err(_) => return Err(AppFault::Memory),
     };
-    report_bounded(alloc, placed, problem, &report, lines, out, is_map)
+    report_bounded(alloc, placed, problem, &report, lines, out, form)
 }
 
 /// Prints the report of a routing of a placed netlist. The routing was read from these bytes, so
@@ -100,11 +101,11 @@ fn report_routing<W: ByteSink>(
     routing: &Routing,
     bytes: &[u8],
     out: &mut W,
-    is_map: bool,
+    form: ReportForm,
 ) -> Result<(), AppFault>
     requires { IsOk (lines_of bytes.now) }
     ensures reports { result ≢ Err AppFault.Memory
-        → PrintsReport is_map (writing_to W.taken W.failed out.old out.new) placed.now
+        → PrintsReport form (writing_to W.taken W.failed out.old out.new) placed.now
         (reported_with (design_with placed.now problem.now) bytes.now routing.now) result }
     ensures memory { result ≡ Err AppFault.Memory
         → TakesNothing (writing_to W.taken W.failed out.old out.new) }
@@ -115,7 +116,7 @@ fn report_routing<W: ByteSink>(
         Err(TextFault::Memory) => return Err(AppFault::Memory),
         Err(_) => unreachable!(),
     };
-    report_lines(alloc, placed, problem, routing, &lines, out, is_map)
+    report_lines(alloc, placed, problem, routing, &lines, out, form)
 }
 
 /// Reads bytes as a routing of a placed netlist, and prints its report.
@@ -125,11 +126,11 @@ fn report_bytes<W: ByteSink>(
     problem: &Problem,
     bytes: &[u8],
     out: &mut W,
-    is_map: bool,
+    form: ReportForm,
 ) -> Result<(), AppFault>
     requires { map (λ n. n.number) problem.now.nets ≡ routed_numbers placed.now.netlist }
     ensures runs { result ≢ Err AppFault.Memory
-        → RunsPlaced is_map (writing_to W.taken W.failed out.old out.new) placed.now
+        → RunsPlaced form (writing_to W.taken W.failed out.old out.new) placed.now
         (reported_of (design_with placed.now problem.now) bytes.now) result }
     ensures memory { result ≡ Err AppFault.Memory
         → TakesNothing (writing_to W.taken W.failed out.old out.new) }
@@ -137,7 +138,7 @@ fn report_bytes<W: ByteSink>(
 {
     let netlist = placed.netlist();
     let routing = parse_routing(alloc, bytes, netlist, problem)?;
-    report_routing(alloc, placed, problem, &routing, bytes, out, is_map)
+    report_routing(alloc, placed, problem, &routing, bytes, out, form)
 }
 
 /// Reads a routing of a placed netlist from a source, and prints its report.
@@ -147,19 +148,19 @@ fn report_design<R: ByteSource, W: ByteSink>(
     problem: &Problem,
     route: &mut R,
     out: &mut W,
-    is_map: bool,
+    form: ReportForm,
 ) -> Result<(), AppFault>
     requires { map (λ n. n.number) problem.now.nets ≡ routed_numbers placed.now.netlist }
     ensures runs { result ≢ Err AppFault.Memory
         → Meets (reading (R.remaining route.old) (R.failed route.new))
-        (λ r. RunsPlaced is_map (writing_to W.taken W.failed out.old out.new) placed.now
+        (λ r. RunsPlaced form (writing_to W.taken W.failed out.old out.new) placed.now
         (reported_on (design_with placed.now problem.now) r) result) }
     ensures memory { result ≡ Err AppFault.Memory
         → TakesNothing (writing_to W.taken W.failed out.old out.new) }
     ensures late { ends_before InputFile.Route result ≡ false }
 {
     let bytes = read_input(alloc, route, InputFile::Route)?;
-    report_bytes(alloc, placed, problem, &bytes, out, is_map)
+    report_bytes(alloc, placed, problem, &bytes, out, form)
 }
 
 /// Reads a routing of a placed netlist on a device, and prints its report.
@@ -170,12 +171,12 @@ fn report_placed<R: ByteSource, W: ByteSink>(
     out: &mut W,
     width: u32,
     mode: Mode,
-    is_map: bool,
+    form: ReportForm,
 ) -> Result<(), AppFault>
     requires tracks { (1 ≤ width) × (width ≤ most_tracks) }
     ensures runs { result ≢ Err AppFault.Memory
         → Meets (reading (R.remaining route.old) (R.failed route.new))
-        (λ r. RunsPlaced is_map (writing_to W.taken W.failed out.old out.new) placed.now
+        (λ r. RunsPlaced form (writing_to W.taken W.failed out.old out.new) placed.now
         (reported_on (design_on width mode placed.now) r) result) }
     ensures memory { result ≡ Err AppFault.Memory
         → TakesNothing (writing_to W.taken W.failed out.old out.new) }
@@ -185,7 +186,7 @@ fn report_placed<R: ByteSource, W: ByteSink>(
         Ok(problem) => problem,
         Err(_) => return Err(AppFault::Memory),
     };
-    report_design(alloc, placed, &problem, route, out, is_map)
+    report_design(alloc, placed, &problem, route, out, form)
 }
 
 /// Reads an architecture, a netlist, its placement and its routing in this order, each only if
@@ -205,7 +206,7 @@ pub fn report_run<N: ByteSource, A: ByteSource, P: ByteSource, R: ByteSource, W:
     out: &mut W,
     width: u32,
     mode: Mode,
-    is_map: bool,
+    form: ReportForm,
 ) -> Result<(), AppFault>
     requires tracks { (1 ≤ width) × (width ≤ most_tracks) }
     // The files decide. If they give a placed netlist and a routing of it, the report is printed,
@@ -215,7 +216,7 @@ pub fn report_run<N: ByteSource, A: ByteSource, P: ByteSource, R: ByteSource, W:
         (reading (N.remaining net.old) (N.failed net.new))
         (reading (P.remaining place.old) (P.failed place.new))
         (λ files. Meets (reading (R.remaining route.old) (R.failed route.new))
-        (λ r. RunsReport is_map (writing_to W.taken W.failed out.old out.new)
+        (λ r. RunsReport form (writing_to W.taken W.failed out.old out.new)
         width mode r (placed_in files) result)) }
     // Nothing is written if memory runs out.
     ensures memory { result ≡ Err AppFault.Memory
@@ -227,5 +228,5 @@ pub fn report_run<N: ByteSource, A: ByteSource, P: ByteSource, R: ByteSource, W:
 {
     let text = NetlistText::read(alloc, arch, net)?;
     let placed = PlacedNetlist::read(alloc, &text, place)?;
-    report_placed(alloc, &placed, route, out, width, mode, is_map)
+    report_placed(alloc, &placed, route, out, width, mode, form)
 }

@@ -2,12 +2,25 @@
 
 ghost use Rattle.std.specs.Prelude.{◌≡◌, ◌≤◌, ◌<◌, ◌^◌, max};
 ghost use Rattle.vpr_text.specs.Output.{SendsTo};
-ghost use Rattle.report_run.specs.Texts.{hundredths_left, mean_text, name_text, quotient_text, share_text};
+ghost use Rattle.report_run.specs.Texts.{digit_code, hundredths_left, mean_text, name_text, quotient_text, share_text};
 
 use net_file::Netlist;
 use rr_graph::Problem;
 use run_inputs::{net_name, number_of_net};
 use text_output::{ByteSink, OutputBuffer, Piece, put_pieces};
+
+/// Returns a number in one byte: `0` to `9`, `a` to `z` from 10 on, and `*` from 36 on.
+pub(crate) fn digit_code(number: u64) -> u8
+    ensures { result ≡ digit_code number }
+{
+    if number < 10 {
+        b'0' + number as u8
+    } else if number < 36 {
+        b'a' - 10 + number as u8
+    } else {
+        b'*'
+    }
+}
 
 /// Prints a part and the whole, as in `3 of 8`.
 #[tactic(auto, unfolding(crate::specs::Texts::share_text))]

@@ -86,6 +86,14 @@ covered_in_order count source pairs first xs ys zs begin whole moved sorted kept
     (covered_of count source pairs) (subst (λ ns. IsPermutation ns ys) is moved) sorted kept
     ∙ same_filter (λ i. nat_lt i count && covers source pairs i) (covers source pairs) count (λ a l. ap (λ b. b && covers source pairs a) (lt-ltb a count l))
 
+-- the ends of pairs below a count, sorted and each once, are the nodes at which pairs end
+pub ended_in_order : (count : ℕ) (pairs : List Pair) (xs ys zs : List ℕ) → xs ≡ filter (λ a. nat_lt a count) (ends_of pairs)
+    → IsPermutation xs ys → IsSorted nat_cmp ys → IsFiltered (DiffersFromLast eqb) [] ys zs → zs ≡ filter (is_among (ends_of pairs)) (numbers_below count)
+ended_in_order count pairs xs ys zs is moved sorted kept =
+    in_order (λ i. nat_lt i count && is_among (ends_of pairs) i) count (filter (λ a. nat_lt a count) (ends_of pairs)) ys zs
+    (kept_low count (ends_of pairs)) (λ i. sym (among_kept count i (ends_of pairs))) (subst (λ ns. IsPermutation ns ys) is moved) sorted kept
+    ∙ same_filter (λ i. nat_lt i count && is_among (ends_of pairs) i) (is_among (ends_of pairs)) count (λ a l. ap (λ b. b && is_among (ends_of pairs) a) (lt-ltb a count l))
+
 -- a net without a list covers nothing
 pub none_covered : (n : Net) (ns : List ℕ) → filter (covers_by n None) ns ≡ []
 none_covered n [] = refl

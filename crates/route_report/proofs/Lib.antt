@@ -3,6 +3,7 @@ pub mod Counting
 pub mod Overusing
 pub mod Lengths
 pub mod Sums
+pub mod NetSums
 pub mod Occupying
 pub mod TypesOfTracks
 pub mod Totals

@@ -4,4 +4,6 @@ pub mod Overused
 pub mod WireTypes
 pub mod Wirelength
 pub mod Figures
+pub mod Bends
+pub mod NetFigures
 pub mod kept

@@ -14,7 +14,11 @@ use routing_problem::Problem;
 use std::alloc::{AllocError, Global};
 
 /// Where the pairs end, in their order; numbers from the count on are no nodes.
-fn ends_below(alloc: Global, count: u32, pairs: &[(u32, u32)]) -> Result<Vec<u32>, AllocError>
+pub(crate) fn ends_below(
+    alloc: Global,
+    count: u32,
+    pairs: &[(u32, u32)],
+) -> Result<Vec<u32>, AllocError>
     ensures { IfOk result (λ v. v.items ≡ filter (λ a. nat_lt a count) (ends_of pairs.now)) }
 {
     pairs

@@ -70,7 +70,7 @@ pub(crate) fn is_wire_kind(kind: Kind) -> bool
 }
 
 /// Whether a node is a wire.
-fn is_wire(device: &Device, node: u32) -> bool
+pub(crate) fn is_wire(device: &Device, node: u32) -> bool
     ensures { result ≡ is_wire_at device.now node }
 {
     match device.kind(node) {

@@ -2,8 +2,10 @@
 //! and what is overused.
 #![tactic(auto)]
 
+mod bends;
 mod channels;
 mod covered;
+mod each_net;
 mod figures;
 pub mod laws;
 mod occupancy;
@@ -13,6 +15,7 @@ mod wire_types;
 mod wirelength;
 
 pub use channels::{ChannelUse, channel_uses};
+pub use each_net::{NetFigures, NetTotals, net_figures};
 pub use figures::{Figures, figures_of};
 pub use overused::{OverusedNode, is_over, overused_nodes};
 pub use uses::node_uses;

@@ -6,7 +6,9 @@ abbrev pub report_inside : inside.Inside → RouteReport
 report_inside r = record {
   uses = r.uses.items;
   figures = r.figures;
+  nets = r.nets;
   types = r.types.items;
   channels = r.channels.items;
+  over = r.over.items;
   overused = r.overused.items;
 }

@@ -9,5 +9,5 @@ pub loop-place-preserved : goal.loop-place-preserved
 loop-place-preserved g c =
     let sink = g.W.ByteSink in
     let s = stream (sink.taken c.args.sink.now) (sink.failed c.args.sink.now) c.args.out.now in
-    let t = stream (sink.taken c.put_crossing_at.new.sink) (sink.failed c.put_crossing_at.new.sink) c.put_crossing_at.new.out in
-    subst (Sends s t) (lines_more (crossing_at c.args.channels.now c.args.row) c.loop-place.place) (sends_then c.loop-place.invariant c.put_crossing_at.ensures)
+    let t = stream (sink.taken c.put_cell.new.sink) (sink.failed c.put_cell.new.sink) c.put_cell.new.out in
+    subst (Sends s t) (lines_more (crossing_at c.args.channels.now c.args.over.now c.args.row) c.loop-place.place) (sends_then c.loop-place.invariant c.put_cell.ensures)

@@ -5,6 +5,8 @@ use Rattle.report_run.proofs.map.put_map.Goals as goal
 pub returns : goal.returns
 unfolding map_text
 returns g c =
+    let head = rw c.nx-columns.ensures.entry at c.put_head.ensures in
     let top = rw c.ny-rows.ensures.entry at c.put_crossing_line.ensures in
     let rows = rw c.ny-rows.ensures.entry at c.put_rows.ensures in
-    sends_then c.push.ensures (sends_then top rows)
+    let axis = rw c.nx-columns.ensures.entry at c.put_axis_lines.ensures in
+    sends_then head (sends_then top (sends_then rows axis))

@@ -8,4 +8,4 @@ use Rattle.report_run.proofs.map.put_rows.Given as goal
 abbrev pub invariant-loop-above : goal.invariant-loop-above
 invariant-loop-above g l =
     let sink = g.W.ByteSink in
-    Sends (stream (sink.taken l.initial.sink) (sink.failed l.initial.sink) l.initial.out) (stream (sink.taken l.sink) (sink.failed l.sink) l.out) (flat_map (row_lines l.device l.channels) (numbers_below l.above))
+    Sends (stream (sink.taken l.initial.sink) (sink.failed l.initial.sink) l.initial.out) (stream (sink.taken l.sink) (sink.failed l.sink) l.out) (flat_map (row_lines l.device l.channels l.over) (numbers_below l.above))

@@ -1,0 +1,9 @@
+use Rattle.vpr_text.proofs.Printing.{sends_then}
+use Rattle.report_run.specs.JsonReport.{type_json}
+use Rattle.report_run.proofs.json_channels.put_type.Goals as goal
+
+pub returns : goal.returns
+unfolding type_json
+returns g c =
+    let wires = rw (c.from.ensures, c.from-2.ensures) at c.put_share.ensures in
+    sends_then c.push.ensures (sends_then c.put_number.ensures (sends_then c.push-2.ensures (sends_then wires (sends_then c.push-3.ensures (sends_then c.put_share-2.ensures c.push-4.ensures)))))
