@@ -6,6 +6,7 @@ mod check;
 mod graph;
 mod kept_trials;
 mod known;
+pub mod laws;
 mod left_trees;
 mod lesser_widths;
 mod listed_types;
