@@ -108,15 +108,19 @@ class Routing:
                 yield f"line {line} node {node}"
 
     def uses(self, text, name):
-        """The lines of the file of this name that name an overused node, with the net whose section they stand in."""
-        over = {self.device.text(self.device.nodes[number]): number for number, _, _ in self.overuses()}
+        """The lines of the file of this name that name an overused node, with the net whose section they stand in.
+
+        A net uses a node that it covers, and only names another one, with which its section begins.
+        """
+        over = {self.device.text(self.device.nodes[number]): (number, names) for number, names, _ in self.overuses()}
         net = None
         for line, words in enumerate(text.split("\n"), 1):
             node = " ".join(words.split())
             if words.startswith("Net "):
                 net = words.split("(", 1)[1].split(")")[0]
             elif node in over:
-                yield f"{name}:{line}: net {net} uses node {over[node]} {node}"
+                number, names = over[node]
+                yield f"{name}:{line}: net {net} {'uses' if net in names else 'names'} node {number} {node}"
 
     def each_net(self):
         """The bends, wires and places of the nets: the sum, the mean over those with a tree, and the most, with the first net."""

@@ -14,9 +14,10 @@ use lab_session::unanswered::Unanswered;
 use lab_session::words::{Call, mode, mode_before};
 use net_file::Netlist;
 use report_run::{ReportForm, report_run};
-use route_explain::{explain, explain_run};
+use route_explain::{Explained, explain, explain_run};
 use route_tree::Routing;
 use rr_graph::{Mode, Problem};
+use run_inputs::AppFault;
 use runs::verdict_status;
 use std::alloc::Global;
 use std::rt::Runtime;
@@ -129,8 +130,15 @@ fn run_explain(
     explain_design(rt, files, design, route, width, mode, out)
 }
 
-/// Runs `check` with explanations on the files of a design and a routing. An explanation has at
-/// least one line. If there is none although the sink has room, memory ran out.
+/// Returns whether memory ran out before a verdict was explained.
+fn lacks_memory(answer: &Result<Explained, AppFault>) -> bool {
+    match answer {
+        Ok(explained) => matches!(explained.told, Err(AppFault::Memory)),
+        Err(_) => false,
+    }
+}
+
+/// Runs `check` with explanations on the files of a design and a routing.
 fn explain_design(
     rt: &(impl Threads + Sync + AllocGlobal),
     files: &RunFiles,
@@ -157,10 +165,10 @@ fn explain_design(
         mode,
     );
     let (printed, words) = (printed.into_inner(), words.into_inner());
-    if answer.is_ok() && words.bytes.is_empty() && files.words_room != Some(0) {
+    if lacks_memory(&answer) {
         return Err(Unanswered::Memory);
     }
-    let answer = answer.map(|verdict| verdict_status(verdict));
+    let answer = answer.map(|explained| verdict_status(explained.verdict));
     put_end(rt.alloc(), answer, &[&printed, &words], out)?;
     put_taken("out", &printed, out)?;
     put_taken("words", &words, out)
@@ -228,6 +236,9 @@ fn explain_to(
     let mut words = sink(rt.alloc(), room);
     let answer = explain(rt, ROUTE, netlist, problem, lines, routing, &mut words);
     let words = words.into_inner();
+    if matches!(answer, Err(AppFault::Memory)) {
+        return Err(Unanswered::Memory);
+    }
     put_end(rt.alloc(), answer.map(|_| 0), &[&words], out)?;
     put_taken("words", &words, out)
 }

@@ -353,7 +353,7 @@ pub fn check(
     let (width, mode) = (given.width, mode_of(given.global));
     if given.explain {
         let mut words = Adapted::new(PlainWriter::new(errors, true));
-        return explain_run(
+        let explained = explain_run(
             handle,
             names.route().as_bytes(),
             &mut design.net,
@@ -364,7 +364,8 @@ pub fn check(
             &mut words,
             width,
             mode,
-        );
+        )?;
+        return Ok(explained.verdict);
     }
     check_run(
         handle,

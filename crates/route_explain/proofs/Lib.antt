@@ -1,6 +1,10 @@
 pub mod Agreeing
+pub mod Covering
 pub mod Filled
 pub mod Indexed
+pub mod Naming
 pub mod Placed
 pub mod Starting
+pub mod StepLines
+pub mod Telling
 pub mod Walking

@@ -1,5 +1,5 @@
 -- The explanation of what is wrong with a routing (ours).
-use Rattle.std.specs.Prelude.{◌≡◌, ℕ, ◌<◌, List, [], ◌++◌, codes, length, get_or, Option, None, Some, Result}
+use Rattle.std.specs.Prelude.{◌≡◌, ℕ, ◌<◌, true, List, [], ◌++◌, codes, length, get_or, Option, None, Some, Result, ◌⊎◌}
 use Rattle.std.specs.List.{flat_map}
 use Rattle.vpr_text.specs.Words.{Line}
 use Rattle.net_file.specs.Netlist.{Netlist}
@@ -11,10 +11,9 @@ use Rattle.route_tree.specs.Usage.{Lists, list_in}
 use Rattle.route_check.specs.declared.fault.RouteFault.{RouteFault}
 use Rattle.route_check.specs.declared.fault.RouteFault.TheVariants.{Tree}
 use Rattle.route_check.specs.Nets.{AreJudged}
-use Rattle.route_report.specs.Covered.{uses_of}
 use Rattle.route_report.specs.Overused.{overused_nodes}
 use Rattle.run_inputs.specs.declared.fault.AppFault.{AppFault}
-use Rattle.run_inputs.specs.Runs.{PrintsText, Writing}
+use Rattle.run_inputs.specs.Runs.{PrintsText, TakesAll, TakesFront, Writing}
 use Rattle.runs.specs.Verdict.{tree_fault_text}
 use Rattle.report_run.specs.Overused.{overuse_lines}
 use Rattle.report_run.specs.Texts.{name_text}
@@ -87,7 +86,7 @@ pub record IsFirstLine (faults : List (Option RouteFault)) (fault : RouteFault) 
 unfoldable pub explanation_text : (path : List ℕ) → Netlist → RoutingProblem → List Line → Lists → List (Option RouteFault) → List ℕ
 explanation_text path netlist p lines lists faults =
     net_lines path netlist p lines lists faults
-    ++ (overuse_lines netlist p (overused_nodes p lists) ++ use_lines path netlist p.device (uses_of p lists) lines)
+    ++ (overuse_lines netlist p (overused_nodes p lists) ++ use_lines path netlist p lists lines)
 
 -- the explanation is printed of what is wrong with each net
 abbrev pub PrintsExplanation : (out : Writing) → (path : List ℕ) → Netlist → RoutingProblem → List Line → Lists → Result (Unit {0}) AppFault → Type 0
@@ -95,3 +94,7 @@ PrintsExplanation out path netlist p lines lists result =
     (faults : List (Option RouteFault))
     × AreJudged p lists faults
     × PrintsText out (explanation_text path netlist p lines lists faults) tt result
+
+-- a line is printed: the sink took all of it, or failed and took a front of it
+abbrev pub PrintsLine : Writing → (line : List ℕ) → Type 0
+PrintsLine out line = TakesAll out line ⊎ ((out.failed ≡ true) × TakesFront out line)

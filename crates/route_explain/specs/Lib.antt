@@ -5,5 +5,6 @@ pub mod Switches
 pub mod Reasons
 pub mod Uses
 pub mod Explanation
+pub mod LinesNamed
 pub mod ExplainRun
 pub mod kept

@@ -2,10 +2,12 @@
 
 ghost use Rattle.std.specs.Prelude.{◌≡◌, ◌≢◌, Err, length};
 ghost use Rattle.vpr_text.specs.Output.{SendsTo};
-ghost use Rattle.run_inputs.specs.Runs.{PrintsText, TakesNothing, writing_to};
-ghost use Rattle.route_explain.specs.Explanation.{PrintsExplanation, explanation_text};
+ghost use Rattle.run_inputs.specs.Faults.{fault_text};
+ghost use Rattle.run_inputs.specs.Runs.{PrintsText, writing_to};
+ghost use Rattle.route_explain.specs.Explanation.{PrintsExplanation, PrintsLine, explanation_text};
 ghost use Rattle.route_explain.specs.kept.Findings.{AreFindings};
 
+use crate::explained::told_memory;
 use crate::findings::Findings;
 use crate::nets::put_nets;
 use crate::uses::put_use_lines;
@@ -37,15 +39,7 @@ fn put_explanation<W: ByteSink>(
 {
     put_nets(out, sink, path, netlist, problem, lines, lists, found);
     put_overused(out, sink, netlist, problem, &found.overused);
-    put_use_lines(
-        out,
-        sink,
-        path,
-        netlist,
-        problem.device(),
-        &found.uses,
-        lines,
-    );
+    put_use_lines(out, sink, path, netlist, problem, lines, lists, found);
 }
 
 /// Prints an explanation to a sink.
@@ -87,8 +81,8 @@ fn print_explanation<W: ByteSink>(
 /// that judge the nets.
 ///
 /// # Errors
-/// `Memory`, and then nothing was printed. Otherwise `Unwritten` exactly if the sink failed, which
-/// received a front of the explanation.
+/// `Memory`, and then the line of that fault was printed in place of the explanation. Otherwise
+/// `Unwritten` exactly if the sink failed, which received a front of the explanation.
 pub fn explain<W: ByteSink>(
     rt: &(impl Threads + Sync + AllocGlobal),
     path: &[u8],
@@ -103,13 +97,14 @@ pub fn explain<W: ByteSink>(
     ensures prints { result ≢ Err AppFault.Memory
         → PrintsExplanation (writing_to W.taken W.failed out.old out.new)
         path.now netlist.now problem.now lines.now routing.now result }
-    // Nothing is written if memory runs out.
+    // If memory runs out, the line of that fault is printed and nothing else.
     ensures memory { result ≡ Err AppFault.Memory
-        → TakesNothing (writing_to W.taken W.failed out.old out.new) }
+        → PrintsLine (writing_to W.taken W.failed out.old out.new)
+        (fault_text AppFault.Memory) }
 {
     let found = match Findings::new(rt, netlist, problem, lines, routing) {
         Ok(found) => found,
-        Err(_) => return Err(AppFault::Memory),
+        Err(_) => return told_memory(out),
     };
     print_explanation(path, netlist, problem, lines, &routing.lists, &found, out)
 }

@@ -6,6 +6,7 @@ ghost use Rattle.route_explain.specs.kept.Findings.{AreFindings, AreIndexes, IsI
 use crate::index::NetIndex;
 use crate::nets::{fault_at, pairs_at};
 use crate::starts::section_starts;
+use crate::users::node_numbers;
 use net_file::Netlist;
 use route_check::{RouteFault, net_faults};
 use route_report::{OverusedNode, node_uses, overused_nodes};
@@ -27,6 +28,8 @@ pub(crate) struct Findings {
     /// The number of nets that cover each node.
     pub(crate) uses: Vec<u16>,
     pub(crate) overused: Vec<OverusedNode>,
+    /// The numbers of the overused nodes.
+    pub(crate) nodes: Vec<u32>,
 }
 
 /// Returns an index of a net's list if the net has a fault, and otherwise an empty one.
@@ -82,12 +85,14 @@ impl Findings {
         let starts = section_starts(alloc, netlist, lines)?;
         let uses = node_uses(alloc, problem, routing)?;
         let overused = overused_nodes(alloc, problem, routing, &uses)?;
+        let nodes = node_numbers(alloc, &overused)?;
         Ok(Findings {
             faults,
             indexes,
             starts,
             uses,
             overused,
+            nodes,
         })
     }
 }

@@ -1,6 +1,7 @@
 //! What is wrong with a routing, net by net and node by node, in words.
 #![tactic(auto)]
 
+mod explained;
 mod explanation;
 mod findings;
 mod index;
@@ -17,7 +18,9 @@ mod starts;
 mod steps;
 mod switches;
 mod text;
+mod users;
 mod uses;
 
+pub use explained::Explained;
 pub use explanation::explain;
 pub use run::explain_run;

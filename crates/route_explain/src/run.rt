@@ -5,10 +5,10 @@ ghost use Rattle.rr_graph.specs.Fabric.{most_tracks};
 ghost use Rattle.run_inputs.specs.Inputs.{ends_before};
 ghost use Rattle.run_inputs.specs.Runs.{Meets, MeetsDesign, TakesNothing, reading, writing_to};
 ghost use Rattle.report_run.specs.ReportRun.{reported_in, reported_of, reported_on, reported_with};
-ghost use Rattle.route_explain.specs.ExplainRun.{Explains, PrintsBoth, RunsExplain};
+ghost use Rattle.route_explain.specs.ExplainRun.{IsTold, PrintsBoth, RunsExplain};
 
+use crate::explained::{Explained, told_memory};
 use crate::explanation::explain;
-use route_check::RouteFault;
 use route_tree::Routing;
 use rr_graph::Mode;
 use run_inputs::{AppFault, Design, InputFile, NetlistText, parse_routing, read_input};
@@ -25,18 +25,17 @@ fn explain_lines<W: ByteSink>(
     lines: &Lines<'_>,
     routing: &Routing,
     words: &mut W,
-)
+) -> Result<(), AppFault>
     requires { length routing.now ≡ length design.now.problem.nets }
-    ensures { Explains (writing_to W.taken W.failed words.old words.new)
-        path.now (record { design = design.now; lines = lines.now; routing = routing.now }) }
+    ensures { IsTold (writing_to W.taken W.failed words.old words.new) path.now
+        (record { design = design.now; lines = lines.now; routing = routing.now }) result }
 {
     let netlist = design.netlist();
     let problem = design.problem();
-    let _ = explain(rt, path, netlist, problem, lines, routing, words);
+    explain(rt, path, netlist, problem, lines, routing, words)
 }
 
-/// Explains a routing of a design, which was read from these bytes, as far as memory and the sink
-/// allow.
+/// Explains a routing of a design, which was read from these bytes. Without memory, prints that.
 fn explain_to<W: ByteSink>(
     rt: &(impl Threads + Sync + AllocGlobal),
     path: &[u8],
@@ -44,14 +43,14 @@ fn explain_to<W: ByteSink>(
     bytes: &[u8],
     routing: &Routing,
     words: &mut W,
-)
+) -> Result<(), AppFault>
     requires { length routing.now ≡ length design.now.problem.nets }
-    ensures { Explains (writing_to W.taken W.failed words.old words.new)
-        path.now (reported_with design.now bytes.now routing.now) }
+    ensures { IsTold (writing_to W.taken W.failed words.old words.new)
+        path.now (reported_with design.now bytes.now routing.now) result }
 {
     match lines(rt.alloc(), bytes) {
         Ok(lines) => explain_lines(rt, path, design, &lines, routing, words),
-        Err(_) => {}
+        Err(_) => told_memory(words),
     }
 }
 
@@ -64,7 +63,7 @@ fn judge_and_explain<W: ByteSink, X: ByteSink>(
     routing: &Routing,
     out: &mut W,
     words: &mut X,
-) -> Result<Option<RouteFault>, AppFault>
+) -> Result<Explained, AppFault>
     requires { length routing.now ≡ length design.now.problem.nets }
     ensures judges { result ≢ Err AppFault.Memory
         → PrintsBoth (writing_to W.taken W.failed out.old out.new)
@@ -77,8 +76,8 @@ fn judge_and_explain<W: ByteSink, X: ByteSink>(
     ensures late { ends_before InputFile.Route result ≡ false }
 {
     let verdict = judge(rt, design, routing, out)?;
-    explain_to(rt, path, design, bytes, routing, words);
-    Ok(verdict)
+    let told = explain_to(rt, path, design, bytes, routing, words);
+    Ok(Explained { verdict, told })
 }
 
 /// Reads bytes as a routing of a design, judges it, prints the verdict, and explains it.
@@ -89,7 +88,7 @@ fn explain_bytes<W: ByteSink, X: ByteSink>(
     bytes: &[u8],
     out: &mut W,
     words: &mut X,
-) -> Result<Option<RouteFault>, AppFault>
+) -> Result<Explained, AppFault>
     ensures runs { result ≢ Err AppFault.Memory
         → RunsExplain (writing_to W.taken W.failed out.old out.new)
         (writing_to X.taken X.failed words.old words.new) path.now
@@ -114,7 +113,7 @@ fn explain_design<R: ByteSource, W: ByteSink, X: ByteSink>(
     route: &mut R,
     out: &mut W,
     words: &mut X,
-) -> Result<Option<RouteFault>, AppFault>
+) -> Result<Explained, AppFault>
     ensures runs { result ≢ Err AppFault.Memory
         → Meets (reading (R.remaining route.old) (R.failed route.new))
         (λ r. RunsExplain (writing_to W.taken W.failed out.old out.new)
@@ -132,7 +131,8 @@ fn explain_design<R: ByteSource, W: ByteSink, X: ByteSink>(
 
 /// Reads the files of a design and its routing, and prints the verdict on the routing as
 /// `check_run` does. Then explains the verdict to a second sink, in which the routing's file has
-/// the name `path`. Returns the verdict, whether or not the explanation could be printed.
+/// the name `path`. Returns the verdict and what became of the explanation: that it couldn't be
+/// printed doesn't change the verdict.
 ///
 /// # Errors
 /// Each fault exactly when it comes first; only `Memory` is unspecified. The faults of the files
@@ -156,10 +156,10 @@ pub fn explain_run<
     words: &mut X,
     width: u32,
     mode: Mode,
-) -> Result<Option<RouteFault>, AppFault>
+) -> Result<Explained, AppFault>
     requires tracks { (1 ≤ width) × (width ≤ most_tracks) }
     // The files decide. If they give a routing of a problem, the line of the verdict on it is
-    // printed, and what is wrong with it.
+    // printed, and then what is wrong with it, or that memory ran out.
     ensures runs { result ≢ Err AppFault.Memory
         → MeetsDesign (reading (A.remaining arch.old) (A.failed arch.new))
         (reading (N.remaining net.old) (N.failed net.new))

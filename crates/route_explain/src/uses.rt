@@ -1,18 +1,24 @@
 //! The lines of an explanation on the lines of the file that name overused nodes.
 
-ghost use Rattle.std.specs.Prelude.{◌≡◌, if◌then◌else◌};
+ghost use Rattle.std.specs.Prelude.{◌≡◌, IfSome, if◌then◌else◌, true};
 ghost use Rattle.vpr_text.specs.Output.{SendsTo};
 ghost use Rattle.vpr_text.specs.Words.{number_at, words_at};
 ghost use Rattle.route_file.specs.NetLine.{is_net_words, net_on};
-ghost use Rattle.route_explain.specs.Uses.{use_line, use_lines, use_text, user_text};
+ghost use Rattle.route_report.specs.Covered.{uses_of};
+ghost use Rattle.route_report.specs.Overused.{is_over};
 ghost use Rattle.report_run.specs.Named.{overused_on};
+ghost use Rattle.route_explain.specs.Uses.{use_line, use_lines, use_text, use_word, user_text};
+ghost use Rattle.route_explain.specs.kept.Findings.{AreFindings};
 
+use crate::findings::Findings;
 use crate::text::{put_after, put_where};
+use crate::users::is_user;
 use line_reader::line_number;
 use net_file::Netlist;
 use report_run::overused_on;
 use route_file::{begins_section, net_begun};
-use rr_graph::Device;
+use route_tree::Pairs;
+use rr_graph::{Device, Problem};
 use run_inputs::net_name;
 use text_output::{ByteSink, OutputBuffer, put_number};
 use vpr_text::Lines;
@@ -33,7 +39,18 @@ fn put_user<W: ByteSink>(
     }
 }
 
-/// Prints that a line of the file names a node for a net.
+/// Returns what a net does with a node that its section names: it uses the node if it covers it.
+fn use_word(covers: bool) -> &'static [u8]
+    ensures { result.now ≡ use_word covers }
+{
+    if covers {
+        b" uses node "
+    } else {
+        b" names node "
+    }
+}
+
+/// Prints that a line of the file names a node for a net, which may cover the node.
 fn put_use<W: ByteSink>(
     out: &mut OutputBuffer,
     sink: &mut W,
@@ -42,15 +59,16 @@ fn put_use<W: ByteSink>(
     device: &Device,
     line: u32,
     net: Option<u32>,
+    covers: bool,
     node: u32,
 )
     ensures { SendsTo W.taken W.failed sink.old sink.new out.old out.new
-        (use_line path.now netlist.now device.now line net node) }
+        (use_line path.now netlist.now device.now line net covers node) }
 {
     put_where(out, sink, path, line);
     out.push(sink, b"net");
     put_user(out, sink, netlist, net);
-    out.push(sink, b" uses node ");
+    out.push(sink, use_word(covers));
     put_number(out, sink, node);
     put_after(out, sink, device, b" ", node);
     out.push(sink, b"\n");
@@ -62,16 +80,24 @@ fn put_use_of<W: ByteSink>(
     sink: &mut W,
     path: &[u8],
     netlist: &Netlist<'_>,
-    device: &Device,
+    problem: &Problem,
+    lines: &Lines<'_>,
+    lists: &[Option<Pairs>],
+    found: &Findings,
     line: u32,
     net: Option<u32>,
     node: Option<u32>,
 )
+    requires found { AreFindings netlist.now problem.now lines.now lists.now found.now }
+    requires over { IfSome node
+        (λ a. is_over problem.now.device (uses_of problem.now lists.now) a ≡ true) }
     ensures { SendsTo W.taken W.failed sink.old sink.new out.old out.new
-        (use_text path.now netlist.now device.now line net node) }
+        (use_text path.now netlist.now problem.now lists.now line net node) }
 {
     if let Some(node) = node {
-        put_use(out, sink, path, netlist, device, line, net, node);
+        let covers = is_user(problem, &found.nodes, &found.overused, net, node);
+        let device = problem.device();
+        put_use(out, sink, path, netlist, device, line, net, covers, node);
     }
 }
 
@@ -82,19 +108,23 @@ fn put_use_at<W: ByteSink>(
     sink: &mut W,
     path: &[u8],
     netlist: &Netlist<'_>,
-    device: &Device,
-    uses: &[u16],
+    problem: &Problem,
     lines: &Lines<'_>,
+    lists: &[Option<Pairs>],
+    found: &Findings,
     net: Option<u32>,
     index: usize,
 )
+    requires { AreFindings netlist.now problem.now lines.now lists.now found.now }
     ensures { SendsTo W.taken W.failed sink.old sink.new out.old out.new
-        (use_text path.now netlist.now device.now (number_at lines.now index) net
-        (overused_on device.now uses.now lines.now index)) }
+        (use_text path.now netlist.now problem.now lists.now (number_at lines.now index) net
+        (overused_on problem.now.device (uses_of problem.now lists.now) lines.now index)) }
 {
     let line = line_number(lines, index);
-    let node = overused_on(lines, device, uses, index);
-    put_use_of(out, sink, path, netlist, device, line, net, node);
+    let node = overused_on(lines, problem.device(), &found.uses, index);
+    put_use_of(
+        out, sink, path, netlist, problem, lines, lists, found, line, net, node,
+    );
 }
 
 /// Returns the net whose section the next line is in.
@@ -114,22 +144,26 @@ fn net_behind(
     }
 }
 
-/// Prints which lines of the file name nodes that are overused by these uses, and for which nets.
+/// Prints which lines of the file name overused nodes, and for which nets.
 pub(crate) fn put_use_lines<W: ByteSink>(
     out: &mut OutputBuffer,
     sink: &mut W,
     path: &[u8],
     netlist: &Netlist<'_>,
-    device: &Device,
-    uses: &[u16],
+    problem: &Problem,
     lines: &Lines<'_>,
+    lists: &[Option<Pairs>],
+    found: &Findings,
 )
+    requires { AreFindings netlist.now problem.now lines.now lists.now found.now }
     ensures { SendsTo W.taken W.failed sink.old sink.new out.old out.new
-        (use_lines path.now netlist.now device.now uses.now lines.now) }
+        (use_lines path.now netlist.now problem.now lists.now lines.now) }
 {
     let mut net = None;
     for index in 0..lines.len() {
-        put_use_at(out, sink, path, netlist, device, uses, lines, net, index);
+        put_use_at(
+            out, sink, path, netlist, problem, lines, lists, found, net, index,
+        );
         net = net_behind(netlist, lines, net, index);
     }
 }

@@ -4,5 +4,6 @@ pub mod Lines
 pub mod Writing
 pub mod Widths
 pub mod Leaving
+pub mod ReadAgain
 pub mod Verified
 pub mod ReadAgain

@@ -1,5 +1,5 @@
 -- What is found out before anything is printed.
-use Rattle.std.specs.Prelude.{◌≡◌, ℕ, ◌<◌, true, List, length, get_or, Option, None, is_some}
+use Rattle.std.specs.Prelude.{◌≡◌, ℕ, ◌<◌, true, List, length, map, get_or, Option, None, is_some}
 use Rattle.vpr_text.specs.Words.{Line}
 use Rattle.net_file.specs.Netlist.{Netlist}
 use Rattle.rr_graph.specs.Problems.{RoutingProblem, net_in}
@@ -36,3 +36,4 @@ pub record AreFindings (netlist : Netlist) (p : RoutingProblem) (lines : List Li
   pub starts : found.starts.items ≡ starts_of netlist lines
   pub uses : found.uses.items ≡ uses_of p lists
   pub overused : found.overused.items ≡ overused_nodes p lists
+  pub nodes : found.nodes.items ≡ map (λ o. o.node) found.overused.items

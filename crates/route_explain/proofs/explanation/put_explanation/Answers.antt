@@ -6,5 +6,4 @@ pub returns : goal.returns
 unfolding explanation_text
 returns g c =
     let overused = rw (c.deref.ensures.value, c.requires.overused) at c.put_overused.ensures in
-    let uses = rw (c.deref-2.ensures.value, c.device.ensures.device, c.requires.uses) at c.put_use_lines.ensures in
-    sends_then c.put_nets.ensures (sends_then overused uses)
+    sends_then c.put_nets.ensures (sends_then overused c.put_use_lines.ensures)

@@ -5,5 +5,6 @@ use Rattle.route_explain.proofs.uses.put_use.Goals as goal
 pub returns : goal.returns
 unfolding use_line
 returns g c =
+    let word = rw c.use_word.ensures at c.push-2.ensures in
     sends_then c.put_where.ensures (sends_then c.push.ensures (sends_then c.put_user.ensures
-    (sends_then c.push-2.ensures (sends_then c.put_number.ensures (sends_then c.put_after.ensures c.push-3.ensures)))))
+    (sends_then word (sends_then c.put_number.ensures (sends_then c.put_after.ensures c.push-3.ensures)))))

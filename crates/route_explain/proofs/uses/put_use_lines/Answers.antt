@@ -19,7 +19,7 @@ loop-index-preserved g c =
     let sink = g.W.ByteSink in
     let s = stream (sink.taken c.args.sink.now) (sink.failed c.args.sink.now) c.args.out.now in
     let t = stream (sink.taken c.put_use_at.new.sink) (sink.failed c.put_use_at.new.sink) c.put_use_at.new.out in
-    let text = use_text_at c.args.path.now c.args.netlist.now c.args.device.now c.args.uses.now c.args.lines.now in
+    let text = use_text_at c.args.path.now c.args.netlist.now c.args.problem.now c.args.lists.now c.args.lines.now in
     let said = rw c.loop-index.invariant.1 at c.put_use_at.ensures in
     let next = rw c.loop-index.invariant.1 at c.net_behind-net.ensures in (
       subst (Sends s t) (lines_more text c.loop-index.index) (sends_then c.loop-index.invariant.0 said),

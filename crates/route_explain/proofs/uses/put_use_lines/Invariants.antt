@@ -11,5 +11,5 @@ abbrev pub invariant-loop-index : goal.invariant-loop-index
 invariant-loop-index g l =
     let sink = g.W.ByteSink in
     Sends (stream (sink.taken l.initial.sink) (sink.failed l.initial.sink) l.initial.out) (stream (sink.taken l.sink) (sink.failed l.sink) l.out)
-    (flat_map (use_text_at l.path l.netlist l.device l.uses l.lines) (numbers_below l.index))
+    (flat_map (use_text_at l.path l.netlist l.problem l.lists l.lines) (numbers_below l.index))
     × (l.net ≡ latest l.netlist (take l.index l.lines))
