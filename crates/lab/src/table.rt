@@ -138,6 +138,8 @@ overused_nodes
   `ID: USED of CAPACITY, nets N ..`
 figures_of
   nets, nets with a list, wires, places, the total wirelength, the greatest, and its net
+net_figures
+  bends, wires and places of the nets: in all, and the most, with its net
 channel_uses
   each channel: the occupancy of each place, the most and the sum
 wire_type_uses

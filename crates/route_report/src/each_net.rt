@@ -1,6 +1,7 @@
 //! The bends, wires and places of the nets.
 
-ghost use Rattle.std.specs.Prelude.{◌≡◌, ◌^◌, ◌<◌, ◌≤◌, All, IfOk, count_by, length};
+ghost use Rattle.std.specs.Prelude.{◌≡◌, ◌^◌, ◌<◌, ◌≤◌, All, IfOk, count_by, length, map};
+ghost use Rattle.routing_problem.specs.Fabric.{numbers_below};
 ghost use Rattle.routing_problem.specs.Nodes.{is_wire_at};
 ghost use Rattle.route_report.specs.Bends.{bends_of_nets};
 ghost use Rattle.route_report.specs.Wirelength.{wirelengths_of};
