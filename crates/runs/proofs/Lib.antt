@@ -4,6 +4,5 @@ pub mod Lines
 pub mod Writing
 pub mod Widths
 pub mod Leaving
-pub mod ReadAgain
 pub mod Verified
 pub mod ReadAgain
