@@ -15,7 +15,7 @@ use lab_session::words::{
 };
 use net_file::Netlist;
 use rr_graph::{Device, MadeOfDesigns, Mode, Problem, Terminals};
-use std::alloc::Global;
+use std::alloc::{AllocError, Global};
 
 /// The syntax of a line with a net of a problem.
 const NET_LINE: &str = "net NUMBER: SOURCE -> SINK ..";
@@ -73,12 +73,31 @@ fn make(
 ) -> Result<(), Unanswered> {
     let problem = made(alloc, &session.design, &session.device, call)?;
     let nets = problem.nets();
-    if has_width(call.given) {
-        session.device = Some(problem.device().copy(alloc)?);
+    let device = device_at_width(alloc, &problem, call.given)?;
+    keep(session, problem, device);
+    added(writeln!(out, "{nets} nets"))
+}
+
+/// Returns a copy of the problem's device, if the words of a call give its width.
+fn device_at_width(
+    alloc: Global,
+    problem: &Problem,
+    given: &[&str],
+) -> Result<Option<Device>, AllocError> {
+    if !has_width(given) {
+        return Ok(None);
+    }
+    let device = problem.device().copy(alloc)?;
+    Ok(Some(device))
+}
+
+/// Keeps a problem, and the device if there is one.
+fn keep(session: &mut Session, problem: Problem, device: Option<Device>) {
+    if device.is_some() {
+        session.device = device;
     }
     session.problem = Some(problem);
     session.searching = None;
-    added(writeln!(out, "{nets} nets"))
 }
 
 /// Returns whether the words of a call give the width of a device.

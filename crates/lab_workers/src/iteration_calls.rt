@@ -182,6 +182,20 @@ fn is_of(workspace: &Workspace, book: &Book) -> bool
     *workspace.problem() == *book.problem()
 }
 
+/// Takes the book that is kept, if nothing was drawn in its open iteration and the workspace is of
+/// its problem.
+fn take_of(kept: &mut Option<Book>, workspace: &Workspace) -> Result<Book, Unanswered>
+    ensures problem { IfOk result (λ book. workspace.now ≡ book.problem) }
+    ensures fresh { IfOk result IsFresh }
+{
+    let book = take_fresh(kept)?;
+    if is_of(workspace, &book) {
+        return Ok(book);
+    }
+    *kept = Some(book);
+    Err(Unanswered::Refused("the workspace is of another problem"))
+}
+
 /// Makes an iteration of the book in the workspace under a gate, and adds what was done. Puts the
 /// book back once all is added.
 fn iterate_in_under<R: Runtime + Threads + Wait + Sync + AllocGlobal>(
@@ -201,11 +215,7 @@ fn iterate_in_under<R: Runtime + Threads + Wait + Sync + AllocGlobal>(
     let Some(workspace) = workspace else {
         return Err(Unanswered::Refused("there is no workspace"));
     };
-    let book = take_fresh(kept)?;
-    if !is_of(workspace, &book) {
-        *kept = Some(book);
-        return Err(Unanswered::Refused("the workspace is of another problem"));
-    }
+    let book = take_of(kept, workspace)?;
     let book = iterated_in(
         rt, workspace, book, settings, iteration, workers, gate, is_by_net, out,
     )?;

@@ -9,4 +9,4 @@ returns-in_err-verdict-clause-judges g c =
     rw (p.1, p.2) (λ ne. (c.in_err-verdict.ensures.judges (λ same. ne (same_fault _ _ same)), Keeps-same (g.X.ByteSink.taken c.args.words.now)))
 
 pub returns-clause-judges : goal.returns-clause-judges
-returns-clause-judges g c = λ ne. (c.in_ok-verdict.ensures.judges (λ same. absurd cc), c.explain_to.ensures)
+returns-clause-judges g c = λ ne. (c.in_ok-verdict.ensures.judges (λ same. absurd cc), c.explain_to-told.ensures)

@@ -10,7 +10,7 @@ use Rattle.route_explain.proofs.Covering.{over_if}
 use Rattle.route_explain.proofs.uses.put_use_at.Goals as goal
 
 pub put_use_of-requires-clause-over : goal.put_use_of-requires-clause-over
-put_use_of-requires-clause-over g c κs within =
+put_use_of-requires-clause-over g c =
     let p = c.args.problem.now in
     let uses = uses_of p c.args.lists.now in
     let node = c.overused_on-node.ensures
