@@ -17,7 +17,7 @@ _pathfinder() {
       ;;
     report)
       values='--width'
-      words="$values --global --map --explain -h --help"
+      words="$values --global --full-stats --map --json --explain -h --help"
       ;;
     bound)
       values='--cut'
@@ -25,15 +25,19 @@ _pathfinder() {
       ;;
     graph)
       values=''
+      words="$values --global --types --explain -h --help"
+      ;;
+    nets)
+      values='--width'
       words="$values --global --explain -h --help"
       ;;
     help)
       values=''
-      words="$values route width check report bound graph"
+      words="$values route width check report bound graph nets"
       ;;
   esac
   if [ "$COMP_CWORD" -eq 1 ]; then
-    words='route width check report bound graph help -h --help -V --version'
+    words='route width check report bound graph nets help -h --help -V --version'
   elif [[ " $values " == *" $before "* ]]; then
     compopt +o default 2>/dev/null
     words=''
