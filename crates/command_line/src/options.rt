@@ -102,7 +102,11 @@ pub(crate) fn with_design<'a>(
     command
         .arg(input(alloc, "NET", "The netlist, a .net file of VPR 4.30"))?
         .arg(input(alloc, "ARCH", "The architecture file, .arch"))?
-        .arg(input(alloc, "PLACE", "The placement of the netlist; one of the inputs may be -, standard input"))
+        .arg(input(
+            alloc,
+            "PLACE",
+            "The placement of the netlist; one of the inputs may be -, standard input",
+        ))
 }
 
 /// Returns the `--upward` option: a search from the bound on, in which there is no lesser width to
