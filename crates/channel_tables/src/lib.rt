@@ -17,7 +17,7 @@ mod wires;
 pub use axis::Axis;
 pub use channel::{Beginning, Wire};
 pub use layout::Layout;
-pub use node::{Kind, Label, Mode, Node, NodeRange, Span};
+pub use node::{Kind, Label, Mode, Node, Span};
 pub use pins::has_class;
 pub use sides::Side;
 pub use tables::ChannelTables;

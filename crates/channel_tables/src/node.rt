@@ -45,13 +45,6 @@ pub enum Label {
     Track,
 }
 
-/// Nodes whose numbers follow each other: from the first number to the one before the end.
-#[derive(Clone, Copy, Debug, Default, PartialEq, Eq)]
-pub struct NodeRange {
-    pub first: u32,
-    pub end: u32,
-}
-
 /// The first and the last place of a node; only a wire may have two.
 #[derive(Clone, Copy, Debug, PartialEq, Eq)]
 pub struct Span {

@@ -4,7 +4,7 @@ use lab_session::answer::{added, put, put_maybe, put_maybe_named, put_numbers};
 use lab_session::session::NO_DEVICE;
 use lab_session::unanswered::Unanswered;
 use lab_session::words::{Call, NO_NUMBER, NO_WORDS, number, numbers, pairs};
-use rr_graph::{Device, EdgeFinder, Kind, Node, NodeRange, Span};
+use rr_graph::{Device, EdgeFinder, Kind, Node, Span};
 use smallvec::SmallVec;
 use std::alloc::Global;
 
@@ -30,7 +30,6 @@ pub fn call(
         | "sink_of"
         | "is_source"
         | "is_sink"
-        | "pins_beside"
         | "track_type" => {
             let [id] = numbers::<1>(call.given)?;
             match device {
@@ -42,7 +41,6 @@ pub fn call(
         | "edge_count"
         | "first_wire"
         | "most_successors"
-        | "input_pins"
         | "tracks"
         | "track_types"
         | "parts"
@@ -94,8 +92,7 @@ fn look_up(
         "sink_of" => put_maybe(out, device.sink_of(id)),
         "is_source" => put(out, device.is_source(id)),
         "is_sink" => put(out, device.is_sink(id)),
-        "track_type" => put(out, device.track_type(id)),
-        _ => put_pins(device.pins_beside(id), out),
+        _ => put(out, device.track_type(id)),
     }
 }
 
@@ -111,7 +108,6 @@ fn look_at_all(
         "edge_count" => put(out, device.edge_count()),
         "first_wire" => put(out, device.first_wire()),
         "most_successors" => put(out, device.most_successors()),
-        "input_pins" => put_pins(device.input_pins(), out),
         "tracks" => put(out, device.tracks()),
         "track_types" => put_types(alloc, device, out),
         "parts" => put_parts(device, out),
@@ -152,10 +148,6 @@ fn put_wire(device: &Device, id: u32, out: &mut String) -> Result<(), Unanswered
         }
         None => put(out, "none"),
     }
-}
-
-fn put_pins(range: NodeRange, out: &mut String) -> Result<(), Unanswered> {
-    added(writeln!(out, "{} {}", range.first, range.end))
 }
 
 /// Adds the type of each track.

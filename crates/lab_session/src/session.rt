@@ -40,7 +40,7 @@ pub const NO_VIEW: Unanswered = Unanswered::Refused("there is no view");
 /// The refusal of a call that needs a book.
 pub const NO_BOOK: Unanswered = Unanswered::Refused("there is no book");
 
-/// The numbers that were chosen for settings, in the order of `Settings::new`.
+/// What was chosen for settings.
 #[derive(Clone, Copy, Drop)]
 pub struct Choice {
     pub first: u32,
@@ -49,6 +49,7 @@ pub struct Choice {
     pub acc: u32,
     pub bb: u32,
     pub iterations: u32,
+    pub is_steady: bool,
 }
 
 impl Choice {
@@ -66,19 +67,21 @@ impl Choice {
             acc: u32::from(settings.acc()),
             bb: settings.bb(),
             iterations: settings.iterations(),
+            is_steady: settings.is_steady(),
         }
     }
 
     /// Returns the settings of the choice, or the first number that is out of range.
     pub fn settings(self) -> Result<Settings, Range> {
-        Settings::new(
+        let settings = Settings::new(
             self.first,
             self.init,
             self.mult,
             self.acc,
             self.bb,
             self.iterations,
-        )
+        )?;
+        Ok(settings.with_steady(self.is_steady))
     }
 }
 

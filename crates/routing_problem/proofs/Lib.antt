@@ -12,5 +12,5 @@ pub use Rattle.node_numbers.proofs.Ascending
 pub use Rattle.rr_edges.proofs.Graph
 pub use Rattle.rr_edges.proofs.EdgeEnds
 pub use Rattle.rr_edges.proofs.TerminalPlaces
-pub use Rattle.rr_edges.proofs.Joins
 pub use Rattle.rr_edges.proofs.InputPins
+pub use Rattle.rr_edges.proofs.Joins

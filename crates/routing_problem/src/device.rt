@@ -8,11 +8,10 @@ ghost use Rattle.channel_tables.specs.Fabric.{IsFabric, fabric_with, most_tracks
 ghost use Rattle.channel_tables.specs.Wires.{tracks_in, track_type};
 ghost use Rattle.node_numbers.specs.Nodes.{node_count_of, node_at, kind_of_node, is_source, is_sink, is_wire_at, number_of, label_of, capacity_of, span_of, wire_in};
 ghost use Rattle.rr_edges.specs.Edges.{edge_between, successors_of, edge_count_of};
-ghost use Rattle.rr_edges.specs.InputPins.{IsInRange, IsPinOf};
 
 use crate::fault::DeviceFault;
 use arch_file::Arch;
-use channel_tables::{Kind, Label, Mode, Node, NodeRange, Span};
+use channel_tables::{Kind, Label, Mode, Node, Span};
 use rr_edges::DeviceGraph;
 use smallvec::SmallVec;
 use std::alloc::{AllocError, Global};
@@ -308,20 +307,5 @@ impl Device {
         ensures kept { list.old.capacity ≤ list.new.capacity }
     {
         self.graph.successors(id, list)
-    }
-
-    /// The numbers of the input pins.
-    pub fn input_pins(&self) -> NodeRange
-        ensures { (i : ℕ) → IsInRange result i → kind_of_node self.now i ≡ Some Kind.Ipin }
-    {
-        self.graph.input_pins()
-    }
-
-    /// The numbers of the input pins that stand where a sink does: all that lead to it are among
-    /// them.
-    pub fn pins_beside(&self, sink: u32) -> NodeRange
-        ensures { (pin : ℕ) → IsPinOf self.now sink pin → IsInRange result pin }
-    {
-        self.graph.pins_beside(sink)
     }
 }

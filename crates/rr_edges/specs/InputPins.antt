@@ -1,15 +1,9 @@
--- Ranges of numbers, and the input pins of a sink.
-use Rattle.std.specs.Prelude.{◌≡◌, ℕ, ◌<◌, ◌≤◌, [], ◌∷◌, Some}
+-- The input pins of a sink.
+use Rattle.std.specs.Prelude.{◌≡◌, ℕ, [], ◌∷◌, Some}
 use Rattle.channel_tables.specs.declared.node.Kind.TheVariants.{Ipin}
-use Rattle.channel_tables.specs.declared.node.NodeRange.{NodeRange}
 use Rattle.channel_tables.specs.Fabric.{Fabric}
 use Rattle.node_numbers.specs.Nodes.{kind_of_node}
 use Rattle.rr_edges.specs.Edges.{successors_of}
-
--- a number of the range
-pub record IsInRange (r : NodeRange) (i : ℕ) : Type 0 where
-  pub from : r.first ≤ i
-  pub below : i < r.end
 
 -- an input pin that leads to the sink, and to nothing else
 pub record IsPinOf (f : Fabric) (sink pin : ℕ) : Type 0 where

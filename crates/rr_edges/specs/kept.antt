@@ -4,7 +4,6 @@ pub mod Finding
 pub mod NodeSuccessors
 pub mod Pieces
 pub mod PinSuccessors
-pub mod PinsAtPlaces
 pub mod Pushes
 pub mod Terminals
 pub mod WireSuccessors

@@ -6,7 +6,6 @@ mod device_graph;
 mod edges;
 mod fanout;
 mod found_node;
-mod input_pins;
 mod opins;
 mod successors;
 mod terminals;

@@ -6,7 +6,7 @@
 mod design;
 mod design_problem;
 
-pub use channel_tables::{Kind, Label, Mode, Node, NodeRange, Span};
+pub use channel_tables::{Kind, Label, Mode, Node, Span};
 pub use design::SuitsDesigns;
 pub use design_problem::MadeOfDesigns;
 pub use routing_problem::{Device, DeviceFault, EdgeFinder, PartsFault, Problem, Terminals};

@@ -10,5 +10,4 @@ mod AllNodes
 mod Tapped
 mod Matched
 mod Joined
-mod PinsListed
 pub mod EdgesTold

@@ -4,4 +4,3 @@ pub mod Fields
 pub mod Lone
 pub mod Merging
 pub mod Joining
-pub mod Listing

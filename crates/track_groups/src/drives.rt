@@ -3,7 +3,7 @@
 ghost use Rattle.std.specs.Prelude.{◌≡◌, [], get_or, Some, IfOk, OnOk};
 ghost use Rattle.routing_problem.specs.Nodes.{kind_of_node};
 ghost use Rattle.track_groups.specs.Groups.{IsGrouped};
-ghost use Rattle.track_groups.specs.Drives.{AreDrivenBy, AreDrives};
+ghost use Rattle.track_groups.specs.Drives.{AreDrivenBy, AreDrives, OnlyPinsDrive};
 
 use crate::group::Drive;
 use crate::groups::TrackGroups;
@@ -42,8 +42,10 @@ impl Scratch {
     #[tactic(auto, using(crate::proofs::MoreDriven::driven_by))]
     fn list(&mut self, device: &Device, groups: &WireGroups, id: u32) -> Result<(), AllocError>
         requires { IsGrouped device.now groups.now }
-        ensures { OnOk result (kind_of_node device.now id ≡ Some Kind.Opin
+        ensures driven { OnOk result (kind_of_node device.now id ≡ Some Kind.Opin
             → AreDrivenBy device.now groups.now id self.new.listed.items) }
+        ensures others { OnOk result ((kind_of_node device.now id ≡ Some Kind.Opin → ⊥)
+            → self.new.listed.items ≡ []) }
     {
         match device.kind(id) {
             Some(Kind::Opin) => {
@@ -58,14 +60,15 @@ impl Scratch {
 
 impl PinDrives {
     /// What all output pins of a device drive.
-    #[tactic(auto, using(crate::proofs::AllNodes::drives_next, crate::proofs::AllNodes::drives_all))]
+    #[tactic(auto, using(crate::proofs::AllNodes::drives_next, crate::proofs::AllNodes::drives_all, crate::proofs::AllNodes::others_next, crate::proofs::AllNodes::others_all))]
     pub fn new(
         alloc: Global,
         device: &Device,
         groups: &TrackGroups,
     ) -> Result<PinDrives, AllocError>
         requires { IsGrouped device.now groups.now.wires }
-        ensures { IfOk result (AreDrives device.now groups.now.wires) }
+        ensures driven { IfOk result (AreDrives device.now groups.now.wires) }
+        ensures others { IfOk result (OnlyPinsDrive device.now) }
     {
         let mut scratch = Scratch {
             found: SmallVec::new(alloc),

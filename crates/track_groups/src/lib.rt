@@ -15,10 +15,8 @@ mod lone;
 mod merging;
 mod packed;
 mod rows;
-mod sink_pins;
 mod wires;
 
 pub use drives::PinDrives;
 pub use group::{Drive, Group, GroupTrack, Tap};
 pub use groups::TrackGroups;
-pub use sink_pins::SinkPins;

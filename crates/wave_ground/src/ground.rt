@@ -1,6 +1,6 @@
 //! The ground of a search: what one net may enter, at what cost, and the groups of wires.
 
-ghost use Rattle.std.specs.Prelude.{◌≡◌, ◌<◌, ◌≤◌, ◌+◌, ◌*◌, ◌^◌, ◌↔◌, ℕ, Contains, IfSome, OnOk, IsTrue, length, get_or, slice_index, true, [], Some};
+ghost use Rattle.std.specs.Prelude.{◌≡◌, ◌<◌, ◌≤◌, ◌+◌, ◌*◌, ◌^◌, ◌↔◌, ℕ, Contains, OnOk, IsTrue, length, get_or, slice_index, true, [], Some};
 ghost use Rattle.routing_problem.specs.node.Kind.TheVariants.{Ipin};
 ghost use Rattle.routing_problem.specs.Problems.{is_sink};
 ghost use Rattle.std.specs.List.Sorted.{IsStrictlyIncreasing};
@@ -15,7 +15,7 @@ ghost use Rattle.wavefront.specs.Boxes.{box_of_node, is_in_box, touches, box_of_
 ghost use Rattle.wavefront.specs.Growth.{space_of};
 ghost use Rattle.wavefront.specs.Space.{HasEdge, IsWanted, base_cost, entry_cost};
 ghost use Rattle.wavefront.specs.kept.Bounds.{IsInsideBox, least_wire_cost};
-ghost use Rattle.wavefront.specs.kept.Spaces.{LeadsOnlyTo, node_count};
+ghost use Rattle.wavefront.specs.kept.Spaces.{node_count};
 ghost use Rattle.wave_ground.specs.kept.Boxes.{AreFirstBoxes, boxed};
 ghost use Rattle.wave_ground.specs.kept.Grounds.{IsGround, groups_of};
 
@@ -314,14 +314,6 @@ impl<'a> Ground<'a> {
             ↔ HasEdge self.now.space node to) }
     {
         self.problem.device().successors(node, list)
-    }
-
-    /// Returns the only sink to which an input pin leads, or None if the node is no input pin.
-    #[tactic(auto, using(wavefront::proofs::Spaces::pin_leads))]
-    pub fn sink_of(&self, node: u32) -> Option<u32>
-        ensures { IfSome result (λ sink. LeadsOnlyTo self.now.space node sink) }
-    {
-        self.problem.device().sink_of(node)
     }
 
     /// Returns a group.
