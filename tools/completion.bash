@@ -5,11 +5,11 @@ _pathfinder() {
   case ${COMP_WORDS[1]} in
     route)
       values='--width --rest --workers --iterations --first-pres --init-pres --mult --acc --bb --log --schedule --follow'
-      words="$values --global --explain -h --help"
+      words="$values --global --explain --steady -h --help"
       ;;
     width)
       values='--start --verify --keep --workers --iterations --first-pres --init-pres --mult --acc --bb --log --schedule --follow'
-      words="$values --upward --no-bound --global --explain -h --help"
+      words="$values --upward --no-bound --global --explain --steady -h --help"
       ;;
     check)
       values='--width'

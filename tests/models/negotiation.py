@@ -19,6 +19,7 @@ class Settings:
     mult: int = 32
     acc: int = 20
     bb: int = 3
+    steady: bool = False
 
     def present(self, iteration):
         """The present-congestion factor of an iteration, counted from 1."""
@@ -33,6 +34,7 @@ class Settings:
         return [
             *("--iterations", str(self.iterations), "--first-pres", str(self.first), "--init-pres", str(self.init)),
             *("--mult", str(self.mult), "--acc", str(self.acc), "--bb", str(self.bb)),
+            *(["--steady"] if self.steady else []),
         ]
 
 
@@ -55,13 +57,13 @@ def cost(device, node, others, history, present):
     return (base + history) * (16 + present * max(0, others + 1 - device.capacities[node]))
 
 
-def search(device, net, others, histories, present, margin):
-    """The pairs of a net's tree; or None, where a sink isn't reached."""
-    pairs, open_sinks = grow(device, net, others, histories, present, margin)
+def search(device, net, others, histories, present, margin, kept=None):
+    """The pairs of a net's tree; or None, where a sink isn't reached. The net keeps to the tree of the pairs `kept`, if there is one."""
+    pairs, open_sinks = grow(device, net, others, histories, present, margin, kept)
     return None if open_sinks else pairs
 
 
-def grow(device, net, others, histories, present, margin):
+def grow(device, net, others, histories, present, margin, kept=None):
     """The pairs of a net's tree as far as it grows, and the sinks that it doesn't reach."""
     source, sinks = net
     box, pairs, open_sinks = Box(device, [source, *sinks], margin), [], set(sinks)
@@ -69,7 +71,10 @@ def grow(device, net, others, histories, present, margin):
     tree = {source}
     while open_sinks:
         starts = tree - {source} or {source}
-        path = way(device, tree, starts, open_sinks, box, cost_of)
+        if kept is None:
+            path = way(device, tree, starts, open_sinks, box, cost_of)
+        else:
+            path = kept_way(device, tree, starts, open_sinks, box, cost_of, {after: node for node, after in kept})
         if path is None:
             break
         pairs += zip(path, path[1:])
@@ -103,6 +108,31 @@ def way(device, tree, starts, open_sinks, box, cost_of):
     return None
 
 
+def kept_way(device, tree, starts, open_sinks, box, cost_of, kept):
+    """A way of least cost from a start to an open sink. A node is entered from the one before it on the tree that is kept, if a way of
+    least cost leads over that, else from the least-numbered. Of sinks at the least cost those that cost something are first, by their
+    numbers, then the others, by the nodes before them."""
+    least, before, waiting = {start: 0 for start in starts}, {}, [(0, start) for start in starts]
+    heapq.heapify(waiting)
+    while waiting:
+        total, node = heapq.heappop(waiting)
+        if total > least[node] or node in open_sinks:
+            continue
+        for after in device.successors[node]:
+            if after in tree or (after in device.sinks and after not in open_sinks) or not box.has(device.places_of[after]):
+                continue
+            reached = total + cost_of(after)
+            if after not in least or reached < least[after]:
+                least[after], before[after] = reached, node
+                heapq.heappush(waiting, (reached, after))
+            elif reached == least[after] and before[after] != kept.get(after) and (node == kept.get(after) or node < before[after]):
+                before[after] = node
+    nearest = [sink for sink in open_sinks if sink in least]
+    if not nearest:
+        return None
+    return back(before, min(nearest, key=lambda sink: (least[sink], *((0, sink) if cost_of(sink) else (1, before[sink])))))
+
+
 def back(before, node):
     path = [node]
     while node in before:
@@ -120,7 +150,8 @@ def negotiate(device, problem, settings):
             histories[node] += settings.acc * by
         for number, net in enumerate(problem):
             others = uses_of_others(device, problem, lists, number)
-            lists[number] = search(device, net, others, histories, settings.present(iteration), settings.bb)
+            kept = lists[number] if settings.steady else None
+            lists[number] = search(device, net, others, histories, settings.present(iteration), settings.bb, kept)
         rows.append(overuse(device, problem, lists))
         if None in lists:
             return lists, False, iteration

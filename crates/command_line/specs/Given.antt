@@ -47,6 +47,7 @@ pub record AreSettingsGiven (m : ArgMatches) (o : RouterOptions) : Type 0 where
   pub acc : IsNumberGiven m (codes "acc") o.acc
   pub bb : IsNumberGiven m (codes "bb") o.bb
   pub iterations : IsNumberGiven m (codes "iterations") o.iterations
+  pub steady : IsFlagGiven m (codes "steady") o.steady
 
 -- what was given to `route`
 pub record IsRouteGiven (m : ArgMatches) (r : RouteWords) : Type 0 where

@@ -93,8 +93,8 @@ pub(crate) fn flag(matches: &ArgMatches<'_>, name: &str) -> bool
     }
 }
 
-/// Returns the numbers of a negotiation, or `None` if one is out of its range. The parser refuses
-/// such a number.
+/// Returns the settings of a negotiation, or `None` if a number is out of its range. The parser
+/// refuses such a number.
 #[tactic(auto, unfolding(node_cost::specs::Options::options_within))]
 pub(crate) fn settings(matches: &ArgMatches<'_>) -> Option<Settings>
     ensures { IfSome result (λ o. AreSettingsGiven matches.now o) }
@@ -105,5 +105,7 @@ pub(crate) fn settings(matches: &ArgMatches<'_>) -> Option<Settings>
     let acc = number(matches, "acc")?;
     let bb = number(matches, "bb")?;
     let iterations = number(matches, "iterations")?;
-    Settings::new(first, init, mult, acc, bb, iterations).ok()
+    let is_steady = flag(matches, "steady");
+    let settings = Settings::new(first, init, mult, acc, bb, iterations).ok()?;
+    Some(settings.with_steady(is_steady))
 }

@@ -274,6 +274,11 @@ Also try N narrower widths, and print the outcomes to standard error,
 pub const NO_BOUND: &str = "\
 Leave out the bound at the end of standard error";
 
+/// The help of `--steady`.
+pub const STEADY: &str = "\
+Where ways cost the same, keep that of the iteration before, in place of
+the one over the lowest-numbered nodes";
+
 /// The help of `--bb`.
 pub const BB: &str = "\
 How many places outside the box of its terminals a net may be routed,

@@ -76,9 +76,19 @@ pub(crate) fn with_settings<'a>(
         .arg(setting(alloc, "mult", choices.mult, help::MULT))?
         .arg(setting(alloc, "acc", choices.acc, help::ACC))?
         .arg(setting(alloc, "bb", choices.bb, help::BB))?
+        .arg(steady_flag(alloc))?
         .arg(side_file(alloc, "log", "FILE", help::LOG))?
         .arg(side_file(alloc, "schedule", "FILE", help::SCHEDULE))?
         .arg(side_file(alloc, "follow", "FILE", help::FOLLOW))
+}
+
+/// Returns the `--steady` option: nets keep to the trees that they have where other ways cost the
+/// same.
+fn steady_flag<'a>(alloc: Global) -> Arg<'a> {
+    Arg::new(alloc, "steady")
+        .long("steady")
+        .action(ArgAction::SetTrue)
+        .help(help::STEADY)
 }
 
 /// Returns an option that names a further file of a run.

@@ -1,10 +1,24 @@
 -- What stands where no label and no entry changes.
-use Rattle.std.proofs.Common.{◌≡◌, ℕ, length, slice_index_or, inl, ap, ◌∙◌, arith, sum_by}
+use Rattle.std.proofs.Common.{◌≡◌, ℕ, ◌<◌, length, get_or, get_or-set_other, get_or-set_same, slice_index_or, slice_set, Some, None, inl, inr, sym, ap, ◌∙◌, subst, arith, sum_by}
+use Rattle.std.proofs.lemmas.Bool.{cases_eq}
+use Rattle.std.proofs.lemmas.List.{length-set}
+use Rattle.std.proofs.lemmas.Option.{same_Some}
+use Rattle.track_groups.specs.Groups.{group_at}
+use Rattle.wave_ground.specs.kept.Boxes.{IsLow, wire_of}
 use Rattle.wave_ground.specs.kept.Grounds.{Ground, groups_of}
 use Rattle.group_wave.specs.kept.WaveState.{Wave}
 use Rattle.group_wave.specs.kept.Wave.{AreKnown, IsWave, cost_at, label_at, unreached, weight_of, work_of}
 use Rattle.group_wave.specs.kept.Steps.{IsNoted, KeepsSinks, Lowers}
 use Rattle.group_wave.proofs.Lower.{keeps, entered_same, same_origins, still_serves}
+
+-- what is known of groups, where one more is
+known_more : (g : Ground) (s t : Wave) (group wires : ℕ) → AreKnown g s → group < length s.known → t.boxes ≡ s.boxes → t.known ≡ slice_set s.known group (Some wires) → IsLow s.boxes (wire_of (group_at (groups_of g) group)) wires → AreKnown g t
+known_more g s t group wires known there boxes set low other found e = elim (cases_eq other group) [
+  | inl same ↦
+      let here : Some wires ≡ Some found = sym (get_or-set_same s.known group (Some wires) None there) ∙ ap (λ k. get_or (slice_set s.known group (Some wires)) k None) (sym same) ∙ ap (λ ks. get_or ks other None) (sym set) ∙ e in
+      subst (λ n. IsLow t.boxes (wire_of (group_at (groups_of g) other)) n) (same_Some _ _ here) (rw (same, boxes) low)
+  | inr apart ↦ rw boxes (known other found (sym (get_or-set_other s.known group other (Some wires) None apart) ∙ ap (λ ks. get_or ks other None) (sym set) ∙ e))
+]
 
 module _ (g : Ground) (s t : Wave) (limit : ℕ) (noted : IsNoted s t limit) where
   pub noted_label : (v : ℕ) → label_at t v ≡ label_at s v
@@ -34,6 +48,13 @@ module _ (g : Ground) (s t : Wave) (limit : ℕ) (noted : IsNoted s t limit) whe
     entered = entered_same g s t noted_label wave.entered;
     tracks = λ e h. wave.tracks e (rw noted.queue at h);
   }
+
+  -- one more group is known
+  pub noted_group : (group wires : ℕ) → IsWave g s → group < length (groups_of g) → t.known ≡ slice_set s.known group (Some wires) → IsLow s.boxes (wire_of (group_at (groups_of g) group)) wires → IsWave g t
+  noted_group group wires wave there set low =
+      let sized = wave.sized in
+      noted_wave wave (ap length set ∙ (length-set s.known group (Some wires) ∙ sized))
+      (known_more g s t group wires wave.known (omega (arith, there, sized)) noted.boxes set low)
 
   pub noted_work : work_of t ≡ work_of s
   noted_work =

@@ -6,7 +6,8 @@ mod ceiling;
 mod labels;
 mod route;
 mod scratch;
+mod ties;
 mod wave;
 
-pub use route::route_net;
+pub use route::{OldTree, route_net};
 pub use scratch::Scratch;

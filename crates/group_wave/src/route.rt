@@ -25,12 +25,28 @@ use wave_ground::{Ground, PreparedProblem};
 use wave_queue::Key;
 use wavefront::{Found, SearchFault};
 
+/// The rows of the tree that a net had before, or none; and whether the net keeps to that tree
+/// where other ways cost the same.
+#[derive(Clone, Copy)]
+pub struct OldTree<'a> {
+    pub rows: &'a [Row],
+    pub is_kept: bool,
+}
+
+impl<'a> OldTree<'a> {
+    /// The rows of the tree to which the net keeps, or none.
+    fn kept(&self) -> &'a [Row] {
+        if self.is_kept { self.rows } else { &[] }
+    }
+}
+
 /// A tree from a net's source to all of its sinks inside its box, each way added to it one of least
 /// cost. A way costs what its nodes cost to enter, of equal ones the least-numbered nodes are taken
 /// first, and a node is entered from the least-numbered that leads there.
 ///
-/// `before` are the rows of a tree that the net had, or none. The search is faster by them; what it
-/// finds doesn't depend on them.
+/// The search is faster by the tree that the net had before. What it finds depends on it only if
+/// the net keeps to it: of equal ways, a node is then entered from the node before it on that tree,
+/// if one of them is over that.
 ///
 /// # Errors
 ///
@@ -42,7 +58,7 @@ pub fn route_net(
     view: &View,
     present: u32,
     bb: u32,
-    before: &[Row],
+    before: OldTree<'_>,
     scratch: &mut Scratch,
 ) -> Result<Found, SearchFault>
     requires net { net < length prepared.now.nets }
@@ -70,30 +86,33 @@ pub fn route_net(
         present,
         bb,
     );
-    if let Some(found) = grow_narrow(alloc, &ground, &mut scratch.narrow, before)? {
+    let kept = before.kept();
+    if let Some(found) = grow_narrow(alloc, &ground, &mut scratch.narrow, before.rows, kept)? {
         return Ok(found);
     }
-    let found = grow_wide(alloc, &ground, &mut scratch.wide)?;
+    let found = grow_wide(alloc, &ground, &mut scratch.wide, kept)?;
     Ok(found)
 }
 
 /// The tree of a net in the narrow keys: by the tree that it had before, if it had one; and again
-/// without that, where it isn't known then whether there is a tree. None where it still isn't.
+/// without that, where it isn't known then whether there is a tree. None where it still isn't. Both
+/// keep to the tree `kept` where other ways cost the same.
 fn grow_narrow<K: Key>(
     alloc: Global,
     ground: &Ground<'_>,
     scratch: &mut WaveScratch<K>,
     before: &[Row],
+    kept: &[Row],
 ) -> Result<Option<Found>, AllocError>
     requires { IsGround ground.now }
     ensures answer { IfOk result (λ found. IfSome found (IsAnswer ground.now.space)) }
 {
     if !before.is_empty() {
-        if let Some(found) = grow_in(alloc, ground, scratch, before)? {
+        if let Some(found) = grow_in(alloc, ground, scratch, before, kept)? {
             return Ok(Some(found));
         }
     }
-    grow_in(alloc, ground, scratch, &[])
+    grow_in(alloc, ground, scratch, &[], kept)
 }
 
 /// The tree of a net whose costs don't fit the narrow keys.
@@ -101,6 +120,7 @@ fn grow_wide(
     alloc: Global,
     ground: &Ground<'_>,
     scratch: &mut Option<WaveScratch<u128>>,
+    kept: &[Row],
 ) -> Result<Found, AllocError>
     requires { IsGround ground.now }
     ensures answer { IfOk result (IsAnswer ground.now.space) }
@@ -109,7 +129,7 @@ fn grow_wide(
         Some(wide) => wide,
         None => WaveScratch::new(alloc, ground.nodes(), ground.groups())?,
     };
-    let found = grow_in(alloc, ground, &mut wide, &[])?;
+    let found = grow_in(alloc, ground, &mut wide, &[], kept)?;
     *scratch = Some(wide);
     Ok(found.unwrap())
 }
@@ -121,12 +141,14 @@ fn grow_in<K: Key>(
     ground: &Ground<'_>,
     scratch: &mut WaveScratch<K>,
     before: &[Row],
+    kept: &[Row],
 ) -> Result<Option<Found>, AllocError>
     requires { IsGround ground.now }
     ensures answer { IfOk result (λ found. IfSome found (IsAnswer ground.now.space)) }
     ensures narrow { IfOk result (λ found. IfNone found (K.greatest < FAR)) }
 {
     make_fit(alloc, scratch, ground.nodes(), ground.groups())?;
+    scratch.wave.keep_to(kept)?;
     grow_tree(alloc, ground, scratch, before)
 }
 

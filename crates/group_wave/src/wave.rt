@@ -13,6 +13,8 @@ mod starting;
 mod tracing;
 
 use crate::labels::{LabelRow, Labels};
+use crate::ties::Ties;
+use route_tree::Row;
 use std::alloc::{AllocError, Global};
 use std::marker::Model;
 use wave_ground::{Ground, Nearest, PIN};
@@ -33,6 +35,8 @@ pub(crate) struct Wave<K: Key> {
     ceiling: K,
     /// Whether a way may have been left out, since its cost doesn't fit or is above the ceiling.
     left_out: bool,
+    /// Which of ways of equal cost is kept.
+    ties: Ties,
 }
 
 impl<K: Key> Model for Wave<K> {
@@ -110,8 +114,8 @@ impl<K: Key> Wave<K> {
         self.labels.set_parent(node, parent);
     }
 
-    /// Of ways that cost the same keeps the one over the least node, where none costs less than the
-    /// one that is offered; and notes that it is left out where it doesn't fit.
+    /// Of ways that cost the same keeps the one that the ties prefer, where none costs less than
+    /// the one that is offered; and notes that it is left out where it doesn't fit.
     fn keep_least(&mut self, node: u32, parent: u32, row: LabelRow<K>, cost: K)
         requires there { node < length self.old.labels }
         requires row { label_of K.value K.greatest row ≡ label_at self.old node }
@@ -122,9 +126,18 @@ impl<K: Key> Wave<K> {
     {
         if !row.cost.is_below(K::greatest()) {
             self.leave_out();
-        } else if !row.cost.is_below(cost) && parent < row.parent {
+        } else if !row.cost.is_below(cost) && self.ties.prefers(node, parent, row.parent) {
             self.set_parent(node, parent);
         }
+    }
+
+    /// From now on a net keeps to this tree where other ways cost the same, or to none if it has no
+    /// rows.
+    pub(crate) fn keep_to(&mut self, rows: &[Row]) -> Result<(), AllocError>
+        ensures { self.new ≡ self.old }
+    {
+        let nodes = self.labels.len();
+        self.ties.keep_to(rows, nodes)
     }
 
     /// Notes that something was left out.

@@ -3,7 +3,7 @@
 ghost use Rattle.std.specs.Prelude.{◌≡◌};
 ghost use Rattle.rr_graph.specs.Nodes.{node_count_of};
 
-use group_wave::{Scratch, route_net};
+use group_wave::{OldTree, Scratch, route_net};
 use lab_session::answer::added;
 use lab_session::session::{NO_PROBLEM, NO_VIEW, Searching, Session};
 use lab_session::trees::put_tree;
@@ -136,5 +136,9 @@ fn search_in(
     if !(1..=255).contains(&bb) {
         return Err(Unanswered::Refused("a margin is one of 1 to 255"));
     }
-    Ok(route_net(alloc, prepared, net, view, present, bb, &[], scratch)?)
+    let before = OldTree {
+        rows: &[],
+        is_kept: false,
+    };
+    Ok(route_net(alloc, prepared, net, view, present, bb, before, scratch)?)
 }

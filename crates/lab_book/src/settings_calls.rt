@@ -149,14 +149,26 @@ fn look_at_histories(
     }
 }
 
-/// Returns the choice that words give: six numbers, or `standard`. Without words, returns the old
-/// choice.
+/// Returns the choice that words give: six numbers, `standard`, or no words for the old choice; and
+/// that nets keep to their trees, if the last word is `steady`.
 fn chosen(old: Choice, given: &[&str]) -> Result<Choice, Unanswered> {
+    match given.split_last() {
+        Some((word, others)) if *word == "steady" => {
+            let mut choice = chosen_numbers(old, others)?;
+            choice.is_steady = true;
+            Ok(choice)
+        }
+        _ => chosen_numbers(old, given),
+    }
+}
+
+/// Returns the choice that six numbers give, or `standard`, or the old one without words.
+fn chosen_numbers(old: Choice, given: &[&str]) -> Result<Choice, Unanswered> {
     match given {
         [] => Ok(old),
         [word] if *word == "standard" => Ok(Choice::standard()),
         [_, _, _, _, _, _] => within_ranges(choice_of(given)?),
-        _ => Err(Unanswered::Misread("settings FIRST INIT MULT ACC BB ITERATIONS")),
+        _ => Err(Unanswered::Misread("settings FIRST INIT MULT ACC BB ITERATIONS [steady]")),
     }
 }
 
@@ -170,6 +182,7 @@ fn choice_of(given: &[&str]) -> Result<Choice, Unanswered> {
         acc,
         bb,
         iterations,
+        is_steady: false,
     })
 }
 
@@ -183,7 +196,9 @@ fn put_choice(choice: Choice, out: &mut String) -> Result<(), Unanswered> {
     write!(out, "first {}, init {}", choice.first, choice.init)?;
     write!(out, ", mult {}, acc {}", choice.mult, choice.acc)?;
     write!(out, ", bb {}", choice.bb)?;
-    added(writeln!(out, ", iterations {}", choice.iterations))
+    write!(out, ", iterations {}", choice.iterations)?;
+    let steady = if choice.is_steady { ", steady" } else { "" };
+    added(writeln!(out, "{steady}"))
 }
 
 /// Adds the present-congestion factor of an iteration.

@@ -1,6 +1,6 @@
 -- What a user chooses of the negotiation (VPR and T-VPack manual 4.30, "Router Options"), and the
 -- present-congestion factors that follow from it.
-use Rattle.std.specs.Prelude.{ℕ, ◌-◌, ◌*◌, ◌/◌, ◌≤◌, zero, suc, Bool, ◌&&◌, nat_le, not, min, if◌then◌else◌, Result, Ok, Err}
+use Rattle.std.specs.Prelude.{ℕ, ◌-◌, ◌*◌, ◌/◌, ◌≤◌, zero, suc, Bool, false, ◌&&◌, nat_le, not, min, if◌then◌else◌, Result, Ok, Err}
 use Rattle.node_cost.specs.declared.settings.Range.{Range}
 use Rattle.node_cost.specs.declared.settings.Range.TheVariants.{First, Init, Mult, Acc, Bb, Iterations}
 use Rattle.node_cost.specs.Costs.{unit_factor}
@@ -17,6 +17,9 @@ pub record RouterOptions : Type 0 where
   pub bb : ℕ
   -- the most iterations
   pub iterations : ℕ
+  -- whether a net keeps to the tree that it has where other ways cost the same: each tree that
+  -- results is as good, so that no other definition names it
+  pub steady : Bool
 
 -- the greatest present-congestion factor: 2^20, in sixteenths
 abbrev pub greatest_present : ℕ
@@ -60,7 +63,11 @@ options_within o =
     else (if not (is_within 1 most_iterations o.iterations) then Err Iterations else Ok o)))))
 
 abbrev pub standard_options : RouterOptions
-standard_options = record { first = 8; init = 8; mult = 32; acc = 20; bb = 3; iterations = 30 }
+standard_options = record { first = 8; init = 8; mult = 32; acc = 20; bb = 3; iterations = 30; steady = false }
+
+-- the same options, but for whether a net keeps to its tree
+abbrev pub with_steady : RouterOptions → Bool → RouterOptions
+with_steady o steady = record o { steady = steady }
 
 -- what all settings keep
 pub record AreWithinLimits (o : RouterOptions) : Type 0 where

@@ -1,7 +1,7 @@
 //! The settings of a negotiation.
 
-ghost use Rattle.std.specs.Prelude.{◌≡◌, ◌≤◌};
-ghost use Rattle.node_cost.specs.Options.{AreWithinLimits, options_within, standard_options, present_of, present_after, next_present, most_iterations, most_mult};
+ghost use Rattle.std.specs.Prelude.{◌≡◌, ◌≤◌, false};
+ghost use Rattle.node_cost.specs.Options.{AreWithinLimits, options_within, standard_options, with_steady, present_of, present_after, next_present, most_iterations, most_mult};
 
 use crate::entry_cost::GREATEST_PRESENT;
 use std::marker::Model;
@@ -39,6 +39,7 @@ pub struct Settings {
     acc: u16,
     bb: u32,
     iterations: u32,
+    is_steady: bool,
 }
 
 impl Model for Settings {
@@ -55,9 +56,9 @@ impl Model for Settings {
       init = o.init;
       mult = o.mult;
       acc = o.acc;
-      bb =
-          o.bb;
+      bb = o.bb;
       iterations = o.iterations;
+      is_steady = o.steady;
     } };
 
     ghost invariant = { λ s. AreWithinLimits (options_of s) };
@@ -81,6 +82,7 @@ impl Settings {
           acc = acc;
           bb = bb;
           iterations = iterations;
+          steady = false;
         }) }
     {
         if first > GREATEST_PRESENT {
@@ -108,7 +110,16 @@ impl Settings {
             acc: acc as u16,
             bb,
             iterations,
+            is_steady: false,
         })
+    }
+
+    /// Returns these settings with or without nets that keep to their trees where other ways cost
+    /// the same.
+    pub fn with_steady(self, is_steady: bool) -> Settings
+        ensures { result ≡ with_steady self is_steady }
+    {
+        Settings { is_steady, ..self }
     }
 
     /// Returns the default settings.
@@ -122,6 +133,7 @@ impl Settings {
             acc: 20,
             bb: 3,
             iterations: 30,
+            is_steady: false,
         }
     }
 
@@ -168,6 +180,13 @@ impl Settings {
         ensures limits { AreWithinLimits self.now }
     {
         self.iterations
+    }
+
+    /// Returns whether a net keeps to the tree that it has where other ways cost the same.
+    pub fn is_steady(&self) -> bool
+        ensures { result ≡ self.now.steady }
+    {
+        self.is_steady
     }
 
     /// Returns the present-congestion factor of an iteration, counted from 1.

@@ -8,7 +8,7 @@ use super::Wave;
 use std::alloc::AllocError;
 use track_groups::{Group, Tap};
 use wave_ground::Ground;
-use wave_queue::{Key, QueueEntry, lowest_bit};
+use wave_queue::{Key, QueueEntry};
 
 /// The node of a track of a group.
 #[inline(always)]
@@ -175,7 +175,8 @@ impl<K: Key> Wave<K> {
         if tapped == 0 {
             return Ok(());
         }
-        let wire = node_on(group, lowest_bit(tapped));
+        let track = self.ties.track(group, tap.pin, tapped);
+        let wire = node_on(group, track);
         self.reach_from(ground, entry.label, wire, tap)
     }
 

@@ -6,6 +6,7 @@ ghost use Rattle.routing_problem.specs.node.Kind.TheVariants.{Opin};
 use super::relaxing::Offer;
 use super::{Wave, as_ceiling, bound_over};
 use crate::labels::Labels;
+use crate::ties::Ties;
 use routing_problem::Kind;
 use smallvec::SmallVec;
 use std::alloc::{AllocError, Global};
@@ -50,6 +51,7 @@ impl<K: Key> Wave<K> {
             best: K::greatest(),
             ceiling: K::greatest(),
             left_out: false,
+            ties: Ties::new(alloc),
         })
     }
 

@@ -11,7 +11,7 @@ use Rattle.node_cost.specs.kept.Noted.{IsFlagged}
 use Rattle.node_cost.specs.kept.Packed.{IsFull, IsMarked, counts_of}
 
 abbrev pub options_of : settings.Inside → RouterOptions
-options_of s = record { first = s.first; init = s.init; mult = s.mult; acc = s.acc; bb = s.bb; iterations = s.iterations }
+options_of s = record { first = s.first; init = s.init; mult = s.mult; acc = s.acc; bb = s.bb; iterations = s.iterations; steady = s.is_steady }
 
 -- the histories that are shared, or else its own
 abbrev pub histories_of : shared.Inside → List ℕ
