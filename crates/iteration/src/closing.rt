@@ -5,7 +5,7 @@ ghost use Rattle.node_cost.specs.Options.{most_iterations, most_workers};
 ghost use Rattle.congestion_book.specs.Turns.{IsFirstWaiting};
 ghost use Rattle.congestion_book.specs.Contents.{IsFresh, IsSound, net_count};
 ghost use Rattle.congestion_book.specs.Steps.{after_close};
-ghost use Rattle.net_workers.specs.declared.fault.WorkFault.TheVariants.{Memory};
+ghost use Rattle.net_workers.specs.declared.fault.WorkFault.TheVariants.{Memory, NoThread};
 ghost use Rattle.iteration.specs.Progress.{IsIteration};
 
 use congestion_book::Book;
@@ -46,6 +46,7 @@ pub(crate) fn make_iteration<R: Threads + Wait + Sync, G: Gate + Sync>(
     requires few { length book.rows < most_iterations }
     requires workers { (1 ≤ workers) × (workers ≤ most_workers) }
     ensures made { IfOk result (IsIteration settings.now workers (G.accepted gate.now) book) }
+    ensures thread { IfErr result (λ fault. fault ≡ NoThread → 1 < workers) }
     ensures workspace { workspace.new ≡ workspace.old }
 {
     let iteration = book.rows().len() as u32 + 1;

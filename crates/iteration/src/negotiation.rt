@@ -3,7 +3,7 @@
 ghost use Rattle.std.specs.Prelude.{◌≡◌, ◌<◌, ◌≤◌, false, length, IfOk, IfErr, OnOk};
 ghost use Rattle.node_cost.specs.Options.{AreWithinLimits, most_iterations, most_workers};
 ghost use Rattle.congestion_book.specs.Contents.{opening};
-ghost use Rattle.net_workers.specs.declared.fault.WorkFault.TheVariants.{Memory};
+ghost use Rattle.net_workers.specs.declared.fault.WorkFault.TheVariants.{Memory, NoThread};
 ghost use Rattle.iteration.specs.Progress.{IsIteration, IsReached, goes_on, unrouted_of, overused_of};
 ghost use Rattle.iteration.specs.Outcomes.{IsOutcomeOf, EndsNegotiation, IsOutcome};
 
@@ -87,7 +87,8 @@ impl Negotiation {
     ) -> Result<Negotiation, WorkFault>
         requires workers { (1 ≤ workers) × (workers ≤ most_workers) }
         requires few { length self.rows < most_iterations }
-        ensures { IfOk result (IsIteration settings.now workers (G.accepted gate.now) self) }
+        ensures made { IfOk result (IsIteration settings.now workers (G.accepted gate.now) self) }
+        ensures thread { IfErr result (λ fault. fault ≡ NoThread → 1 < workers) }
     {
         let Negotiation {
             book,
@@ -133,7 +134,8 @@ impl Negotiation {
         alloc: Global,
         gate: &G,
     ) -> Result<Outcome, WorkFault>
-        ensures { IfOk result (IsOutcomeOf self.now) }
+        ensures outcome { IfOk result (IsOutcomeOf self.now) }
+        ensures memory { IfErr result (λ fault. fault ≡ Memory) }
     {
         let outcome = self.outcome(rt, alloc)?;
         self.tell(&outcome, gate);
@@ -174,6 +176,7 @@ fn run<R: Threads + Wait + Sync, G: Gate + Sync>(
     ensures reached { IfOk result
         (IsReached problem settings.now workers (G.accepted gate.now)) }
     ensures ended { IfOk result (λ n. goes_on settings.now n ≡ false) }
+    ensures thread { IfErr result (λ fault. fault ≡ NoThread → 1 < workers) }
     ensures limit { OnOk result (1 ≤ settings.now.iterations) }
 {
     let mut negotiation = Negotiation::begin(alloc, problem, settings)?;
@@ -196,6 +199,7 @@ fn outcome_of<R: Threads + Wait + Sync, G: Gate + Sync>(
     ensures run { IfOk result
         (EndsNegotiation problem settings.now workers (G.accepted gate.now)) }
     ensures limit { OnOk result (1 ≤ settings.now.iterations) }
+    ensures thread { IfErr result (λ fault. fault ≡ NoThread → 1 < workers) }
 {
     gate.begins(&problem);
     let negotiation = run(rt, alloc, problem, settings, workers, gate)?;
@@ -225,6 +229,8 @@ pub fn negotiate<R: Threads + Wait + Sync, G: Gate + Sync>(
     // The outcome is that of the first state at which iterations by these rules end.
     ensures run { IfOk result
         (EndsNegotiation problem settings.now workers (G.accepted gate.now)) }
+    // One worker needs no thread.
+    ensures thread { IfErr result (λ fault. fault ≡ NoThread → 1 < workers) }
 {
     let outcome = outcome_of(rt, alloc, problem, settings, workers, gate)?;
     Ok(outcome)

@@ -69,6 +69,25 @@ module _ (number : Turn → ℕ) where
           | inr not_less ↦ let is : k ≡ n = omega arith in rw is (omega arith)
         ]
 
+-- ---- turns that name each net once are as many as there are nets
+module _ (ts : List Turn) (nets : ℕ) (once : NameEachOnce nets ts) where
+  named : All (λ t. t.net < nets) ts
+  named k d low =
+      let net = (get_or ts k d).net in
+      let one = get_or-le-sum_by (λ (t : Turn). one_if (t.net == net)) ts k d low in
+      let here : one_if (net == net) ≡ 1 = ap one_if (eq-eqb net net refl) in
+      let few = once net in
+      grind (arith, nat_tests, one, here, few)
+
+  below_is : (n : ℕ) → n ≤ nets → below (λ t. t.net) n ts ≡ n
+  below_is zero low = below_none (λ t. t.net) ts
+  below_is (suc n) low =
+      let here : one_if (nat_lt n nets) ≡ 1 = grind (arith, nat_tests) in
+      omega (arith, here, once n, below_next (λ t. t.net) ts n, below_is n (omega arith))
+
+  pub once_all : length ts ≡ nets
+  once_all = omega (arith, below_all (λ t. t.net) ts nets named, below_is nets (omega arith))
+
 -- ---- a book whose open iteration has as many turns as there are nets
 not_some : (o : Option ℕ) → one_if (is_some o) ≡ 0 → o ≡ None
 not_some None none = refl

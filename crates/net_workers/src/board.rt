@@ -9,7 +9,7 @@ ghost use Rattle.net_workers.specs.Searches.{IsFoundIn};
 ghost use Rattle.net_workers.specs.kept.Routes.{RoutesNet};
 ghost use Rattle.wavefront.specs.Growth.{space_of};
 
-use crate::fault::WorkFault;
+use crate::fault::TurnFault;
 use crate::history::{Head, Logged};
 use crate::page::{Cell, Page, open_row};
 use crate::portion::Portions;
@@ -94,6 +94,11 @@ impl<'a, L: Logged> Board<'a, L> {
         self.portions.count(net)
     }
 
+    /// Returns how many of this many workers work.
+    pub(crate) fn busy_workers(&self, workers: usize) -> usize {
+        self.portions.busy_workers(workers)
+    }
+
     /// Returns the number of the iteration, counted from 1.
     pub(crate) fn iteration(&self) -> u32 {
         self.options.iteration
@@ -135,7 +140,7 @@ impl<'a, L: Logged> Board<'a, L> {
         view: &View,
         scratch: &mut Scratch,
         gate: &G,
-    ) -> Result<Option<Tree>, WorkFault>
+    ) -> Result<Option<Tree>, TurnFault>
         requires net { net < net_count L.plan.opening }
         requires fits { scratch.old ≡ node_total L.plan.opening }
         ensures found { IfOk result (IsFoundIn

@@ -72,6 +72,7 @@ impl<L: Round> Desk<L> {
         requires one_each { blank.parts ≡ workers }
         ensures book { IfOk result (λ r. r.0 ≡ book) }
         ensures shares { IfOk result (λ r. AreParts r.1.items workers) }
+        ensures count { IfOk result (λ r. vec_len r.1 ≡ workers) }
     {
         let _sound = book.problem();
         let (total, mut rest) = blank.open::<L>();

@@ -2,6 +2,8 @@
 
 ghost use Rattle.std.specs.Prelude.{◌≡◌};
 ghost use Rattle.net_workers.specs.declared.fault.WorkFault.TheVariants.{Memory};
+ghost use Rattle.net_workers.specs.declared.fault.TurnFault.TheVariants as turn;
+ghost use Rattle.net_workers.specs.kept.Faults.{work_fault};
 
 use std::alloc::{AllocError, AllocFailed};
 use thiserror::Error;
@@ -35,5 +37,41 @@ impl<T: Drop> From<AllocFailed<T>> for WorkFault {
 
     fn from(_e: AllocFailed<T>) -> WorkFault {
         WorkFault::Memory
+    }
+}
+
+/// The reason why a worker stops, or an iteration whose workers had their threads.
+#[derive(Clone, Copy, Debug, PartialEq, Eq, PartialOrd, Ord)]
+pub(crate) enum TurnFault {
+    /// Memory ran out.
+    Memory,
+    /// The book refused a call, a schedule can't be followed, or the gate didn't accept the turns.
+    Astray,
+}
+
+impl From<TurnFault> for WorkFault {
+    ghost from_gives = { λ fault e. e ≡ work_fault fault };
+
+    fn from(fault: TurnFault) -> WorkFault {
+        match fault {
+            TurnFault::Memory => WorkFault::Memory,
+            TurnFault::Astray => WorkFault::Astray,
+        }
+    }
+}
+
+impl From<AllocError> for TurnFault {
+    ghost from_gives = { λ _ e. e ≡ turn.Memory };
+
+    fn from(_e: AllocError) -> TurnFault {
+        TurnFault::Memory
+    }
+}
+
+impl<T: Drop> From<AllocFailed<T>> for TurnFault {
+    ghost from_gives = { λ _ e. e ≡ turn.Memory };
+
+    fn from(_e: AllocFailed<T>) -> TurnFault {
+        TurnFault::Memory
     }
 }

@@ -4,7 +4,7 @@ ghost use Rattle.std.specs.Prelude.{◌≡◌, ℕ, ◌<◌, ◌==◌, [], lengt
 ghost use Rattle.std.specs.List.{filter};
 ghost use Rattle.net_workers.specs.kept.TurnLogs.{entries_of, turn_in_schedule};
 
-use crate::fault::WorkFault;
+use crate::fault::TurnFault;
 use crate::history::{Front, Logged};
 use crate::made_turn::MadeTurn;
 use crate::page::Cell;
@@ -17,7 +17,7 @@ pub(crate) fn gather<L: Logged>(
     alloc: Global,
     row: Vec<Cell<L>>,
     front: &Front<L>,
-) -> Result<Vec<MadeTurn>, WorkFault>
+) -> Result<Vec<MadeTurn>, TurnFault>
     ensures { IfOk result (λ turns. turns.items ≡ front.now) }
 {
     let mut turns = Vec::with_capacity(alloc, row.len())?;
@@ -32,7 +32,7 @@ pub(crate) fn gather<L: Logged>(
         turns.push_reserved(turn);
     }
     if turns.len() as u64 != front.len() {
-        return Err(WorkFault::Astray);
+        return Err(TurnFault::Astray);
     }
     Ok(turns)
 }

@@ -1,6 +1,6 @@
 //! What a cell holds of a turn, for the workers that read it without a lock.
 
-ghost use Rattle.std.specs.Prelude.{◌≡◌, ◌+◌, ◌++◌, ◌∷◌, [], take, IsTrue, IfSome};
+ghost use Rattle.std.specs.Prelude.{◌↔◌, ◌≡◌, ◌+◌, ◌++◌, ◌∷◌, [], length, take, IsTrue, IfSome};
 ghost use Rattle.net_workers.specs.kept.Pages.{IsNext};
 
 use crate::history::{Front, Logged};
@@ -72,7 +72,8 @@ impl<L: Logged> Page<L> {
 
     /// Returns whether its turn is the next one after these.
     pub(crate) fn is_next(&self, front: &Front<L>) -> bool
-        ensures { IsTrue result → IsNext L.plan front.now self.now.turn self.now.log }
+        ensures next { IsTrue result → IsNext L.plan front.now self.now.turn self.now.log }
+        ensures exactly { IsTrue result ↔ (length self.now.log ≡ length front.now + 1) }
     {
         let longer = self.front.len();
         let now = front.len();

@@ -9,6 +9,13 @@ const MOST_NETS: u32 = 64;
 /// The number of draws in a worker's even share of the work.
 const DRAWS: u64 = 4;
 
+/// The work that is worth a thread. To search for so many rows takes several times as long as to
+/// start one.
+const WORK_OF_THREAD: u64 = 400;
+
+/// The number of workers that get a thread however little work there is.
+const LEAST_THREADS: usize = 4;
+
 /// The work for all nets up to each one. The work for a net is the number of rows of its tree,
 /// which the last search for it made.
 #[derive(Drop)]
@@ -50,6 +57,15 @@ impl Portions {
         Portions {
             sums: Vec::new(alloc),
             parts: 1,
+        }
+    }
+
+    /// Returns how many of this many workers are worth their threads: all if the work isn't known,
+    /// and at least four.
+    pub(crate) fn busy_workers(&self, workers: usize) -> usize {
+        match self.sums.last() {
+            None => workers,
+            Some(all) => workers.min(LEAST_THREADS.max((*all / WORK_OF_THREAD) as usize)),
         }
     }
 

@@ -11,7 +11,7 @@ ghost use Rattle.net_workers.specs.kept.Routes.{RoutesNet};
 ghost use Rattle.net_workers.specs.kept.Pages.{IsSearched};
 
 use crate::board::Board;
-use crate::fault::WorkFault;
+use crate::fault::TurnFault;
 use crate::had_room::HadRoom;
 use crate::history::{Front, Logged};
 use crate::page::Page;
@@ -125,7 +125,7 @@ fn search_noting<L: Logged, G: Gate>(
     scratch: &mut Scratch,
     room: &mut HadRoom,
     gate: &G,
-) -> Result<Option<Tree>, WorkFault>
+) -> Result<Option<Tree>, TurnFault>
     requires net { net < net_count L.plan.opening }
     requires fits { scratch.old ≡ node_total L.plan.opening }
     ensures found { IfOk result (IsFoundIn
@@ -201,13 +201,13 @@ impl<L: Logged> Replica<L> {
         scratch: &mut Scratch,
         room: &mut HadRoom,
         gate: &G,
-    ) -> Result<FoundTree<L>, WorkFault>
+    ) -> Result<FoundTree<L>, TurnFault>
         requires fits { scratch.old ≡ node_total L.plan.opening }
         ensures turns { self.new ≡ self.old }
         ensures fits { scratch.new ≡ scratch.old }
     {
         if !is_open(&self.turned, net) {
-            return Err(WorkFault::Astray);
+            return Err(TurnFault::Astray);
         }
         let own = board.opening_tree(net);
         leave_net(&mut self.view, net, own);

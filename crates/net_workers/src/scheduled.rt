@@ -3,7 +3,7 @@
 
 use crate::board::Board;
 use crate::course::Course;
-use crate::fault::WorkFault;
+use crate::fault::TurnFault;
 use crate::history::Logged;
 use crate::turn_desk::TurnDesk;
 use crate::worker::Worker;
@@ -38,11 +38,11 @@ pub(crate) fn draw_all<L: Logged>(
     desk: &mut TurnDesk<L>,
     workers: &mut [Worker<L>],
     turns: &[ScheduledTurn],
-) -> Result<(), WorkFault> {
+) -> Result<(), TurnFault> {
     let nets = board.prepared().problem().nets();
     for number in workers_of_nets(alloc, turns, nets)? {
         let Some(worker) = workers.get_mut(number as usize) else {
-            return Err(WorkFault::Astray);
+            return Err(TurnFault::Astray);
         };
         worker.draw(desk);
     }
@@ -58,7 +58,7 @@ fn make_own_turns<L: Logged, R: Wait, G: Gate>(
     course: &Course<'_>,
     worker: Worker<L>,
     gate: &G,
-) -> Result<Tools, WorkFault> {
+) -> Result<Tools, TurnFault> {
     let mut worker = worker;
     for (place, turn) in course.turns().iter().enumerate() {
         if turn.worker == worker.number() {
@@ -78,7 +78,7 @@ pub(crate) fn follow<L: Logged, R: Wait, G: Gate>(
     course: &Course<'_>,
     worker: Worker<L>,
     gate: &G,
-) -> Result<Tools, WorkFault> {
+) -> Result<Tools, TurnFault> {
     let made = make_own_turns(rt, alloc, desk, board, course, worker, gate);
     if made.is_err() {
         course.stop(rt);
@@ -95,10 +95,10 @@ pub(crate) fn follow_alone<L: Logged, R: Wait, G: Gate>(
     course: &Course<'_>,
     workers: &mut [Worker<L>],
     gate: &G,
-) -> Result<(), WorkFault> {
+) -> Result<(), TurnFault> {
     for (place, turn) in course.turns().iter().enumerate() {
         let Some(worker) = workers.get_mut(turn.worker as usize) else {
-            return Err(WorkFault::Astray);
+            return Err(TurnFault::Astray);
         };
         worker.make_scheduled(rt, alloc, desk, board, course, place as u64, turn, gate)?;
     }

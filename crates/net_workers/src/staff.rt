@@ -1,12 +1,12 @@
 //! The workers of an iteration, before they begin and after they ended.
 
-ghost use Rattle.std.specs.Prelude.{◌≡◌, ◌<◌, [], false, length, vec_len, replicate, None, Err, IfOk, IfSome};
+ghost use Rattle.std.specs.Prelude.{◌≡◌, ◌<◌, ◌≤◌, [], false, length, vec_len, replicate, None, Err, IfOk, IfSome};
 ghost use Rattle.congestion_book.specs.Contents.{net_count};
 ghost use Rattle.net_workers.specs.kept.Faults.{first_of, first_met};
 
 use crate::board::Board;
 use crate::desk::Desk;
-use crate::fault::WorkFault;
+use crate::fault::TurnFault;
 use crate::history::{Front, Logged};
 use crate::replica::Replica;
 use crate::share::Share;
@@ -30,7 +30,7 @@ fn replica_of<L: Logged>(
     front: &Front<L>,
     view: View,
     turned: Vec<bool>,
-) -> Result<Replica<L>, WorkFault>
+) -> Result<Replica<L>, TurnFault>
     requires nets { nets ≡ net_count L.plan.opening }
     requires opens { desk.now ≡ L.plan.opening }
     requires none { front.now ≡ [] }
@@ -39,7 +39,7 @@ fn replica_of<L: Logged>(
     set_none_turned(&mut turned, nets)?;
     match desk.look_at_all(&mut view) {
         Ok(()) => Ok(Replica::new(view, turned, front.again())),
-        Err(_) => Err(WorkFault::Astray),
+        Err(_) => Err(TurnFault::Astray),
     }
 }
 
@@ -52,7 +52,7 @@ fn hire<L: Logged>(
     front: &Front<L>,
     share: Share<L>,
     left: Option<Tools>,
-) -> Result<Worker<L>, WorkFault>
+) -> Result<Worker<L>, TurnFault>
     requires opens { desk.now ≡ L.plan.opening }
     requires none { front.now ≡ [] }
 {
@@ -76,7 +76,7 @@ pub(crate) fn hire_all<L: Logged>(
     front: &Front<L>,
     shares: Vec<Share<L>>,
     tools: &mut Vec<Tools>,
-) -> Result<Vec<Worker<L>>, WorkFault>
+) -> Result<Vec<Worker<L>>, TurnFault>
     requires opens { desk.now ≡ L.plan.opening }
     requires none { front.now ≡ [] }
     ensures { IfOk result (λ all. vec_len all ≡ vec_len shares) }
@@ -90,7 +90,7 @@ pub(crate) fn hire_all<L: Logged>(
 }
 
 /// Returns the first of a fault and those that were met before.
-fn first_of(met: Option<WorkFault>, fault: WorkFault) -> WorkFault
+fn first_of(met: Option<TurnFault>, fault: TurnFault) -> TurnFault
     ensures { result ≡ first_of met fault }
 {
     match met {
@@ -100,7 +100,7 @@ fn first_of(met: Option<WorkFault>, fault: WorkFault) -> WorkFault
 }
 
 /// Returns the first of the workers' faults, if there are any.
-fn first_fault(results: &[Result<Tools, WorkFault>]) -> Option<WorkFault>
+fn first_fault(results: &[Result<Tools, TurnFault>]) -> Option<TurnFault>
     ensures { result ≡ first_met None results.now }
 {
     let mut met = None;
@@ -115,9 +115,9 @@ fn first_fault(results: &[Result<Tools, WorkFault>]) -> Option<WorkFault>
 
 /// Takes back what the workers searched with, or returns the first of their faults.
 pub(crate) fn dismiss_all(
-    results: Vec<Result<Tools, WorkFault>>,
+    results: Vec<Result<Tools, TurnFault>>,
     tools: &mut Vec<Tools>,
-) -> Result<(), WorkFault>
+) -> Result<(), TurnFault>
     ensures first { IfSome (first_met None results.items) (λ fault. result ≡ Err fault) }
 {
     if let Some(fault) = first_fault(&results) {
@@ -140,4 +140,19 @@ pub(crate) fn leave_tools<L: Logged>(
         tools.push_reserved(worker.into_tools());
     }
     Ok(())
+}
+
+/// Leaves this many workers, and takes back what the others would have searched with.
+pub(crate) fn send_home<L: Logged>(
+    workers: &mut Vec<Worker<L>>,
+    count: usize,
+    tools: &mut Vec<Tools>,
+) -> Result<(), AllocError>
+    ensures fewer { vec_len workers.new ≤ vec_len workers.old }
+{
+    if count >= workers.len() {
+        return Ok(());
+    }
+    let idle = workers.split_off(count)?;
+    leave_tools(idle, tools)
 }

@@ -1,9 +1,11 @@
 //! The workers of an iteration, each in a thread of its own, except the last, which works in the
 //! calling thread.
 
+ghost use Rattle.std.specs.Prelude.{◌≡◌, ◌≤◌, vec_len, IfOk};
+
 use crate::board::Board;
 use crate::course::Course;
-use crate::fault::WorkFault;
+use crate::fault::TurnFault;
 use crate::history::Logged;
 use crate::scheduled::follow;
 use crate::turn_desk::TurnDesk;
@@ -24,7 +26,7 @@ fn work<L: Logged, R: Wait, G: Gate>(
     course: Option<&Course<'_>>,
     worker: Worker<L>,
     gate: &G,
-) -> Result<Tools, WorkFault> {
+) -> Result<Tools, TurnFault> {
     match course {
         Some(course) => follow(rt, alloc, desk, board, course, worker, gate),
         None => work_through(rt, alloc, desk, board, worker, gate),
@@ -38,30 +40,26 @@ fn miss_worker<R: Wait>(rt: &R, course: Option<&Course<'_>>) {
     }
 }
 
-/// Starts a thread for each worker but the last, works as the last one itself, and joins them all.
-/// The results are those of the threads that could be started, in order, and then its own. So one
-/// worker takes no thread.
-pub(crate) fn run_all<L: Logged + Send + Sync, R: Threads + Wait + Sync, G: Gate + Sync>(
+/// Starts a thread for each of the other workers, works as the last one itself, and joins them all.
+/// The results are those of the threads that could be started, in order, and then its own.
+fn run_in_threads<L: Logged + Send + Sync, R: Threads + Wait + Sync, G: Gate + Sync>(
     rt: &R,
     alloc: Global,
     desk: &Mutex<TurnDesk<L>>,
     board: &Board<'_, L>,
     course: Option<&Course<'_>>,
-    workers: Vec<Worker<L>>,
+    others: Vec<Worker<L>>,
+    own: Worker<L>,
     gate: &G,
-) -> Result<Vec<Result<Tools, WorkFault>>, AllocError> {
+) -> Result<Vec<Result<Tools, TurnFault>>, AllocError> {
     thread::scope(
         thread::scope_env(),
         rt,
-        move |scope| -> Result<Vec<Result<Tools, WorkFault>>, AllocError> {
-            let mut results = Vec::with_capacity(alloc, workers.len())?;
-            let mut handles = Vec::with_capacity(alloc, workers.len())?;
-            let mut others = workers;
-            let Some(own) = others.pop() else {
-                return Ok(results);
-            };
+        move |scope| -> Result<Vec<Result<Tools, TurnFault>>, AllocError> {
+            let mut results = Vec::with_capacity(alloc, others.len() + 1)?;
+            let mut handles = Vec::with_capacity(alloc, others.len())?;
             for worker in others {
-                let job = move || -> Result<Tools, WorkFault> {
+                let job = move || -> Result<Tools, TurnFault> {
                     work(rt, alloc, desk, board, course, worker, gate)
                 };
                 match scope.spawn(job) {
@@ -77,4 +75,39 @@ pub(crate) fn run_all<L: Logged + Send + Sync, R: Threads + Wait + Sync, G: Gate
             Ok(results)
         },
     )
+}
+
+/// Returns a list of one result.
+fn list_of(
+    alloc: Global,
+    one: Result<Tools, TurnFault>,
+) -> Result<Vec<Result<Tools, TurnFault>>, AllocError>
+    ensures { IfOk result (λ all. vec_len all ≡ 1) }
+{
+    let mut all = Vec::with_capacity(alloc, 1)?;
+    all.push_reserved(one);
+    Ok(all)
+}
+
+/// Lets all workers work, each in a thread of its own, except the last, which works in this one. So
+/// one worker takes no thread. Returns the results of those whose threads could be started.
+pub(crate) fn run_all<L: Logged + Send + Sync, R: Threads + Wait + Sync, G: Gate + Sync>(
+    rt: &R,
+    alloc: Global,
+    desk: &Mutex<TurnDesk<L>>,
+    board: &Board<'_, L>,
+    course: Option<&Course<'_>>,
+    workers: Vec<Worker<L>>,
+    gate: &G,
+) -> Result<Vec<Result<Tools, TurnFault>>, AllocError>
+    ensures alone { IfOk result (λ all. vec_len workers ≤ 1 → vec_len all ≡ vec_len workers) }
+{
+    let mut others = workers;
+    let Some(own) = others.pop() else {
+        return Ok(Vec::new(alloc));
+    };
+    if others.is_empty() {
+        return list_of(alloc, work(rt, alloc, desk, board, course, own, gate));
+    }
+    run_in_threads(rt, alloc, desk, board, course, others, own, gate)
 }

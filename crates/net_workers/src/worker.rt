@@ -5,7 +5,7 @@ ghost use Rattle.congestion_book.specs.Contents.{node_total};
 
 use crate::board::Board;
 use crate::course::Course;
-use crate::fault::WorkFault;
+use crate::fault::TurnFault;
 use crate::had_room::HadRoom;
 use crate::history::{Front, Logged};
 use crate::replica::{FoundTree, MOST_TURNS, Replica};
@@ -42,7 +42,7 @@ fn await_turns<L: Logged, R: Wait>(
     board: &Board<'_, L>,
     course: &Course<'_>,
     turns: u64,
-) -> Result<(), WorkFault> {
+) -> Result<(), TurnFault> {
     for _ in 0..MOST_TRIES {
         if turns == 0 || board.page(turns - 1).is_some() {
             return Ok(());
@@ -52,7 +52,7 @@ fn await_turns<L: Logged, R: Wait>(
     if course.wait_for(rt, turns) {
         Ok(())
     } else {
-        Err(WorkFault::Astray)
+        Err(TurnFault::Astray)
     }
 }
 
@@ -115,7 +115,7 @@ impl<L: Logged> Worker<L> {
         board: &Board<'_, L>,
         net: u32,
         gate: &G,
-    ) -> Result<FoundTree<L>, WorkFault> {
+    ) -> Result<FoundTree<L>, TurnFault> {
         let Worker {
             replica,
             room,
@@ -143,7 +143,7 @@ impl<L: Logged> Worker<L> {
         board: &Board<'_, L>,
         found: FoundTree<L>,
         may_look: bool,
-    ) -> Result<Option<FoundTree<L>>, WorkFault> {
+    ) -> Result<Option<FoundTree<L>>, TurnFault> {
         let mut tree = found.copy_tree(alloc)?;
         if may_look && self.is_filled(board, &found) {
             return Ok(Some(found));
@@ -158,7 +158,7 @@ impl<L: Logged> Worker<L> {
         if made {
             Ok(None)
         } else {
-            Err(WorkFault::Astray)
+            Err(TurnFault::Astray)
         }
     }
 
@@ -172,7 +172,7 @@ impl<L: Logged> Worker<L> {
         board: &Board<'_, L>,
         found: FoundTree<L>,
         gate: &G,
-    ) -> Result<(), WorkFault> {
+    ) -> Result<(), TurnFault> {
         let mut found = found;
         for _ in 0..board.looks() {
             let Some(filled) = self.try_turn(rt, alloc, desk, board, found, true)? else {
@@ -193,7 +193,7 @@ impl<L: Logged> Worker<L> {
         net: u32,
         turns: u64,
         gate: &G,
-    ) -> Result<FoundTree<L>, WorkFault> {
+    ) -> Result<FoundTree<L>, TurnFault> {
         let worker = self.number();
         gate.between(worker, net);
         self.replica.catch_up(board, turns);
@@ -209,7 +209,7 @@ impl<L: Logged> Worker<L> {
         rt: &R,
         desk: &Mutex<TurnDesk<L>>,
         board: &Board<'_, L>,
-    ) -> Result<Option<u64>, WorkFault> {
+    ) -> Result<Option<u64>, TurnFault> {
         let Worker { share, held, .. } = self;
         held.clear();
         let mut desk = hold(rt, desk);
@@ -235,7 +235,7 @@ impl<L: Logged> Worker<L> {
         desk: &Mutex<TurnDesk<L>>,
         board: &Board<'_, L>,
         gate: &G,
-    ) -> Result<bool, WorkFault> {
+    ) -> Result<bool, TurnFault> {
         let Some(made) = self.draw_portion(rt, desk, board)? else {
             return Ok(false);
         };
@@ -262,7 +262,7 @@ impl<L: Logged> Worker<L> {
         place: u64,
         turn: &ScheduledTurn,
         gate: &G,
-    ) -> Result<(), WorkFault> {
+    ) -> Result<(), TurnFault> {
         await_turns(rt, board, course, turn.seen)?;
         let found = self.search_drawn(alloc, board, turn.net, turn.seen, gate)?;
         await_turns(rt, board, course, place)?;
@@ -298,7 +298,7 @@ pub(crate) fn work_through<L: Logged, R: Wait, G: Gate>(
     board: &Board<'_, L>,
     worker: Worker<L>,
     gate: &G,
-) -> Result<Tools, WorkFault> {
+) -> Result<Tools, TurnFault> {
     let mut worker = worker;
     for _ in rt.forever() {
         if !worker.make_turns(rt, alloc, desk, board, gate)? {

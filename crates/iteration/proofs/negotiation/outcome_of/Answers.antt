@@ -1,5 +1,13 @@
-use Rattle.std.proofs.lemmas.Result.{IfOk-weaker}
+use Rattle.std.proofs.Common.{◌≡◌, sym, ◌∙◌}
+use Rattle.std.proofs.lemmas.Result.{IfOk-weaker, IfErr-weaker}
+use Rattle.net_workers.specs.declared.fault.WorkFault.TheVariants.{Memory, NoThread}
 use Rattle.iteration.proofs.negotiation.outcome_of.Goals as goal
+
+apart : Memory ≡ NoThread → ⊥
+apart e = cc
+
+pub returns-clause-thread : goal.returns-clause-thread
+returns-clause-thread g c = IfErr-weaker c.end.result _ _ (λ fault memory thread. absurd (apart (sym memory ∙ thread))) c.end.ensures.memory
 
 pub returns-clause-run : goal.returns-clause-run
 returns-clause-run g c =
@@ -9,4 +17,4 @@ returns-clause-run g c =
       reached = run.reached;
       ended = run.ended;
       reported = reported;
-    }) c.end.ensures
+    }) c.end.ensures.outcome

@@ -1,7 +1,7 @@
 use Rattle.std.proofs.Common.{rules, ◌≡◌, length, map, subst, ap, ◌∙◌}
 use Rattle.net_workers.specs.kept.TurnLogs.{IsLegal, plan_of, entries_of, turn_in_schedule}
 use Rattle.net_workers.proofs.Entries.{agrees_by, schedule_by}
-use Rattle.net_workers.proofs.iteration.settle.Goals as goal
+use Rattle.net_workers.proofs.iterating.book_and_reports.Goals as goal
 
 pub reports_of-requires : goal.reports_of-requires
 reports_of-requires g c =
@@ -20,7 +20,7 @@ returns-clause-agrees g c =
     let done = c.is_done.ensures in
     let count : length c.in_ok-reports.reports.items ≡ round.workers = search rules in
     agrees_by round.opening c.into_parts-book.result.0 round.present round.bb round.workers c.args.desk c.in_ok-reports.reports.items legal parts.sound parts.within parts.lists parts.turns
-    (done.once c.if-not-is_done.false) (done.free c.if-not-is_done.false) count parts.known
+    (done.once.0 c.if-not-is_done.false) (done.free c.if-not-is_done.false) count parts.known
     (λ w low. reports.each w (rw c.requires.workers low) ∙ ap (entries_of w) turns)
 
 pub returns-clause-allowed : goal.returns-clause-allowed

@@ -1,8 +1,9 @@
 //! An iteration of several workers on one book.
 
-ghost use Rattle.std.specs.Prelude.{◌≡◌, ◌<◌, ◌≤◌, true, map, [], IfOk};
+ghost use Rattle.std.specs.Prelude.{◌≡◌, ◌<◌, ◌≤◌, true, map, [], vec_len, IfOk, IfErr};
 ghost use Rattle.node_cost.specs.Options.{present_of, most_iterations, most_workers};
 ghost use Rattle.congestion_book.specs.Contents.{IsSound, IsFresh};
+ghost use Rattle.net_workers.specs.declared.fault.WorkFault.TheVariants.{NoThread};
 ghost use Rattle.net_workers.specs.Agreement.{Agrees};
 ghost use Rattle.net_workers.specs.Schedules.{AreAllowed};
 ghost use Rattle.net_workers.specs.kept.TurnLogs.{plan_of, turn_in_schedule};
@@ -11,7 +12,7 @@ use crate::board::Board;
 use crate::comparison::is_done;
 use crate::course::Course;
 use crate::desk::Desk;
-use crate::fault::WorkFault;
+use crate::fault::{TurnFault, WorkFault};
 use crate::gathering::{gather, reports_of, schedule_of};
 use crate::history::{Front, Head, Logged, Opened};
 use crate::made_turn::MadeTurn;
@@ -20,7 +21,7 @@ use crate::page::Cell;
 use crate::report::Report;
 use crate::scheduled::{draw_all, follow_alone};
 use crate::search::SearchOptions;
-use crate::staff::{dismiss_all, hire_all, leave_tools};
+use crate::staff::{dismiss_all, hire_all, leave_tools, send_home};
 use crate::threads::run_all;
 use crate::turn_desk::TurnDesk;
 use crate::worker::Worker;
@@ -58,27 +59,27 @@ fn accepted_turns<L: Logged, G: Gate>(
     front: &Front<L>,
     iteration: u32,
     gate: &G,
-) -> Result<Vec<MadeTurn>, WorkFault>
+) -> Result<Vec<MadeTurn>, TurnFault>
     ensures turns { IfOk result (λ turns. turns.items ≡ front.now) }
     ensures accepted { IfOk result
         (λ turns. G.accepted gate.now iteration (map turn_in_schedule turns.items)) }
 {
     let turns = gather(alloc, row, front)?;
     if !are_accepted(alloc, &turns, iteration, gate)? {
-        return Err(WorkFault::Astray);
+        return Err(TurnFault::Astray);
     }
     Ok(turns)
 }
 
 /// Returns the book and the reports, if each net had its turn and the gate accepts the turns.
-fn settle<L: Logged, G: Gate>(
+fn book_and_reports<L: Logged, G: Gate>(
     alloc: Global,
     desk: TurnDesk<L>,
     row: Vec<Cell<L>>,
     iteration: u32,
     workers: u32,
     gate: &G,
-) -> Result<(Book, Vec<Report>), WorkFault>
+) -> Result<(Book, Vec<Report>), TurnFault>
     requires workers { workers ≡ L.workers }
     ensures sound { IfOk result (λ r. IsSound r.0) }
     ensures agrees { IfOk result (λ r. Agrees L.opening r.0 L.present L.bb L.workers r.1.items) }
@@ -87,7 +88,7 @@ fn settle<L: Logged, G: Gate>(
 {
     let (book, front) = desk.into_parts();
     if !is_done(&book) {
-        return Err(WorkFault::Astray);
+        return Err(TurnFault::Astray);
     }
     let turns = accepted_turns(alloc, row, &front, iteration, gate)?;
     let reports = reports_of(alloc, turns, workers)?;
@@ -105,7 +106,9 @@ fn work_together<L: Logged + Send + Sync, R: Threads + Wait + Sync, G: Gate + Sy
     workers: Vec<Worker<L>>,
     tools: &mut Vec<Tools>,
     gate: &G,
-) -> Result<TurnDesk<L>, WorkFault> {
+) -> Result<TurnDesk<L>, WorkFault>
+    ensures { IfErr result (λ fault. fault ≡ NoThread → 1 < vec_len workers) }
+{
     let all = workers.len();
     let desk = Mutex::new(desk);
     let results = run_all(rt, alloc, &desk, board, course, workers, gate)?;
@@ -127,7 +130,7 @@ fn work_alone<L: Logged, R: Wait, G: Gate>(
     workers: Vec<Worker<L>>,
     tools: &mut Vec<Tools>,
     gate: &G,
-) -> Result<TurnDesk<L>, WorkFault> {
+) -> Result<TurnDesk<L>, TurnFault> {
     let desk = Mutex::new(desk);
     let mut workers = workers;
     follow_alone(rt, alloc, &desk, board, course, &mut workers, gate)?;
@@ -146,15 +149,36 @@ fn work_by<L: Logged + Send + Sync, R: Threads + Wait + Sync, G: Gate + Sync>(
     workers: Vec<Worker<L>>,
     tools: &mut Vec<Tools>,
     gate: &G,
-) -> Result<TurnDesk<L>, WorkFault> {
+) -> Result<TurnDesk<L>, WorkFault>
+    ensures { IfErr result (λ fault. fault ≡ NoThread → 1 < vec_len workers) }
+{
     let (mut desk, mut workers) = (desk, workers);
     draw_all(alloc, board, &mut desk, &mut workers, schedule.turns)?;
     let course = Course::new(schedule.turns);
     if schedule.is_alone {
-        work_alone(rt, alloc, desk, board, &course, workers, tools, gate)
+        Ok(work_alone(rt, alloc, desk, board, &course, workers, tools, gate)?)
     } else {
         work_together(rt, alloc, desk, board, Some(&course), workers, tools, gate)
     }
+}
+
+/// Lets the workers of a round work at a desk until no net is left: all of them, if there is enough
+/// work for their threads. They leave their tools.
+fn work_freely<L: Logged + Send + Sync, R: Threads + Wait + Sync, G: Gate + Sync>(
+    rt: &R,
+    alloc: Global,
+    desk: TurnDesk<L>,
+    board: &Board<'_, L>,
+    workers: Vec<Worker<L>>,
+    tools: &mut Vec<Tools>,
+    gate: &G,
+) -> Result<TurnDesk<L>, WorkFault>
+    ensures { IfErr result (λ fault. fault ≡ NoThread → 1 < vec_len workers) }
+{
+    let mut workers = workers;
+    let busy = board.busy_workers(workers.len());
+    send_home(&mut workers, busy, tools)?;
+    work_together(rt, alloc, desk, board, None, workers, tools, gate)
 }
 
 /// Lets the workers of a round work at a desk until no net is left, or until the turns of the
@@ -167,9 +191,11 @@ fn work_at<L: Logged + Send + Sync, R: Threads + Wait + Sync, G: Gate + Sync>(
     workers: Vec<Worker<L>>,
     tools: &mut Vec<Tools>,
     gate: &G,
-) -> Result<TurnDesk<L>, WorkFault> {
+) -> Result<TurnDesk<L>, WorkFault>
+    ensures { IfErr result (λ fault. fault ≡ NoThread → 1 < vec_len workers) }
+{
     match gate.schedule(board.iteration()) {
-        None => work_together(rt, alloc, desk, board, None, workers, tools, gate),
+        None => work_freely(rt, alloc, desk, board, workers, tools, gate),
         Some(schedule) => work_by(rt, alloc, desk, board, schedule, workers, tools, gate),
     }
 }
@@ -215,6 +241,7 @@ fn work_on<L: Logged + Send + Sync, R: Threads + Wait + Sync, G: Gate + Sync>(
     requires parts { blank.parts ≡ L.parts }
     requires one_each { blank.parts ≡ workers }
     requires none { front ≡ [] }
+    ensures { IfErr result (λ fault. fault ≡ NoThread → 1 < workers) }
 {
     let (desk, shares) = Desk::<L>::new(alloc, book, workers, blank)?;
     let staff = hire_all(alloc, board, &desk, &front, shares, tools)?;
@@ -253,6 +280,7 @@ fn iterate_as<L: Logged + Send + Sync, R: Threads + Wait + Sync, G: Gate + Sync>
     ensures agrees { IfOk result (λ r. Agrees L.opening r.0 L.present L.bb L.workers r.1.items) }
     ensures allowed { IfOk result
         (λ r. AreAllowed (G.accepted gate.now) options.iteration r.0 r.1.items) }
+    ensures thread { IfErr result (λ fault. fault ≡ NoThread → 1 < workers) }
 {
     let (head, front) = opened.named::<L>();
     let kept = mem::replace(trees, Vec::new(alloc));
@@ -260,24 +288,25 @@ fn iterate_as<L: Logged + Send + Sync, R: Threads + Wait + Sync, G: Gate + Sync>
     let desk = work_on(rt, alloc, &board, book, workers, blank, front, tools, gate)?;
     let (row, opening) = board.into_parts();
     *trees = opening;
-    settle(alloc, desk, row, options.iteration, workers, gate)
+    Ok(book_and_reports(alloc, desk, row, options.iteration, workers, gate)?)
 }
 
 /// Makes an iteration of a negotiation. This many workers draw the nets of the book, in whose open
 /// iteration nothing was drawn yet, search for their trees, and make a turn for each. If the gate
 /// has a schedule for the iteration, they make its turns. After the first iteration, a worker that
 /// is about to commit a tree looks and searches again if the others have filled a node of the tree,
-/// up to four times. The workers wait for one another at the book's lock, and the call waits for
-/// all of them. The book comes back sound, with the iteration still open, and with a report of each
-/// worker. The turns and trees of the reports are those of the book.
+/// up to four times; and if there is little to do, only some of the workers work, at least four.
+/// The workers wait for one another at the book's lock, and the call waits for all of them. The
+/// book comes back sound, with the iteration still open, and with a report of each worker. The
+/// turns and trees of the reports are those of the book.
 ///
 /// The workers search in the workspace, which is of the book's problem. They leave there what they
 /// searched with, so that the next iteration needn't make it again. Contracts see only its problem.
 ///
-/// `NoThread` if a thread couldn't be started, `Memory` if memory ran out, `Astray` if the book
-/// refused a call, a report disagrees with it, a schedule can't be followed or the gate didn't
-/// accept the turns. If there are several, the first of these is returned. The book is then
-/// dropped.
+/// `NoThread` if a thread couldn't be started, which never happens with one worker. `Memory` if
+/// memory ran out. `Astray` if the book refused a call, a report disagrees with it, a schedule
+/// can't be followed or the gate didn't accept the turns. If there are several, the first of these
+/// is returned. The book is then dropped.
 pub fn iterate_in<R: Threads + Wait + Sync, G: Gate + Sync>(
     rt: &R,
     alloc: Global,
@@ -297,6 +326,7 @@ pub fn iterate_in<R: Threads + Wait + Sync, G: Gate + Sync>(
         settings.now.bb workers r.1.items) }
     ensures allowed { IfOk result
         (λ r. AreAllowed (G.accepted gate.now) iteration r.0 r.1.items) }
+    ensures thread { IfErr result (λ fault. fault ≡ NoThread → 1 < workers) }
     ensures workspace { workspace.new ≡ workspace.old }
 {
     let options = SearchOptions::of(settings, iteration, workers);
@@ -342,6 +372,7 @@ pub fn iterate<R: Threads + Wait + Sync, G: Gate + Sync>(
         settings.now.bb workers r.1.items) }
     ensures allowed { IfOk result
         (λ r. AreAllowed (G.accepted gate.now) iteration r.0 r.1.items) }
+    ensures thread { IfErr result (λ fault. fault ≡ NoThread → 1 < workers) }
 {
     let mut workspace = workspace_of(alloc, &book)?;
     iterate_in(

@@ -1,5 +1,5 @@
 use Rattle.net_workers.specs.kept.TurnLogs.{plan_of}
-use Rattle.net_workers.proofs.iteration.iterate_in.Given as goal
+use Rattle.net_workers.proofs.iterating.iterate_in.Given as goal
 
 abbrev pub ghosts-iterate_as-L-Ledger : goal.ghosts-iterate_as-L-Ledger
 ghosts-iterate_as-L-Ledger g a = record { name = a.blank.name; parts = a.blank.parts }
