@@ -13,7 +13,7 @@ use lab_trees::{
     other_calls, problem_calls, reading_back, report_calls, route_text_calls, routing_calls,
     tree_calls,
 };
-use lab_workers::{desk_calls, iteration_calls, repeated_calls, work_calls};
+use lab_workers::{desk_calls, gate_calls, iteration_calls, repeated_calls, work_calls};
 use std::alloc::Global;
 use std::rt::Runtime;
 use std::sync::Wait;
@@ -103,6 +103,7 @@ fn reads_text(name: &str) -> bool {
             | "route"
             | "run"
             | "desk"
+            | "both_gates"
             | "run_arch"
             | "run_net"
             | "run_place"
@@ -180,6 +181,10 @@ fn call_workers(
         made => return made,
     }
     match repeated_calls::call(rt, session, &settings, call, out) {
+        Err(Unanswered::NoCall) => (),
+        made => return made,
+    }
+    match gate_calls::call(rt, session, call, out) {
         Err(Unanswered::NoCall) => (),
         made => return made,
     }

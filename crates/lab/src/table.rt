@@ -55,7 +55,6 @@ wire ID
 sink_of ID
 is_source ID
 is_sink ID
-pins_beside ID
   look-ups of a node; a wire is `KIND REACH SPAN`
 tracks
 track_types
@@ -70,7 +69,6 @@ node_count
 edge_count
 first_wire
 most_successors
-input_pins
 parts
   the whole device
 walk_nodes N
@@ -147,7 +145,7 @@ wire_type_uses
 settings FIRST INIT MULT ACC BB ITERATIONS
 settings standard
 settings
-  chooses settings; the chosen ones
+  chooses settings; with a last word `steady` nets keep to their trees; the chosen ones
 present ITERATION
   an iteration's present-congestion factor
 cost BASE HISTORY CAPACITY OTHERS PRESENT
@@ -236,6 +234,11 @@ least_width START WORKERS [global] [GATE]
 desk WORKERS <<
   events at a desk of the book, by lines `draw W`, `commit W NET TREE`, `pass W NET`; the
   replies, and each share's count of turns
+both_gates [alone] <<
+  what both halves of a pair of gates hear, in order; `alone`: the first half is no gate. Lines
+  are `begins`, `opened I NETS`, `schedule I`, `between W N`, `stuck N SINK`, `looked W N`,
+  `searched W N`, `accepts I W N`, `closed I`, `found`, `left`, `tries W`, `tried W routed I`,
+  `tried W unrouted UNROUTED OVERUSED I`
 run_arch FILE
 run_net FILE
 run_place FILE

@@ -17,7 +17,7 @@ use node_cost::Settings;
 use rr_graph::Mode;
 use run_inputs::{AppFault, print_fault, status};
 use runs::{
-    NoFiles, WidthPlan, check_run, graph_run, outcome_status, report_status, route_run,
+    NoFiles, SideFiles, WidthPlan, check_run, graph_run, outcome_status, report_status, route_run,
     verdict_status, width_run,
 };
 use std::alloc::Global;
@@ -212,6 +212,7 @@ fn search_design<R: Runtime + Threads + Wait + Sync + AllocGlobal>(
 {
     let mut written = sink(rt.alloc(), files.route_room);
     let mut printed = sink(rt.alloc(), files.out_room);
+    let mut words = NoFiles.words();
     let plan = WidthPlan::Search {
         start,
         below: 0,
@@ -224,6 +225,7 @@ fn search_design<R: Runtime + Threads + Wait + Sync + AllocGlobal>(
         &mut source_of(design.place),
         &mut written,
         &mut printed,
+        &mut words,
         plan,
         mode,
         settings,

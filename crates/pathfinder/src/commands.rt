@@ -1,8 +1,10 @@
 //! The commands. Each connects files and streams to a run, as its words say.
 
-ghost use Rattle.std.specs.Prelude.{◌≤◌};
+ghost use Rattle.std.specs.Prelude.{◌≡◌, ◌≤◌, if◌then◌else◌};
 ghost use Rattle.rr_graph.specs.Fabric.{longest_side, most_tracks};
+ghost use Rattle.rr_graph.specs.node.Mode.TheVariants.{Detailed, Global};
 ghost use Rattle.node_cost.specs.Options.{most_workers};
+ghost use Rattle.runs.specs.declared.plan.WidthPlan.TheVariants.{Search, Upward};
 ghost use Rattle.runs.specs.WidthRun.{start_of};
 
 use crate::files::{BehindProgress, RunFile};
@@ -32,7 +34,7 @@ use rr_graph::Mode;
 use run_inputs::AppFault;
 use run_log::Progress;
 use run_schedule::Summed;
-use runs::{WidthPlan, check_run, graph_run, route_run, width_run};
+use runs::{SideFiles, WidthPlan, check_run, graph_run, route_run, width_run};
 use std::fs::Files;
 use std::io;
 use std::io::Write;
@@ -43,7 +45,9 @@ use vpr_text::{Adapted, ByteSink};
 use width_search::WidthReport;
 
 /// Returns the mode in which nets are routed.
-fn mode_of(global: bool) -> Mode {
+fn mode_of(global: bool) -> Mode
+    ensures { result ≡ (if global then Global else Detailed) }
+{
     if global { Mode::Global } else { Mode::Detailed }
 }
 
@@ -189,7 +193,7 @@ pub fn route<'a, R: Runtime + Threads + Wait + Sync + AllocGlobal>(
     let schedule = schedule_in(rt.alloc(), followed_bytes, given.workers)?;
     let (workers, settings) = (workers_of(&schedule, given.workers), given.settings);
     let (width, mode) = (given.width, mode_of(given.global));
-    let command = route_text(rt.alloc(), width, mode)?;
+    let command = route_text(rt.alloc(), width, mode, settings.is_steady())?;
     let sums = InputSums::new();
     let run = sums.description(command.as_str(), workers, settings);
     let others = others_of(files, [given.log, given.follow, given.rest]);
@@ -227,7 +231,8 @@ pub fn route<'a, R: Runtime + Threads + Wait + Sync + AllocGlobal>(
 /// Returns the plan of the widths that a search tries.
 fn plan_of(start: u32, upward: bool, below: u32, shows_bound: bool) -> WidthPlan
     requires { (1 ≤ start) × (start ≤ most_tracks) }
-    ensures { (1 ≤ start_of result) × (start_of result ≤ most_tracks) }
+    ensures plan { result ≡ (if upward then Upward start else Search start below shows_bound) }
+    ensures start { (1 ≤ start_of result) × (start_of result ≤ most_tracks) }
 {
     if upward {
         WidthPlan::Upward { start }
@@ -251,6 +256,7 @@ fn width_watched<R, P: Gate + Sync, L: Gate + Sync>(
     sums: &InputSums,
     route: &mut RunFile<'_>,
     out: &mut impl ByteSink,
+    words: &mut RunFile<'_>,
     plan: WidthPlan,
     mode: Mode,
     settings: &Settings,
@@ -274,6 +280,7 @@ where
         &mut Summed::new(handle, &mut design.place, gates.wanted(&sums.place)),
         route,
         out,
+        words,
         plan,
         mode,
         settings,
@@ -304,7 +311,14 @@ pub fn width<'a, R: Runtime + Threads + Wait + Sync + AllocGlobal>(
     let (workers, settings) = (workers_of(&schedule, given.workers), given.settings);
     let plan = plan_of(given.start, given.upward, given.verify, !given.no_bound);
     let mode = mode_of(given.global);
-    let command = width_text(rt.alloc(), given.start, given.upward, given.verify, mode)?;
+    let command = width_text(
+        rt.alloc(),
+        given.start,
+        given.upward,
+        given.verify,
+        mode,
+        settings.is_steady(),
+    )?;
     let sums = InputSums::new();
     let run = sums.description(command.as_str(), workers, settings);
     let others = others_of(files, [given.log, given.follow, None]);
@@ -327,9 +341,10 @@ pub fn width<'a, R: Runtime + Threads + Wait + Sync + AllocGlobal>(
         progress,
     };
     let gates = ScheduleGates::new(handle, rt.alloc(), &schedule, &run, given.workers, recorded);
+    let mut words = kept.words();
     let result = width_watched(
-        handle, &gates, progress, &log, &kept, design, &sums, &mut route, &mut out, plan, mode,
-        &settings, workers,
+        handle, &gates, progress, &log, &kept, design, &sums, &mut route, &mut out, &mut words,
+        plan, mode, &settings, workers,
     );
     let report = gates.result_of(result)?;
     gates.end(rt, progress, given.follow, recorded, &run);
@@ -379,6 +394,19 @@ pub fn check(
     )
 }
 
+/// Returns the form of a report.
+fn form_of(given: &ReportWords<'_>) -> ReportForm
+    ensures full { result.full ≡ given.now.full_stats }
+    ensures map { result.map ≡ given.now.map }
+    ensures json { result.json ≡ given.now.json }
+{
+    ReportForm {
+        full: given.full_stats,
+        map: given.map,
+        json: given.json,
+    }
+}
+
 /// Runs the `report` command.
 pub fn report(
     rt: &HostRuntime,
@@ -391,11 +419,6 @@ pub fn report(
 {
     let mut out = Adapted::new(output(rt, watched));
     let (width, mode) = (given.width, mode_of(given.global));
-    let form = ReportForm {
-        full: given.full_stats,
-        map: given.map,
-        json: given.json,
-    };
     report_run(
         rt.alloc(),
         &mut design.net,
@@ -405,7 +428,7 @@ pub fn report(
         &mut out,
         width,
         mode,
-        form,
+        form_of(&given),
     )
 }
 

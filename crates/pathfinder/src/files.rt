@@ -1,16 +1,17 @@
 //! Standard output, and ROUTE and the other files that a run writes, each of which appears as a
 //! whole or not at all wherever a file can be made in its folder.
 
-ghost use Rattle.std.specs.Prelude.{◌≤◌, IfOk, None, length};
+ghost use Rattle.std.specs.Prelude.{◌≡◌, None};
 
 use crate::identity::{STANDARD_ERROR, STANDARD_OUTPUT, leads_to};
 use crate::replacement::{Replacement, begin_replacement, replacement_of};
 use crate::shown::{Plain, PlainWriter};
+use crate::target::{LateSink, Target};
 use run_log::Progress;
 use runs::WholeSink;
 use std::fs;
 use std::fs::{File, OpenOptions};
-use std::io::{Eprint, ErrorKind, Result, Write};
+use std::io::{Eprint, ErrorKind, Result, Stderr, Stdout, Write};
 use std::os::unix::fs::FileTypeExt;
 use std::time::Clock;
 use vpr_text::{Broken, ByteSink};
@@ -18,18 +19,33 @@ use vpr_text::{Broken, ByteSink};
 /// The greatest number of bytes of a file that can be read.
 const MOST_BYTES: u64 = 16_777_216;
 
-/// Where the bytes of a file go.
+/// A standard stream, as the target of a file or of words.
 #[derive(Drop)]
-enum Target {
-    /// To a file of its own, which replaces the named file when it is complete.
-    Replacing(File),
-    /// To the file itself.
-    InPlace(File),
-    /// To standard output, which goes to the file.
-    Output,
-    /// To standard error, which goes to the file.
-    Error,
+pub enum Stream {
+    /// Standard output, which goes to the file.
+    Output(Stdout),
+    /// Standard error, which goes to the file.
+    Error(Stderr),
+    /// Words on standard error.
+    Words(PlainWriter<Stderr>),
 }
+
+impl Write for Stream {
+    fn write(&mut self, bytes: &[u8]) -> Result<usize> {
+        match self {
+            Stream::Output(stream) => stream.write(bytes),
+            Stream::Error(stream) => stream.write(bytes),
+            Stream::Words(stream) => stream.write(bytes),
+        }
+    }
+
+    fn flush(&mut self) -> Result<()> {
+        Ok(())
+    }
+}
+
+/// Where the bytes of a run's file go.
+type FileTarget = Target<File, Stream>;
 
 /// Creates a file, or empties the one that is there. Opens a pipe without waiting for a reader.
 #[inline(never)]
@@ -81,7 +97,7 @@ fn begin_file(
     rt: &HostRuntime,
     name: &str,
     replacement: Option<&mut Replacement>,
-) -> Result<Target> {
+) -> Result<FileTarget> {
     let Ok(found) = fs::metadata(rt, name) else {
         return begin_beside(rt, name, replacement, None);
     };
@@ -89,10 +105,10 @@ fn begin_file(
         return Ok(Target::InPlace(fs::create(rt, name)?));
     }
     if leads_to(rt, STANDARD_OUTPUT, &found) {
-        return Ok(Target::Output);
+        return Ok(Target::Stream(Stream::Output(rt.stdout())));
     }
     if leads_to(rt, STANDARD_ERROR, &found) {
-        return Ok(Target::Error);
+        return Ok(Target::Stream(Stream::Error(rt.stderr())));
     }
     // A file that may not be written isn't replaced either.
     let _ = OpenOptions::new().write(true).open(rt, name)?;
@@ -107,7 +123,7 @@ fn begin_beside(
     name: &str,
     replacement: Option<&mut Replacement>,
     found: Option<&fs::Metadata>,
-) -> Result<Target> {
+) -> Result<FileTarget> {
     if let Some(replacement) = replacement {
         if let Ok(file) = begin_replacement(rt, replacement, found) {
             return Ok(Target::Replacing(file));
@@ -173,11 +189,7 @@ pub struct RunFile<'a> {
     /// Its name, or `None` for words.
     name: Option<String>,
     replacement: Option<Replacement>,
-    target: Option<Target>,
-    words: PlainWriter<Errors<'a>>,
-    /// The number of bytes that were written.
-    count: u64,
-    has_failed: bool,
+    sink: LateSink<FileTarget>,
     /// Whether what was written is in its place.
     is_placed: bool,
 }
@@ -195,10 +207,7 @@ impl<'a> RunFile<'a> {
             progress,
             name,
             replacement,
-            target: None,
-            words: PlainWriter::new(Errors::new(rt), true),
-            count: 0,
-            has_failed: false,
+            sink: LateSink::new(),
             is_placed: false,
         }
     }
@@ -224,39 +233,43 @@ impl<'a> RunFile<'a> {
 
     /// Puts what was written into its place, if nothing has failed.
     pub fn finish(&mut self) -> std::result::Result<(), Broken> {
-        if self.has_failed {
+        if self.sink.has_failed() {
             return Err(Broken);
         }
         self.complete()
     }
 
-    /// Takes the target of writes, and begins it if it wasn't begun.
-    fn take_target(&mut self, name: &str) -> Result<Target> {
-        match self.target.take() {
-            Some(target) => Ok(target),
-            None => begin_file(self.rt, name, self.replacement.as_mut()),
+    /// Returns the target, begun.
+    fn begun(&mut self) -> Result<FileTarget>
+        ensures { self.new.sink ≡ self.old.sink }
+    {
+        match &self.name {
+            Some(name) => begin_file(self.rt, name.as_str(), self.replacement.as_mut()),
+            None => {
+                let words = PlainWriter::new(self.rt.stderr(), true);
+                Ok(Target::Stream(Stream::Words(words)))
+            }
         }
     }
 
-    /// Writes a front of the bytes, and returns its length.
-    fn write(&mut self, bytes: &[u8]) -> Result<usize>
-        ensures { IfOk result (λ count. count ≤ length bytes.now) }
+    /// Begins the target if it isn't begun. If that fails, so does the sink at its next write.
+    fn begin(&mut self)
+        ensures { self.new.sink.has_failed ≡ self.old.sink.has_failed }
     {
         self.progress.end();
-        let Some(name) = self.name.take() else {
-            return self.words.write(bytes);
-        };
-        let target = self.take_target(name.as_str());
-        self.name = Some(name);
-        let mut target = target?;
-        let written = write_to(self.rt, &mut target, bytes);
-        self.target = Some(target);
-        written
+        if self.sink.is_begun() {
+            return;
+        }
+        if let Ok(target) = self.begun() {
+            self.sink.begin(target);
+        }
     }
 
     /// Removes the replacement if it was begun.
-    fn abandon(&mut self) {
-        if let Some(Target::Replacing(_)) = self.target.take() {
+    fn abandon(&mut self)
+        ensures { self.new.sink.has_failed ≡ self.old.sink.has_failed }
+    {
+        if let Some(Target::Replacing(_)) = self.sink.end() {
             if let Some(replacement) = &self.replacement {
                 remove_begun(self.rt, replacement);
             }
@@ -265,8 +278,10 @@ impl<'a> RunFile<'a> {
 
     /// Puts what was begun into its place, and returns whether it is there. If it isn't, removes
     /// it.
-    fn is_put_in_place(&mut self) -> bool {
-        let Some(Target::Replacing(_)) = self.target.take() else {
+    fn is_put_in_place(&mut self) -> bool
+        ensures { self.new.sink.has_failed ≡ self.old.sink.has_failed }
+    {
+        let Some(Target::Replacing(_)) = self.sink.end() else {
             return true;
         };
         let (Some(replacement), Some(name)) = (&self.replacement, &self.name) else {
@@ -282,7 +297,7 @@ impl<'a> RunFile<'a> {
     /// Warns if the file is too long to be read.
     #[inline(never)]
     fn warn_of_length(&self) {
-        if self.count <= MOST_BYTES {
+        if self.sink.count() <= MOST_BYTES {
             return;
         }
         if let Some(name) = &self.name {
@@ -294,49 +309,35 @@ impl<'a> RunFile<'a> {
     }
 }
 
-/// Writes a front of the bytes to a target, and returns its length.
-fn write_to(rt: &HostRuntime, target: &mut Target, bytes: &[u8]) -> Result<usize>
-    ensures { IfOk result (λ count. count ≤ length bytes.now) }
-{
-    match target {
-        Target::Replacing(file) | Target::InPlace(file) => file.write(bytes),
-        Target::Output => rt.stdout().write(bytes),
-        Target::Error => rt.stderr().write(bytes),
-    }
-}
-
 impl ByteSink for RunFile<'_> {
+    // The toolchain doesn't tell what the system's files hold.
     ghost taken = { λ _. None };
 
-    ghost failed = { λ file. file.has_failed };
+    ghost failed = { λ file. file.sink.has_failed };
 
     fn put(&mut self, bytes: &[u8]) -> std::result::Result<usize, Broken> {
-        if self.has_failed {
+        if self.sink.has_failed() {
             return Err(Broken);
         }
-        match self.write(bytes) {
-            Ok(count) if count > 0 => {
-                self.count = self.count.saturating_add(count as u64);
-                self.has_failed = false;
-                Ok(count)
-            }
-            _ => {
-                self.abandon();
-                self.has_failed = true;
-                Err(Broken)
-            }
+        self.begin();
+        let put = self.sink.put(bytes);
+        if put.is_err() {
+            self.abandon();
         }
+        put
     }
 }
 
 impl WholeSink for RunFile<'_> {
     ghost is_placed = { λ file. file.is_placed };
 
+    ghost is_at = { λ _ _. Unit {0} };
+
     fn complete(&mut self) -> std::result::Result<(), Broken> {
         let is_placed = self.is_put_in_place();
         self.is_placed = is_placed;
-        self.has_failed = !is_placed;
         if !is_placed {
+            self.sink.fail();
             return Err(Broken);
         }
         self.warn_of_length();
@@ -358,6 +359,8 @@ impl<'a, 'b, W: Write, R: Eprint + Clock> BehindProgress<'a, 'b, W, R> {
 }
 
 impl<W: Write, R: Eprint + Clock> Write for BehindProgress<'_, '_, W, R> {
+    ghost contents = { λ w. W.contents w.out };
+
     fn write(&mut self, bytes: &[u8]) -> Result<usize> {
         self.progress.end();
         self.out.write(bytes)

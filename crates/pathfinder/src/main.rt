@@ -13,6 +13,7 @@ mod run_gates;
 mod schedule;
 mod shown;
 mod side;
+mod target;
 mod terminal;
 mod warning;
 

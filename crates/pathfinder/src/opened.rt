@@ -1,5 +1,7 @@
 //! The opened files that a run reads. What is read of them is kept if faults are to be explained.
 
+ghost use Rattle.std.specs.Prelude.{◌≡◌};
+
 use refusals::is_standard_input;
 use run_inputs::{AppFault, InputFile};
 use std::alloc::Global;
@@ -26,13 +28,15 @@ impl Read for Source {
 
 /// A source that keeps what was read, if that is wanted and there is memory.
 #[derive(Drop)]
-pub struct Kept {
-    source: Source,
+pub struct Kept<S> {
+    source: S,
     bytes: Option<Vec<u8>>,
 }
 
-impl Kept {
-    fn new(alloc: Global, source: Source, is_kept: bool) -> Kept {
+impl<S> Kept<S> {
+    fn new(alloc: Global, source: S, is_kept: bool) -> Kept<S>
+        ensures { result.source ≡ source }
+    {
         Kept {
             source,
             bytes: is_kept.then(|| Vec::new(alloc)),
@@ -48,7 +52,9 @@ impl Kept {
     }
 
     /// Keeps bytes that were read. If memory runs out, keeps nothing any more.
-    fn keep(&mut self, read: &[u8]) {
+    fn keep(&mut self, read: &[u8])
+        ensures { self.new.source ≡ self.old.source }
+    {
         if let Some(bytes) = &mut self.bytes {
             if bytes.extend_from_slice(read).is_err() {
                 self.bytes = None;
@@ -57,7 +63,9 @@ impl Kept {
     }
 }
 
-impl Read for Kept {
+impl<S: Read> Read for Kept<S> {
+    ghost remaining = { λ kept. S.remaining kept.source };
+
     fn read(&mut self, buffer: &mut [u8]) -> IoResult<usize> {
         let count = self.source.read(buffer)?;
         self.keep(&buffer[..count]);
@@ -66,7 +74,7 @@ impl Read for Kept {
 }
 
 /// An input file of a run.
-pub type Input = Adapted<Kept>;
+pub type Input = Adapted<Kept<Source>>;
 
 /// The opened files of a design.
 #[derive(Drop)]

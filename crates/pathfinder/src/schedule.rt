@@ -164,10 +164,20 @@ fn mode_text(mode: Mode) -> &'static str {
     }
 }
 
+/// Returns what a command says of nets that keep to the trees that they have.
+fn steady_text(is_steady: bool) -> &'static str {
+    if is_steady { ", steady" } else { "" }
+}
+
 /// Returns the command `route` with the options of its own.
-pub fn route_text(alloc: Global, width: u32, mode: Mode) -> Result<String, RunFault> {
-    let mode = mode_text(mode);
-    let text = format!(in alloc; "route, {width} tracks, {mode}");
+pub fn route_text(
+    alloc: Global,
+    width: u32,
+    mode: Mode,
+    is_steady: bool,
+) -> Result<String, RunFault> {
+    let (mode, steady) = (mode_text(mode), steady_text(is_steady));
+    let text = format!(in alloc; "route, {width} tracks, {mode}{steady}");
     text.map_err(|_| RunFault::Run(AppFault::Memory))
 }
 
@@ -178,12 +188,13 @@ pub fn width_text(
     upward: bool,
     verify: u32,
     mode: Mode,
+    is_steady: bool,
 ) -> Result<String, RunFault> {
-    let mode = mode_text(mode);
+    let (mode, steady) = (mode_text(mode), steady_text(is_steady));
     let text = if upward {
-        format!(in alloc; "width, start {start}, upward, {mode}")
+        format!(in alloc; "width, start {start}, upward, {mode}{steady}")
     } else {
-        format!(in alloc; "width, start {start}, verify {verify}, {mode}")
+        format!(in alloc; "width, start {start}, verify {verify}, {mode}{steady}")
     };
     text.map_err(|_| RunFault::Run(AppFault::Memory))
 }

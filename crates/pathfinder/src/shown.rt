@@ -130,6 +130,11 @@ impl<W: Write> PlainWriter<W> {
 }
 
 impl<W: Write> Write for PlainWriter<W> {
+    ghost use Rattle.std.specs.Prelude.{None, if◌then◌else◌};
+
+    // What is passed on as it is; on a terminal other bytes may take the place of some.
+    ghost contents = { λ w. if w.is_watched then None else W.contents w.out };
+
     fn write(&mut self, bytes: &[u8]) -> IoResult<usize> {
         if self.is_watched {
             let count = self.write_front(bytes)?;

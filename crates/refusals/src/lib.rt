@@ -4,6 +4,7 @@
 
 mod advice;
 mod foreign;
+mod location;
 mod pin_counts;
 mod refusal;
 mod standard_input;

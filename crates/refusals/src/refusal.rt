@@ -1,17 +1,13 @@
 //! Explains a refused file on standard error: the place, the line, the word, and what to do.
 
-ghost use Rattle.std.specs.Prelude.{◌<◌, IfSome, length};
-
 use crate::advice::{Advice, Offender, advice_on};
 use crate::foreign::foreign_format;
+use crate::location::{is_continued, line_at, line_of, shown, word_of};
 use crate::pin_counts::{PinCounts, pin_counts};
 use run_inputs::{AppFault, InputFile};
 use std::alloc::{AllocGlobal, Global};
 use std::io::Eprint;
 use vpr_text::{Lines, lines};
-
-/// The greatest number of bytes shown of a line or a word.
-const MOST_SHOWN: usize = 200;
 
 /// The greatest number of physical lines shown of a continued line.
 const MOST_LINES: u32 = 8;
@@ -41,25 +37,6 @@ impl<'a> FilesRead<'a> {
             InputFile::Place => self.place,
             InputFile::Route => self.route,
         }
-    }
-}
-
-/// Returns a piece of a file as it is shown: its first `MOST_SHOWN` bytes, with a blank for each
-/// tab and `?` for each other byte that isn't printable. Returns `None` if memory runs out.
-fn shown(alloc: Global, piece: &[u8]) -> Option<String> {
-    let mut text = String::new(alloc);
-    for byte in piece.iter().take(MOST_SHOWN) {
-        text.push(shown_as(*byte)).ok()?;
-    }
-    Some(text)
-}
-
-/// Returns the character that is shown for a byte.
-fn shown_as(byte: u8) -> char {
-    match byte {
-        b'\t' => ' ',
-        b' '..=b'~' => char::from(byte),
-        _ => '?',
     }
 }
 
@@ -170,20 +147,11 @@ fn tell_text(rt: &(impl Eprint + AllocGlobal), name: &str, line: u32, text: &[u8
     }
 }
 
-/// Returns whether a line continues in the next one: its last byte is a backslash, apart from a
-/// comment and blanks.
-fn is_continued(text: &[u8]) -> bool {
-    let end = text.iter().position(|byte| *byte == b'#');
-    let words = text.get(..end.unwrap_or(text.len())).unwrap_or(text);
-    let last = words.iter().rev().find(|byte| !byte.is_ascii_whitespace());
-    last == Some(&b'\\')
-}
-
 /// Prints the advice on a line, after the offending word if there is one.
 fn tell_word(rt: &(impl Eprint + AllocGlobal), advice: &Advice, file: FileRead<'_>) {
     let name = file.name;
     let (line, text) = (advice.line, text_on(advice, file.bytes));
-    match word_of(rt.alloc(), advice, file.bytes) {
+    match word_of(rt.alloc(), file.bytes, line, advice.offender) {
         Some(word) => {
             let _ = eprintln!(rt; "{name}:{line}: `{word}`: {text}");
         }
@@ -197,55 +165,4 @@ fn tell_word(rt: &(impl Eprint + AllocGlobal), advice: &Advice, file: FileRead<'
 /// VPR.
 fn text_on(advice: &Advice, bytes: &[u8]) -> &'static str {
     foreign_format(advice.file, bytes).unwrap_or(advice.text)
-}
-
-/// Returns the bytes of a line of a file, or none if there is no such line.
-fn line_of(bytes: &[u8], number: u32) -> &[u8] {
-    let mut line: u32 = 1;
-    let mut start = 0;
-    for place in 0..bytes.len() {
-        if bytes[place] == b'\n' {
-            if line == number {
-                return bytes.get(start..place).unwrap_or(&[]);
-            }
-            line = line.saturating_add(1);
-            start = place + 1;
-        }
-    }
-    if line == number {
-        bytes.get(start..).unwrap_or(&[])
-    } else {
-        &[]
-    }
-}
-
-/// Returns the offending word of a line, if there is one.
-fn word_of(alloc: Global, advice: &Advice, bytes: &[u8]) -> Option<String> {
-    let lines = lines(alloc, bytes).ok()?;
-    let line = line_at(&lines, advice.line)?;
-    let place = place_of(advice.offender, lines.words(line))?;
-    shown(alloc, lines.word(line, place)?)
-}
-
-/// Returns the index of a line among those that have words.
-fn line_at(lines: &Lines<'_>, number: u32) -> Option<usize>
-    ensures { IfSome result (λ line. line < length lines.now) }
-{
-    for line in 0..lines.len() {
-        if lines.at(line) == number {
-            return Some(line);
-        }
-    }
-    None
-}
-
-/// Returns the index of the offending word among `words` words, if there is one.
-fn place_of(offender: Offender, words: usize) -> Option<usize> {
-    match offender {
-        Offender::First => Some(0),
-        Offender::Second => Some(1),
-        Offender::Third => Some(2),
-        Offender::Value if words == 2 => Some(1),
-        Offender::Value | Offender::Names | Offender::Line | Offender::Block(_) => None,
-    }
 }

@@ -1,1 +1,2 @@
 pub mod LogTexts
+pub mod Logged

@@ -2,6 +2,7 @@
 #![tactic(auto)]
 
 mod log;
+mod log_sink;
 mod log_text;
 mod progress;
 mod run_files;

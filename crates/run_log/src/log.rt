@@ -1,21 +1,20 @@
 //! A log of a negotiation, or of the negotiations of a search of widths: a head, a line for each
 //! iteration, and a line for each width that was tried.
 
-use crate::log_text::{write_head, write_row};
+ghost use Rattle.std.specs.Prelude.{◌≡◌};
+ghost use Rattle.std.specs.Duration.{as_nanos};
+ghost use Rattle.run_log.specs.kept.Logged.{milliseconds_between};
+
+use crate::log_sink::{LogHead, LogSink, log_head, log_row, log_trial};
 use crate::run_files::RunFiles;
-use crate::trial_text::{write_left, write_routed};
 use congestion_book::Book;
 use net_workers::{Gate, ScheduledTurn, TrialEnd};
 use node_cost::Settings;
 use rr_graph::Problem;
 use std::io::Eprint;
-use std::sync::atomic::{AtomicBool, Ordering};
 use std::sync::{Mutex, Wait};
 use std::time::{Clock, Duration};
 use vpr_text::ByteSink;
-
-/// The greatest number that an iteration has.
-const MOST_ITERATIONS: u32 = 500;
 
 /// A gate that writes a log: a head before the first negotiation, and a line after each iteration
 /// and each trial of a width. Each of them is written whole and at once. If the log can't be
@@ -24,14 +23,17 @@ const MOST_ITERATIONS: u32 = 500;
 pub struct Log<'a, R, W> {
     rt: &'a R,
     name: &'a str,
-    program: &'a str,
-    files: RunFiles<'a>,
-    workers: u32,
-    settings: Settings,
+    head: LogHead<'a>,
     begin: Duration,
-    is_begun: AtomicBool,
-    /// The sink of the log; `None` if no log is wanted, or none any more.
-    out: Mutex<Option<W>>,
+    sink: Mutex<LogSink<W>>,
+}
+
+/// Returns the milliseconds from one time to another.
+fn milliseconds(begin: Duration, now: Duration) -> u64
+    ensures { result ≡ milliseconds_between (as_nanos begin) (as_nanos now) }
+{
+    let elapsed = now.saturating_sub(begin);
+    u64::try_from(elapsed.as_millis()).unwrap_or(u64::MAX)
 }
 
 impl<'a, R: Eprint + Clock + Wait, W: ByteSink + Drop> Log<'a, R, W> {
@@ -45,62 +47,40 @@ impl<'a, R: Eprint + Clock + Wait, W: ByteSink + Drop> Log<'a, R, W> {
         workers: u32,
         settings: Settings,
         out: Option<W>,
-    ) -> Log<'a, R, W> {
+    ) -> Log<'a, R, W>
+        ensures program { result.head.program ≡ program.entry }
+        ensures files { result.head.files ≡ files.entry }
+        ensures workers { result.head.workers ≡ workers }
+        ensures settings { result.head.settings ≡ settings }
+    {
         Log {
             rt,
             name,
-            program,
-            files,
-            workers,
-            settings,
+            head: LogHead {
+                program,
+                files,
+                workers,
+                settings,
+            },
             begin: rt.monotonic().unwrap_or(Duration::ZERO),
-            is_begun: AtomicBool::new(false),
-            out: Mutex::new(out),
+            sink: Mutex::new(LogSink {
+                out,
+                is_begun: false,
+            }),
         }
     }
 
     /// Returns the milliseconds since the log was made.
     fn elapsed(&self) -> u64 {
-        let now = self.rt.monotonic().unwrap_or(self.begin);
-        let elapsed = now.saturating_sub(self.begin);
-        u64::try_from(elapsed.as_millis()).unwrap_or(u64::MAX)
+        milliseconds(self.begin, self.rt.monotonic().unwrap_or(self.begin))
     }
 
-    /// Writes the head, and returns whether that succeeded.
-    fn is_head_written(&self, sink: &mut W, problem: &Problem) -> bool {
-        write_head(
-            sink,
-            self.program.as_bytes(),
-            &self.files,
-            problem,
-            self.workers,
-            &self.settings,
-        )
-        .is_ok()
-    }
-
-    /// Writes the line of an iteration, and returns whether that succeeded.
-    fn is_row_written(&self, sink: &mut W, iteration: u32, book: &Book) -> bool {
-        let number = iteration.max(1).min(MOST_ITERATIONS);
-        write_row(sink, &self.settings, number, book, self.elapsed()).is_ok()
-    }
-
-    /// Writes the line of a trial, and returns whether that succeeded.
-    fn is_trial_written(&self, sink: &mut W, width: u32, end: TrialEnd) -> bool {
-        match end {
-            TrialEnd::Routed { iterations } => write_routed(sink, width, iterations).is_ok(),
-            TrialEnd::NotRouted {
-                unrouted,
-                overused,
-                iterations,
-            } => write_left(sink, width, unrouted, overused, iterations).is_ok(),
+    /// Warns that the log can't be written, if it can't.
+    fn complain_if(&self, has_failed: bool) {
+        if has_failed {
+            let name = self.name;
+            let _ = eprintln!(self.rt; "warning: the log {name} cannot be written");
         }
-    }
-
-    /// Warns that the log can't be written.
-    fn complain(&self) {
-        let name = self.name;
-        let _ = eprintln!(self.rt; "warning: the log {name} cannot be written");
     }
 }
 
@@ -108,17 +88,8 @@ impl<R: Eprint + Clock + Wait, W: ByteSink + Drop> Gate for Log<'_, R, W> {
     ghost accepted = { λ gate k turns. Unit {0} };
 
     fn begins(&self, problem: &Problem) {
-        if self.is_begun.swap(true, Ordering::SeqCst) {
-            return;
-        }
-        let mut out = self.out.lock(self.rt);
-        let Some(sink) = out.as_mut() else {
-            return;
-        };
-        if !self.is_head_written(sink, problem) {
-            *out = None;
-            self.complain();
-        }
+        let mut sink = self.sink.lock(self.rt);
+        self.complain_if(log_head(&mut sink, &self.head, problem));
     }
 
     fn between(&self, _worker: u32, _net: u32) {}
@@ -130,24 +101,13 @@ impl<R: Eprint + Clock + Wait, W: ByteSink + Drop> Gate for Log<'_, R, W> {
     }
 
     fn closed(&self, iteration: u32, book: &Book) {
-        let mut out = self.out.lock(self.rt);
-        let Some(sink) = out.as_mut() else {
-            return;
-        };
-        if !self.is_row_written(sink, iteration, book) {
-            *out = None;
-            self.complain();
-        }
+        let mut sink = self.sink.lock(self.rt);
+        let settings = &self.head.settings;
+        self.complain_if(log_row(&mut sink, settings, iteration, book, self.elapsed()));
     }
 
     fn tried(&self, width: u32, end: TrialEnd) {
-        let mut out = self.out.lock(self.rt);
-        let Some(sink) = out.as_mut() else {
-            return;
-        };
-        if !self.is_trial_written(sink, width, end) {
-            *out = None;
-            self.complain();
-        }
+        let mut sink = self.sink.lock(self.rt);
+        self.complain_if(log_trial(&mut sink, width, end));
     }
 }

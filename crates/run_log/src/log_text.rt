@@ -4,7 +4,7 @@ ghost use Rattle.std.specs.Prelude.{◌≡◌, ◌≤◌, decimal, length, optio
 ghost use Rattle.vpr_text.specs.Output.{SendsTo};
 ghost use Rattle.node_cost.specs.Options.{most_iterations};
 ghost use Rattle.run_inputs.specs.Runs.{PrintsText, writing_to};
-ghost use Rattle.run_log.specs.kept.LogTexts.{array_text, column_text, figures_text, files_text, filled_text, given_text, head_text, iteration_text, mode_name, part_text, point_text, problem_text, row_text, time_text, titles_text};
+ghost use Rattle.run_log.specs.kept.LogTexts.{array_text, column_text, figures_text, files_text, filled_text, given_text, head_text, iteration_text, mode_name, part_text, point_text, problem_text, row_text, steady_text, time_text, titles_text};
 
 use crate::run_files::RunFiles;
 use congestion_book::Book;
@@ -82,6 +82,16 @@ fn put_problem<W: ByteSink>(out: &mut OutputBuffer, sink: &mut W, problem: &Prob
     put_amount(out, sink, b"width", device.width(), b" tracks");
 }
 
+/// Prints that nets keep to the trees that they have, if they do.
+fn put_steady<W: ByteSink>(out: &mut OutputBuffer, sink: &mut W, is_steady: bool)
+    ensures { SendsTo W.taken W.failed sink.old sink.new out.old out.new
+        (steady_text is_steady) }
+{
+    if is_steady {
+        put_entry(out, sink, b"steady", b"yes");
+    }
+}
+
 /// Prints the titles of the columns.
 fn put_titles<W: ByteSink>(out: &mut OutputBuffer, sink: &mut W)
     ensures { SendsTo W.taken W.failed sink.old sink.new out.old out.new (titles_text) }
@@ -110,6 +120,7 @@ fn put_head<W: ByteSink>(
     put_problem(out, sink, problem);
     put_amount(out, sink, b"workers", workers, b"");
     put_options(out, sink, settings);
+    put_steady(out, sink, settings.is_steady());
     put_titles(out, sink);
 }
 

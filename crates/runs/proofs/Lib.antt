@@ -4,5 +4,8 @@ pub mod Lines
 pub mod Writing
 pub mod Widths
 pub mod Leaving
+pub mod Telling
+pub mod Trying
+pub mod Saying
 pub mod Verified
 pub mod ReadAgain

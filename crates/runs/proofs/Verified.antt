@@ -1,8 +1,8 @@
 -- Lesser widths after a search, and widths upward.
-use Rattle.std.proofs.Common.{◌≡◌, ℕ, ◌+◌, ◌<◌, ◌≤◌, ◌⊎◌, min, max, nat_lt, ◌||◌, Bool, true, false, if◌then◌else◌, inl, inr, refl, sym, subst, arith}
+use Rattle.std.proofs.Common.{◌≡◌, ℕ, ◌+◌, ◌<◌, ◌≤◌, min, max, nat_lt, ◌||◌, Bool, true, false, if◌then◌else◌, List, Ok, refl, sym, subst, arith}
 use Rattle.std.proofs.lemmas.Bool.Decides.{nat_tests}
 use Rattle.iteration.specs.declared.outcome.Outcome.{Outcome}
-use Rattle.width_search.specs.Reports.{EndsUpward, IsWidthReport, Report}
+use Rattle.width_search.specs.Reports.{EndsUpward, IsVerifiedReport, IsWidthReport, Report, is_success, with_trial}
 use Rattle.width_search.specs.Widths.{GoesUpward, next_upward}
 use Rattle.width_search.specs.kept.Verifying.{IsVerifying}
 use Rattle.width_search.proofs.Verifying.{verifying_more, verifying_past}
@@ -10,26 +10,27 @@ use Rattle.width_bound.specs.declared.figures.CutFigures.{CutFigures}
 use Rattle.bound_run.specs.Bounds.{IsTrueOf, has_no_way, is_ruled_out, printed_width}
 use Rattle.run_inputs.specs.Inputs.{PlacedNetlist}
 use Rattle.runs.specs.WidthRun.{HasNoRouting, IsUpwardReport}
-use Rattle.runs.specs.kept.Known.{first_possible, first_width}
-use Rattle.runs.specs.kept.Lesser.{AddsSuccess, TriesLesser}
+use Rattle.runs.specs.Known.{first_possible, first_width}
+use Rattle.runs.specs.kept.Lesser.{TriesWidth}
 
 -- ---- lesser widths
 
-pub tried_by : (comes_to : ℕ → Outcome → Type 0) (w : ℕ) (outcome : Outcome) (old new : Report) → comes_to w outcome → AddsSuccess w outcome old new → TriesLesser comes_to w old new
-tried_by comes_to w outcome old new came (inl same) = inl same
-tried_by comes_to w outcome old new came (inr (success, is)) = inr (outcome, came, success, is)
-
--- the steps of the loop
-pub step_within : (width count step past most : ℕ) → past ≡ min width most → most ≡ min (count + 1) 4294967295 → step < past → (step ≤ count) × (step < width)
-step_within width count step past most e f less = (grind (arith, e, f, less), grind (arith, e, f, less))
-
 -- one more lesser width that was tried
-pub lesser_step : (comes_to : ℕ → Outcome → Type 0) (start count width step w : ℕ) (old new : Report) → 1 ≤ step → step ≤ count → w + step ≡ width
-    → TriesLesser comes_to w old new → IsVerifying comes_to start count width step old → IsVerifying comes_to start count width (step + 1) new
-lesser_step comes_to start count width step w old new low high here (inl same) was = subst (IsVerifying comes_to start count width (step + 1)) (sym same) (verifying_past comes_to start count was)
-lesser_step comes_to start count width step w old new low high here (inr (outcome, came, success, is)) was =
+step_taken : (comes_to : ℕ → Outcome → Type 0) (start count width step w : ℕ) (old new : Report) (outcome : Outcome) (success : Bool) → success ≡ is_success outcome
+    → 1 ≤ step → step ≤ count → w + step ≡ width → comes_to w outcome → new ≡ (if success then with_trial old w outcome else old)
+    → IsVerifying comes_to start count width step old → IsVerifying comes_to start count width (step + 1) new
+step_taken comes_to start count width step w old new outcome true success low high here came is was =
     subst (IsVerifying comes_to start count width (step + 1)) (sym is)
-    (verifying_more comes_to start count width step w old was low high here outcome came success)
+    (verifying_more comes_to start count width step w old was low high here outcome came (sym success))
+step_taken comes_to start count width step w old new outcome false success low high here came is was = subst (IsVerifying comes_to start count width (step + 1)) (sym is) (verifying_past comes_to start count was)
+
+pub lesser_step : (comes_to : ℕ → Outcome → Type 0) (start count width step w : ℕ) (old new : Report) (prints : List ℕ → Type 0) (routed : Bool) → 1 ≤ step → step ≤ count → w + step ≡ width
+    → TriesWidth comes_to w old new prints (Ok routed) → IsVerifying comes_to start count width step old → IsVerifying comes_to start count width (step + 1) new
+lesser_step comes_to start count width step w old new prints routed low high here tries was =
+    step_taken comes_to start count width step w old new tries.0 (is_success tries.0) refl low high here tries.1 tries.3 was
+
+pub lesser_step_failed : (comes_to : ℕ → Outcome → Type 0) (start count width step : ℕ) (old new : Report) → new ≡ old → IsVerifying comes_to start count width step old → IsVerifiedReport comes_to start count new
+lesser_step_failed comes_to start count width step old new same was = subst (IsVerifiedReport comes_to start count) (sym same) was.verified
 
 -- ---- widths upward
 

@@ -5,7 +5,6 @@ use Rattle.route_file.specs.Text.{text_of}
 use Rattle.route_tree.specs.Usage.{Lists}
 use Rattle.rr_graph.specs.Problems.{RoutingProblem}
 use Rattle.node_cost.specs.Options.{RouterOptions}
-use Rattle.net_workers.specs.declared.fault.WorkFault.TheVariants as work
 use Rattle.iteration.specs.declared.outcome.Outcome.{Outcome}
 use Rattle.iteration.specs.declared.outcome.Outcome.TheVariants.{Success, NotRouted}
 use Rattle.iteration.specs.Outcomes.{IsOutcome}
@@ -15,8 +14,8 @@ use Rattle.run_inputs.specs.declared.fault.AppFault.TheVariants.{Arch, Net, Plac
 use Rattle.run_inputs.specs.Faults.{ends_free, is_free}
 use Rattle.run_inputs.specs.Inputs.{PlacedDesign, ends_before}
 use Rattle.run_inputs.specs.Runs.{PrintsText, TakesAll, TakesFront, TakesNothing, Writing, writing}
-use Rattle.runs.specs.RouteRun.{WritesOutcome, WritesSuccess, left_text, routed_text}
-use Rattle.runs.specs.kept.Routing.{RoutesProblem, outcome_text}
+use Rattle.runs.specs.RouteRun.{WritesOutcome, WritesSuccess, left_text, outcome_text, routed_text}
+use Rattle.runs.specs.kept.Routing.{RoutesProblem}
 
 -- a line isn't empty
 pub outcome_filled : (o : Outcome) → 0 < length (outcome_text o)

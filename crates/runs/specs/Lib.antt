@@ -5,5 +5,8 @@ pub mod GraphRun
 pub mod Verdict
 pub mod CheckRun
 pub mod RouteRun
+pub mod LesserWidths
+pub mod Known
+pub mod Untried
 pub mod WidthRun
 pub mod kept

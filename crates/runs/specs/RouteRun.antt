@@ -24,6 +24,10 @@ left_text unrouted overused iterations =
     codes "not routed: unrouted "
     ++ (decimal unrouted ++ (codes ", overused " ++ (decimal overused ++ (codes ", iterations " ++ (decimal iterations ++ codes "\n")))))
 
+abbrev pub outcome_text : Outcome → List ℕ
+outcome_text (Success lists iterations) = routed_text iterations
+outcome_text (NotRouted unrouted overused iterations) = left_text unrouted overused iterations
+
 -- the exit status of an outcome
 abbrev pub status_of_outcome : Outcome → ℕ
 status_of_outcome (Success lists iterations) = 0

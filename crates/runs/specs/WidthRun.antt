@@ -1,5 +1,5 @@
 -- What a run of `width` answers, writes and prints (ours).
-use Rattle.std.specs.Prelude.{◌≡◌, ℕ, ◌<◌, ◌≤◌, Bool, true, if◌then◌else◌, List, ◌++◌, codes, decimal, Option, None, Some, Result, Err, MatchBool}
+use Rattle.std.specs.Prelude.{◌≡◌, ℕ, ◌<◌, ◌≤◌, ◌⊎◌, Bool, true, false, ◌&&◌, if◌then◌else◌, List, [], ◌++◌, codes, decimal, Option, None, Some, Result, Ok, Err, MatchBool}
 use Rattle.std.specs.List.{flat_map}
 use Rattle.rr_graph.specs.node.Mode.{Mode}
 use Rattle.rr_graph.specs.Fabric.{most_tracks}
@@ -12,10 +12,15 @@ use Rattle.iteration.specs.declared.outcome.Outcome.{Outcome}
 use Rattle.width_search.specs.declared.report.LeastWidth.{LeastWidth}
 use Rattle.width_search.specs.declared.trial.Trial.{Trial}
 use Rattle.width_search.specs.Reports.{EndsUpward, IsVerifiedReport, IsWidthReport, Negotiates, Report}
-use Rattle.width_search.specs.Widths.{GoesUpward, next_upward}
+use Rattle.width_search.specs.Widths.{GoesUpward, next_upward, next_width}
+use Rattle.width_bound.specs.declared.figures.CutFigures.{CutFigures}
+use Rattle.bound_run.specs.Bounds.{IsTrueOf, width_line}
 use Rattle.run_inputs.specs.declared.fault.AppFault.{AppFault}
 use Rattle.run_inputs.specs.declared.fault.AppFault.TheVariants.{Unwritten}
 use Rattle.run_inputs.specs.Inputs.{PlacedNetlist, placed_problem}
+use Rattle.runs.specs.LesserWidths.{TriesBelow}
+use Rattle.runs.specs.Known.{first_possible, first_width, known_from}
+use Rattle.runs.specs.Untried.{untried_line}
 use Rattle.runs.specs.declared.plan.WidthPlan.{WidthPlan}
 use Rattle.runs.specs.declared.plan.WidthPlan.TheVariants.{Search, Upward}
 use Rattle.run_inputs.specs.Runs.{StopsOrGoesOn, PrintsText, TakesAll, TakesFront, TakesNothing, Writing}
@@ -108,14 +113,75 @@ abbrev pub IsPlanned : RouterOptions → (workers : ℕ) → TurnRule → Mode �
 IsPlanned o workers allows mode p (Search start below shows_bound) r = IsVerifiedReport (Negotiates (placed_problem mode p) o workers allows) start below r
 IsPlanned o workers allows mode p (Upward start) r = IsUpwardReport (Negotiates (placed_problem mode p) o workers allows) p start r
 
--- The widths of a plan are tried for a placed netlist, and the report is written.
-abbrev pub SearchesWidths : RouterOptions → (workers : ℕ) → TurnRule → WidthPlan → Mode → (route out : Writing) → PlacedNetlist → Result Report AppFault → Type 0
-SearchesWidths o workers allows plan mode route out p result =
+-- ---- words on the widths
+
+-- the sink took all of the text; or it has failed, and took a front of it
+abbrev pub TakesText : Writing → (text : List ℕ) → Type 0
+TakesText w text = MatchBool w.failed (TakesFront w text) (TakesAll w text)
+
+-- the lesser widths after a search, and what is printed of them
+pub record TriesAfter (comes_to : ℕ → Outcome → Type 0) (start below : ℕ) (r : Report) (past : ℕ) (text : List ℕ) : Type 0 where
+  -- the report before them is that of the search
+  pub search : Report
+  pub searched : IsWidthReport comes_to (next_width start) search
+  pub tries : TriesBelow comes_to below search r past text search.least
+
+-- below which width there is no routing, and which widths from there on, less than `past`, were
+-- left out
+abbrev pub bound_text : List Trial → (past : ℕ) → CutFigures → List ℕ
+bound_text trials past c = width_line c ++ untried_line trials (first_possible c) past
+
+-- A bound that holds of the placed netlist is printed, if that is wanted; or nothing, if memory
+-- runs out.
+abbrev pub PrintsBoundOf : (is_wanted : Bool) → PlacedNetlist → List Trial → (past : ℕ) → (text : List ℕ) → Type 0
+PrintsBoundOf is_wanted p trials past text =
+    MatchBool is_wanted ((text ≡ []) ⊎ ((c : CutFigures) × IsTrueOf p c × (text ≡ bound_text trials past c))) (text ≡ [])
+
+-- the words of a search: those on lesser widths, and after the report was written those on a bound
+pub record SaysSearch (comes_to : ℕ → Outcome → Type 0) (p : PlacedNetlist) (start below : ℕ) (shows_bound is_written : Bool) (r : Report) (text : List ℕ) : Type 0 where
+  pub past : ℕ
+  pub lesser : List ℕ
+  pub after : TriesAfter comes_to start below r past lesser
+  pub bound : List ℕ
+  pub bounds : PrintsBoundOf (is_written && shows_bound) p r.trials past bound
+  pub whole : text ≡ lesser ++ bound
+
+-- the line on the least width after a search upward
+abbrev pub known_after : (is_written : Bool) → (start bound : ℕ) → Option LeastWidth → List ℕ
+known_after is_written start bound least = if is_written then known_from start bound least else []
+
+-- the words of a search upward: a bound that holds of the placed netlist, and after the report was
+-- written what is known of the least width
+pub record SaysUpward (p : PlacedNetlist) (start : ℕ) (is_written : Bool) (r : Report) (text : List ℕ) : Type 0 where
+  pub figures : CutFigures
+  pub sound : IsTrueOf p figures
+  -- the widths from the bound or the start on were tried, whichever is greater
+  pub tried : GoesUpward (first_width start figures) r.trials
+  pub whole : text ≡ width_line figures ++ known_after is_written start (first_possible figures) r.least
+
+abbrev pub SaysPlan : RouterOptions → (workers : ℕ) → TurnRule → Mode → PlacedNetlist → WidthPlan → (is_written : Bool) → Report → (text : List ℕ) → Type 0
+SaysPlan o workers allows mode p (Search start below shows_bound) is_written r text = SaysSearch (Negotiates (placed_problem mode p) o workers allows) p start below shows_bound is_written r text
+SaysPlan o workers allows mode p (Upward start) is_written r text = SaysUpward p start is_written r text
+
+-- ---- a run
+
+abbrev pub is_answered : {R : Type 0} → Result R AppFault → Bool
+is_answered (Ok r) = true
+is_answered (Err f) = false
+
+-- The widths of a plan are tried for a placed netlist, the report is written, and a third sink
+-- takes the words.
+abbrev pub SearchesWidths : RouterOptions → (workers : ℕ) → TurnRule → WidthPlan → Mode → (route out words : Writing) → PlacedNetlist → Result Report AppFault → Type 0
+SearchesWidths o workers allows plan mode route out words p result =
     (r : Report)
     × IsPlanned o workers allows mode p plan r
     × WritesReport route out mode p r r result
+    × ((text : List ℕ) × SaysPlan o workers allows mode p plan (is_answered result) r text × TakesText words text)
 
--- A run of `width`, free faults aside: with a fault of its files neither sink takes anything; where
--- they say a placed netlist, the widths of the plan are tried for it, and the report is written.
-abbrev pub RunsWidth : RouterOptions → (workers : ℕ) → TurnRule → WidthPlan → Mode → (route out : Writing) → Result PlacedNetlist AppFault → Result Report AppFault → Type 0
-RunsWidth o workers allows plan mode route out = StopsOrGoesOn (TakesNothing route × TakesNothing out) (SearchesWidths o workers allows plan mode route out)
+abbrev pub TakeNothing : (route out words : Writing) → Type 0
+TakeNothing route out words = TakesNothing route × TakesNothing out × TakesNothing words
+
+-- A run of `width`, free faults aside: with a fault of its files no sink takes anything; where they
+-- say a placed netlist, the widths of the plan are tried for it, and the report is written.
+abbrev pub RunsWidth : RouterOptions → (workers : ℕ) → TurnRule → WidthPlan → Mode → (route out words : Writing) → Result PlacedNetlist AppFault → Result Report AppFault → Type 0
+RunsWidth o workers allows plan mode route out words = StopsOrGoesOn (TakeNothing route out words) (SearchesWidths o workers allows plan mode route out words)

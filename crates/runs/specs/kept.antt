@@ -1,5 +1,5 @@
 pub mod Routing
 pub mod Left
+pub mod Trials
+pub mod Told
 pub mod Lesser
-pub mod Known
-pub mod Untried

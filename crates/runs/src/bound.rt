@@ -2,14 +2,14 @@
 
 ghost use Rattle.std.specs.Prelude.{◌≡◌, min, true, IfErr, IfOk};
 ghost use Rattle.run_inputs.specs.Faults.{is_free};
-ghost use Rattle.bound_run.specs.Bounds.{IsTrueOf};
-ghost use Rattle.runs.specs.kept.Known.{first_possible, first_width};
+ghost use Rattle.bound_run.specs.Bounds.{IsTrueOf, width_line};
+ghost use Rattle.runs.specs.Known.{first_possible, first_width};
+ghost use Rattle.runs.specs.kept.Told.{TellsTo};
 
-use crate::side_files::SideFiles;
 use bound_run::{find_bound, has_no_way, printed_width, put_width_line};
 use run_inputs::{AppFault, PlacedNetlist};
 use std::alloc::Global;
-use text_output::OutputBuffer;
+use text_output::{ByteSink, OutputBuffer};
 use width_bound::CutFigures;
 
 /// One more than the greatest width of a device.
@@ -51,11 +51,16 @@ pub(crate) fn first_width(start: u32, figures: CutFigures) -> u32
     start.max(first_possible(figures))
 }
 
-/// Writes to the sink of words below which width there is no routing.
+/// Writes below which width there is no routing, if the sink hasn't broken.
 #[inline(never)]
-pub(crate) fn tell_bound<S: SideFiles>(kept: &S, figures: CutFigures) {
-    let mut words = kept.words();
+pub(crate) fn tell_bound<W: ByteSink>(words: &mut W, is_broken: &mut bool, figures: CutFigures)
+    ensures { TellsTo W.taken W.failed words.old words.new is_broken.old is_broken.new
+        (width_line figures) }
+{
+    if *is_broken {
+        return;
+    }
     let mut out = OutputBuffer::new();
-    put_width_line(&mut out, &mut words, figures);
-    let _ = out.finish(&mut words);
+    put_width_line(&mut out, words, figures);
+    *is_broken = out.finish(words).is_err();
 }

@@ -1,22 +1,38 @@
 //! The routing of each trial of a search of widths, written as soon as it is found.
 
-ghost use Rattle.std.specs.Prelude.{◌≡◌, ◌≤◌, false};
-ghost use Rattle.rr_graph.specs.Fabric.{most_tracks};
+ghost use Rattle.std.specs.Prelude.{◌≡◌, ◌↔◌, false, true, Err, IfOk};
 ghost use Rattle.std.specs.List.{list_all};
-ghost use Rattle.route_tree.specs.Fits.{are_nodes, fits_problem, is_below};
+ghost use Rattle.route_file.specs.Design.{IsDesign};
 ghost use Rattle.route_file.specs.Text.{text_of};
+ghost use Rattle.route_tree.specs.Fits.{are_nodes, fits_problem, is_below};
 ghost use Rattle.run_inputs.specs.Faults.{ends_free};
-ghost use Rattle.run_inputs.specs.Inputs.{placed_problem};
-ghost use Rattle.run_inputs.specs.Runs.{PrintsText, writing_to};
+ghost use Rattle.run_inputs.specs.Runs.{PrintsText, TakesNothing, writing_to};
+ghost use Rattle.runs.specs.kept.Trials.{IsOfItsWidth, IsTrial};
 
 use crate::routing::write_trees;
 use crate::side_files::SideFiles;
 use crate::whole_sink::WholeSink;
 use net_workers::{Gate, ScheduledTurn};
 use route_tree::{Pairs, Routing};
-use rr_graph::{Device, Mode, Problem};
+use rr_graph::{Device, Problem};
 use run_inputs::{AppFault, PlacedNetlist};
-use std::alloc::Global;
+use std::alloc::{AllocError, Global};
+
+/// Returns whether a problem is that of a placed netlist at its own width and mode.
+fn is_of_placed(
+    alloc: Global,
+    placed: &PlacedNetlist<'_>,
+    problem: &Problem,
+) -> Result<bool, AllocError>
+    ensures own { IfOk result (λ is. (is ≡ true) ↔ IsOfItsWidth placed.now problem.now) }
+    ensures design { IfOk result (λ is. is ≡ true
+        → IsDesign placed.now.netlist placed.now.placement problem.now) }
+{
+    let device = problem.device();
+    let (width, mode) = (device.width(), device.mode());
+    let made = placed.problem(alloc, width, mode)?;
+    Ok(*problem == made)
+}
 
 /// Returns whether all these numbers are below the count.
 fn are_below(count: u32, pairs: &[(u32, u32)]) -> bool
@@ -51,28 +67,48 @@ fn fits(problem: &Problem, routing: &Routing) -> bool
     routing.lists.len() == problem.nets() as usize && name_nodes(problem.device(), &routing.lists)
 }
 
-/// Writes the text of a routing of a placed netlist at a width. Returns `Astray` if the routing
-/// doesn't fit the problem at that width.
+/// Returns whether a routing fits a problem, and this is the problem of a placed netlist at its own
+/// width and mode.
+fn is_trial(
+    alloc: Global,
+    placed: &PlacedNetlist<'_>,
+    problem: &Problem,
+    routing: &Routing,
+) -> Result<bool, AllocError>
+    ensures trial { IfOk result (λ is. (is ≡ true)
+        ↔ IsTrial placed.now problem.now routing.now) }
+    ensures design { IfOk result (λ is. is ≡ true
+        → IsDesign placed.now.netlist placed.now.placement problem.now) }
+{
+    let is_own = is_of_placed(alloc, placed, problem)?;
+    Ok(fits(problem, routing) && is_own)
+}
+
+/// Writes the text of a routing of a problem of a placed netlist to the file of the problem's
+/// width. Returns `Astray` if the problem is another one, or the routing doesn't fit it.
 fn write_trial<W: WholeSink>(
     alloc: Global,
     placed: &PlacedNetlist<'_>,
-    width: u32,
-    mode: Mode,
+    problem: &Problem,
     routing: &Routing,
     file: &mut W,
 ) -> Result<(), AppFault>
-    requires { (1 ≤ width) × (width ≤ most_tracks) }
+    requires { W.is_at file.old problem.now.device.width }
     ensures writes { ends_free result ≡ false
         → PrintsText (writing_to W.taken W.failed file.old file.new)
-        (text_of placed.now.netlist placed.now.placement (placed_problem mode placed.now width)
-        routing.now) tt result }
+        (text_of placed.now.netlist placed.now.placement problem.now routing.now) tt result }
+    // The problem is that of the placed netlist at the width of the file.
+    ensures trial { ends_free result ≡ false → IsTrial placed.now problem.now routing.now }
+    ensures nothing { ends_free result ≡ true
+        → TakesNothing (writing_to W.taken W.failed file.old file.new) }
+    // Such a routing is written, unless memory runs out.
+    ensures memory { IsTrial placed.now problem.now routing.now → ends_free result ≡ true
+        → result ≡ Err AppFault.Memory }
 {
-    let problem = placed.problem(alloc, width, mode)?;
-    if !fits(&problem, routing) {
+    if !is_trial(alloc, placed, problem, routing)? {
         return Err(AppFault::Astray);
     }
-    let (netlist, placement) = (placed.netlist(), placed.placement());
-    write_trees(netlist, placement, &problem, routing, file)
+    write_trees(placed.netlist(), placed.placement(), problem, routing, file)
 }
 
 /// A gate of a search of widths that writes each routing that is found, if its file is wanted.
@@ -80,7 +116,6 @@ fn write_trial<W: WholeSink>(
 pub(crate) struct KeptTrials<'a, 'b, S> {
     alloc: Global,
     placed: &'a PlacedNetlist<'b>,
-    mode: Mode,
     files: &'a S,
 }
 
@@ -88,13 +123,11 @@ impl<'a, 'b, S> KeptTrials<'a, 'b, S> {
     pub(crate) fn new(
         alloc: Global,
         placed: &'a PlacedNetlist<'b>,
-        mode: Mode,
         files: &'a S,
     ) -> KeptTrials<'a, 'b, S> {
         KeptTrials {
             alloc,
             placed,
-            mode,
             files,
         }
     }
@@ -116,16 +149,7 @@ impl<S: SideFiles> Gate for KeptTrials<'_, '_, S> {
         let Some(mut file) = self.files.file(width) else {
             return;
         };
-        if write_trial(
-            self.alloc,
-            self.placed,
-            width,
-            self.mode,
-            routing,
-            &mut file,
-        )
-        .is_err()
-        {
+        if write_trial(self.alloc, self.placed, problem, routing, &mut file).is_err() {
             self.files.unwritten(width);
         }
     }

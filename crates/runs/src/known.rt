@@ -2,10 +2,10 @@
 
 ghost use Rattle.std.specs.Prelude.{◌≡◌, ◌≤◌, option_copied};
 ghost use Rattle.vpr_text.specs.Output.{SendsTo};
-ghost use Rattle.runs.specs.kept.Known.{also_untried, between_text, end_text, gap_line, known_from, known_line, least_possible, none_below, one_was, range_text, routed_line, several_were, too_text, tried_text, were_text, widths_word};
+ghost use Rattle.runs.specs.Known.{also_untried, between_text, end_text, gap_line, known_from, known_line, least_possible, none_below, one_was, range_text, routed_line, several_were, too_text, tried_text, were_text, widths_word};
+ghost use Rattle.runs.specs.kept.Told.{TellsTo};
 
 use crate::bound::PAST_WIDTHS;
-use crate::side_files::SideFiles;
 use text_output::{ByteSink, OutputBuffer, Piece, put_pieces};
 use width_search::{LeastWidth, WidthReport};
 
@@ -17,7 +17,7 @@ fn widths_word(first: u32, last: u32) -> &'static [u8]
 }
 
 /// Prints one width as the subject of a sentence.
-#[tactic(auto, unfolding(crate::specs::kept::Known::one_was))]
+#[tactic(auto, unfolding(crate::specs::Known::one_was))]
 fn put_one<W: ByteSink>(out: &mut OutputBuffer, words: &mut W, width: u32)
     ensures { SendsTo W.taken W.failed words.old words.new out.old out.new (one_was width) }
 {
@@ -25,7 +25,7 @@ fn put_one<W: ByteSink>(out: &mut OutputBuffer, words: &mut W, width: u32)
 }
 
 /// Prints the first and the last of several widths as the subject of a sentence.
-#[tactic(auto, unfolding(crate::specs::kept::Known::several_were))]
+#[tactic(auto, unfolding(crate::specs::Known::several_were))]
 fn put_several<W: ByteSink>(out: &mut OutputBuffer, words: &mut W, first: u32, last: u32)
     ensures { SendsTo W.taken W.failed words.old words.new out.old out.new
         (several_were first last) }
@@ -112,7 +112,7 @@ fn put_between<W: ByteSink>(
 }
 
 /// Prints the width below which none is possible.
-#[tactic(auto, unfolding(crate::specs::kept::Known::none_below))]
+#[tactic(auto, unfolding(crate::specs::Known::none_below))]
 fn put_none_below<W: ByteSink>(out: &mut OutputBuffer, words: &mut W, bound: u32)
     ensures { SendsTo W.taken W.failed words.old words.new out.old out.new (none_below bound) }
 {
@@ -148,7 +148,7 @@ fn put_gap<W: ByteSink>(out: &mut OutputBuffer, words: &mut W, bound: u32, first
 }
 
 /// Prints that a width is the least possible.
-#[tactic(auto, unfolding(crate::specs::kept::Known::least_possible))]
+#[tactic(auto, unfolding(crate::specs::Known::least_possible))]
 fn put_least_possible<W: ByteSink>(out: &mut OutputBuffer, words: &mut W, width: u32)
     ensures { SendsTo W.taken W.failed words.old words.new out.old out.new
         (least_possible width) }
@@ -215,12 +215,23 @@ fn put_known<W: ByteSink>(
     }
 }
 
-/// Writes to the sink of words what is known of the least width after each width from the greater
-/// of the start and the bound on was tried.
+/// Writes what is known of the least width after each width from the greater of the start and the
+/// bound on was tried, if the sink hasn't broken.
 #[inline(never)]
-pub(crate) fn tell_known<S: SideFiles>(kept: &S, start: u32, bound: u32, report: &WidthReport) {
-    let mut words = kept.words();
+pub(crate) fn tell_known<W: ByteSink>(
+    words: &mut W,
+    is_broken: &mut bool,
+    start: u32,
+    bound: u32,
+    report: &WidthReport,
+)
+    ensures { TellsTo W.taken W.failed words.old words.new is_broken.old is_broken.new
+        (known_from start bound report.now.least) }
+{
+    if *is_broken {
+        return;
+    }
     let mut out = OutputBuffer::new();
-    put_known(&mut out, &mut words, start, bound, report);
-    let _ = out.finish(&mut words);
+    put_known(&mut out, words, start, bound, report);
+    *is_broken = out.finish(words).is_err();
 }

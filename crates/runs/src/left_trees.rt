@@ -1,11 +1,12 @@
 //! What a negotiation without success left: its trees, and the nets that have none.
 
-ghost use Rattle.std.specs.Prelude.{◌≡◌, true, false};
+ghost use Rattle.std.specs.Prelude.{◌≡◌, true, false, Err};
 ghost use Rattle.vpr_text.specs.Output.{SendsTo};
 ghost use Rattle.route_file.specs.Text.{text_of};
 ghost use Rattle.run_inputs.specs.Faults.{ends_free};
-ghost use Rattle.runs.specs.kept.Left.{stuck_line, stuck_net, stuck_text};
 ghost use Rattle.run_inputs.specs.Runs.{PrintsText, TakesNothing, writing_to};
+ghost use Rattle.runs.specs.WidthRun.{TakesText};
+ghost use Rattle.runs.specs.kept.Left.{stuck_line, stuck_net, stuck_text};
 
 use crate::routing::write_trees;
 use crate::side_files::SideFiles;
@@ -35,6 +36,7 @@ fn write_recorded<W: WholeSink>(
         tt result }
     ensures nothing { ends_free result ≡ true
         → TakesNothing (writing_to W.taken W.failed file.old file.new) }
+    ensures memory { ends_free result ≡ true → result ≡ Err AppFault.Memory }
 {
     let trees = routing_of(alloc, book)?;
     write_trees(
@@ -46,10 +48,30 @@ fn write_recorded<W: WholeSink>(
     )
 }
 
-/// Writes the trees of a book, if the book is of the design's problem. Returns whether they were
-/// written.
-fn is_written<W: WholeSink>(alloc: Global, design: &Design<'_>, book: &Book, file: &mut W) -> bool {
-    *book.problem() == *design.problem() && write_recorded(alloc, design, book, file).is_ok()
+/// Writes the text of the trees that a book has recorded to the file of the design's width. Returns
+/// `Astray` if the book isn't of the design's problem.
+fn write_left<W: WholeSink>(
+    alloc: Global,
+    design: &Design<'_>,
+    book: &Book,
+    file: &mut W,
+) -> Result<(), AppFault>
+    requires { W.is_at file.old design.now.problem.device.width }
+    ensures writes { ends_free result ≡ false
+        → PrintsText (writing_to W.taken W.failed file.old file.new)
+        (text_of design.now.netlist design.now.placement design.now.problem book.now.lists)
+        tt result }
+    ensures nothing { ends_free result ≡ true
+        → TakesNothing (writing_to W.taken W.failed file.old file.new) }
+    // The trees of a book of the problem are written, unless memory runs out.
+    ensures memory { book.now.problem ≡ design.now.problem → ends_free result ≡ true
+        → result ≡ Err AppFault.Memory }
+{
+    let is_own = *book.problem() == *design.problem();
+    if !is_own {
+        return Err(AppFault::Astray);
+    }
+    write_recorded(alloc, design, book, file)
 }
 
 /// Prints that no path leads to a sink of the net of this name.
@@ -110,7 +132,10 @@ fn put_all_stuck<W: ByteSink>(
 
 /// Writes which nets of a design have no tree.
 #[inline(never)]
-fn tell_stuck<W: ByteSink>(words: &mut W, design: &Design<'_>, stuck: &[(u32, u32)]) {
+fn tell_stuck<W: ByteSink>(words: &mut W, design: &Design<'_>, stuck: &[(u32, u32)])
+    ensures { TakesText (writing_to W.taken W.failed words.old words.new)
+        (stuck_text design.now.netlist design.now.problem stuck.now) }
+{
     let mut out = OutputBuffer::new();
     put_all_stuck(&mut out, words, design.netlist(), design.problem(), stuck);
     let _ = out.finish(words);
@@ -166,7 +191,7 @@ impl<T: Wait, S: SideFiles> Gate for LeftTrees<'_, '_, T, S> {
         let Some(mut file) = self.files.file(width) else {
             return;
         };
-        if !is_written(self.alloc, self.design, book, &mut file) {
+        if write_left(self.alloc, self.design, book, &mut file).is_err() {
             self.files.unwritten(width);
         }
         let mut stuck = self.stuck.lock(self.rt);

@@ -2,8 +2,8 @@
 
 ghost use Rattle.std.specs.Prelude.{◌≡◌};
 ghost use Rattle.vpr_text.specs.Output.{SendsTo};
-ghost use Rattle.runs.specs.RouteRun.{left_text, routed_text, status_of_outcome};
-ghost use Rattle.runs.specs.kept.Routing.{outcome_text};
+ghost use Rattle.runs.specs.RouteRun.{left_text, outcome_text, routed_text, status_of_outcome};
+ghost use Rattle.runs.specs.kept.Routing.{ended_text};
 
 use iteration::Outcome;
 use text_output::{ByteSink, OutputBuffer, Piece, put_pieces};
@@ -51,19 +51,60 @@ fn put_left<W: ByteSink>(
     );
 }
 
+/// What the line of an outcome reports.
+#[derive(Clone, Copy)]
+pub(crate) enum OutcomeEnd {
+    Routed {
+        iterations: u32,
+    },
+    Left {
+        unrouted: u32,
+        overused: u32,
+        iterations: u32,
+    },
+}
+
+/// Returns what the line of an outcome reports.
+pub(crate) fn end_of(outcome: &Outcome) -> OutcomeEnd
+    ensures { ended_text result ≡ outcome_text outcome.now }
+{
+    match outcome {
+        Outcome::Success(_, iterations) => OutcomeEnd::Routed {
+            iterations: *iterations,
+        },
+        Outcome::NotRouted {
+            unrouted,
+            overused,
+            iterations,
+        } => OutcomeEnd::Left {
+            unrouted: *unrouted,
+            overused: *overused,
+            iterations: *iterations,
+        },
+    }
+}
+
+/// Prints the line of an outcome with these numbers.
+pub(crate) fn put_end<W: ByteSink>(out: &mut OutputBuffer, sink: &mut W, end: OutcomeEnd)
+    ensures { SendsTo W.taken W.failed sink.old sink.new out.old out.new (ended_text end) }
+{
+    match end {
+        OutcomeEnd::Routed { iterations } => put_routed(out, sink, iterations),
+        OutcomeEnd::Left {
+            unrouted,
+            overused,
+            iterations,
+        } => put_left(out, sink, unrouted, overused, iterations),
+    }
+}
+
 /// Prints the line of an outcome.
 pub(crate) fn put_outcome<W: ByteSink>(out: &mut OutputBuffer, sink: &mut W, outcome: &Outcome)
     ensures { SendsTo W.taken W.failed sink.old sink.new out.old out.new
         (outcome_text outcome.now) }
 {
-    match outcome {
-        Outcome::Success(_, iterations) => put_routed(out, sink, *iterations),
-        Outcome::NotRouted {
-            unrouted,
-            overused,
-            iterations,
-        } => put_left(out, sink, *unrouted, *overused, *iterations),
-    }
+    let end = end_of(outcome);
+    put_end(out, sink, end);
 }
 
 /// Returns the exit status of an outcome: 0 for a routing, 3 if there is none.

@@ -8,8 +8,8 @@ ghost use Rattle.iteration.specs.Outcomes as negotiation;
 ghost use Rattle.run_inputs.specs.Faults.{ends_free, is_free};
 ghost use Rattle.run_inputs.specs.Runs.{MeetsDesign, PrintsText, TakesNothing, reading, writing_to};
 ghost use Rattle.run_inputs.specs.Inputs.{design_in, ends_before};
-ghost use Rattle.runs.specs.RouteRun.{PlacesOutcome, RoutesDesign, RunsRoute, WritesOutcome, WritesSuccess};
-ghost use Rattle.runs.specs.kept.Routing.{RoutesProblem, outcome_text};
+ghost use Rattle.runs.specs.RouteRun.{PlacesOutcome, RoutesDesign, RunsRoute, WritesOutcome, WritesSuccess, outcome_text};
+ghost use Rattle.runs.specs.kept.Routing.{RoutesProblem};
 
 use crate::left_trees::LeftTrees;
 use crate::outcome::put_outcome;

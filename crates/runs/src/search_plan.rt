@@ -1,6 +1,6 @@
 //! A search of widths that doubles and halves, and lesser widths after it.
 
-ghost use Rattle.std.specs.Prelude.{◌≡◌, ◌≤◌, true, false, IfErr, IfOk};
+ghost use Rattle.std.specs.Prelude.{◌≡◌, ℕ, ◌≤◌, true, false, List, IfErr, IfOk};
 ghost use Rattle.rr_graph.specs.Fabric.{most_tracks};
 ghost use Rattle.node_cost.specs.Options.{most_workers};
 ghost use Rattle.width_search.specs.Reports.{IsVerifiedReport, IsWidthReport, Negotiates};
@@ -8,8 +8,9 @@ ghost use Rattle.width_search.specs.Widths.{next_width};
 ghost use Rattle.run_inputs.specs.Faults.{ends_free, is_free};
 ghost use Rattle.run_inputs.specs.Inputs.{ends_before, placed_problem};
 ghost use Rattle.run_inputs.specs.Runs.{TakesNothing, writing_to};
-ghost use Rattle.runs.specs.WidthRun.{PlacesLeast, SearchesWidths};
+ghost use Rattle.runs.specs.WidthRun.{PlacesLeast, SearchesWidths, TriesAfter};
 ghost use Rattle.runs.specs.declared.plan.WidthPlan.TheVariants.{Search};
+ghost use Rattle.runs.specs.kept.Told.{TellsTo};
 
 use crate::bound::PAST_WIDTHS;
 use crate::kept_trials::KeptTrials;
@@ -43,7 +44,7 @@ fn search_widths<T: Threads + Wait + Sync + AllocGlobal, G: Gate + Sync, S: Side
     ensures free { IfErr result (λ e. is_free e ≡ true) }
 {
     let placed = widths.placed;
-    let trials = KeptTrials::new(rt.alloc(), placed, widths.mode, kept);
+    let trials = KeptTrials::new(rt.alloc(), placed, kept);
     let gates = BothGates {
         first: gate,
         second: &trials,
@@ -65,13 +66,20 @@ fn search_widths<T: Threads + Wait + Sync + AllocGlobal, G: Gate + Sync, S: Side
 
 /// Searches for the least width of a placed netlist, and tries up to `below` widths below it.
 /// `past` becomes the least width from which on all widths up to that of the search were tried.
-fn search_all<T: Threads + Wait + Sync + AllocGlobal, G: Gate + Sync, S: SideFiles + Sync>(
+fn search_all<
+    T: Threads + Wait + Sync + AllocGlobal,
+    W: ByteSink,
+    G: Gate + Sync,
+    S: SideFiles + Sync,
+>(
     rt: &T,
     widths: &Widths<'_, '_, '_>,
     start: u32,
     below: u32,
     gate: &G,
     kept: &S,
+    words: &mut W,
+    is_broken: &mut bool,
     past: &mut u32,
 ) -> Result<WidthReport, AppFault>
     requires start { (1 ≤ start) × (start ≤ most_tracks) }
@@ -79,10 +87,14 @@ fn search_all<T: Threads + Wait + Sync + AllocGlobal, G: Gate + Sync, S: SideFil
     ensures report { IfOk result (IsVerifiedReport
         (Negotiates (placed_problem widths.now.mode widths.now.placed.now)
         widths.now.settings.now widths.now.workers (G.accepted gate.now)) start below) }
+    ensures tries { IfOk result (λ r. (text : List ℕ) × TriesAfter
+        (Negotiates (placed_problem widths.now.mode widths.now.placed.now)
+        widths.now.settings.now widths.now.workers (G.accepted gate.now)) start below r past.new
+        text × TellsTo W.taken W.failed words.old words.new is_broken.old is_broken.new text) }
     ensures free { IfErr result (λ e. is_free e ≡ true) }
 {
     let mut report = search_widths(rt, widths, start, gate, kept)?;
-    *past = verify(rt, widths, &mut report, below, gate, kept);
+    *past = verify(rt, widths, &mut report, below, gate, kept, words, is_broken);
     Ok(report)
 }
 
@@ -93,6 +105,7 @@ pub(crate) fn search_placed<
     T: Threads + Wait + Sync + AllocGlobal,
     R: WholeSink,
     W: ByteSink,
+    E: ByteSink,
     G: Gate + Sync,
     S: SideFiles + Sync,
 >(
@@ -100,6 +113,7 @@ pub(crate) fn search_placed<
     widths: &Widths<'_, '_, '_>,
     route: &mut R,
     out: &mut W,
+    words: &mut E,
     start: u32,
     below: u32,
     shows_bound: bool,
@@ -112,7 +126,8 @@ pub(crate) fn search_placed<
         → SearchesWidths widths.now.settings.now widths.now.workers (G.accepted gate.now)
         (Search start below shows_bound) widths.now.mode
         (writing_to R.taken R.failed route.old route.new)
-        (writing_to W.taken W.failed out.old out.new) widths.now.placed.now result }
+        (writing_to W.taken W.failed out.old out.new)
+        (writing_to E.taken E.failed words.old words.new) widths.now.placed.now result }
     ensures route { ends_free result ≡ true
         → TakesNothing (writing_to R.taken R.failed route.old route.new) }
     ensures out { ends_free result ≡ true
@@ -121,8 +136,27 @@ pub(crate) fn search_placed<
     ensures placed { IfOk result (λ report. PlacesLeast (R.is_placed route.new) report.least) }
 {
     let mut past = PAST_WIDTHS;
-    let report = search_all(rt, widths, start, below, gate, kept, &mut past)?;
+    let mut is_broken = false;
+    let report = search_all(
+        rt,
+        widths,
+        start,
+        below,
+        gate,
+        kept,
+        words,
+        &mut is_broken,
+        &mut past,
+    )?;
     write_report(rt.alloc(), widths.placed, &report, widths.mode, route, out)?;
-    show_bound(rt.alloc(), widths.placed, &report, past, kept, shows_bound);
+    show_bound(
+        rt.alloc(),
+        widths.placed,
+        &report,
+        past,
+        shows_bound,
+        words,
+        &mut is_broken,
+    );
     Ok(report)
 }

@@ -1,17 +1,19 @@
 //! The widths that a search left out, from the bound of a placed netlist up to the least that was
 //! routed.
 
-ghost use Rattle.std.specs.Prelude.{◌≡◌, ◌<◌, ◌-◌, true, ◌&&◌, nat_lt, find, Some};
+ghost use Rattle.std.specs.Prelude.{◌≡◌, ℕ, ◌<◌, ◌-◌, true, ◌&&◌, nat_lt, find, List, Some};
 ghost use Rattle.std.specs.List.{flat_map};
 ghost use Rattle.vpr_text.specs.Output.{SendsTo};
 ghost use Rattle.rr_graph.specs.Fabric.{numbers_below};
-ghost use Rattle.runs.specs.kept.Untried.{are_several, begins_gap, ends_gap, gap_mark, gap_text, is_tried, is_untried, untried_by, untried_from, untried_line, untried_were, untried_word, upward_advice, width_if};
+ghost use Rattle.runs.specs.Untried.{are_several, begins_gap, ends_gap, gap_mark, gap_text, is_tried, is_untried, untried_by, untried_from, untried_line, untried_were, untried_word, upward_advice, width_if};
+ghost use Rattle.runs.specs.WidthRun.{PrintsBoundOf, bound_text};
+ghost use Rattle.runs.specs.kept.Told.{TellsTo};
 
 use crate::bound::{bound_of, first_possible, tell_bound};
-use crate::side_files::SideFiles;
 use run_inputs::PlacedNetlist;
 use std::alloc::Global;
 use text_output::{ByteSink, OutputBuffer, Piece, put_number, put_pieces};
+use width_bound::CutFigures;
 use width_search::{Trial, WidthReport};
 
 /// Returns whether a trial was of this width.
@@ -22,7 +24,7 @@ fn is_tried(trials: &[Trial], width: u32) -> bool
 }
 
 /// Returns whether the width is at least the bound and less than `past`, and was not tried.
-#[tactic(auto, unfolding(crate::specs::kept::Untried::is_untried))]
+#[tactic(auto, unfolding(crate::specs::Untried::is_untried))]
 fn is_untried(trials: &[Trial], bound: u32, past: u32, width: u32) -> bool
     ensures { result ≡ is_untried trials.now bound past width }
 {
@@ -143,7 +145,7 @@ fn untried_were(several: bool) -> &'static [u8]
 }
 
 /// Prints how to try each width from the bound on.
-#[tactic(auto, unfolding(crate::specs::kept::Untried::upward_advice))]
+#[tactic(auto, unfolding(crate::specs::Untried::upward_advice))]
 fn put_advice<W: ByteSink>(out: &mut OutputBuffer, words: &mut W, bound: u32)
     ensures { SendsTo W.taken W.failed words.old words.new out.old out.new (upward_advice bound) }
 {
@@ -218,33 +220,62 @@ fn put_untried<W: ByteSink>(
     }
 }
 
-/// Writes to the sink of words which widths from the bound on that are less than `past` were left
-/// out.
+/// Writes which widths from the bound on that are less than `past` were left out, if the sink
+/// hasn't broken.
 #[inline(never)]
-fn tell_untried<S: SideFiles>(kept: &S, trials: &[Trial], bound: u32, past: u32) {
-    let mut words = kept.words();
+fn tell_untried<W: ByteSink>(
+    words: &mut W,
+    is_broken: &mut bool,
+    trials: &[Trial],
+    bound: u32,
+    past: u32,
+)
+    ensures { TellsTo W.taken W.failed words.old words.new is_broken.old is_broken.new
+        (untried_line trials.now bound past) }
+{
+    if *is_broken {
+        return;
+    }
     let mut out = OutputBuffer::new();
-    put_untried(&mut out, &mut words, trials, bound, past);
-    let _ = out.finish(&mut words);
+    put_untried(&mut out, words, trials, bound, past);
+    *is_broken = out.finish(words).is_err();
 }
 
-/// Writes to the sink of words below which width a placed netlist has no routing, and which widths
-/// from there on that are less than `past` were left out, if that is wanted. If memory runs out,
-/// nothing is written.
+/// Writes what a bound rules out, and which widths that are less than `past` were left out.
+fn tell_widths<W: ByteSink>(
+    words: &mut W,
+    is_broken: &mut bool,
+    trials: &[Trial],
+    past: u32,
+    figures: CutFigures,
+)
+    ensures { TellsTo W.taken W.failed words.old words.new is_broken.old is_broken.new
+        (bound_text trials.now past figures) }
+{
+    tell_bound(words, is_broken, figures);
+    tell_untried(words, is_broken, trials, first_possible(figures), past);
+}
+
+/// Writes below which width a placed netlist has no routing, and which widths from there on that
+/// are less than `past` were left out, if that is wanted. If memory runs out, writes nothing.
 #[inline(never)]
-pub(crate) fn show_bound<S: SideFiles>(
+pub(crate) fn show_bound<W: ByteSink>(
     alloc: Global,
     placed: &PlacedNetlist<'_>,
     report: &WidthReport,
     past: u32,
-    kept: &S,
     is_wanted: bool,
-) {
+    words: &mut W,
+    is_broken: &mut bool,
+)
+    ensures { (text : List ℕ) × PrintsBoundOf is_wanted placed.now report.now.trials past text
+        × TellsTo W.taken W.failed words.old words.new is_broken.old is_broken.new text }
+{
     if !is_wanted {
         return;
     }
-    if let Ok(figures) = bound_of(alloc, placed) {
-        tell_bound(kept, figures);
-        tell_untried(kept, report.trials(), first_possible(figures), past);
+    match bound_of(alloc, placed) {
+        Ok(figures) => tell_widths(words, is_broken, report.trials(), past, figures),
+        Err(_) => {}
     }
 }

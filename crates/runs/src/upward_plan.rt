@@ -4,10 +4,12 @@ ghost use Rattle.std.specs.Prelude.{◌≡◌, ◌≤◌, true, false, IfErr, If
 ghost use Rattle.rr_graph.specs.Fabric.{most_tracks};
 ghost use Rattle.node_cost.specs.Options.{most_workers};
 ghost use Rattle.width_search.specs.Reports.{Negotiates};
+ghost use Rattle.width_search.specs.Widths.{GoesUpward};
 ghost use Rattle.bound_run.specs.Bounds.{IsTrueOf};
 ghost use Rattle.run_inputs.specs.Faults.{ends_free, is_free};
 ghost use Rattle.run_inputs.specs.Inputs.{ends_before, placed_problem};
 ghost use Rattle.run_inputs.specs.Runs.{TakesNothing, writing_to};
+ghost use Rattle.runs.specs.Known.{first_width};
 ghost use Rattle.runs.specs.WidthRun.{IsUpwardReport, PlacesLeast, SearchesWidths};
 ghost use Rattle.runs.specs.declared.plan.WidthPlan.TheVariants.{Upward};
 
@@ -44,10 +46,11 @@ fn try_upward<T: Threads + Wait + Sync + AllocGlobal, G: Gate + Sync, S: SideFil
         (Negotiates (placed_problem widths.now.mode widths.now.placed.now)
         widths.now.settings.now widths.now.workers (G.accepted gate.now)) widths.now.placed.now
         start) }
+    ensures tried { IfOk result (λ r. GoesUpward (first_width start figures) r.trials) }
     ensures free { IfErr result (λ e. is_free e ≡ true) }
 {
     let placed = widths.placed;
-    let trials = KeptTrials::new(rt.alloc(), placed, widths.mode, kept);
+    let trials = KeptTrials::new(rt.alloc(), placed, kept);
     let gates = BothGates {
         first: gate,
         second: &trials,
@@ -75,6 +78,7 @@ pub(crate) fn upward_placed<
     T: Threads + Wait + Sync + AllocGlobal,
     R: WholeSink,
     W: ByteSink,
+    E: ByteSink,
     G: Gate + Sync,
     S: SideFiles + Sync,
 >(
@@ -82,6 +86,7 @@ pub(crate) fn upward_placed<
     widths: &Widths<'_, '_, '_>,
     route: &mut R,
     out: &mut W,
+    words: &mut E,
     start: u32,
     gate: &G,
     kept: &S,
@@ -90,9 +95,10 @@ pub(crate) fn upward_placed<
     requires workers { (1 ≤ widths.now.workers) × (widths.now.workers ≤ most_workers) }
     ensures runs { ends_free result ≡ false
         → SearchesWidths widths.now.settings.now widths.now.workers (G.accepted gate.now)
-        (Upward start)
-        widths.now.mode (writing_to R.taken R.failed route.old route.new)
-        (writing_to W.taken W.failed out.old out.new) widths.now.placed.now result }
+        (Upward start) widths.now.mode
+        (writing_to R.taken R.failed route.old route.new)
+        (writing_to W.taken W.failed out.old out.new)
+        (writing_to E.taken E.failed words.old words.new) widths.now.placed.now result }
     ensures route { ends_free result ≡ true
         → TakesNothing (writing_to R.taken R.failed route.old route.new) }
     ensures out { ends_free result ≡ true
@@ -101,9 +107,11 @@ pub(crate) fn upward_placed<
     ensures placed { IfOk result (λ report. PlacesLeast (R.is_placed route.new) report.least) }
 {
     let figures = bound_of(rt.alloc(), widths.placed)?;
-    tell_bound(kept, figures);
+    let mut is_broken = false;
+    tell_bound(words, &mut is_broken, figures);
     let report = try_upward(rt, widths, start, figures, gate, kept)?;
     write_report(rt.alloc(), widths.placed, &report, widths.mode, route, out)?;
-    tell_known(kept, start, first_possible(figures), &report);
+    let bound = first_possible(figures);
+    tell_known(words, &mut is_broken, start, bound, &report);
     Ok(report)
 }

@@ -1,7 +1,7 @@
 //! Sinks whose bytes appear as a whole, like those of a file that takes its name when all were
 //! written.
 
-ghost use Rattle.std.specs.Prelude.{◌≡◌, Bool, OnOk, false, is_err, true};
+ghost use Rattle.std.specs.Prelude.{◌≡◌, ℕ, Bool, OnOk, false, is_err, true};
 ghost use Rattle.std.specs.Io.KnownBytes.{Keeps};
 
 use std::io::Write;
@@ -11,6 +11,9 @@ use vpr_text::{Adapted, Broken, ByteSink};
 pub trait WholeSink: ByteSink {
     /// Whether what was written is in its place.
     ghost is_placed: { Self → Bool };
+
+    /// Whether it is the file of a negotiation at this channel width.
+    ghost is_at: { Self → ℕ → Type 0 };
 
     /// Puts what was written into its place. It takes no byte.
     ///
@@ -26,6 +29,8 @@ pub trait WholeSink: ByteSink {
 /// The bytes of a writer are in their place as soon as they are written.
 impl<W: Write> WholeSink for Adapted<W> {
     ghost is_placed = { λ _. true };
+
+    ghost is_at = { λ _ _. Unit {0} };
 
     fn complete(&mut self) -> Result<(), Broken> {
         Ok(())

@@ -31,6 +31,7 @@ fn width_placed<
     T: Threads + Wait + Sync + AllocGlobal,
     R: WholeSink,
     W: ByteSink,
+    E: ByteSink,
     G: Gate + Sync,
     S: SideFiles + Sync,
 >(
@@ -38,6 +39,7 @@ fn width_placed<
     widths: &Widths<'_, '_, '_>,
     route: &mut R,
     out: &mut W,
+    words: &mut E,
     plan: WidthPlan,
     gate: &G,
     kept: &S,
@@ -47,7 +49,8 @@ fn width_placed<
     ensures runs { ends_free result ≡ false
         → SearchesWidths widths.now.settings.now widths.now.workers (G.accepted gate.now) plan
         widths.now.mode (writing_to R.taken R.failed route.old route.new)
-        (writing_to W.taken W.failed out.old out.new) widths.now.placed.now result }
+        (writing_to W.taken W.failed out.old out.new)
+        (writing_to E.taken E.failed words.old words.new) widths.now.placed.now result }
     ensures route { ends_free result ≡ true
         → TakesNothing (writing_to R.taken R.failed route.old route.new) }
     ensures out { ends_free result ≡ true
@@ -65,13 +68,16 @@ fn width_placed<
             widths,
             route,
             out,
+            words,
             start,
             below,
             shows_bound,
             gate,
             kept,
         ),
-        WidthPlan::Upward { start } => upward_placed(rt, widths, route, out, start, gate, kept),
+        WidthPlan::Upward { start } => upward_placed(
+            rt, widths, route, out, words, start, gate, kept,
+        ),
     }
 }
 
@@ -79,22 +85,25 @@ fn width_placed<
 /// have no fault. Tries channel widths by the plan, on devices of the placement's size. Prints a
 /// line for each trial, and one for the least width that was routed. Then writes the routing of
 /// that width to `route`, if there is one. The routing of each trial is written to its file of
-/// `kept` as soon as it is found. Words there report what else is known: the outcomes of lesser
-/// widths, and below which width there is no routing. The call waits for the workers.
+/// `kept` as soon as it is found. A third sink takes words on what else is known: the outcome of
+/// each lesser width, as soon as it was tried, and below which width there is no routing. If it
+/// fails, the run goes on, and it takes nothing more. The call waits for the workers.
 ///
 /// # Errors
 /// `NoThread`, `Memory` and `Astray` as `least_width` returns them, and `Memory` if it ran out
-/// before anything was written: these are unspecified, and neither sink took anything. A fault
-/// while lesser widths are tried ends only that, and words report it. Any other fault comes exactly
-/// when it is the first. The faults of the files come in reading order, and then neither sink took
-/// anything. After them comes `Unwritten`, if writing failed: to `out`, which then took a front of
-/// the lines while `route` took nothing; or to `route`, which took a front of the routing's text.
+/// before anything was written: these are unspecified, and neither `route` nor `out` took anything.
+/// A fault while lesser widths are tried ends only that, and words report it. Any other fault comes
+/// exactly when it is the first. The faults of the files come in reading order, and then no sink
+/// took anything. After them comes `Unwritten`, if writing failed: to `out`, which then took a
+/// front of the lines while `route` took nothing; or to `route`, which took a front of the
+/// routing's text.
 pub fn width_run<
     N: ByteSource,
     A: ByteSource,
     P: ByteSource,
     R: WholeSink,
     W: ByteSink,
+    E: ByteSink,
     G: Gate + Sync,
 >(
     rt: &(impl Threads + Wait + Sync + AllocGlobal),
@@ -103,6 +112,7 @@ pub fn width_run<
     place: &mut P,
     route: &mut R,
     out: &mut W,
+    words: &mut E,
     plan: WidthPlan,
     mode: Mode,
     settings: &Settings,
@@ -113,7 +123,8 @@ pub fn width_run<
     requires plan { (1 ≤ start_of plan) × (start_of plan ≤ most_tracks) }
     requires workers { (1 ≤ workers) × (workers ≤ most_workers) }
     // The files decide. If they give a placed netlist, the widths of the plan are tried for it,
-    // their lines are printed, and the text of a routing of it at the least width is written.
+    // their lines are printed, and the text of a routing of it at the least width is written. The
+    // words have a line for each lesser width that was tried.
     ensures runs { ends_free result ≡ false
         → MeetsDesign (reading (A.remaining arch.old) (A.failed arch.new))
         (reading (N.remaining net.old) (N.failed net.new))
@@ -121,6 +132,7 @@ pub fn width_run<
         (λ files. RunsWidth settings.now workers (G.accepted gate.now) plan mode
         (writing_to R.taken R.failed route.old route.new)
         (writing_to W.taken W.failed out.old out.new)
+        (writing_to E.taken E.failed words.old words.new)
         (placed_in files) result) }
     // Nothing is written if memory runs out, a thread can't be started or a worker goes astray.
     ensures route { ends_free result ≡ true
@@ -141,5 +153,5 @@ pub fn width_run<
         settings,
         workers,
     };
-    width_placed(rt, &widths, route, out, plan, gate, kept)
+    width_placed(rt, &widths, route, out, words, plan, gate, kept)
 }

@@ -1,6 +1,6 @@
 -- The text of a log (ours): lines with `#` tell of the run, and behind titles a line tells of each
 -- iteration.
-use Rattle.std.specs.Prelude.{ℕ, ◌-◌, ◌*◌, ◌/◌, ◌%◌, List, [], ◌++◌, Option, Some, None, codes, decimal, length, option_copied, take}
+use Rattle.std.specs.Prelude.{ℕ, ◌-◌, ◌*◌, ◌/◌, ◌%◌, Bool, false, true, List, [], ◌++◌, Option, Some, None, codes, decimal, length, option_copied, take}
 use Rattle.rr_graph.specs.node.Mode.{Mode}
 use Rattle.rr_graph.specs.node.Mode.TheVariants.{Detailed, Global}
 use Rattle.rr_graph.specs.Problems.{RoutingProblem}
@@ -45,12 +45,17 @@ problem_text p =
 abbrev pub titles_text : List ℕ
 titles_text = codes "width iteration    present overused   excess unrouted wirelength   seconds\n"
 
+-- that nets keep to the trees that they have, if they do
+abbrev pub steady_text : Bool → List ℕ
+steady_text false = []
+steady_text true = entry_text (codes "steady") (codes "yes")
+
 -- the head: the version of the program, the files, the problem and the options
 unfoldable pub head_text : (program : List ℕ) → RunFiles → RoutingProblem → (workers : ℕ) → RouterOptions → List ℕ
 head_text program files p workers o =
     entry_text (codes "pathfinder") program
     ++ (files_text files
-    ++ (problem_text p ++ (amount_text (codes "workers") workers [] ++ (options_text o ++ titles_text))))
+    ++ (problem_text p ++ (amount_text (codes "workers") workers [] ++ (options_text o ++ (steady_text o.steady ++ titles_text)))))
 
 -- ---- columns
 

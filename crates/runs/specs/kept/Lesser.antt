@@ -1,31 +1,51 @@
--- The widths below the least that a search found: what is told of them, and what becomes of the
--- report (ours).
-use Rattle.std.specs.Prelude.{◌≡◌, ℕ, ◌⊎◌, true, List, ◌++◌, codes, decimal, Option, None, Some}
+-- The steps of trying lesser widths.
+use Rattle.std.specs.Prelude.{◌≡◌, ℕ, ◌+◌, ◌-◌, ◌<◌, min, Bool, true, List, [], length, Option, Result, Ok, Err}
+use Rattle.std.specs.List.{All, flat_map}
 use Rattle.iteration.specs.declared.outcome.Outcome.{Outcome}
-use Rattle.width_search.specs.Reports.{Report, is_success, with_trial}
-use Rattle.runs.specs.kept.Routing.{outcome_text}
+use Rattle.width_search.specs.Reports.{Report, is_success}
+use Rattle.run_inputs.specs.declared.fault.AppFault.{AppFault}
+use Rattle.run_inputs.specs.Faults.{is_free}
+use Rattle.runs.specs.LesserWidths.{GoesDown, IsNegotiated, LesserTrial, last_routed, lesser_line, with_all_lesser, with_lesser}
 
--- what a negotiation at a width came to, as `width 3: not routed: unrouted 0, overused 36,
--- iterations 30`
-unfoldable pub lesser_line : (width : ℕ) → Outcome → List ℕ
-lesser_line width outcome = codes "width " ++ (decimal width ++ (codes ": " ++ outcome_text outcome))
+abbrev pub lesser_trial : (width : ℕ) → Outcome → LesserTrial
+lesser_trial width outcome = record { width = width; outcome = outcome }
 
-unfoldable pub lesser_routed : (width : ℕ) → List ℕ
-lesser_routed width = codes "lesser routed width: " ++ (decimal width ++ codes "\n")
+-- a success at a width is added to the report; a free fault leaves it as it was
+abbrev pub AddsSuccess : (width : ℕ) → Outcome → (old new : Report) → Result Bool AppFault → Type 0
+AddsSuccess width outcome old new (Ok routed) = (routed ≡ is_success outcome) × (new ≡ with_lesser old (lesser_trial width outcome))
+AddsSuccess width outcome old new (Err f) = (is_free f ≡ true) × (new ≡ old)
 
--- the least of them that was routed, if one was
-abbrev pub lesser_end : Option ℕ → List ℕ
-lesser_end (Some width) = lesser_routed width
-lesser_end None = codes "no lesser width was routed\n"
+-- a width was negotiated, a success was added, and the line was printed; or nothing happened
+abbrev pub TriesWidth : (comes_to : ℕ → Outcome → Type 0) → (width : ℕ) → (old new : Report) → (prints : List ℕ → Type 0) → Result Bool AppFault → Type 0
+TriesWidth comes_to width old new prints (Ok routed) =
+    (outcome : Outcome)
+    × comes_to width outcome
+    × (routed ≡ is_success outcome)
+    × (new ≡ with_lesser old (lesser_trial width outcome))
+    × prints (lesser_line (lesser_trial width outcome))
+TriesWidth comes_to width old new prints (Err f) = (is_free f ≡ true) × (new ≡ old) × prints []
 
--- ---- the report
+-- these lesser widths were tried
+pub record HaveTried (comes_to : ℕ → Outcome → Type 0) (found : ℕ) (old new : Report) (past : ℕ) (prints : List ℕ → Type 0) (tried : List LesserTrial) : Type 0 where
+  pub down : GoesDown found tried
+  pub negotiated : All (IsNegotiated comes_to) tried
+  pub adds : new ≡ with_all_lesser old tried
+  pub reached : past + length tried ≡ found
+  pub printed : prints (flat_map lesser_line tried)
 
--- a success at a width is added to the report; what isn't one leaves it as it was, and so does want
--- of memory
-abbrev pub AddsSuccess : (width : ℕ) → Outcome → (old new : Report) → Type 0
-AddsSuccess width outcome old new = (new ≡ old) ⊎ ((is_success outcome ≡ true) × (new ≡ with_trial old width outcome))
+-- the widths before this step were tried
+pub record IsTrying (comes_to : ℕ → Outcome → Type 0) (found step : ℕ) (old new : Report) (past : ℕ) (prints : List ℕ → Type 0) (routed : Option ℕ) : Type 0 where
+  pub tried : List LesserTrial
+  pub have : HaveTried comes_to found old new past prints tried
+  pub count : length tried + 1 ≡ step
+  pub last : routed ≡ last_routed tried
 
--- a width was negotiated, and a success was added; or nothing changed
-abbrev pub TriesLesser : (comes_to : ℕ → Outcome → Type 0) → (width : ℕ) → (old new : Report) → Type 0
-TriesLesser comes_to width old new =
-    (new ≡ old) ⊎ ((outcome : Outcome) × comes_to width outcome × (is_success outcome ≡ true) × (new ≡ with_trial old width outcome))
+-- all of them were tried, or a free fault came before
+abbrev pub TriesAll : (comes_to : ℕ → Outcome → Type 0) → (found below : ℕ) → (old new : Report) → (past : ℕ) → (prints : List ℕ → Type 0) → Result (Option ℕ) AppFault → Type 0
+TriesAll comes_to found below old new past prints (Ok routed) =
+    (tried : List LesserTrial)
+    × HaveTried comes_to found old new past prints tried
+    × (length tried ≡ min below (found - 1))
+    × (routed ≡ last_routed tried)
+TriesAll comes_to found below old new past prints (Err f) =
+    (tried : List LesserTrial) × HaveTried comes_to found old new past prints tried × (length tried < min below (found - 1)) × (is_free f ≡ true)

@@ -5,6 +5,8 @@ use Rattle.route_check.specs.Routed.{IsRouted}
 use Rattle.iteration.specs.declared.outcome.Outcome.{Outcome}
 use Rattle.iteration.specs.declared.outcome.Outcome.TheVariants.{Success, NotRouted}
 use Rattle.runs.specs.RouteRun.{routed_text, left_text}
+use Rattle.runs.specs.declared.outcome.OutcomeEnd.{OutcomeEnd}
+use Rattle.runs.specs.declared.outcome.OutcomeEnd.TheVariants as ended
 use Rattle.rr_graph.specs.node.Mode.{Mode}
 use Rattle.width_search.specs.declared.report.LeastWidth.{LeastWidth}
 use Rattle.run_inputs.specs.Inputs.{PlacedNetlist, placed_problem}
@@ -12,9 +14,10 @@ use Rattle.run_inputs.specs.Runs.{TakesNothing, Writing}
 use Rattle.run_inputs.specs.declared.fault.AppFault.{AppFault}
 use Rattle.run_inputs.specs.declared.fault.AppFault.TheVariants.{Unwritten}
 
-abbrev pub outcome_text : Outcome → List ℕ
-outcome_text (Success lists iterations) = routed_text iterations
-outcome_text (NotRouted unrouted overused iterations) = left_text unrouted overused iterations
+-- the line of an outcome with these numbers
+abbrev pub ended_text : OutcomeEnd → List ℕ
+ended_text (ended.Routed iterations) = routed_text iterations
+ended_text (ended.Left unrouted overused iterations) = left_text unrouted overused iterations
 
 -- a success is a routing of the problem
 abbrev pub RoutesProblem : RoutingProblem → Outcome → Type 0

@@ -5,4 +5,5 @@ use Rattle.run_log.proofs.log_text.put_head.Goals as goal
 pub returns : goal.returns
 unfolding head_text
 returns g c =
-    sends_then c.put_entry.ensures (sends_then c.put_files.ensures (sends_then c.put_problem.ensures (sends_then c.put_amount.ensures (sends_then c.put_options.ensures c.put_titles.ensures))))
+    let steady = rw c.is_steady.ensures at c.put_steady.ensures in
+    sends_then c.put_entry.ensures (sends_then c.put_files.ensures (sends_then c.put_problem.ensures (sends_then c.put_amount.ensures (sends_then c.put_options.ensures (sends_then steady c.put_titles.ensures)))))

@@ -1,5 +1,5 @@
 use Rattle.vpr_text.proofs.Printing.{sends_then}
-use Rattle.runs.specs.kept.Known.{gap_line}
+use Rattle.runs.specs.Known.{gap_line}
 use Rattle.runs.proofs.known.put_gap.Goals as goal
 
 pub returns : goal.returns

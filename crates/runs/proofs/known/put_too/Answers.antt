@@ -1,5 +1,5 @@
 use Rattle.vpr_text.proofs.Printing.{sends_then}
-use Rattle.runs.specs.kept.Known.{too_text}
+use Rattle.runs.specs.Known.{too_text}
 use Rattle.runs.proofs.known.put_too.Goals as goal
 
 pub returns : goal.returns

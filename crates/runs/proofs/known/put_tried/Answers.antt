@@ -1,5 +1,5 @@
 use Rattle.vpr_text.proofs.Printing.{sends_then}
-use Rattle.runs.specs.kept.Known.{tried_text}
+use Rattle.runs.specs.Known.{tried_text}
 use Rattle.runs.proofs.known.put_tried.Goals as goal
 
 pub returns : goal.returns

@@ -1,14 +1,19 @@
-use Rattle.std.proofs.Common.{inl, refl}
-use Rattle.width_search.specs.Reports.{Negotiates}
-use Rattle.run_inputs.specs.Inputs.{placed_problem}
-use Rattle.runs.proofs.Verified.{tried_by}
+use Rattle.std.proofs.Common.{refl}
+use Rattle.std.proofs.lemmas.Result.{err_from_is_err_and}
+use Rattle.runs.proofs.Telling.{tells_none}
 use Rattle.runs.proofs.lesser_widths.try_lesser.Goals as goal
 
 pub returns-in_err-outcome : goal.returns-in_err-outcome
-returns-in_err-outcome g c = inl refl
+returns-in_err-outcome g c =
+    let p = err_from_is_err_and c.from_residual.result c.from_residual.ensures.1 in
+    rw (p.1, p.2) (c.in_err-outcome.ensures.free, refl, tells_none _)
+
+pub returns-in_err-is_routed : goal.returns-in_err-is_routed
+returns-in_err-is_routed g c =
+    let p = err_from_is_err_and c.from_residual-in_err-is_routed.result c.from_residual-in_err-is_routed.ensures.1 in
+    rw (p.1, p.2) (c.in_err-is_routed.ensures.0, c.in_err-is_routed.ensures.1, tells_none _)
 
 pub returns : goal.returns
 returns g c =
-    let comes_to = Negotiates (placed_problem c.args.widths.now.mode c.args.widths.now.placed.now) c.args.widths.now.settings.now c.args.widths.now.workers (g.G.Gate.accepted c.args.gate.now) in
-    let came = rw (c.arch.ensures, c.netlist.ensures.netlist, c.placement.ensures.placement) at c.in_ok-outcome.ensures in
-    tried_by comes_to c.args.width c.in_ok-outcome.outcome c.args.report.now c.add_success.new.report came c.add_success.ensures
+    let line = rw c.end_of-end.ensures at c.tell_line.ensures in
+    (c.in_ok-outcome.outcome, c.in_ok-outcome.ensures.outcome, c.in_ok-is_routed.ensures.0, c.in_ok-is_routed.ensures.1, line)

@@ -1,6 +1,6 @@
 use Rattle.std.proofs.Common.{sym, subst}
 use Rattle.vpr_text.specs.Output.{Buffer, Sends, stream}
-use Rattle.runs.specs.kept.Routing.{outcome_text}
+use Rattle.runs.specs.RouteRun.{outcome_text}
 use Rattle.run_inputs.proofs.Ending.{printed, broken_text}
 use Rattle.runs.proofs.Writing.{outcome_filled}
 use Rattle.runs.proofs.route.print_outcome.Goals as goal

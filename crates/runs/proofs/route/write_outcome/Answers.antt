@@ -1,7 +1,6 @@
 use Rattle.std.proofs.Common.{subst, sym}
 use Rattle.iteration.specs.declared.outcome.Outcome.TheVariants.{NotRouted}
-use Rattle.runs.specs.RouteRun.{PlacesOutcome, WritesOutcome}
-use Rattle.runs.specs.kept.Routing.{outcome_text}
+use Rattle.runs.specs.RouteRun.{PlacesOutcome, WritesOutcome, outcome_text}
 use Rattle.runs.proofs.Writing.{printed_so}
 use Rattle.run_inputs.specs.Runs.{TakesAll, TakesFront, writing}
 use Rattle.run_inputs.proofs.Ending.{Keeps-same}

@@ -3,8 +3,7 @@ use Rattle.run_inputs.specs.Runs.{writing}
 use Rattle.run_inputs.proofs.Ending.{Keeps-same}
 use Rattle.run_inputs.specs.Runs.{TakesAll, TakesFront}
 use Rattle.iteration.specs.declared.outcome.Outcome.TheVariants.{Success}
-use Rattle.runs.specs.RouteRun.{PlacesOutcome}
-use Rattle.runs.specs.kept.Routing.{outcome_text}
+use Rattle.runs.specs.RouteRun.{PlacesOutcome, outcome_text}
 use Rattle.runs.proofs.Writing.{printed_so, success_unwritten, success_written}
 use Rattle.runs.proofs.route.write_success.Goals as goal
 

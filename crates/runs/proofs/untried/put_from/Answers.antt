@@ -1,5 +1,5 @@
 use Rattle.vpr_text.proofs.Printing.{sends_then}
-use Rattle.runs.specs.kept.Untried.{untried_from}
+use Rattle.runs.specs.Untried.{untried_from}
 use Rattle.runs.proofs.untried.put_from.Goals as goal
 
 pub returns : goal.returns

@@ -2,7 +2,7 @@ use Rattle.std.proofs.Common.{subst}
 use Rattle.vpr_text.specs.Output.{Sends, stream}
 use Rattle.vpr_text.proofs.Printing.{sends_then}
 use Rattle.run_inputs.proofs.Lines.{lines_more}
-use Rattle.runs.specs.kept.Untried.{gap_text}
+use Rattle.runs.specs.Untried.{gap_text}
 use Rattle.runs.proofs.untried.put_gaps.Goals as goal
 
 pub loop-width-preserved : goal.loop-width-preserved

@@ -1,7 +1,7 @@
 use Rattle.std.specs.List.{flat_map}
 use Rattle.vpr_text.specs.Output.{Sends, stream}
 use Rattle.rr_graph.specs.Fabric.{numbers_below}
-use Rattle.runs.specs.kept.Untried.{gap_text}
+use Rattle.runs.specs.Untried.{gap_text}
 use Rattle.runs.proofs.untried.put_gaps.Given as goal
 
 -- what was printed so far was sent

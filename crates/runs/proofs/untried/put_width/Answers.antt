@@ -1,5 +1,5 @@
 use Rattle.vpr_text.proofs.Printing.{sends_then}
-use Rattle.runs.specs.kept.Untried.{gap_text}
+use Rattle.runs.specs.Untried.{gap_text}
 use Rattle.runs.proofs.untried.put_width.Goals as goal
 
 pub returns : goal.returns

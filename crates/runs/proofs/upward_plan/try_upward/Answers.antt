@@ -15,3 +15,6 @@ returns-clause-report g c =
     c.arch.ensures c.netlist.ensures.netlist c.placement.ensures.placement c.in_ok-report.ensures.report in
     upward_planned (Negotiates (placed_problem w.mode w.placed.now) w.settings.now w.workers allows) w.placed.now c.args.start c.first_width.result c.args.figures
     c.in_ok-report.report c.requires.start.0 c.first_width.ensures c.requires.sound searched c.in_ok-report.ensures.upward c.in_ok-report.ensures.ends
+
+pub returns-clause-tried : goal.returns-clause-tried
+returns-clause-tried g c = rw c.first_width.ensures at c.in_ok-report.ensures.upward

@@ -11,13 +11,13 @@ pub returns-in_err-text-clause-runs : goal.returns-in_err-text-clause-runs
 returns-in_err-text-clause-runs g c =
     let p = err_from_is_err_and c.from_residual.result c.from_residual.ensures.1 in
     rw (p.1, p.2) (λ bound. meets_files c.in_err-text.ensures.given meets_some (λ files h _.
-    stops _ (Keeps-same _, Keeps-same _) (placing_fails files _ (h (not_memory _ bound)))))
+    stops _ (Keeps-same _, Keeps-same _, Keeps-same _) (placing_fails files _ (h (not_memory _ bound)))))
 
 pub returns-in_err-placed-clause-runs : goal.returns-in_err-placed-clause-runs
 returns-in_err-placed-clause-runs g c =
     let p = err_from_is_err_and c.from_residual-in_err-placed.result c.from_residual-in_err-placed.ensures.1 in
     rw (p.1, p.2) (λ bound. meets_files c.in_ok-text.ensures.given c.in_err-placed.ensures.given (λ files h k.
-    stops _ (Keeps-same _, Keeps-same _) (placing_goes files _ h ∙ k (not_memory _ bound))))
+    stops _ (Keeps-same _, Keeps-same _, Keeps-same _) (placing_goes files _ h ∙ k (not_memory _ bound))))
 
 pub returns-clause-runs : goal.returns-clause-runs
 returns-clause-runs g c =

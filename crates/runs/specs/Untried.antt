@@ -1,4 +1,4 @@
--- What is told of the widths that a search left out (ours).
+-- The line on the widths that a search left out (ours).
 use Rattle.std.specs.Prelude.{ℕ, ◌+◌, ◌-◌, ◌==◌, nat_lt, Bool, not, ◌&&◌, if◌then◌else◌, List, [], ◌++◌, codes, decimal, find, Option, None, Some}
 use Rattle.std.specs.List.{flat_map, list_any}
 use Rattle.rr_graph.specs.Fabric.{numbers_below}

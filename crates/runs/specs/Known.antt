@@ -1,4 +1,4 @@
--- What is told of the least width after each one from a first on was tried (ours).
+-- The line on the least width after each one from a first on was tried (ours).
 use Rattle.std.specs.Prelude.{ℕ, ◌+◌, ◌-◌, ◌==◌, nat_lt, min, max, if◌then◌else◌, List, [], ◌++◌, codes, decimal, Option, None, Some}
 use Rattle.rr_graph.specs.Fabric.{most_tracks}
 use Rattle.width_bound.specs.declared.figures.CutFigures.{CutFigures}

@@ -1,0 +1,11 @@
+use Rattle.std.proofs.Common.{rules, tests}
+use Rattle.std.proofs.lemmas.Iterator.Consumers.{nth_from_yields_List}
+use Rattle.std.proofs.lemmas.Iterator.Splits.{YieldsList-from_slice_split}
+use Rattle.vpr_text.specs.Words.{is_line_feed}
+use Rattle.refusals.proofs.location.line_in_place.Goals as goal
+
+pub returns : goal.returns
+returns c =
+    nth_from_yields_List _ _ c.args.place c.nth.ensures.ran
+    (YieldsList-from_slice_split _ is_line_feed c.args.bytes.now c.split.ensures.rest c.split.ensures.done
+    c.split.ensures.closure (λ x r q k. search (rules, tests)))
