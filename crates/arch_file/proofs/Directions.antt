@@ -11,7 +11,7 @@ use Rattle.arch_file.specs.declared.entries.Direction.TheVariants.{Input, Output
 use Rattle.arch_file.specs.declared.entries.Pin.{Pin}
 use Rattle.arch_file.specs.Lines.{same_direction, pins_of}
 use Rattle.arch_file.specs.PinLine.{mixes, is_bad_class, is_global_pin, side_words, lacks_sides, pin_in}
-use Rattle.line_reader.specs.Word.{has, number_in}
+use Rattle.vpr_text.specs.Word.{has, number_in}
 use Rattle.arch_file.proofs.Faultless.{and_false, found_passes, found_fails}
 
 -- the direction of the first pin of a class

@@ -23,7 +23,7 @@ use Rattle.arch_file.specs.Architecture.{IsSegmentLength, IsWithinLimits}
 use Rattle.arch_file.specs.Faults.{first_fault}
 use Rattle.arch_file.specs.Judge.{is_passed, has_keyword, is_repeated, judge, judged, says, keyword_at}
 use Rattle.arch_file.specs.Keyword.{same_keyword}
-use Rattle.line_reader.specs.Word.{is_text, has, is_at, number_in}
+use Rattle.vpr_text.specs.Word.{is_text, has, is_at, number_in}
 use Rattle.arch_file.specs.Lines.{keyword_of_pin, io_rat_of, pin_of, segment_of, pins_of, segments_of}
 use Rattle.arch_file.specs.Pairs.{pairs_of, pair_with, value_of, has_key, fixed_for}
 use Rattle.arch_file.specs.PinLine.{mixes, pin_line, pin_in, is_bad_class, lacks_sides}

@@ -4,7 +4,7 @@ use Rattle.std.specs.Prelude.{MatchBool}
 use Rattle.vpr_text.specs.Readings.{◌>>=◌, with_fault}
 use Rattle.vpr_text.specs.Words.{Line}
 use Rattle.vpr_text.specs.Text.{lines_of}
-use Rattle.line_reader.proofs.Readings.{bind_ok, with_fault_ok}
+use Rattle.vpr_text.proofs.Readings.{bind_ok, with_fault_ok}
 use Rattle.arch_file.specs.declared.fault.ArchFault.TheVariants as arch
 use Rattle.arch_file.specs.declared.fault.Entry.{Entry}
 use Rattle.arch_file.specs.declared.fault.LineFault.{LineFault}

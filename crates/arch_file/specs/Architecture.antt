@@ -2,6 +2,7 @@
 -- Format").
 use Rattle.std.specs.Prelude.{◌≡◌, ℕ, ◌+◌, ◌<◌, ◌≤◌, ◌==◌, List, length, max, fold, find, count_by, Option, Some, All}
 use Rattle.std.specs.Option.{option_map}
+use Rattle.arch_file.specs.declared.arch.TheConstants.{LONGEST_SIDE}
 use Rattle.arch_file.specs.declared.entries.Direction.{Direction}
 use Rattle.arch_file.specs.declared.entries.Pin.{Pin}
 use Rattle.arch_file.specs.declared.entries.FcType.{FcType}
@@ -42,7 +43,7 @@ longest_wire = 16
 
 -- the most columns, and the most rows, of logic blocks in an array
 abbrev pub longest_side : ℕ
-longest_side = 100
+longest_side = LONGEST_SIDE
 
 -- a wire passes 1 to 16 logic blocks, or all of them
 abbrev pub IsSegmentLength : SegmentLength → Type 0

@@ -1,7 +1,7 @@
 -- Keys and their values: the words of a line taken two at a time (this project's profile).
 use Rattle.std.specs.Prelude.{ℕ, Bool, false, List, [], ◌∷◌, Option, option_and_then, unwrap_or, is_some, find}
 use Rattle.std.specs.Option.{option_map, option_map_or}
-use Rattle.line_reader.specs.Word.{is_text}
+use Rattle.vpr_text.specs.Word.{is_text}
 use Rattle.vpr_text.specs.Numbers.{number_of, fixed_of}
 
 -- each key with the word after it; a last key without a value gives no pair

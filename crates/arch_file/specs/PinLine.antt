@@ -11,7 +11,7 @@ use Rattle.arch_file.specs.declared.entries.Direction.TheVariants.{Input}
 use Rattle.arch_file.specs.declared.entries.Pin.{Pin}
 use Rattle.arch_file.specs.declared.entries.Sides.{Sides}
 use Rattle.arch_file.specs.Faults.{first_fault}
-use Rattle.line_reader.specs.Word.{is_text, has, is_at, number_in}
+use Rattle.vpr_text.specs.Word.{is_text, has, is_at, number_in}
 use Rattle.arch_file.specs.Lines.{same_direction, pins_of}
 use Rattle.arch_file.specs.Architecture.{most_pins}
 

@@ -10,7 +10,7 @@ use Rattle.arch_file.specs.declared.entries.Segment.{Segment}
 use Rattle.arch_file.specs.declared.entries.SegmentLength.{SegmentLength}
 use Rattle.arch_file.specs.declared.entries.SegmentLength.TheVariants.{Places, Longline}
 use Rattle.arch_file.specs.Faults.{first_fault}
-use Rattle.line_reader.specs.Word.{is_text}
+use Rattle.vpr_text.specs.Word.{is_text}
 use Rattle.arch_file.specs.Lines.{segments_of}
 use Rattle.vpr_text.specs.Numbers.{number_of, fixed_of, is_decimal}
 use Rattle.arch_file.specs.Pairs.{pairs_of, has_key, is_value, number_for, fixed_for}

@@ -10,7 +10,7 @@ use Rattle.arch_file.specs.declared.line.ArchLine.{ArchLine}
 use Rattle.arch_file.specs.declared.line.ArchLine.TheVariants as line
 use Rattle.arch_file.specs.declared.entries.Switch.{Switch}
 use Rattle.arch_file.specs.Faults.{first_fault}
-use Rattle.line_reader.specs.Word.{is_text, has, number_in}
+use Rattle.vpr_text.specs.Word.{is_text, has, number_in}
 use Rattle.arch_file.specs.Lines.{switches_of}
 use Rattle.vpr_text.specs.Numbers.{is_decimal}
 use Rattle.arch_file.specs.Pairs.{pairs_of, has_key, is_value}

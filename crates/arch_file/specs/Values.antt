@@ -8,7 +8,7 @@ use Rattle.arch_file.specs.declared.line.ArchLine.{ArchLine}
 use Rattle.arch_file.specs.declared.line.ArchLine.TheVariants as line
 use Rattle.arch_file.specs.declared.entries.FcType.TheVariants.{Absolute, Fractional}
 use Rattle.arch_file.specs.Faults.{first_fault}
-use Rattle.line_reader.specs.Word.{has, is_at, number_in, fixed_in}
+use Rattle.vpr_text.specs.Word.{has, is_at, number_in, fixed_in}
 use Rattle.arch_file.specs.Architecture.{most_pads}
 
 -- the number of pads, or 0 where there is none

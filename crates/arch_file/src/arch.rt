@@ -7,6 +7,9 @@ use crate::entries::{Direction, FcType, Pin, Segment, Switch};
 use std::alloc::{AllocError, Global};
 use std::marker::Model;
 
+/// The greatest number of columns of logic blocks, and of rows.
+pub const LONGEST_SIDE: u32 = 100;
+
 /// An architecture, as `parse` reads it. Contracts see it as the record of its entries.
 #[derive(Drop)]
 pub struct Arch {

@@ -14,7 +14,7 @@ use crate::values::{
     chan_width_io_line, channel_line, fc_type_line, fixed_value, io_rat_line, number_line,
     switch_block_type_line,
 };
-use line_reader::Words;
+use vpr_text::Words;
 
 /// Whether a line is passed over unread.
 pub(crate) fn is_passed(words: &Words) -> bool
@@ -31,7 +31,7 @@ pub(crate) fn is_passed(words: &Words) -> bool
 pub(crate) fn has_keyword(lines: &[ArchLine], keyword: Keyword) -> bool
     ensures { result ≡ has_keyword lines.now keyword }
 {
-    lines.iter().any(|line| line.keyword().is(keyword))
+    lines.iter().any(|line| line.keyword() == keyword)
 }
 
 /// Whether a keyword that stands once stands on a line before.

@@ -1,12 +1,12 @@
 //! The keywords of an architecture file.
 
-ghost use Rattle.std.specs.Prelude.{◌≡◌};
-ghost use Rattle.arch_file.specs.Keyword.{begins_with, keyword_of, stands_once, same_keyword, is_unread};
+ghost use Rattle.std.specs.Prelude.{◌≡◌, map};
+ghost use Rattle.arch_file.specs.Keyword.{begins_with, keyword_in, keyword_of, stands_once, is_unread};
 
-use line_reader::is_text;
+use vpr_text::is_text;
 
 /// The word that a line begins with (VPR and T-VPack manual 4.30).
-#[derive(Clone, Copy)]
+#[derive(Clone, Copy, PartialEq, Eq)]
 pub(crate) enum Keyword {
     IoRat,
     ChanWidthIo,
@@ -25,6 +25,25 @@ pub(crate) enum Keyword {
     Switch,
 }
 
+/// Each keyword with its text.
+const KEYWORDS: [(&str, Keyword); 15] = [
+    ("io_rat", Keyword::IoRat),
+    ("chan_width_io", Keyword::ChanWidthIo),
+    ("chan_width_x", Keyword::ChanWidthX),
+    ("chan_width_y", Keyword::ChanWidthY),
+    ("inpin", Keyword::Inpin),
+    ("outpin", Keyword::Outpin),
+    ("subblocks_per_clb", Keyword::SubblocksPerClb),
+    ("subblock_lut_size", Keyword::SubblockLutSize),
+    ("switch_block_type", Keyword::SwitchBlockType),
+    ("Fc_type", Keyword::FcType),
+    ("Fc_output", Keyword::FcOutput),
+    ("Fc_input", Keyword::FcInput),
+    ("Fc_pad", Keyword::FcPad),
+    ("segment", Keyword::Segment),
+    ("switch", Keyword::Switch),
+];
+
 #[tactic(auto, unfolding(crate::specs::Keyword::begins_with))]
 fn begins(word: &[u8], text: &str) -> bool
     ensures { result ≡ begins_with word.now text.now }
@@ -39,58 +58,26 @@ pub(crate) fn is_unread(word: &[u8]) -> bool
     begins(word, "T_") || begins(word, "C_") || begins(word, "R_")
 }
 
+/// The keyword of the first row whose text is this word.
+fn keyword_in(mut table: &[(&str, Keyword)], word: &[u8]) -> Option<Keyword>
+    ensures { result ≡ keyword_in (map (λ row. (row.0.now, row.1)) table.entry.now) word.now }
+{
+    while let [row, rest @ ..] = table {
+        if is_text(word, row.0) {
+            return Some(row.1);
+        }
+        table = rest;
+    }
+    None
+}
+
 impl Keyword {
     /// The keyword that a word is, if it is one.
-    #[tactic(auto, unfolding(crate::specs::Keyword::keyword_of))]
+    #[tactic(auto, unfolding(crate::specs::Keyword::keyword_of, crate::specs::Keyword::keywords))]
     pub(crate) fn of(word: &[u8]) -> Option<Keyword>
         ensures { result ≡ keyword_of word.now }
     {
-        if is_text(word, "io_rat") {
-            return Some(Keyword::IoRat);
-        }
-        if is_text(word, "chan_width_io") {
-            return Some(Keyword::ChanWidthIo);
-        }
-        if is_text(word, "chan_width_x") {
-            return Some(Keyword::ChanWidthX);
-        }
-        if is_text(word, "chan_width_y") {
-            return Some(Keyword::ChanWidthY);
-        }
-        if is_text(word, "inpin") {
-            return Some(Keyword::Inpin);
-        }
-        if is_text(word, "outpin") {
-            return Some(Keyword::Outpin);
-        }
-        if is_text(word, "subblocks_per_clb") {
-            return Some(Keyword::SubblocksPerClb);
-        }
-        if is_text(word, "subblock_lut_size") {
-            return Some(Keyword::SubblockLutSize);
-        }
-        if is_text(word, "switch_block_type") {
-            return Some(Keyword::SwitchBlockType);
-        }
-        if is_text(word, "Fc_type") {
-            return Some(Keyword::FcType);
-        }
-        if is_text(word, "Fc_output") {
-            return Some(Keyword::FcOutput);
-        }
-        if is_text(word, "Fc_input") {
-            return Some(Keyword::FcInput);
-        }
-        if is_text(word, "Fc_pad") {
-            return Some(Keyword::FcPad);
-        }
-        if is_text(word, "segment") {
-            return Some(Keyword::Segment);
-        }
-        if is_text(word, "switch") {
-            return Some(Keyword::Switch);
-        }
-        None
+        keyword_in(&KEYWORDS, word)
     }
 
     /// Whether at most one line may begin with this keyword.
@@ -101,11 +88,5 @@ impl Keyword {
             self,
             Keyword::Inpin | Keyword::Outpin | Keyword::Segment | Keyword::Switch
         )
-    }
-
-    pub(crate) fn is(self, other: Keyword) -> bool
-        ensures { result ≡ same_keyword self other }
-    {
-        self as u8 == other as u8
     }
 }

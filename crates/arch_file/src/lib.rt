@@ -16,7 +16,7 @@ mod segments;
 mod switches;
 mod values;
 
-pub use arch::Arch;
+pub use arch::{Arch, LONGEST_SIDE};
 pub use entries::{Direction, FcType, Pin, Segment, SegmentLength, Sides, Switch};
 pub use fault::{ArchFault, Entry};
 pub use reading::parse;

@@ -4,8 +4,7 @@ ghost use Rattle.std.specs.Prelude.{◌≡◌};
 ghost use Rattle.std.specs.Option.{option_copied, option_map};
 ghost use Rattle.arch_file.specs.Pairs.{pairs_of, pair_with, value_of, has_key, is_value, number_for, fixed_for};
 
-use line_reader::{Words, is_text};
-use vpr_text::{fixed, number};
+use vpr_text::{Words, fixed, is_text, number};
 
 /// Each key with the word after it, in the order of the line. A last key without a value gives no
 /// pair.

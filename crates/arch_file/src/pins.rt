@@ -3,14 +3,14 @@
 ghost use Rattle.std.specs.Prelude.{◌≡◌, true, length, unwrap_or};
 ghost use Rattle.std.specs.Option.{option_map_or};
 ghost use Rattle.std.specs.List.{list_any, list_all};
-ghost use Rattle.line_reader.specs.Word.{is_text, number_in};
+ghost use Rattle.vpr_text.specs.Word.{is_text, number_in};
 ghost use Rattle.arch_file.specs.Lines.{pins_of};
 ghost use Rattle.arch_file.specs.PinLine.{mixes, is_global_pin, side_words, is_side, sides_in, pin_in, pin_line};
 
 use crate::entries::{Direction, Pin, Sides};
 use crate::fault::LineFault;
 use crate::line::ArchLine;
-use line_reader::{Words, is_text};
+use vpr_text::{Words, is_text};
 
 /// The greatest number of pins of a logic block.
 const MOST_PINS: usize = 64;

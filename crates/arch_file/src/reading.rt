@@ -17,9 +17,8 @@ use crate::line::ArchLine;
 use crate::pins::pin_count;
 use crate::segments::segment_count;
 use crate::switches::has_switch;
-use line_reader::Words;
 use std::alloc::{AllocError, Global};
-use vpr_text::{Lines, TextFault, lines};
+use vpr_text::{Lines, TextFault, Words, lines};
 
 /// What the lines say, line by line.
 fn entries(alloc: Global, lines: &Lines) -> Result<Vec<ArchLine>, ArchFault>

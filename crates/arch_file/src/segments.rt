@@ -9,8 +9,7 @@ use crate::fault::LineFault;
 use crate::line::ArchLine;
 use crate::pairs::{fixed_for, has_key, is_value, number_for, pairs_in};
 use crate::values::ONE;
-use line_reader::{Words, is_text};
-use vpr_text::{fixed, is_decimal, number};
+use vpr_text::{Words, fixed, is_decimal, is_text, number};
 
 /// The greatest number of segments.
 const MOST_SEGMENTS: usize = 16;

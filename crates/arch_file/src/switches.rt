@@ -8,8 +8,7 @@ use crate::entries::Switch;
 use crate::fault::LineFault;
 use crate::line::ArchLine;
 use crate::pairs::{has_key, is_value, pairs_in};
-use line_reader::{Words, is_text};
-use vpr_text::is_decimal;
+use vpr_text::{Words, is_decimal, is_text};
 
 /// The greatest number of a switch.
 const GREATEST_SWITCH: u32 = 255;

@@ -6,7 +6,7 @@ ghost use Rattle.arch_file.specs.Values.{io_rat_line, chan_width_io_line, is_dis
 use crate::entries::FcType;
 use crate::fault::LineFault;
 use crate::line::ArchLine;
-use line_reader::Words;
+use vpr_text::Words;
 
 /// The greatest number of pads at one place of the perimeter.
 const MOST_PADS: u32 = 16;

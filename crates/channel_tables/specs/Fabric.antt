@@ -4,6 +4,7 @@ use Rattle.std.specs.Prelude.{ℕ, ◌+◌, ◌≤◌, ◌==◌, Bool, ◌&&◌,
 use Rattle.std.specs.List.{range_with_len}
 use Rattle.arch_file.specs.Architecture.{Architecture, IsWithinLimits}
 pub use Rattle.arch_file.specs.Architecture.{longest_side}
+use Rattle.channel_tables.specs.declared.layout.TheConstants.{MOST_TRACKS}
 use Rattle.channel_tables.specs.declared.node.Mode.{Mode}
 
 pub record Fabric : Type 0 where
@@ -21,7 +22,7 @@ fabric_with nx ny width mode a = record { architecture = a; nx = nx; ny = ny; wi
 
 -- the most tracks of a channel (this project's profile)
 abbrev pub most_tracks : ℕ
-most_tracks = 256
+most_tracks = MOST_TRACKS
 
 -- the limits that every device keeps (this project's profile)
 pub record IsFabric (f : Fabric) : Type 0 where

@@ -13,6 +13,9 @@ use arch_file::{Arch, Segment};
 use std::alloc::{AllocError, Global};
 use std::marker::Model;
 
+/// The greatest number of tracks of a channel.
+pub const MOST_TRACKS: u32 = 256;
+
 /// What a device is made from. Contracts see it as the record of its parts.
 #[derive(Drop)]
 pub struct Layout {

@@ -16,7 +16,7 @@ mod wires;
 
 pub use axis::Axis;
 pub use channel::{Beginning, Wire};
-pub use layout::Layout;
+pub use layout::{Layout, MOST_TRACKS};
 pub use node::{Kind, Label, Mode, Node, Span};
 pub use pins::has_class;
 pub use sides::Side;

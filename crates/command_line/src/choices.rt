@@ -3,16 +3,7 @@
 ghost use Rattle.std.specs.Prelude.{◌≡◌, ◌≤◌};
 ghost use Rattle.command_line.specs.kept.Choices.{AreChoices, AreDefaults};
 
-use node_cost::GREATEST_PRESENT;
-
-/// The greatest array size on each side, in logic blocks.
-pub(crate) const GREATEST_SIDE: u32 = 100;
-
-/// The greatest channel width, in tracks.
-pub(crate) const MOST_TRACKS: u32 = 256;
-
-/// The greatest number of workers of a negotiation.
-pub(crate) const MOST_WORKERS: u32 = 16;
+use node_cost::{GREATEST_PRESENT, MOST_ACC, MOST_BB, MOST_ITERATIONS, MOST_MULT, UNIT_FACTOR};
 
 /// The numbers that an option takes, and its default.
 #[derive(Clone, Copy)]
@@ -54,9 +45,9 @@ pub(crate) fn setting_choices<'a>() -> Choices<'a>
     Choices {
         first: from_to(0, GREATEST_PRESENT, "8"),
         init: from_to(0, GREATEST_PRESENT, "8"),
-        mult: from_to(16, 256, "32"),
-        acc: from_to(0, 65_535, "20"),
-        bb: from_to(1, 255, "3"),
-        iterations: from_to(1, 500, "30"),
+        mult: from_to(UNIT_FACTOR, MOST_MULT, "32"),
+        acc: from_to(0, MOST_ACC, "20"),
+        bb: from_to(1, MOST_BB, "3"),
+        iterations: from_to(1, MOST_ITERATIONS, "30"),
     }
 }

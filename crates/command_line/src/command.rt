@@ -5,7 +5,7 @@ ghost use Rattle.rr_graph.specs.Fabric.{longest_side, most_tracks};
 ghost use Rattle.node_cost.specs.Options.{most_workers};
 ghost use Rattle.command_line.specs.Given.{IsRouteGiven, IsWidthGiven, IsCheckGiven, IsReportGiven, IsBoundGiven, IsGraphGiven, IsNetsGiven};
 
-use crate::choices::{GREATEST_SIDE, MOST_TRACKS, MOST_WORKERS, from_to};
+use crate::choices::from_to;
 use crate::given::{
     design_files, flag, number, number_within, optional, settings, side_files, text,
 };
@@ -15,7 +15,8 @@ use crate::options::{
     with_settings,
 };
 use clap::{Arg, ArgAction, ArgMatches, Command};
-use node_cost::Settings;
+use node_cost::{MOST_WORKERS, Settings};
+use rr_graph::{LONGEST_SIDE, MOST_TRACKS};
 use std::alloc::{AllocError, Global};
 
 fn route_command<'a>(alloc: Global) -> Result<Command<'a>, AllocError> {
@@ -122,16 +123,11 @@ fn graph_command<'a>(alloc: Global) -> Result<Command<'a>, AllocError> {
             "ARCH",
             "The architecture file, .arch; - or stdin is standard input",
         ))?
-        .arg(ranged(
-            alloc,
-            "NX",
-            GREATEST_SIDE,
-            "Logic blocks in a row, 1 to 100",
-        ))?
+        .arg(ranged(alloc, "NX", LONGEST_SIDE, "Logic blocks in a row, 1 to 100"))?
         .arg(ranged(
             alloc,
             "NY",
-            GREATEST_SIDE,
+            LONGEST_SIDE,
             "Logic blocks in a column, 1 to 100",
         ))?
         .arg(ranged(alloc, "W", MOST_TRACKS, "Tracks in each channel, 1 to 256"))?
@@ -398,8 +394,8 @@ pub fn graph_words<'a>(matches: &ArgMatches<'a>) -> Option<GraphWords<'a>>
 {
     Some(GraphWords {
         arch: text(matches, "ARCH")?,
-        nx: number_within(matches, "NX", GREATEST_SIDE)?,
-        ny: number_within(matches, "NY", GREATEST_SIDE)?,
+        nx: number_within(matches, "NX", LONGEST_SIDE)?,
+        ny: number_within(matches, "NY", LONGEST_SIDE)?,
         width: number_within(matches, "W", MOST_TRACKS)?,
         global: flag(matches, "global"),
         types: flag(matches, "types"),

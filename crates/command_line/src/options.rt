@@ -1,8 +1,10 @@
 //! The words and options that commands have.
 
-use crate::choices::{Choice, MOST_TRACKS, MOST_WORKERS, from_to, setting_choices};
+use crate::choices::{Choice, from_to, setting_choices};
 use crate::help;
 use clap::{Arg, ArgAction, Command, value_parser};
+use node_cost::MOST_WORKERS;
+use rr_graph::MOST_TRACKS;
 use std::alloc::{AllocError, Global};
 
 pub(crate) fn ranged<'a>(alloc: Global, name: &'a str, most: u32, help: &'a str) -> Arg<'a> {

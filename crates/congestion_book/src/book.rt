@@ -16,8 +16,8 @@ use crate::faults::{CloseFault, CommitFault, DrawFault, PassFault};
 use crate::history::{History, OveruseRow};
 use crate::routes::Routes;
 use crate::turn::Turn;
-use crate::turns::{MOST_ITERATIONS, Turns};
-use node_cost::{Histories, View};
+use crate::turns::Turns;
+use node_cost::{Histories, MOST_ITERATIONS, View};
 use route_tree::{Marks, Tree, check_tree};
 use routing_problem::Problem;
 use std::alloc::{AllocError, Global};
@@ -236,9 +236,9 @@ impl Book {
     /// Full where there are as many rows as there may be.
     fn full(&self) -> Option<CloseFault>
         ensures { result ≡
-            (if nat_le 500 (length self.now.rows) then Some CloseFault.Full else None) }
+            (if nat_le most_iterations (length self.now.rows) then Some CloseFault.Full else None) }
     {
-        if self.history.rows().len() >= MOST_ITERATIONS {
+        if self.history.rows().len() >= MOST_ITERATIONS as usize {
             Some(CloseFault::Full)
         } else {
             None

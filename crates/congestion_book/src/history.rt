@@ -6,8 +6,7 @@ ghost use Rattle.node_cost.specs.Options.{most_iterations};
 ghost use Rattle.congestion_book.specs.Histories.{amount_in};
 ghost use Rattle.congestion_book.specs.kept.HistoryTables.{HistoryTable, AreHistories, GrowsByRow};
 
-use crate::turns::MOST_ITERATIONS;
-use node_cost::Histories;
+use node_cost::{Histories, MOST_ITERATIONS};
 use std::alloc::{AllocError, Global};
 use std::marker::Model;
 use std::sync::Arc;
@@ -77,7 +76,7 @@ impl History {
         ensures { IfOk result
             (λ h. h ≡ record { acc = acc; rows = []; histories = replicate nodes 0 }) }
     {
-        let rows = Vec::with_capacity(alloc, MOST_ITERATIONS)?;
+        let rows = Vec::with_capacity(alloc, MOST_ITERATIONS as usize)?;
         let histories = Arc::new(alloc, Histories::new(alloc, nodes)?)?;
         Ok(History {
             acc,

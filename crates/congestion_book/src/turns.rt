@@ -6,12 +6,10 @@ ghost use Rattle.congestion_book.specs.Turns.{TurnTable, AreInOrder, holder_in, 
 ghost use Rattle.congestion_book.specs.kept.TurnTables.{first_table, table_turned, table_closed, GivesNet};
 
 use crate::turn::Turn;
+use node_cost::MOST_ITERATIONS;
 use std::alloc::{AllocError, Global};
 use std::marker::Model;
 use std::mem;
-
-/// The most iterations that can be closed.
-pub(crate) const MOST_ITERATIONS: usize = 500;
 
 /// The turns of one iteration. Contracts see the list.
 #[derive(Debug, Drop)]
@@ -65,7 +63,7 @@ impl Turns {
     {
         let holders = vec![in alloc; None; nets as usize]?;
         let made = Vec::with_capacity(alloc, nets as usize)?;
-        let earlier = Vec::with_capacity(alloc, MOST_ITERATIONS)?;
+        let earlier = Vec::with_capacity(alloc, MOST_ITERATIONS as usize)?;
         Ok(Turns {
             drawn: 0,
             holders,

@@ -4,10 +4,9 @@
 ghost use Rattle.std.specs.Prelude.{◌≡◌, Some, true};
 ghost use Rattle.routing_problem.specs.Nodes.{is_wire_at, kind_of_node};
 
-use crate::wave::WIRE;
 use route_tree::Row;
 use routing_problem::Kind;
-use wave_ground::Ground;
+use wave_ground::{Ground, WIRE};
 use wave_queue::Key;
 
 /// What it costs to enter a wire.

@@ -75,17 +75,7 @@ pub fn route_net(
     if view.len() != problem.device().node_count() as usize {
         return Err(SearchFault::ViewSize);
     }
-    let tables = prepared.tables();
-    let ground = Ground::new(
-        problem,
-        &tables.groups,
-        &tables.drives,
-        &tables.boxes,
-        net,
-        view,
-        present,
-        bb,
-    );
+    let ground = Ground::new(prepared, net, view, present, bb);
     let kept = before.kept();
     if let Some(found) = grow_narrow(alloc, &ground, &mut scratch.narrow, before.rows, kept)? {
         return Ok(found);

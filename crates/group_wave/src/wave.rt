@@ -17,11 +17,8 @@ use crate::ties::Ties;
 use route_tree::Row;
 use std::alloc::{AllocError, Global};
 use std::marker::Model;
-use wave_ground::{Ground, Nearest, PIN};
+use wave_ground::{Ground, Nearest, PIN, WIRE};
 use wave_queue::{Key, Queue, QueueEntry};
-
-/// What a wire costs at least.
-pub(crate) const WIRE: u128 = 320;
 
 /// A label for each node, and the entries that wait. Contracts see the record of what counts.
 #[derive(Drop)]

@@ -1,19 +1,19 @@
 //! Finds the code of a call by its name, and makes the call.
 
-use lab_book::{book_calls, event_calls, search_calls, settings_calls, view_calls};
-use lab_explain::explain_calls;
-use lab_graph::{arch_calls, design_calls, device_calls, file_calls, text_calls, walk_calls};
-use lab_runs::{fault_calls, progress_calls, run_calls};
+use lab_designs::{
+    arch_calls, design_calls, device_calls, file_calls, other_calls, problem_calls, reading_back,
+    report_calls, route_text_calls, routing_calls, text_calls, tree_calls, walk_calls,
+};
+use lab_runs::{explain_calls, fault_calls, progress_calls, run_calls};
 use lab_session::answer::added;
 use lab_session::session::Session;
 use lab_session::sources::BELOW;
 use lab_session::unanswered::Unanswered;
 use lab_session::words::{Call, NO_NUMBER, number};
-use lab_trees::{
-    other_calls, problem_calls, reading_back, report_calls, route_text_calls, routing_calls,
-    tree_calls,
+use lab_workers::{
+    book_calls, desk_calls, event_calls, gate_calls, iteration_calls, repeated_calls, search_calls,
+    settings_calls, view_calls, work_calls,
 };
-use lab_workers::{desk_calls, gate_calls, iteration_calls, repeated_calls, work_calls};
 use std::alloc::Global;
 use std::rt::Runtime;
 use std::sync::Wait;

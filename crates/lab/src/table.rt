@@ -1,7 +1,7 @@
 //! The calls of `lab`: how each is written, and what it answers.
 
-/// The table of calls: a line for each way to write a call, and below, behind blanks, what it
-/// answers. crates/lab/README.md has the same table.
+/// The table of calls: a line for each way to write a call, and below, after blanks, what it
+/// answers.
 pub const CALLS: &str = "\
 read FILE
   how many bytes

@@ -4,9 +4,9 @@ ghost use Rattle.std.specs.Prelude.{◌≤◌};
 ghost use Rattle.rr_graph.specs.Fabric.{most_tracks};
 ghost use Rattle.node_cost.specs.Options.{most_workers};
 
-use lab_gates::lab_gate::{LabGate, gate_words};
 use lab_session::answer::{added, put_name};
 use lab_session::bounds::{array_side, channel_width, worker_count};
+use lab_session::lab_gate::{LabGate, gate_words};
 use lab_session::session::{RunFiles, RunText};
 use lab_session::sinks::{ShortSink, sink};
 use lab_session::sources::{Failing, failing_source};

@@ -1,7 +1,7 @@
 //! The call that shows what the halves of a pair of gates hear.
 
 use congestion_book::Book;
-use lab_gates::listening::{Heard, Listener};
+use lab_session::listening::{Heard, Listener};
 use lab_session::session::{NO_BOOK, NO_PROBLEM, NO_ROUTING, Session};
 use lab_session::sources::BELOW;
 use lab_session::unanswered::Unanswered;

@@ -5,9 +5,9 @@ ghost use Rattle.node_cost.specs.Options.{most_iterations, most_workers};
 ghost use Rattle.congestion_book.specs.Contents.{IsFresh};
 
 use congestion_book::Book;
-use lab_gates::lab_gate::{LabGate, gate_words};
 use lab_session::answer::{added, put};
 use lab_session::bounds::{iteration_number, worker_count};
+use lab_session::lab_gate::{LabGate, gate_words};
 use lab_session::session::{NO_BOOK, Session};
 use lab_session::trees::put_tree;
 use lab_session::unanswered::Unanswered;

@@ -5,8 +5,8 @@ ghost use Rattle.node_cost.specs.Options.{most_workers};
 
 use crate::work_calls::put_outcome;
 use iteration::{Outcome, negotiate};
-use lab_gates::delaying::{Course, Delaying, NotedIteration, are_same};
 use lab_session::bounds::worker_count;
+use lab_session::delaying::{Course, Delaying, NotedIteration, are_same};
 use lab_session::session::{NO_PROBLEM, Session};
 use lab_session::unanswered::Unanswered;
 use lab_session::words::{Call, NO_NUMBER, number};

@@ -6,10 +6,10 @@ ghost use Rattle.rr_graph.specs.Fabric.{most_tracks};
 ghost use Rattle.node_cost.specs.Options.{most_workers};
 
 use iteration::{Outcome, negotiate};
-use lab_gates::lab_gate::{LabGate, gate_words};
 use lab_session::answer::{added, put};
 use lab_session::bounds::{channel_width, worker_count};
 use lab_session::designs::placement_of;
+use lab_session::lab_gate::{LabGate, gate_words};
 use lab_session::session::{Design, DesignTexts, NO_PROBLEM, Session};
 use lab_session::unanswered::Unanswered;
 use lab_session::words::{Call, mode_before};

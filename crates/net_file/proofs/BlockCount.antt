@@ -9,7 +9,7 @@ use Rattle.std.proofs.lemmas.List.Elements.{filter-append}
 use Rattle.std.proofs.lemmas.List.Sums.{fold-append}
 use Rattle.std.proofs.lemmas.Slice.Eq.{bytes_eq-Decides}
 use Rattle.vpr_text.specs.Words.{Line, no_line, words_at}
-use Rattle.line_reader.specs.Word.{is_text}
+use Rattle.vpr_text.specs.Word.{is_text}
 use Rattle.net_file.specs.declared.terminal.BlockKind.{BlockKind}
 use Rattle.net_file.specs.Judge.{first_fault, stands, is_bad_line, is_bad_count, is_double, are_too_many, fault_of_next}
 use Rattle.net_file.specs.Lines.{kind_of, kind_at, is_element, is_pinlist, name_in, block_name_on, block_names, opened, latest}

@@ -2,7 +2,7 @@
 use Rattle.std.proofs.Common.{◌≡◌, ℕ, false, List, [], ◌∷◌, Some, None, Ok, Err, refl}
 use Rattle.std.specs.Prelude.{codes}
 use Rattle.vpr_text.specs.Words.{Line}
-use Rattle.line_reader.specs.Word.{is_text}
+use Rattle.vpr_text.specs.Word.{is_text}
 use Rattle.net_file.specs.declared.fault.LineFault.TheVariants.{BadLine, DoubleName}
 use Rattle.net_file.specs.declared.fault.NetFault.TheVariants as net
 use Rattle.net_file.specs.declared.terminal.BlockKind.TheVariants.{InputPad, OutputPad}

@@ -9,7 +9,7 @@ use Rattle.std.proofs.lemmas.Slice.Eq.{bytes_eq-Decides}
 use Rattle.vpr_text.specs.Text.{IsWord}
 use Rattle.vpr_text.specs.kept.Split.{HaveWords}
 use Rattle.vpr_text.specs.Words.{Line}
-use Rattle.line_reader.specs.Word.{is_text}
+use Rattle.vpr_text.specs.Word.{is_text}
 use Rattle.net_file.specs.Judge.{is_logic_block, stands, is_bad_line, is_bad_count, is_double, fault_of_next}
 use Rattle.net_file.specs.Lines.{kind_of, is_element, is_pinlist, is_global, is_subblock, is_open, name_in, block_name_on, net_names_on, block_names, net_names, opened, latest}
 use Rattle.net_file.specs.Reads.{AreAccepted}

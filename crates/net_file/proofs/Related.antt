@@ -7,7 +7,7 @@ use Rattle.std.proofs.lemmas.List.{append-nil, append_assoc}
 use Rattle.vpr_text.specs.Readings.{with_fault}
 use Rattle.vpr_text.specs.Words.{Line}
 use Rattle.vpr_text.specs.Text.{lines_of}
-use Rattle.line_reader.proofs.Readings.{bind_ok, not_faulty, with_fault_ok}
+use Rattle.vpr_text.proofs.Readings.{bind_ok, not_faulty, with_fault_ok}
 use Rattle.arch_file.specs.declared.entries.Pin.{Pin}
 use Rattle.net_file.specs.declared.fault.LineFault.{LineFault}
 use Rattle.net_file.specs.declared.fault.NetFault.{NetFault}

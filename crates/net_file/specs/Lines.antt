@@ -2,7 +2,7 @@
 use Rattle.std.specs.Prelude.{ℕ, Bool, not, if◌then◌else◌, List, [], ◌∷◌, drop, filter, Option, None, Some, option_and_then, is_some, slice_get, codes, fold}
 use Rattle.std.specs.List.{flat_map}
 use Rattle.vpr_text.specs.Words.{Line}
-use Rattle.line_reader.specs.Word.{is_text, word_at, is_at}
+use Rattle.vpr_text.specs.Word.{is_text, word_at, is_at}
 use Rattle.net_file.specs.declared.terminal.BlockKind.{BlockKind}
 use Rattle.net_file.specs.declared.terminal.BlockKind.TheVariants.{InputPad, OutputPad, LogicBlock}
 use Rattle.net_file.specs.Names.{distinct}

@@ -8,9 +8,8 @@ use crate::block::Block;
 use crate::line::{is_open, is_pinlist, kind_at, name_in};
 use crate::names::Names;
 use crate::terminal::BlockKind;
-use line_reader::{Words, line_number};
 use std::alloc::{AllocError, Global};
-use vpr_text::Lines;
+use vpr_text::{Lines, Words, line_number};
 
 /// The places of the pinlists among the lines.
 #[tactic(auto, unfolding(crate::specs::Blocks::pinlists))]

@@ -10,8 +10,8 @@ use crate::line::{is_element, is_global, is_pinlist, is_subblock, name_in};
 use crate::names::Names;
 use crate::seen::Seen;
 use crate::terminal::BlockKind;
-use line_reader::Words;
 use std::alloc::AllocError;
+use vpr_text::Words;
 
 /// The greatest number of blocks.
 const MOST_BLOCKS: usize = 20_000;

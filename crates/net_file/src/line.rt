@@ -4,7 +4,7 @@ ghost use Rattle.std.specs.Prelude.{◌≡◌};
 ghost use Rattle.net_file.specs.Lines.{kind_of, kind_at, is_element, is_pinlist, is_subblock, is_global, name_in, is_open};
 
 use crate::terminal::BlockKind;
-use line_reader::{Words, is_text};
+use vpr_text::{Words, is_text};
 
 /// Whether the word stands for a pin that is connected to no net.
 pub(crate) fn is_open(word: &[u8]) -> bool

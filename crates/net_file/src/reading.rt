@@ -23,9 +23,8 @@ use crate::rows::{NetRow, by_net};
 use crate::seen::Seen;
 use crate::whole_file::whole_fault;
 use arch_file::{Arch, Pin};
-use line_reader::Words;
 use std::alloc::{AllocError, Global};
-use vpr_text::{Lines, TextFault, lines};
+use vpr_text::{Lines, TextFault, Words, lines};
 
 /// What the lines say, judged line by line; a logic block has `pins` pins.
 fn seen_in<'a>(alloc: Global, pins: usize, lines: &Lines<'a>) -> Result<Seen<'a>, NetFault>

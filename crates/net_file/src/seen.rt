@@ -8,8 +8,8 @@ ghost use Rattle.net_file.specs.kept.LinesSeen.{IsSeen, latest_after, Notes};
 use crate::line::{is_element, is_global, is_open, is_pinlist, kind_at, name_in};
 use crate::names::Names;
 use crate::terminal::BlockKind;
-use line_reader::Words;
 use std::alloc::{AllocError, Global};
+use vpr_text::Words;
 
 /// What the lines so far say, as far as later lines depend on it.
 #[derive(Drop)]

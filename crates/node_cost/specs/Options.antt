@@ -4,6 +4,9 @@ use Rattle.std.specs.Prelude.{ℕ, ◌-◌, ◌*◌, ◌/◌, ◌≤◌, zero, s
 use Rattle.node_cost.specs.declared.settings.Range.{Range}
 use Rattle.node_cost.specs.declared.settings.Range.TheVariants.{First, Init, Mult, Acc, Bb, Iterations}
 use Rattle.node_cost.specs.Costs.{unit_factor}
+use Rattle.node_cost.specs.declared.entry_cost.TheConstants.{GREATEST_PRESENT}
+use Rattle.node_cost.specs.declared.standard.TheConstants.{FIRST, INIT, MULT, ACC, BB, ITERATIONS}
+use Rattle.node_cost.specs.declared.settings.TheConstants.{MOST_MULT, MOST_ACC, MOST_BB, MOST_ITERATIONS, MOST_WORKERS}
 
 pub record RouterOptions : Type 0 where
   -- the present-congestion factor of the first iteration, and of the second
@@ -21,20 +24,20 @@ pub record RouterOptions : Type 0 where
   -- results is as good, so that no other definition names it
   pub steady : Bool
 
--- the greatest present-congestion factor: 2^20, in sixteenths
+-- the greatest present-congestion factor, in sixteenths
 abbrev pub greatest_present : ℕ
-greatest_present = 1048576
+greatest_present = GREATEST_PRESENT
 
 -- the greatest multiplier
 abbrev pub most_mult : ℕ
-most_mult = 256
+most_mult = MOST_MULT
 
 -- the most iterations of a negotiation, and the most workers of one (this project's profile)
 abbrev pub most_iterations : ℕ
-most_iterations = 500
+most_iterations = MOST_ITERATIONS
 
 abbrev pub most_workers : ℕ
-most_workers = 16
+most_workers = MOST_WORKERS
 
 -- the factor of the next iteration
 abbrev pub next_present : (mult present : ℕ) → ℕ
@@ -58,12 +61,13 @@ options_within o =
     if not (is_within 0 greatest_present o.first) then Err First
     else (if not (is_within 0 greatest_present o.init) then Err Init
     else (if not (is_within unit_factor most_mult o.mult) then Err Mult
-    else (if not (is_within 0 65535 o.acc) then Err Acc
-    else (if not (is_within 1 255 o.bb) then Err Bb
+    else (if not (is_within 0 MOST_ACC o.acc) then Err Acc
+    else (if not (is_within 1 MOST_BB o.bb) then Err Bb
     else (if not (is_within 1 most_iterations o.iterations) then Err Iterations else Ok o)))))
 
+-- the default options
 abbrev pub standard_options : RouterOptions
-standard_options = record { first = 8; init = 8; mult = 32; acc = 20; bb = 3; iterations = 30; steady = false }
+standard_options = record { first = FIRST; init = INIT; mult = MULT; acc = ACC; bb = BB; iterations = ITERATIONS; steady = false }
 
 -- the same options, but for whether a net keeps to its tree
 abbrev pub with_steady : RouterOptions → Bool → RouterOptions
@@ -75,8 +79,8 @@ pub record AreWithinLimits (o : RouterOptions) : Type 0 where
   pub init : o.init ≤ greatest_present
   pub mult_least : unit_factor ≤ o.mult
   pub mult : o.mult ≤ most_mult
-  pub acc : o.acc ≤ 65535
+  pub acc : o.acc ≤ MOST_ACC
   pub bb_least : 1 ≤ o.bb
-  pub bb : o.bb ≤ 255
+  pub bb : o.bb ≤ MOST_BB
   pub iterations_least : 1 ≤ o.iterations
   pub iterations : o.iterations ≤ most_iterations

@@ -8,11 +8,14 @@ mod histories;
 mod packed;
 mod settings;
 mod shared;
+mod standard;
 mod view;
 mod words;
 
 pub use counts::Counts;
-pub use entry_cost::{GREATEST_HISTORY, GREATEST_OTHERS, GREATEST_PRESENT, cost};
+pub use entry_cost::{
+    GREATEST_BASE, GREATEST_HISTORY, GREATEST_OTHERS, GREATEST_PRESENT, UNIT_FACTOR, cost,
+};
 pub use histories::Histories;
-pub use settings::{Range, Settings};
+pub use settings::{MOST_ACC, MOST_BB, MOST_ITERATIONS, MOST_MULT, MOST_WORKERS, Range, Settings};
 pub use view::{BorrowedView, View};

@@ -1,11 +1,27 @@
 //! The settings of a negotiation.
 
 ghost use Rattle.std.specs.Prelude.{◌≡◌, ◌≤◌, false};
-ghost use Rattle.node_cost.specs.Options.{AreWithinLimits, options_within, standard_options, with_steady, present_of, present_after, next_present, most_iterations, most_mult};
+ghost use Rattle.node_cost.specs.Options.{AreWithinLimits, options_within, standard_options, with_steady, present_of, present_after, next_present};
 
-use crate::entry_cost::GREATEST_PRESENT;
+use crate::entry_cost::{GREATEST_PRESENT, UNIT_FACTOR};
+use crate::standard;
 use std::marker::Model;
 use thiserror::Error;
+
+/// The greatest multiplier of the present-congestion factor, in sixteenths.
+pub const MOST_MULT: u32 = 256;
+
+/// The most that a node's history grows for each net of overuse.
+pub const MOST_ACC: u32 = 65_535;
+
+/// The most columns and rows outside the box of its terminals in which a net may be routed.
+pub const MOST_BB: u32 = 255;
+
+/// The most iterations of a negotiation.
+pub const MOST_ITERATIONS: u32 = 500;
+
+/// The most workers of a negotiation.
+pub const MOST_WORKERS: u32 = 16;
 
 /// The first setting that is out of range.
 #[derive(Clone, Copy, Debug, PartialEq, Eq, Error)]
@@ -91,16 +107,16 @@ impl Settings {
         if init > GREATEST_PRESENT {
             return Err(Range::Init);
         }
-        if !(16..=256).contains(&mult) {
+        if !(UNIT_FACTOR..=MOST_MULT).contains(&mult) {
             return Err(Range::Mult);
         }
-        if acc > 65535 {
+        if acc > MOST_ACC {
             return Err(Range::Acc);
         }
-        if !(1..=255).contains(&bb) {
+        if !(1..=MOST_BB).contains(&bb) {
             return Err(Range::Bb);
         }
-        if !(1..=500).contains(&iterations) {
+        if !(1..=MOST_ITERATIONS).contains(&iterations) {
             return Err(Range::Iterations);
         }
         Ok(Settings {
@@ -127,12 +143,12 @@ impl Settings {
         ensures { result ≡ standard_options }
     {
         Settings {
-            first: 8,
-            init: 8,
-            mult: 32,
-            acc: 20,
-            bb: 3,
-            iterations: 30,
+            first: standard::FIRST,
+            init: standard::INIT,
+            mult: standard::MULT,
+            acc: standard::ACC,
+            bb: standard::BB,
+            iterations: standard::ITERATIONS,
             is_steady: false,
         }
     }
@@ -193,7 +209,7 @@ impl Settings {
     #[tactic(auto, unfolding(crate::specs::Options::present_of))]
     pub fn present(&self, iteration: u32) -> u32
         requires least { 1 ≤ iteration }
-        requires greatest { iteration ≤ most_iterations }
+        requires greatest { iteration ≤ MOST_ITERATIONS }
         ensures exact { result ≡ present_of self.now iteration }
         ensures bounded { result ≤ GREATEST_PRESENT }
     {
@@ -218,10 +234,10 @@ impl Settings {
 
 /// Returns the present-congestion factor of the next iteration.
 fn next_present(mult: u32, present: u32) -> u32
-    requires mult { mult ≤ most_mult }
+    requires mult { mult ≤ MOST_MULT }
     requires present { present ≤ GREATEST_PRESENT }
     ensures exact { result ≡ next_present mult present }
     ensures bounded { result ≤ GREATEST_PRESENT }
 {
-    (present * mult / 16).min(GREATEST_PRESENT)
+    (present * mult / UNIT_FACTOR).min(GREATEST_PRESENT)
 }

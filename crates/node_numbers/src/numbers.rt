@@ -182,6 +182,23 @@ impl NodeNumbers {
         }
     }
 
+    /// Returns the node of a number with its first and last place and what its number counts, from
+    /// one look-up.
+    pub fn described_node(&self, id: u32) -> Option<(Node, Span, Label)>
+        ensures node { option_map (λ d. d.0) result ≡ node_at self.now id }
+        ensures span { IfSome result (λ d. d.1 ≡ span_of self.now d.0) }
+        ensures label { IfSome result (λ d. d.2 ≡ label_of self.now d.0) }
+    {
+        match self.node_of(id) {
+            None => None,
+            Some(node) => {
+                let span = span_of(node, self.last_of(node));
+                let label = label_of(self.layout(), node);
+                Some((node, span, label))
+            }
+        }
+    }
+
     /// Returns the kind of a wire, its first and last place, and the most places of a wire of its
     /// track, from one look-up. None if the node is no wire.
     #[tactic(auto, unfolding(crate::specs::Nodes::wire_in))]

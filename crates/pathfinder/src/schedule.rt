@@ -7,7 +7,7 @@ use crate::begun::refused;
 use crate::files::RunFile;
 use crate::shown::Plain;
 use command_line::help::VERSION;
-use node_cost::Settings;
+use node_cost::{MOST_WORKERS, Settings};
 use rr_graph::Mode;
 use run_inputs::AppFault;
 use run_log::Progress;
@@ -21,9 +21,6 @@ use std::sync::Wait;
 
 /// The line of a schedule that has the number of its workers.
 const WORKERS_LINE: u32 = 6;
-
-/// The most workers of a run.
-const MOST_WORKERS: u32 = 16;
 
 /// The status of a schedule that doesn't fit, which is that of bad input.
 const BAD_SCHEDULE: u8 = 4;

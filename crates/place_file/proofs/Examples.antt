@@ -3,8 +3,8 @@
 use Rattle.std.proofs.Common.{◌≡◌, ℕ, true, false, List, [], ◌∷◌, Some, None, Ok, refl}
 use Rattle.std.specs.Prelude.{codes}
 use Rattle.vpr_text.specs.Words.{Line}
-use Rattle.line_reader.specs.ArraySize.{begins_size_line}
-use Rattle.line_reader.specs.Word.{is_text}
+use Rattle.vpr_text.specs.ArraySize.{begins_size_line}
+use Rattle.vpr_text.specs.Word.{is_text}
 use Rattle.net_file.specs.declared.terminal.BlockKind.{BlockKind}
 use Rattle.net_file.specs.declared.terminal.BlockKind.TheVariants.{InputPad, LogicBlock}
 use Rattle.net_file.specs.Names.{number_among}

@@ -12,7 +12,7 @@ use Rattle.std.proofs.lemmas.Option.{slice_get_within, get_or_from_slice_get}
 use Rattle.vpr_text.specs.Words.{Line}
 use Rattle.vpr_text.specs.Text.{lines_of}
 use Rattle.vpr_text.specs.declared.fault.TextFault.{TextFault}
-use Rattle.line_reader.proofs.Readings.{given_ok, not_faulty}
+use Rattle.vpr_text.proofs.Readings.{given_ok, not_faulty}
 use Rattle.net_file.specs.Netlist.{Block}
 use Rattle.place_file.specs.declared.fault.PlaceFault.{PlaceFault}
 use Rattle.place_file.specs.declared.fault.PlaceFault.TheVariants as place

@@ -8,8 +8,8 @@ use Rattle.std.proofs.lemmas.Iterator.Adapters.{position_from-zero}
 use Rattle.vpr_text.specs.Readings.{Gives, with_fault}
 use Rattle.vpr_text.specs.Words.{Line}
 use Rattle.vpr_text.specs.Text.{lines_of}
-use Rattle.line_reader.specs.Word.{number_or_0}
-use Rattle.line_reader.proofs.Readings.{bind_ok, given_ok, given_only, not_faulty, with_fault_ok}
+use Rattle.vpr_text.specs.Word.{number_or_0}
+use Rattle.vpr_text.proofs.Readings.{bind_ok, given_ok, given_only, not_faulty, with_fault_ok}
 use Rattle.net_file.specs.Netlist.{Block}
 use Rattle.place_file.specs.declared.fault.PlaceFault.{PlaceFault}
 use Rattle.place_file.specs.declared.fault.PlaceFault.TheVariants as place

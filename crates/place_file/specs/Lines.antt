@@ -1,8 +1,8 @@
 -- What the lines of a placement are (VPR and T-VPack manual 4.30). Words are counted from 0.
 use Rattle.std.specs.Prelude.{ℕ, Bool, ◌&&◌, ◌==◌, List, length, drop, Option, unwrap_or, codes}
 use Rattle.vpr_text.specs.Words.{Line, words_at}
-use Rattle.line_reader.specs.ArraySize.{begins_size_line}
-use Rattle.line_reader.specs.Word.{word_at, is_at, is_number, number_or_0}
+use Rattle.vpr_text.specs.ArraySize.{begins_size_line}
+use Rattle.vpr_text.specs.Word.{word_at, is_at, is_number, number_or_0}
 use Rattle.net_file.specs.Facts.{names_of_blocks}
 use Rattle.net_file.specs.Names.{number_among}
 use Rattle.net_file.specs.Netlist.{Block}

@@ -3,7 +3,7 @@
 use Rattle.std.specs.Prelude.{◌≡◌, ℕ, ◌<◌, true, List, ◌∷◌, length, Some, Ok, slice_get}
 use Rattle.vpr_text.specs.Words.{Line, words_at}
 use Rattle.vpr_text.specs.Text.{lines_of}
-use Rattle.line_reader.specs.Word.{number_or_0}
+use Rattle.vpr_text.specs.Word.{number_or_0}
 use Rattle.net_file.specs.Netlist.{Block}
 use Rattle.place_file.specs.Lines.{is_title, is_size_line, is_row, block_named, site_on}
 use Rattle.place_file.specs.Placement.{Placement, IsWithinLimits, IsPlaced}

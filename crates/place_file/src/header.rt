@@ -6,8 +6,7 @@ ghost use Rattle.place_file.specs.Lines.{is_title, is_size_line, array_on};
 
 use crate::fault::PlaceFault;
 use crate::site::{Array, is_size};
-use line_reader::{Words, begins_size_line};
-use vpr_text::Lines;
+use vpr_text::{Lines, Words, begins_size_line};
 
 /// Whether the line names a netlist and an architecture.
 #[tactic(auto, unfolding(crate::specs::Lines::is_title))]

@@ -9,8 +9,8 @@ ghost use Rattle.place_file.specs.Placement.{kind_at};
 use crate::fault::PlaceFault;
 use crate::site::{Array, Site, is_site};
 use crate::sites::Sites;
-use line_reader::Words;
 use net_file::{BlockKind, Netlist};
+use vpr_text::Words;
 
 /// The site that a row tells: the line is a name and three numbers.
 #[tactic(auto, unfolding(crate::specs::Lines::is_row))]

@@ -14,10 +14,9 @@ use crate::judge::judge;
 use crate::placement::Placement;
 use crate::site::Array;
 use crate::sites::Sites;
-use line_reader::Words;
 use net_file::Netlist;
 use std::alloc::Global;
-use vpr_text::Lines;
+use vpr_text::{Lines, Words};
 
 /// The sites that the rows tell, judged row by row.
 fn sites_in(

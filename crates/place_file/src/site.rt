@@ -5,6 +5,7 @@ ghost use Rattle.place_file.specs.Judge.{is_size};
 ghost use Rattle.place_file.specs.Placement.{is_inside, is_beside, is_within, is_on_perimeter, is_site};
 ghost use Rattle.place_file.specs.Sites.{same_site};
 
+use arch_file::LONGEST_SIDE;
 use net_file::BlockKind;
 
 /// A site: its place, and the position among the pads of the place; 0 for a logic block.
@@ -38,11 +39,11 @@ fn is_beside(n: u32, v: u32) -> bool
     v == 0 || v - 1 == n
 }
 
-/// Whether the array has 1 to 100 columns and rows.
+/// Whether the array has at least one and at most so many columns and rows as it may have.
 pub(crate) fn is_size(array: Array) -> bool
     ensures { result ≡ is_size array }
 {
-    is_inside(100, array.nx) && is_inside(100, array.ny)
+    is_inside(LONGEST_SIDE, array.nx) && is_inside(LONGEST_SIDE, array.ny)
 }
 
 /// Whether the place is within the array.

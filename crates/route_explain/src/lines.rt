@@ -5,10 +5,9 @@ ghost use Rattle.std.specs.Option.{option_or};
 ghost use Rattle.route_explain.specs.Lines.{ends_step, first_node_line, left_after, line_of_spot, spot_line, step_line};
 
 use crate::spots::Spot;
-use line_reader::line_number;
 use route_file::{begins_section, node_named};
 use rr_graph::Device;
-use vpr_text::Lines;
+use vpr_text::{Lines, line_number};
 
 /// Returns the number of the line that names the first node of a section, or 0 if none does.
 fn first_node_line(device: &Device, lines: &Lines<'_>, start: usize) -> u32

@@ -13,7 +13,6 @@ ghost use Rattle.route_explain.specs.kept.Findings.{AreFindings};
 use crate::findings::Findings;
 use crate::text::{put_after, put_where};
 use crate::users::is_user;
-use line_reader::line_number;
 use net_file::Netlist;
 use report_run::overused_on;
 use route_file::{begins_section, net_begun};
@@ -21,7 +20,7 @@ use route_tree::Pairs;
 use rr_graph::{Device, Problem};
 use run_inputs::net_name;
 use text_output::{ByteSink, OutputBuffer, put_number};
-use vpr_text::Lines;
+use vpr_text::{Lines, line_number};
 
 /// Prints the name of a net, if there is one, after a blank.
 fn put_user<W: ByteSink>(

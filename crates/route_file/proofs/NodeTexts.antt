@@ -44,12 +44,10 @@ some_is {A} {B} g o a b e f =
 
 -- what is printed for a node is its line
 pub line_of_node : (f : Fabric) (a : ℕ) (n : Node) (s : Span) (l : Label)
-    → Some n ≡ node_at f a → Some s ≡ option_map (span_of f) (node_at f a) → Some l ≡ option_map (label_of f) (node_at f a)
+    → Some n ≡ node_at f a → s ≡ span_of f n → l ≡ label_of f n
     → line_text (NodeLine n.kind s l n.number) ≡ flat_map line_text (node_lines f a)
 unfolding node_lines
-line_of_node f a n s l e es el =
-    let s-is = some_is (span_of f) (node_at f a) n s e es in
-    let l-is = some_is (label_of f) (node_at f a) n l e el in
+line_of_node f a n s l e s-is l-is =
     let same : line_text (NodeLine n.kind s l n.number) ≡ line_text (NodeLine n.kind (span_of f n) (label_of f n) n.number) = rw (s-is, l-is) refl in
     same ∙ (sym (append-nil (line_text (NodeLine n.kind (span_of f n) (label_of f n) n.number))) ∙ ap (λ o. flat_map line_text (lines_of_node f o)) e)
 

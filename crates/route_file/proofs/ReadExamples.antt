@@ -3,7 +3,7 @@
 use Rattle.std.proofs.Common.{◌≡◌, ℕ, Bool, true, false, List, [], ◌∷◌, Some, None, Ok, Err, refl}
 use Rattle.std.specs.Prelude.{codes, ◌==◌}
 use Rattle.vpr_text.specs.Words.{Line}
-use Rattle.line_reader.specs.Word.{is_text}
+use Rattle.vpr_text.specs.Word.{is_text}
 use Rattle.net_file.specs.Names.{number_among}
 use Rattle.net_file.specs.Netlist.{Netlist, Net}
 use Rattle.rr_graph.specs.node.Kind.TheVariants.{Ipin, Chanx}

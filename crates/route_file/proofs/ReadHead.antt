@@ -1,10 +1,10 @@
 -- The first lines of a routing's text are read as its head.
 use Rattle.std.proofs.Common.{◌≡◌, ℕ, ◌^◌, ◌<◌, true, refl}
 use Rattle.std.proofs.lemmas.Bool.{eq-eqb}
-use Rattle.line_reader.specs.Word.{is_text}
+use Rattle.vpr_text.specs.Word.{is_text}
 use Rattle.rr_graph.specs.Fabric.{Fabric}
 use Rattle.route_file.specs.TextLine.{Size, Heading}
-use Rattle.line_reader.specs.ArraySize.{begins_size_line}
+use Rattle.vpr_text.specs.ArraySize.{begins_size_line}
 use Rattle.route_file.specs.Judge.{is_size_line, is_size_of, is_title}
 use Rattle.route_file.proofs.LineWords.{line_words}
 use Rattle.route_file.proofs.ReadNumbers.{number_read}

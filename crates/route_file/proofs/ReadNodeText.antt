@@ -1,6 +1,6 @@
 -- What the words of a node's line say.
 use Rattle.std.proofs.Common.{◌≡◌, ℕ, ◌^◌, ◌<◌, true, [], ◌∷◌, Some, decimal, codes, refl}
-use Rattle.line_reader.specs.Word.{is_text}
+use Rattle.vpr_text.specs.Word.{is_text}
 use Rattle.rr_graph.specs.node.Kind.{Kind}
 use Rattle.rr_graph.specs.node.Label.{Label}
 use Rattle.route_file.specs.declared.node_line.NodeText.{NodeText}

@@ -7,7 +7,7 @@ use Rattle.std.proofs.lemmas.Bool.Decides.{nat_tests}
 use Rattle.std.proofs.lemmas.List.Elements.{All-from_recursion}
 use Rattle.std.proofs.lemmas.List.Splits.{slice_split_at, slice_split_none}
 use Rattle.vpr_text.specs.Words.{is_filled}
-use Rattle.line_reader.specs.Word.{is_text}
+use Rattle.vpr_text.specs.Word.{is_text}
 use Rattle.rr_graph.specs.node.Kind.{Kind}
 use Rattle.rr_graph.specs.node.Kind.TheVariants as kind
 use Rattle.rr_graph.specs.node.Label.{Label}

@@ -4,7 +4,7 @@ use Rattle.std.specs.Prelude.{option_and_then}
 use Rattle.std.specs.List.{list_any}
 use Rattle.std.proofs.lemmas.Bool.{false≢true, eq-eqb, ne_eqb, cases_lt, or_right}
 use Rattle.vpr_text.specs.Words.{Line}
-use Rattle.line_reader.specs.Word.{is_at}
+use Rattle.vpr_text.specs.Word.{is_at}
 use Rattle.net_file.specs.Netlist.{Netlist}
 use Rattle.net_file.specs.Routed.{is_routed_at}
 use Rattle.rr_graph.specs.Fabric.{Fabric}

@@ -4,7 +4,7 @@ use Rattle.std.specs.Prelude.{filter, nat_lt, slice_index_or}
 use Rattle.std.specs.List.{AllByRecursion, flat_map, range_with_len}
 use Rattle.std.proofs.lemmas.Bool.{cases_Bool, false≢true, or_right}
 use Rattle.vpr_text.specs.Words.{Line, has_words}
-use Rattle.line_reader.specs.Word.{is_text}
+use Rattle.vpr_text.specs.Word.{is_text}
 use Rattle.net_file.specs.Netlist.{Netlist, Net}
 use Rattle.net_file.specs.Routed.{no_net, is_routed_at}
 use Rattle.net_file.specs.declared.terminal.Terminal.{Terminal}

@@ -10,7 +10,7 @@ use Rattle.std.proofs.lemmas.List.FromFn.{length-range_with_len, get_or-range_wi
 use Rattle.vpr_text.specs.Readings.{unless_faulty, with_fault}
 use Rattle.vpr_text.specs.Words.{Line, words_at}
 use Rattle.vpr_text.specs.Text.{lines_of}
-use Rattle.line_reader.proofs.Readings.{bind_ok, not_faulty, with_fault_ok}
+use Rattle.vpr_text.proofs.Readings.{bind_ok, not_faulty, with_fault_ok}
 use Rattle.net_file.specs.Netlist.{Netlist}
 use Rattle.net_file.specs.Routed.{is_routed_at, routed_numbers}
 use Rattle.rr_graph.specs.Fabric.{Fabric}

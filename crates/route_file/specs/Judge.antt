@@ -4,8 +4,8 @@ use Rattle.std.specs.Prelude.{ℕ, Bool, false, not, ◌&&◌, ◌||◌, ◌==�
 use Rattle.std.specs.List.{last_or}
 use Rattle.std.specs.Option.{option_map_or, option_or}
 use Rattle.vpr_text.specs.Words.{Line, words_at, number_at}
-use Rattle.line_reader.specs.ArraySize.{begins_size_line}
-use Rattle.line_reader.specs.Word.{is_at, number_or_0}
+use Rattle.vpr_text.specs.ArraySize.{begins_size_line}
+use Rattle.vpr_text.specs.Word.{is_at, number_or_0}
 use Rattle.net_file.specs.Netlist.{Netlist}
 use Rattle.net_file.specs.Routed.{is_routed_at}
 use Rattle.rr_graph.specs.Fabric.{Fabric}

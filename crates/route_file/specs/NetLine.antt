@@ -1,7 +1,7 @@
 -- The lines that nets' sections begin with (VPR and T-VPack manual 4.30, "Routing File Format").
 use Rattle.std.specs.Prelude.{ℕ, ◌-◌, Bool, true, false, ◌&&◌, ◌==◌, if◌then◌else◌, List, [], ◌∷◌, length, take, drop, Option, Some, None, is_some, not, unwrap_or, option_and_then, slice_index_or, codes}
 use Rattle.vpr_text.specs.Words.{Line}
-use Rattle.line_reader.specs.Word.{is_text, is_at, word_at, is_number}
+use Rattle.vpr_text.specs.Word.{is_text, is_at, word_at, is_number}
 use Rattle.net_file.specs.Facts.{names_of_nets}
 use Rattle.net_file.specs.Names.{number_among}
 use Rattle.net_file.specs.Netlist.{Netlist}

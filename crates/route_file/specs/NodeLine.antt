@@ -3,7 +3,7 @@
 use Rattle.std.specs.Prelude.{ℕ, Bool, true, false, ◌&&◌, ◌||◌, ◌==◌, if◌then◌else◌, List, length, Option, Some, None, unwrap_or, option_and_then, slice_get, codes}
 use Rattle.std.specs.List.{position}
 use Rattle.std.specs.Option.{option_map_or}
-use Rattle.line_reader.specs.Word.{is_text, is_at, is_number, number_or_0}
+use Rattle.vpr_text.specs.Word.{is_text, is_at, is_number, number_or_0}
 use Rattle.rr_graph.specs.node.Kind.{Kind}
 use Rattle.rr_graph.specs.node.Kind.TheVariants.{Source, Sink, Opin, Ipin, Chanx, Chany}
 use Rattle.rr_graph.specs.node.Label.{Label}

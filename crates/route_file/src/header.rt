@@ -4,9 +4,8 @@ ghost use Rattle.std.specs.Prelude.{◌≡◌};
 ghost use Rattle.route_file.specs.Judge.{ends_well, is_size_line, is_size_of, is_title, header_fault};
 
 use crate::fault::RouteFileFault;
-use line_reader::{Words, begins_size_line, line_number};
 use rr_graph::Device;
-use vpr_text::Lines;
+use vpr_text::{Lines, Words, begins_size_line, line_number};
 
 /// Whether the line ends in `blocks`, with or without a period.
 fn ends_well(words: &Words) -> bool

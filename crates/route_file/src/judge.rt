@@ -10,9 +10,9 @@ use crate::fault::RouteFileFault;
 use crate::net_line::{heading_on, is_global_at, is_routed_at, net_on};
 use crate::node_line::{node_reported, text_of};
 use crate::seen::Seen;
-use line_reader::Words;
 use net_file::Netlist;
 use rr_graph::Device;
+use vpr_text::Words;
 
 /// The line of a net.
 #[tactic(auto, unfolding(crate::specs::Judge::net_entry, crate::specs::NetLine::net_on))]

@@ -8,10 +8,9 @@ ghost use Rattle.route_file.specs.Sections.{net_begun};
 
 use crate::net_line::{heading_on, net_on};
 use crate::node_line::{node_reported, text_of};
-use line_reader::Words;
 use net_file::Netlist;
 use rr_graph::Device;
-use vpr_text::Lines;
+use vpr_text::{Lines, Words};
 
 /// The number of the node that a line names, if it is a node's line and the device has the node.
 /// None past the last line.

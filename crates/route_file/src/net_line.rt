@@ -7,8 +7,8 @@ ghost use Rattle.net_file.specs.Names.{number_among};
 ghost use Rattle.net_file.specs.Routed.{is_routed_at};
 ghost use Rattle.route_file.specs.NetLine.{enclosed, before_ending, is_plain_form, is_global_form, name_on, is_global_at, if_global};
 
-use line_reader::{Words, is_text};
 use net_file::Netlist;
+use vpr_text::{Words, is_text};
 
 /// What stands before this ending of a text, if it ends so.
 #[tactic(auto, unfolding(crate::specs::NetLine::before_ending))]

@@ -8,8 +8,8 @@ ghost use Rattle.route_file.specs.NodeLine.{kind_of, label_from, kind_on, label_
 ghost use Rattle.route_file.specs.NodeWords.{node_words};
 
 use crate::node_words::NodeWords;
-use line_reader::{Words, is_text};
 use rr_graph::{Device, Kind, Label, Node, Span};
+use vpr_text::{Words, is_text};
 
 /// What a node's line tells: its kind, its two ends, which may be one place, and what its number
 /// counts.
@@ -233,9 +233,9 @@ fn are_ends(span: Span, text: NodeText) -> bool
 fn is_reported_at(device: &Device, text: NodeText, id: u32) -> bool
     ensures { result ≡ is_reported_at device.now text id }
 {
-    match (device.span(id), device.label(id)) {
-        (Some(span), Some(label)) => are_ends(span, text) && same_label(label, text.label),
-        _ => false,
+    match device.described_node(id) {
+        Some((_, span, label)) => are_ends(span, text) && same_label(label, text.label),
+        None => false,
     }
 }
 

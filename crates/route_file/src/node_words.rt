@@ -3,13 +3,12 @@
 ghost use Rattle.std.specs.Prelude.{◌≡◌, ◌<◌, ◌≤◌, ◌∷◌, ◌++◌, [], not, length, slice_get, MatchOption};
 ghost use Rattle.std.specs.Option.{option_copied};
 ghost use Rattle.std.specs.List.{position, position_or_len};
-ghost use Rattle.line_reader.specs.Word.{is_at, number_in};
+ghost use Rattle.vpr_text.specs.Word.{is_at, number_in};
 ghost use Rattle.route_file.specs.kept.NodeTexts.{CutsPiece, CutsWords};
 ghost use Rattle.route_file.specs.NodeWords.{is_mark, pieces_of, node_words};
 
-use line_reader::{Words, is_text};
 use std::marker::Model;
-use vpr_text::number;
+use vpr_text::{Words, is_text, number};
 
 /// The greatest number of words that a node's line may have.
 const MOST_WORDS: usize = 8;

@@ -37,16 +37,8 @@ fn put_node_at<W: ByteSink>(out: &mut OutputBuffer, sink: &mut W, device: &Devic
     ensures { SendsTo W.taken W.failed sink.old sink.new out.old out.new
         (flat_map line_text (node_lines device.now id)) }
 {
-    let node = match device.node(id) {
-        Some(node) => node,
-        None => return,
-    };
-    let span = match device.span(id) {
-        Some(span) => span,
-        None => return,
-    };
-    let label = match device.label(id) {
-        Some(label) => label,
+    let (node, span, label) = match device.described_node(id) {
+        Some(described) => described,
         None => return,
     };
     put_node(out, sink, node.kind, span, label, node.number);

@@ -15,12 +15,11 @@ use crate::header::header_fault;
 use crate::judge::judge;
 use crate::lists::in_order;
 use crate::seen::Seen;
-use line_reader::{Words, line_number};
 use net_file::Netlist;
 use route_tree::{Pairs, Routing};
 use rr_graph::{Device, Problem};
 use std::alloc::Global;
-use vpr_text::{Lines, TextFault, lines};
+use vpr_text::{Lines, TextFault, Words, line_number, lines};
 
 /// The lists that the lines after the first two tell, by the numbers of their nets.
 fn lists_by_net(

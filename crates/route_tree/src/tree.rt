@@ -8,6 +8,9 @@ ghost use Rattle.route_tree.specs.Usage.{covers};
 use std::alloc::{AllocError, Global};
 use std::marker::Model;
 
+/// For how many rows a tree has room at first: most nets of small designs have fewer.
+const FIRST_ROOM: usize = 16;
+
 /// A node of a tree, and the row of the node before it.
 #[derive(Clone, Copy, Debug, PartialEq, Eq)]
 pub struct Row {
@@ -44,7 +47,7 @@ impl Tree {
     pub fn start(alloc: Global, node: u32) -> Result<Tree, AllocError>
         ensures { IfOk result (λ t. t ≡ record { node = node; parent = 0 } ∷ []) }
     {
-        let mut rows = Vec::with_capacity(alloc, 1)?;
+        let mut rows = Vec::with_capacity(alloc, FIRST_ROOM)?;
         rows.push(Row { node, parent: 0 })?;
         Ok(Tree { rows })
     }

@@ -11,7 +11,7 @@ ghost use Rattle.rr_edges.specs.Edges.{edge_between, successors_of, edge_count_o
 
 use crate::fault::DeviceFault;
 use arch_file::Arch;
-use channel_tables::{Kind, Label, Mode, Node, Span};
+use channel_tables::{Kind, Label, MOST_TRACKS, Mode, Node, Span};
 use rr_edges::DeviceGraph;
 use smallvec::SmallVec;
 use std::alloc::{AllocError, Global};
@@ -39,7 +39,7 @@ fn check_width(width: u32) -> Result<(), DeviceFault>
         ↔ ((width ≡ 0) ⊎ (most_tracks < width)) }
     ensures memory { IfErr result (λ fault. fault ≡ DeviceFault.Width) }
 {
-    if width == 0 || width > 256 {
+    if width == 0 || width > MOST_TRACKS {
         return Err(DeviceFault::Width);
     }
     Ok(())
@@ -253,6 +253,16 @@ impl Device {
         ensures { result ≡ option_map (span_of self.now) (node_at self.now id) }
     {
         self.graph.nodes().span(id)
+    }
+
+    /// The node of a number, its first and last place, and what its number counts, from one
+    /// look-up.
+    pub fn described_node(&self, id: u32) -> Option<(Node, Span, Label)>
+        ensures node { option_map (λ d. d.0) result ≡ node_at self.now id }
+        ensures span { IfSome result (λ d. d.1 ≡ span_of self.now d.0) }
+        ensures label { IfSome result (λ d. d.2 ≡ label_of self.now d.0) }
+    {
+        self.graph.nodes().described_node(id)
     }
 
     /// The kind of a wire, the places that it passes, and how many the wires of its track pass at

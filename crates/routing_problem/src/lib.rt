@@ -10,7 +10,7 @@ mod nets;
 mod parts_fault;
 mod problem;
 
-pub use channel_tables::{Kind, Label, Mode, Node, Span};
+pub use channel_tables::{Kind, Label, MOST_TRACKS, Mode, Node, Span};
 pub use device::Device;
 pub use fault::DeviceFault;
 pub use finder::EdgeFinder;

@@ -1,6 +1,7 @@
 //! The graph of a device: its nodes by number, and the edges among them.
 
 ghost use Rattle.std.specs.Prelude.{◌≡◌, ℕ, ◌^◌, ◌<◌, ◌≤◌, ◌↔◌, [], ◌∷◌, length, Contains, true, IfOk, IfSome, IsSome, Some, OnOk, OnErr, IsOk};
+ghost use Rattle.std.specs.Arc.{arc_value};
 ghost use Rattle.std.specs.List.Sorted.{IsStrictlyIncreasing};
 ghost use Rattle.arch_file.specs.Architecture.{longest_side};
 ghost use Rattle.channel_tables.specs.Fabric.{IsFabric, fabric_with, most_tracks};
@@ -13,11 +14,12 @@ use node_numbers::NodeNumbers;
 use smallvec::SmallVec;
 use std::alloc::{AllocError, Global};
 use std::marker::Model;
+use std::sync::Arc;
 
-/// The graph of a device. Contracts see the record of the device.
+/// The graph of a device. Its copies share its tables. Contracts see the record of the device.
 #[derive(Drop)]
 pub struct DeviceGraph {
-    pub(crate) nodes: NodeNumbers,
+    pub(crate) nodes: Arc<NodeNumbers, Global>,
 }
 
 impl Model for DeviceGraph {
@@ -25,11 +27,12 @@ impl Model for DeviceGraph {
 
     ghost Value = { Fabric };
 
+    ghost use Rattle.std.specs.Arc.{arc_value};
     ghost use Rattle.channel_tables.specs.Fabric.{IsFabric};
 
-    ghost view = { λ g. g.nodes };
+    ghost view = { λ g. arc_value g.nodes };
 
-    ghost invariant = { λ g. IsFabric g.nodes };
+    ghost invariant = { λ g. IsFabric (arc_value g.nodes) };
 }
 
 impl DeviceGraph {
@@ -49,14 +52,19 @@ impl DeviceGraph {
     {
         let tables = ChannelTables::new(alloc, arch, nx, ny, width, mode)?;
         let nodes = NodeNumbers::new(alloc, tables)?;
-        Ok(DeviceGraph { nodes })
+        Ok(DeviceGraph {
+            nodes: Arc::new(alloc, nodes)?,
+        })
     }
 
-    /// A copy of this graph.
+    /// A copy of this graph, which shares its tables.
     pub fn copy(&self, alloc: Global) -> Result<DeviceGraph, AllocError>
         ensures { IfOk result (λ g. g ≡ self.now) }
     {
-        let nodes = self.nodes.copy(alloc)?;
+        let nodes = match Arc::try_clone(&self.nodes) {
+            Ok(shared) => shared,
+            Err(_) => Arc::new(alloc, self.nodes.copy(alloc)?)?,
+        };
         Ok(DeviceGraph { nodes })
     }
 

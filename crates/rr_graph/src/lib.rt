@@ -6,7 +6,8 @@
 mod design;
 mod design_problem;
 
-pub use channel_tables::{Kind, Label, Mode, Node, Span};
+pub use arch_file::LONGEST_SIDE;
+pub use channel_tables::{Kind, Label, MOST_TRACKS, Mode, Node, Span};
 pub use design::SuitsDesigns;
 pub use design_problem::MadeOfDesigns;
 pub use routing_problem::{Device, DeviceFault, EdgeFinder, PartsFault, Problem, Terminals};

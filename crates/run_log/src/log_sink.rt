@@ -11,13 +11,10 @@ use crate::run_files::RunFiles;
 use crate::trial_text::{write_left, write_routed};
 use congestion_book::Book;
 use net_workers::TrialEnd;
-use node_cost::Settings;
+use node_cost::{MOST_ITERATIONS, Settings};
 use rr_graph::Problem;
 use run_inputs::AppFault;
 use vpr_text::ByteSink;
-
-/// The greatest number that an iteration has.
-const MOST_ITERATIONS: u32 = 500;
 
 /// What the head of a log names of its run: the version of the program, the files, the number of
 /// workers, and the settings.

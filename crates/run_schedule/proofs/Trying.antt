@@ -10,7 +10,8 @@ use Rattle.gates.specs.declared.schedule.ScheduledTurn.{ScheduledTurn}
 use Rattle.node_cost.specs.Options.{most_iterations}
 use Rattle.run_schedule.specs.declared.fault.FaultKind.{FaultKind}
 use Rattle.run_schedule.specs.declared.fault.FaultKind.TheVariants.{Memory}
-use Rattle.run_schedule.specs.Schedules.{AreTrials, IsIteration, IsTrial, most_tracks, TrialTurns}
+use Rattle.routing_problem.specs.Fabric.{most_tracks}
+use Rattle.run_schedule.specs.Schedules.{AreTrials, IsIteration, IsTrial, TrialTurns}
 use Rattle.run_schedule.specs.kept.Reading.{EndsTrial, is_at_end, is_at_iteration, is_at_trial, is_past_turns, Reads}
 use Rattle.run_schedule.specs.ScheduleTexts.{iteration_text, iterations_text, numbered_text, trial_text, trials_text, turns_text}
 use Rattle.run_schedule.specs.kept.Taking.{IsWithin, numbered_line, Takes}

@@ -4,6 +4,7 @@ use Rattle.std.specs.Prelude.{◌≡◌, ◌≢◌, ℕ, ◌<◌, ◌≤◌, Lis
 use Rattle.std.specs.List.{All, AllPairs, Any}
 use Rattle.gates.specs.declared.schedule.ScheduledTurn.{ScheduledTurn}
 use Rattle.node_cost.specs.Options.{most_iterations}
+use Rattle.routing_problem.specs.Fabric.{most_tracks}
 
 -- ---- an iteration
 
@@ -29,10 +30,6 @@ pub record IsIteration (nets workers : ℕ) (turns : List ScheduledTurn) : Type 
 pub record TrialTurns : Type 0 where
   pub width : ℕ
   pub iterations : List (List ScheduledTurn)
-
--- the greatest number of tracks
-abbrev pub most_tracks : ℕ
-most_tracks = 256
 
 pub record IsTrial (nets workers : ℕ) (t : TrialTurns) : Type 0 where
   pub width_least : 1 ≤ t.width

@@ -2,7 +2,8 @@
 
 ghost use Rattle.std.specs.Prelude.{◌≡◌, ◌≤◌, ◌||◌, ◌==◌, IfOk, length, true};
 ghost use Rattle.node_cost.specs.Options.{most_iterations};
-ghost use Rattle.run_schedule.specs.Schedules.{AreTrials, IsIteration, IsTrial, most_tracks};
+ghost use Rattle.routing_problem.specs.Fabric.{most_tracks};
+ghost use Rattle.run_schedule.specs.Schedules.{AreTrials, IsIteration, IsTrial};
 ghost use Rattle.run_schedule.specs.kept.Made.{MayFollow, with_turn};
 ghost use Rattle.run_schedule.specs.kept.Reading.{begins, EndsTrial, is_at_end, is_at_iteration, is_at_trial, is_past_turns, Reads};
 ghost use Rattle.run_schedule.specs.ScheduleTexts.{iteration_text, iterations_text, trial_text, trials_text, turn_text, turns_text};
@@ -13,11 +14,9 @@ use crate::made::MadeTurns;
 use crate::text::Text;
 use crate::trial::{Trial, Trials, Turns};
 use gates::ScheduledTurn;
+use node_cost::MOST_ITERATIONS;
+use routing_problem::MOST_TRACKS;
 use std::alloc::Global;
-
-const MOST_TRACKS: u32 = 256;
-
-const MOST_ITERATIONS: u32 = 500;
 
 fn begins(text: &[u8], byte: u8) -> bool
     ensures { result ≡ begins byte text.now }

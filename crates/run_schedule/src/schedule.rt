@@ -16,10 +16,9 @@ use crate::reading::read_trials;
 use crate::text::{Text, line_at};
 use crate::trial::{Trial, Trials};
 use gates::ScheduledTurn;
+use node_cost::MOST_WORKERS;
 use std::alloc::Global;
 use std::marker::Model;
-
-const MOST_WORKERS: u32 = 16;
 
 const MOST_NETS: u32 = 65535;
 

@@ -61,16 +61,8 @@ pub fn put_node_of<W: ByteSink>(out: &mut OutputBuffer, sink: &mut W, device: &D
     ensures { SendsTo W.taken W.failed sink.old sink.new out.old out.new
         (text_of_node device.now (node_at device.now id)) }
 {
-    let node = match device.node(id) {
-        Some(node) => node,
-        None => return,
-    };
-    let span = match device.span(id) {
-        Some(span) => span,
-        None => return,
-    };
-    let label = match device.label(id) {
-        Some(label) => label,
+    let (node, span, label) = match device.described_node(id) {
+        Some(described) => described,
         None => return,
     };
     put_node(out, sink, node.kind, span, label, node.number);

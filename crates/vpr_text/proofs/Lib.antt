@@ -9,3 +9,6 @@ pub mod WordBytes
 pub mod Spelled
 pub mod NumberExamples
 pub mod Transfers
+pub mod Readings
+pub mod Drops
+pub mod Rows

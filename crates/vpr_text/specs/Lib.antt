@@ -1,5 +1,7 @@
 pub mod Readings
 pub mod Words
+pub mod Word
+pub mod ArraySize
 pub mod Text
 pub mod Faults
 pub mod Numbers

@@ -11,12 +11,12 @@ use Rattle.routing_problem.specs.node.Span.{Span}
 use Rattle.routing_problem.specs.Fabric.{Fabric}
 use Rattle.routing_problem.specs.Nodes.{capacity_of, is_wire, is_wire_at, kind_of_node, node_at, node_count_of, nodes_of, span_of, wire_capacity}
 use Rattle.routing_problem.specs.Problems.{Net, any_node, is_sink, is_sink_kind}
-use Rattle.node_cost.specs.Costs.{cost_of}
+use Rattle.node_cost.specs.Costs.{cost_of, unit_factor}
 use Rattle.node_cost.specs.Views.{history_in, others_in}
 use Rattle.route_tree.specs.Usage.{room_of}
 use Rattle.wavefront.specs.Boxes.{box_of_net, box_of_node, box_with, is_in_box, touches}
-use Rattle.wavefront.specs.Space.{Space, base_cost, entry_cost}
-use Rattle.wavefront.specs.kept.Bounds.{least_wire_cost}
+use Rattle.wavefront.specs.Space.{Space, base_cost, entry_cost, input_pin_base, wire_base}
+use Rattle.wavefront.specs.kept.Bounds.{least_pin_cost, least_wire_cost}
 
 pub net_box : (f : Fabric) (n : Net) → box_of_net f n ≡ box_with f (box_of_node f n.source) n.sinks
 unfolding box_of_net
@@ -31,7 +31,7 @@ unfolding entry_cost
 cost_is s v = refl
 
 -- a wire's cost is by the base cost and the room of wires
-by_kind : (f : Fabric) (n : Node) (k : Kind) → n.kind ≡ k → is_wire k ≡ true → (base_cost n.kind ≡ 20) × (capacity_of f n ≡ wire_capacity f.mode f.width)
+by_kind : (f : Fabric) (n : Node) (k : Kind) → n.kind ≡ k → is_wire k ≡ true → (base_cost n.kind ≡ wire_base) × (capacity_of f n ≡ wire_capacity f.mode f.width)
 by_kind f n Source e is = absurd (false≢true is)
 by_kind f n Sink e is = absurd (false≢true is)
 by_kind f n Opin e is = absurd (false≢true is)
@@ -41,30 +41,30 @@ by_kind f n Chany e is = rw e (refl, refl)
 
 by_node : (s : Space) (v : ℕ) (o : Option Node) → option_map_or is_wire (option_map (λ (n : Node). n.kind) o) false ≡ true
     → cost_of (option_map_or base_cost (option_map (λ (n : Node). n.kind) o) 0) (history_in s.view v) (room_of s.device o) (others_in s.view v) s.present
-    ≡ cost_of 20 (history_in s.view v) (wire_capacity s.device.mode s.device.width) (others_in s.view v) s.present
+    ≡ cost_of wire_base (history_in s.view v) (wire_capacity s.device.mode s.device.width) (others_in s.view v) s.present
 by_node s v None is = absurd (false≢true is)
-by_node s v (Some n) is = let told = by_kind s.device n n.kind refl is in ap (λ base. cost_of base (history_in s.view v) (capacity_of s.device n) (others_in s.view v) s.present) told.0 ∙ ap (λ room. cost_of 20 (history_in s.view v) room (others_in s.view v) s.present) told.1
+by_node s v (Some n) is = let told = by_kind s.device n n.kind refl is in ap (λ base. cost_of base (history_in s.view v) (capacity_of s.device n) (others_in s.view v) s.present) told.0 ∙ ap (λ room. cost_of wire_base (history_in s.view v) room (others_in s.view v) s.present) told.1
 
-pub wire_paid : (s : Space) (v : ℕ) → is_wire_at s.device v ≡ true → entry_cost s v ≡ cost_of 20 (history_in s.view v) (wire_capacity s.device.mode s.device.width) (others_in s.view v) s.present
+pub wire_paid : (s : Space) (v : ℕ) → is_wire_at s.device v ≡ true → entry_cost s v ≡ cost_of wire_base (history_in s.view v) (wire_capacity s.device.mode s.device.width) (others_in s.view v) s.present
 wire_paid s v is = cost_is s v ∙ by_node s v (node_at s.device v) is
 
 -- an input pin's cost is by its base cost, for one net
 pin_by_node : (s : Space) (v : ℕ) (o : Option Node) → option_map (λ (n : Node). n.kind) o ≡ Some Ipin
     → cost_of (option_map_or base_cost (option_map (λ (n : Node). n.kind) o) 0) (history_in s.view v) (room_of s.device o) (others_in s.view v) s.present
-    ≡ cost_of 19 (history_in s.view v) 1 (others_in s.view v) s.present
+    ≡ cost_of input_pin_base (history_in s.view v) 1 (others_in s.view v) s.present
 pin_by_node s v None is = absurd (none-some _ is)
 pin_by_node s v (Some n) is = let kind : n.kind ≡ Ipin = same_Some n.kind Ipin is in rw kind refl
 
-pub pin_paid : (s : Space) (v : ℕ) → kind_of_node s.device v ≡ Some Ipin → entry_cost s v ≡ cost_of 19 (history_in s.view v) 1 (others_in s.view v) s.present
+pub pin_paid : (s : Space) (v : ℕ) → kind_of_node s.device v ≡ Some Ipin → entry_cost s v ≡ cost_of input_pin_base (history_in s.view v) 1 (others_in s.view v) s.present
 pin_paid s v is = cost_is s v ∙ pin_by_node s v (node_at s.device v) is
 
 -- one that nobody else uses and that has no history
-pub free_pin_paid : (s : Space) (v : ℕ) → kind_of_node s.device v ≡ Some Ipin → (others_in s.view v ≡ 0) × (history_in s.view v ≡ 0) → entry_cost s v ≡ 304
+pub free_pin_paid : (s : Space) (v : ℕ) → kind_of_node s.device v ≡ Some Ipin → (others_in s.view v ≡ 0) × (history_in s.view v ≡ 0) → entry_cost s v ≡ least_pin_cost
 free_pin_paid s v is free =
     pin_paid s v is
-    ∙ ap (λ history. cost_of 19 history 1 (others_in s.view v) s.present) (free.1)
-    ∙ ap (λ others. cost_of 19 0 1 others s.present) (free.0)
-    ∙ ap (λ more. 19 * (16 + more)) (mul-zero s.present)
+    ∙ ap (λ history. cost_of input_pin_base history 1 (others_in s.view v) s.present) (free.1)
+    ∙ ap (λ others. cost_of input_pin_base 0 1 others s.present) (free.0)
+    ∙ ap (λ more. input_pin_base * (unit_factor + more)) (mul-zero s.present)
 
 no_base : (o : Option Node) → any_node is_sink_kind o ≡ true → option_map_or base_cost (option_map (λ (n : Node). n.kind) o) 0 ≡ 0
 no_base None is = refl
@@ -90,10 +90,10 @@ free_paid s v is some free =
     let room = wire_capacity s.device.mode s.device.width in
     let none : 0 + 1 - room ≡ 0 = omega (arith, some) in
     wire_paid s v is
-    ∙ ap (λ history. cost_of 20 history room (others_in s.view v) s.present) (free.1)
-    ∙ ap (λ others. cost_of 20 0 room others s.present) (free.0)
-    ∙ ap (λ over. 20 * (16 + s.present * over)) none
-    ∙ ap (λ more. 20 * (16 + more)) (mul-zero s.present)
+    ∙ ap (λ history. cost_of wire_base history room (others_in s.view v) s.present) (free.1)
+    ∙ ap (λ others. cost_of wire_base 0 room others s.present) (free.0)
+    ∙ ap (λ over. wire_base * (unit_factor + s.present * over)) none
+    ∙ ap (λ more. wire_base * (unit_factor + more)) (mul-zero s.present)
 
 -- a wire is a node
 pub wire_node : (f : Fabric) (v : ℕ) → is_wire_at f v ≡ true → v < node_count_of f

@@ -49,13 +49,16 @@ fn share_of(steps: u16) -> u16
     }
 }
 
+/// Places beyond so many are left out of a bound: with them a product may be too great.
+const MOST_ROUNDED: u16 = 383;
+
 /// Returns a lower bound on the wires that cover so many places.
 #[inline(always)]
 fn wires_over(share: u16, steps: u16, places: u16) -> u16
     requires { IsShare steps share }
     ensures { result ≤ wires_over steps places }
 {
-    let rounded = places.min(383) + steps;
+    let rounded = places.min(MOST_ROUNDED) + steps;
     (u32::from(rounded) * u32::from(share) / 65_536) as u16
 }
 

@@ -20,12 +20,14 @@ ghost use Rattle.wave_ground.specs.kept.Boxes.{AreFirstBoxes, boxed};
 ghost use Rattle.wave_ground.specs.kept.Grounds.{IsGround, groups_of};
 
 use crate::boxes::BoundingBox;
-use node_cost::{BorrowedView, GREATEST_PRESENT, View, cost};
+use crate::tables::PreparedProblem;
+use node_cost::{BorrowedView, GREATEST_BASE, GREATEST_PRESENT, UNIT_FACTOR, View, cost};
 use routing_problem::{Device, Kind, Mode, Problem, Span};
 use smallvec::SmallVec;
 use std::alloc::AllocError;
 use std::marker::Model;
 use track_groups::{Drive, Group, GroupTrack, PinDrives, Tap, TrackGroups};
+use wavefront::{INPUT_PIN_BASE, WIRE_BASE};
 
 /// A net of a problem, its view of the other nets, and the groups of the device's wires. Contracts
 /// see the parts on which a search depends.
@@ -58,7 +60,10 @@ impl<'a> Model for Ground<'a> {
 }
 
 /// What an input pin costs if no other net uses it and it was never overused.
-pub const PIN: u128 = 304;
+pub const PIN: u128 = (UNIT_FACTOR * INPUT_PIN_BASE) as u128;
+
+/// What a wire costs if no other net uses it and it was never overused.
+pub const WIRE: u128 = (UNIT_FACTOR * WIRE_BASE) as u128;
 
 /// Returns the base cost of a kind of nodes.
 fn base_cost(kind: Option<Kind>) -> u32
@@ -66,8 +71,8 @@ fn base_cost(kind: Option<Kind>) -> u32
 {
     match kind {
         None | Some(Kind::Sink) => 0,
-        Some(Kind::Ipin) => 19,
-        Some(Kind::Source | Kind::Opin | Kind::Chanx | Kind::Chany) => 20,
+        Some(Kind::Ipin) => INPUT_PIN_BASE,
+        Some(Kind::Source | Kind::Opin | Kind::Chanx | Kind::Chany) => WIRE_BASE,
     }
 }
 
@@ -94,33 +99,26 @@ fn wire_room(device: &Device) -> u32
 impl<'a> Ground<'a> {
     /// Makes the ground of the search for a net.
     pub fn new(
-        problem: &'a Problem,
-        groups: &'a TrackGroups,
-        drives: &'a PinDrives,
-        boxes: &'a [BoundingBox],
+        prepared: &'a PreparedProblem,
         net: u32,
         view: &'a View,
         present: u32,
         bb: u32,
     ) -> Ground<'a>
-        requires net { net < length problem.now.nets }
-        requires groups { IsTabled problem.now.device groups.now }
-        requires drives { AreDrives problem.now.device groups.now.wires drives.now }
-        requires boxes { AreFirstBoxes problem.now.device boxes.now }
-        requires view { length view.now ≡ node_count_of problem.now.device }
+        requires net { net < length prepared.now.nets }
+        requires view { length view.now ≡ node_count_of prepared.now.device }
         requires present { present ≤ GREATEST_PRESENT }
-        ensures ground { result ≡ record {
-          space = space_of problem.now net view.now present bb;
-          tables = groups.now;
-          drives = drives.now;
-        } }
+        ensures space { result.space ≡ space_of prepared.now net view.now present bb }
         ensures facts { IsGround result }
     {
         let _bounds = view.len();
+        let problem = prepared.problem();
+        let tables = prepared.tables();
+        let boxes = tables.boxes.as_slice();
         Ground {
             problem,
-            groups,
-            drives,
+            groups: &tables.groups,
+            drives: &tables.drives,
             boxes,
             net,
             view: view.borrowed(),
@@ -191,7 +189,7 @@ impl<'a> Ground<'a> {
     /// Returns what it costs to enter a node with a base cost, which `room` nets may use.
     #[inline(always)]
     fn cost_by(&self, base: u32, room: u32, node: u32) -> u128
-        requires base { base ≤ 20 }
+        requires base { base ≤ GREATEST_BASE }
         requires room { 1 ≤ room }
         requires node_in { node < node_count self.now.space }
         ensures { result ≡ cost_of base (history_in self.now.space.view node) room
@@ -236,7 +234,7 @@ impl<'a> Ground<'a> {
         requires is { is_wire_at self.now.space.device wire ≡ true }
         ensures { result ≡ entry_cost self.now.space wire }
     {
-        self.cost_by(20, self.wire_room(), wire)
+        self.cost_by(WIRE_BASE, self.wire_room(), wire)
     }
 
     /// Returns what it costs to enter an input pin.
@@ -249,7 +247,7 @@ impl<'a> Ground<'a> {
         if self.view.is_free(pin) {
             return PIN;
         }
-        self.cost_by(19, 1, pin)
+        self.cost_by(INPUT_PIN_BASE, 1, pin)
     }
 
     /// Returns what it costs to enter a sink: 0 if it was never overused.

@@ -9,6 +9,6 @@ mod nearest;
 mod tables;
 
 pub use boxes::BoundingBox;
-pub use ground::{Ground, PIN};
+pub use ground::{Ground, PIN, WIRE};
 pub use nearest::{Nearest, Sight, SinkBox};
 pub use tables::{PreparedProblem, SearchTables};

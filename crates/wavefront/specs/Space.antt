@@ -10,6 +10,7 @@ use Rattle.routing_problem.specs.Problems.{Net}
 use Rattle.route_tree.specs.Usage.{room_of}
 use Rattle.node_cost.specs.Costs.{cost_of}
 use Rattle.node_cost.specs.Views.{others_in, history_in, NetView}
+use Rattle.wavefront.specs.declared.base_costs.TheConstants.{WIRE_BASE, INPUT_PIN_BASE}
 use Rattle.wavefront.specs.Boxes.{is_in_box}
 
 -- a device, a net of it, what the net sees of the others, the present-congestion factor, and by how
@@ -23,11 +24,11 @@ pub record Space : Type 0 where
 
 -- the base cost of a wire, a source and an output pin (this project's profile)
 abbrev pub wire_base : ℕ
-wire_base = 20
+wire_base = WIRE_BASE
 
 -- the base cost of an input pin (this project's profile)
 abbrev pub input_pin_base : ℕ
-input_pin_base = 19
+input_pin_base = INPUT_PIN_BASE
 
 -- the base cost of a node of a kind
 abbrev pub base_cost : Kind → ℕ

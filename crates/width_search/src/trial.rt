@@ -3,8 +3,7 @@
 ghost use Rattle.std.specs.Prelude.{◌≡◌, Some};
 ghost use Rattle.width_search.specs.Widths.{doubled, first_upward, greatest_unrouted, halved, least_routed, next_upward, next_width, one_more, upward_after, with_routed, with_unrouted};
 
-/// The greatest width of a device, in tracks.
-const GREATEST_WIDTH: u32 = 256;
+use rr_graph::MOST_TRACKS;
 
 /// A channel width that was tried, in tracks.
 #[derive(Clone, Copy, Debug, PartialEq, Eq)]
@@ -61,8 +60,8 @@ fn greatest_unrouted(trials: &[Trial]) -> u32
 fn doubled(last: u32) -> Option<u32>
     ensures { result ≡ doubled last }
 {
-    if last < GREATEST_WIDTH {
-        Some((2 * last).min(GREATEST_WIDTH))
+    if last < MOST_TRACKS {
+        Some((2 * last).min(MOST_TRACKS))
     } else {
         None
     }
@@ -97,7 +96,7 @@ pub(crate) fn next_width(start: u32, trials: &[Trial]) -> Option<u32>
 fn first_upward(first: u32) -> Option<u32>
     ensures { result ≡ first_upward first }
 {
-    if first > GREATEST_WIDTH {
+    if first > MOST_TRACKS {
         None
     } else {
         Some(first)
@@ -108,7 +107,7 @@ fn first_upward(first: u32) -> Option<u32>
 fn one_more(last: u32) -> Option<u32>
     ensures { result ≡ one_more last }
 {
-    if last >= GREATEST_WIDTH {
+    if last >= MOST_TRACKS {
         None
     } else {
         Some(last + 1)

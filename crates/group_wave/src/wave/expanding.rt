@@ -1,19 +1,16 @@
 //! How a wave goes on from tracks of a group: first to those neighbours from which fewer wires lead
 //! on, later to all.
 
-ghost use Rattle.std.specs.Prelude.{◌≡◌, ◌+◌, ◌*◌, ◌^◌, ◌<◌, ◌≤◌, ◌↔◌, ℕ, IsTrue, IsFalse, true, false};
+ghost use Rattle.std.specs.Prelude.{◌≡◌, ◌+◌, ◌*◌, ◌^◌, ◌<◌, ◌≤◌, ◌↔◌, ℕ, IsTrue, true, false};
 ghost use Rattle.std.specs.Int.{bit_at};
 ghost use Rattle.wave_queue.specs.kept.Bits.{IsOnlyBit, PutsBit};
 
 use super::relaxing::Offer;
-use super::{WIRE, Wave, bound_over};
+use super::{Wave, bound_over};
 use std::alloc::AllocError;
 use track_groups::Group;
-use wave_ground::Ground;
+use wave_ground::{Ground, WIRE};
 use wave_queue::{Key, QueueEntry, only_bit, take_bit, with_bit};
-
-/// Below so many nodes their rows are near, and need not be fetched side by side.
-const FEW_NODES: usize = 30_000;
 
 /// Whether costs are equal.
 #[inline(always)]
@@ -200,15 +197,7 @@ impl<K: Key> Wave<K> {
         Ok(())
     }
 
-    /// Whether neighbours are offered a way one by one: where they are many, or nodes are few.
-    #[inline(always)]
-    fn goes_one_by_one(&self, neighbours: &[u32]) -> bool
-        ensures { IsFalse result → length neighbours.now ≤ 64 }
-    {
-        neighbours.len() > 64 || self.labels.len() < FEW_NODES
-    }
-
-    /// Offers the wires of neighbours the way from the one track of an entry, one by one.
+    /// Offers the wires of many neighbours the way from the one track of an entry.
     fn relax_many(
         &mut self,
         ground: &Ground<'_>,
@@ -246,7 +235,7 @@ impl<K: Key> Wave<K> {
             (length (neighbours_of ground.now.tables entry.group))) }
     {
         let neighbours = ground.neighbours(entry.group);
-        if self.goes_one_by_one(neighbours) {
+        if neighbours.len() > 64 {
             return self.relax_many(ground, entry, group, track, neighbours);
         }
         let places = self.unsettled(ground, entry, track, neighbours);

@@ -7,11 +7,11 @@ ghost use Rattle.wavefront.specs.Space.{entry_cost};
 ghost use Rattle.wavefront.specs.kept.Bounds.{least_wire_cost};
 ghost use Rattle.wavefront.specs.kept.Spaces.{node_count};
 
-use super::{WIRE, Wave, bound_over};
+use super::{Wave, bound_over};
 use crate::labels::LabelRow;
 use std::alloc::AllocError;
 use track_groups::Group;
-use wave_ground::Ground;
+use wave_ground::{Ground, WIRE};
 use wave_queue::{Key, QueueEntry, take_bit, with_bit};
 
 /// Nodes of one label from which a way is offered: for track j the node `first + j * step`.

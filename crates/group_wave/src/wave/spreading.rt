@@ -2,10 +2,10 @@
 
 ghost use Rattle.std.specs.Prelude.{◌≡◌, ◌+◌, ◌*◌, ◌^◌, ◌<◌, ◌≤◌, ℕ};
 
-use super::{WIRE, Wave, bound_over};
+use super::{Wave, bound_over};
 use std::alloc::AllocError;
 use track_groups::Group;
-use wave_ground::Ground;
+use wave_ground::{Ground, WIRE};
 use wave_queue::{Key, QueueEntry, only_bit};
 
 impl<K: Key> Wave<K> {

@@ -1,5 +1,6 @@
 -- What the fields of a search's ground mean.
 use Rattle.std.specs.Prelude.{◌≡◌, ◌<◌, ◌≤◌, length}
+use Rattle.node_cost.specs.Options.{greatest_present}
 use Rattle.routing_problem.specs.Nodes.{node_count_of, wire_capacity}
 use Rattle.routing_problem.specs.Problems.{net_in}
 use Rattle.wavefront.specs.Boxes.{box_of_net}
@@ -16,7 +17,7 @@ ground_inside g = record { space = space_of g.problem.now g.net g.view g.present
 pub record IsGroundInside (g : Inside) : Type 0 where
   pub net : g.net < length g.problem.now.nets
   pub view : length g.view ≡ node_count_of g.problem.now.device
-  pub present : g.present ≤ 1048576
+  pub present : g.present ≤ greatest_present
   pub boxes : AreFirstBoxes g.problem.now.device g.boxes.now
   pub inside : IsWidened g.bb (box_of_net g.problem.now.device (net_in g.problem.now.nets g.net)) (boxed g.inside)
   pub room : g.room ≡ wire_capacity g.problem.now.device.mode g.problem.now.device.width

@@ -1,7 +1,7 @@
 use Rattle.std.proofs.Common.{ap, rules, tests}
 use Rattle.std.proofs.lemmas.Iterator.Consumers.{YieldsList-from_first}
 use Rattle.std.proofs.lemmas.Iterator.Search.{find_from_yields_List}
-use Rattle.line_reader.specs.Word.{is_text}
+use Rattle.vpr_text.specs.Word.{is_text}
 use Rattle.arch_file.specs.Pairs.{pairs_of, pair_with}
 use Rattle.arch_file.proofs.pairs.pair_with.Goals as goal
 

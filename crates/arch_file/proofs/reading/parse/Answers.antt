@@ -1,7 +1,7 @@
 use Rattle.arch_file.specs.declared.fault.ArchFault.TheVariants.{Memory}
 use Rattle.arch_file.specs.Reads.{ReadsBytes}
 use Rattle.arch_file.specs.Reading.{arch_of}
-use Rattle.line_reader.proofs.Readings.{given_ok, given_only}
+use Rattle.vpr_text.proofs.Readings.{given_ok, given_only}
 use Rattle.arch_file.proofs.Related.{is_read, is_given}
 use Rattle.arch_file.proofs.reading.parse.Goals as goal
 

@@ -3,7 +3,7 @@ use Rattle.vpr_text.specs.Readings.{Gives}
 use Rattle.net_file.specs.declared.fault.NetFault.TheVariants.{Memory}
 use Rattle.net_file.specs.Reads.{ReadsBytes}
 use Rattle.net_file.specs.Reading.{netlist_of}
-use Rattle.line_reader.proofs.Readings.{given_ok, given_only}
+use Rattle.vpr_text.proofs.Readings.{given_ok, given_only}
 use Rattle.net_file.proofs.Related.{is_read, is_given}
 use Rattle.net_file.proofs.reading.parse.Goals as goal
 

@@ -4,7 +4,7 @@ use Rattle.vpr_text.specs.Readings.{unless_faulty}
 use Rattle.place_file.specs.Sites.{sites_in}
 use Rattle.place_file.proofs.Steps.{no_rows, count_sites, stepped, refused, ended}
 use Rattle.place_file.proofs.rows.sites_in.Goals as goal
-use Rattle.line_reader.proofs.Rows.{row_number, row_words}
+use Rattle.vpr_text.proofs.Rows.{row_number, row_words}
 
 pub loop-row-init : goal.loop-row-init
 loop-row-init c = (c.in_ok-sites.ensures.array, (no_rows c.args.netlist.now.blocks c.in_ok-sites.sites.sites _ (ap length c.blocks-blocks.ensures.entry) c.in_ok-sites.ensures.none, refl))

@@ -5,7 +5,7 @@ use Rattle.vpr_text.specs.Readings.{unless_faulty}
 use Rattle.route_file.specs.kept.LinesSeen.{lists_by_net}
 use Rattle.route_file.proofs.Steps.{stepped, refused, ended}
 use Rattle.route_file.proofs.reading.lists_by_net.Goals as goal
-use Rattle.line_reader.proofs.Rows.{row_number, row_words}
+use Rattle.vpr_text.proofs.Rows.{row_number, row_words}
 
 pub returns-in_err-entry : goal.returns-in_err-entry
 returns-in_err-entry c =

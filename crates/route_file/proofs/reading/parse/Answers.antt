@@ -1,7 +1,7 @@
 use Rattle.route_file.specs.declared.fault.RouteFileFault.TheVariants.{Memory}
 use Rattle.route_file.specs.Reads.{ReadsBytes}
 use Rattle.route_file.specs.Reading.{routing_of}
-use Rattle.line_reader.proofs.Readings.{given_ok, given_only}
+use Rattle.vpr_text.proofs.Readings.{given_ok, given_only}
 use Rattle.route_file.proofs.Related.{is_read, is_given}
 use Rattle.route_file.proofs.reading.parse.Goals as goal
 

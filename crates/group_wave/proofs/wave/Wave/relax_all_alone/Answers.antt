@@ -9,7 +9,7 @@ returns-clause-took g c =
     subst (λ hs. OnOk c.relax_unsettled.result (TookBefore c.args.ground.now c.relax_unsettled.new.self (entry_of g.K.Key.value c.args.entry) hs (length hs)))
     c.neighbours-neighbours.ensures c.relax_unsettled.ensures.took
 
-pub returns-then-goes_one_by_one-clause-took : goal.returns-then-goes_one_by_one-clause-took
-returns-then-goes_one_by_one-clause-took g c =
+pub returns-then-neighbours-gt64-clause-took : goal.returns-then-neighbours-gt64-clause-took
+returns-then-neighbours-gt64-clause-took g c =
     subst (λ hs. OnOk c.relax_many.result (TookBefore c.args.ground.now c.relax_many.new.self (entry_of g.K.Key.value c.args.entry) hs (length hs)))
     c.neighbours-neighbours.ensures c.relax_many.ensures.took

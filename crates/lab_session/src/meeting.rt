@@ -1,8 +1,8 @@
 //! A gate at which nets meet.
 
+use crate::answer::put;
 use crate::patience::Patience;
-use lab_session::answer::put;
-use lab_session::unanswered::Unanswered;
+use crate::unanswered::Unanswered;
 use std::sync::atomic::{AtomicBool, AtomicU32, Ordering};
 
 /// Returns the flag of a net or of a worker, or 0 from number 32 on.

@@ -1,8 +1,8 @@
 use Rattle.std.proofs.Common.{◌≡◌, List, ℕ, [], sym, ap, ◌∙◌}
 use Rattle.std.specs.Prelude.{slice_get}
 use Rattle.vpr_text.specs.Words.{words_at}
-use Rattle.line_reader.proofs.Drops.{drop_next, drop_end}
-use Rattle.line_reader.proofs.words.WordsIterator.next.Goals as goal
+use Rattle.vpr_text.proofs.Drops.{drop_next, drop_end}
+use Rattle.vpr_text.proofs.words.WordsIterator.next.Goals as goal
 
 pub returns-in-Some-clause-steps : goal.returns-in-Some-clause-steps
 returns-in-Some-clause-steps c =

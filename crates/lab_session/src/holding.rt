@@ -1,7 +1,7 @@
 //! A gate that holds a worker.
 
 use crate::patience::Patience;
-use lab_session::unanswered::Unanswered;
+use crate::unanswered::Unanswered;
 use std::sync::atomic::{AtomicBool, AtomicU32, Ordering};
 
 /// Holds a worker after the search of its first net until all other nets were searched for. The

@@ -1,9 +1,9 @@
 //! A gate that counts.
 
+use crate::answer::added;
 use crate::meeting::flag;
 use crate::told::{Told, ToldList};
-use lab_session::answer::added;
-use lab_session::unanswered::Unanswered;
+use crate::unanswered::Unanswered;
 use net_workers::TrialEnd;
 use std::alloc::Global;
 use std::sync::Wait;

@@ -3,7 +3,7 @@
 ghost use Rattle.std.specs.Prelude.{◌≡◌, ◌≤◌, length};
 ghost use Rattle.rr_graph.specs.Fabric.{most_tracks};
 
-use lab_runs::run_calls::{
+use crate::run_calls::{
     DesignFiles, kept_design, kept_route, put_end, put_print, put_taken, source_of,
 };
 use lab_session::bounds::channel_width;

@@ -1,8 +1,8 @@
 //! Gates that keep each call, one after the other.
 
+use crate::answer::added;
+use crate::unanswered::Unanswered;
 use congestion_book::Book;
-use lab_session::answer::added;
-use lab_session::unanswered::Unanswered;
 use net_workers::{Gate, Schedule, ScheduledTurn, TrialEnd};
 use route_tree::Routing;
 use rr_graph::Problem;

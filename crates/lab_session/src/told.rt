@@ -1,6 +1,6 @@
 //! The records of a gate, in the order of the driver's calls.
 
-use lab_session::unanswered::Unanswered;
+use crate::unanswered::Unanswered;
 use net_workers::TrialEnd;
 use std::alloc::Global;
 use std::fmt;

@@ -1,7 +1,7 @@
 //! The line that tells the size of an array.
 
 ghost use Rattle.std.specs.Prelude.{◌≡◌};
-ghost use Rattle.line_reader.specs.ArraySize.{begins_size_line};
+ghost use Rattle.vpr_text.specs.ArraySize.{begins_size_line};
 
 use crate::words::Words;
 

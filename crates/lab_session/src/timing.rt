@@ -1,8 +1,8 @@
 //! A gate that measures times.
 
+use crate::answer::added;
 use crate::told::{Told, ToldList};
-use lab_session::answer::added;
-use lab_session::unanswered::Unanswered;
+use crate::unanswered::Unanswered;
 use std::alloc::{AllocError, Global};
 use std::sync::Wait;
 use std::sync::atomic::{AtomicU64, Ordering};

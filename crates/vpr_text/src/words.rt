@@ -3,10 +3,11 @@
 ghost use Rattle.std.specs.Prelude.{◌≡◌, drop, length, slice_get};
 ghost use Rattle.std.specs.Option.{option_copied};
 ghost use Rattle.vpr_text.specs.Words.{number_at, words_at};
-ghost use Rattle.line_reader.specs.Word.{is_text, has, word_at, is_at, number_in, fixed_in, is_number, number_or_0};
+ghost use Rattle.vpr_text.specs.Word.{is_text, has, word_at, is_at, number_in, fixed_in, is_number, number_or_0};
 
+use crate::line::Lines;
+use crate::numbers::{fixed, number};
 use std::marker::Model;
-use vpr_text::{Lines, fixed, number};
 
 /// How many words line `i` has; none past the last line.
 fn word_count(lines: &Lines, i: usize) -> usize
