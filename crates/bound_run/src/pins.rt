@@ -3,7 +3,7 @@
 ghost use Rattle.std.specs.Prelude.{◌≡◌, false, slice_get, slice_index_or};
 ghost use Rattle.std.specs.Option.{option_map_or};
 ghost use Rattle.std.specs.List.{flat_map};
-ghost use Rattle.vpr_text.specs.Output.{SendsTo};
+ghost use Rattle.text_output.specs.Printing.{PrintsTo};
 ghost use Rattle.net_file.specs.Connections.{no_block};
 ghost use Rattle.net_file.specs.Judge.{is_logic_block};
 ghost use Rattle.place_file.specs.Placement.{kind_at};
@@ -13,7 +13,7 @@ use net_file::{BlockKind, Netlist};
 use place_file::Site;
 use rr_graph::Node;
 use run_inputs::PlacedNetlist;
-use text_output::{ByteSink, OutputBuffer, Piece, put_pieces};
+use text_output::{ByteSink, Piece, Printer};
 
 fn is_logic_block(kind: BlockKind) -> bool
     ensures { result ≡ is_logic_block kind }
@@ -68,59 +68,53 @@ fn block_of(placed: &PlacedNetlist<'_>, pin: Node) -> Option<usize>
 
 /// Prints the line of a pin of a block.
 #[tactic(auto, unfolding(crate::specs::CutTexts::pin_line))]
-fn put_line<W: ByteSink>(out: &mut OutputBuffer, sink: &mut W, name: &[u8], number: u32)
-    ensures { SendsTo W.taken W.failed sink.old sink.new out.old out.new
+fn put_line<W: ByteSink>(out: &mut Printer<'_, W>, name: &[u8], number: u32)
+    ensures { PrintsTo W.ByteSink out.old out.new
         (pin_line name.now number) }
 {
-    put_pieces(
-        out,
-        sink,
-        &[
-            Piece::Text(b"pin "),
-            Piece::Text(name),
-            Piece::Text(b" "),
-            Piece::Number(number),
-            Piece::Text(b"\n"),
-        ],
-    );
+    out.put_pieces(&[
+        Piece::Text(b"pin "),
+        Piece::Text(name),
+        Piece::Text(b" "),
+        Piece::Number(number),
+        Piece::Text(b"\n"),
+    ]);
 }
 
 /// Prints the line of a pin, if a block has it.
 fn put_by<W: ByteSink>(
-    out: &mut OutputBuffer,
-    sink: &mut W,
+    out: &mut Printer<'_, W>,
     netlist: &Netlist<'_>,
     number: u32,
     block: Option<usize>,
 )
-    ensures { SendsTo W.taken W.failed sink.old sink.new out.old out.new
+    ensures { PrintsTo W.ByteSink out.old out.new
         (pin_by netlist.now.blocks number block) }
 {
     if let Some(block) = block {
-        put_line(out, sink, name_of(netlist, block), number);
+        put_line(out, name_of(netlist, block), number);
     }
 }
 
 /// Prints the line of a pin.
-fn put_pin<W: ByteSink>(out: &mut OutputBuffer, sink: &mut W, placed: &PlacedNetlist<'_>, pin: Node)
-    ensures { SendsTo W.taken W.failed sink.old sink.new out.old out.new
+fn put_pin<W: ByteSink>(out: &mut Printer<'_, W>, placed: &PlacedNetlist<'_>, pin: Node)
+    ensures { PrintsTo W.ByteSink out.old out.new
         (pin_text placed.now pin) }
 {
     let block = block_of(placed, pin);
-    put_by(out, sink, placed.netlist(), pin.number, block);
+    put_by(out, placed.netlist(), pin.number, block);
 }
 
 /// Prints the lines of these pins.
 pub(crate) fn put_pins<W: ByteSink>(
-    out: &mut OutputBuffer,
-    sink: &mut W,
+    out: &mut Printer<'_, W>,
     placed: &PlacedNetlist<'_>,
     pins: &[Node],
 )
-    ensures { SendsTo W.taken W.failed sink.old sink.new out.old out.new
+    ensures { PrintsTo W.ByteSink out.old out.new
         (flat_map (pin_text placed.now) pins.now) }
 {
     for pin in pins {
-        put_pin(out, sink, placed, *pin);
+        put_pin(out, placed, *pin);
     }
 }

@@ -2,13 +2,13 @@
 
 ghost use Rattle.std.specs.Prelude.{◌≡◌, ◌≤◌, ◌+◌, ◌-◌, true, ◌&&◌, nat_lt};
 ghost use Rattle.std.specs.List.{flat_map, list_any};
-ghost use Rattle.vpr_text.specs.Output.{SendsTo};
+ghost use Rattle.text_output.specs.Printing.{PrintsTo};
 ghost use Rattle.rr_graph.specs.Edges.{is_same_corner};
 ghost use Rattle.rr_graph.specs.Fabric.{longest_side, numbers_below};
 ghost use Rattle.width_bound.specs.Cuts.{has_corner};
 ghost use Rattle.bound_run.specs.CutTexts.{begins_run, corner_text, ends_run, has_row, number_if, region_text, row_line, row_text};
 
-use text_output::{ByteSink, OutputBuffer, put_number};
+use text_output::{ByteSink, Printer};
 use width_bound::Cut;
 
 /// Returns whether the corner is among these.
@@ -55,59 +55,53 @@ fn ends_run(nx: u32, cut: &Cut, x: u32, y: u32) -> bool
 }
 
 /// Prints a number after a mark.
-fn put_marked<W: ByteSink>(out: &mut OutputBuffer, sink: &mut W, mark: &[u8], number: u32)
-    ensures { SendsTo W.taken W.failed sink.old sink.new out.old out.new
+fn put_marked<W: ByteSink>(out: &mut Printer<'_, W>, mark: &[u8], number: u32)
+    ensures { PrintsTo W.ByteSink out.old out.new
         (number_if true mark.now number) }
 {
-    out.push(sink, mark);
-    put_number(out, sink, number);
+    out.push(mark);
+    out.put_number(number);
 }
 
 /// Prints a number after a mark, if it is to be printed.
-fn put_if<W: ByteSink>(
-    out: &mut OutputBuffer,
-    sink: &mut W,
-    is_printed: bool,
-    mark: &[u8],
-    number: u32,
-)
-    ensures { SendsTo W.taken W.failed sink.old sink.new out.old out.new
+fn put_if<W: ByteSink>(out: &mut Printer<'_, W>, is_printed: bool, mark: &[u8], number: u32)
+    ensures { PrintsTo W.ByteSink out.old out.new
         (number_if is_printed mark.now number) }
 {
     if is_printed {
-        put_marked(out, sink, mark, number);
+        put_marked(out, mark, number);
     }
 }
 
 /// Prints the beginning or the end of a run at a corner of a row.
-fn put_corner<W: ByteSink>(out: &mut OutputBuffer, sink: &mut W, nx: u32, cut: &Cut, y: u32, x: u32)
-    ensures { SendsTo W.taken W.failed sink.old sink.new out.old out.new
+fn put_corner<W: ByteSink>(out: &mut Printer<'_, W>, nx: u32, cut: &Cut, y: u32, x: u32)
+    ensures { PrintsTo W.ByteSink out.old out.new
         (corner_text nx cut.now y x) }
 {
-    put_if(out, sink, begins_run(cut, x, y), b" ", x);
-    put_if(out, sink, ends_run(nx, cut, x, y), b"-", x);
+    put_if(out, begins_run(cut, x, y), b" ", x);
+    put_if(out, ends_run(nx, cut, x, y), b"-", x);
 }
 
 /// Prints the runs of a row.
-fn put_runs<W: ByteSink>(out: &mut OutputBuffer, sink: &mut W, nx: u32, cut: &Cut, y: u32)
+fn put_runs<W: ByteSink>(out: &mut Printer<'_, W>, nx: u32, cut: &Cut, y: u32)
     requires { nx ≤ longest_side }
-    ensures { SendsTo W.taken W.failed sink.old sink.new out.old out.new
+    ensures { PrintsTo W.ByteSink out.old out.new
         (flat_map (corner_text nx cut.now y) (numbers_below (nx + 1))) }
 {
     for x in 0..nx + 1 {
-        put_corner(out, sink, nx, cut, y, x);
+        put_corner(out, nx, cut, y, x);
     }
 }
 
 /// Prints the line of a row.
-fn put_row_line<W: ByteSink>(out: &mut OutputBuffer, sink: &mut W, nx: u32, cut: &Cut, y: u32)
+fn put_row_line<W: ByteSink>(out: &mut Printer<'_, W>, nx: u32, cut: &Cut, y: u32)
     requires { nx ≤ longest_side }
-    ensures { SendsTo W.taken W.failed sink.old sink.new out.old out.new (row_line nx cut.now y) }
+    ensures { PrintsTo W.ByteSink out.old out.new (row_line nx cut.now y) }
 {
-    out.push(sink, b"corners ");
-    put_number(out, sink, y);
-    put_runs(out, sink, nx, cut, y);
-    out.push(sink, b"\n");
+    out.push(b"corners ");
+    out.put_number(y);
+    put_runs(out, nx, cut, y);
+    out.push(b"\n");
 }
 
 /// Returns whether some corner of the row is in the region.
@@ -119,29 +113,23 @@ fn has_row(nx: u32, cut: &Cut, y: u32) -> bool
 }
 
 /// Prints the line of a row, if it has a corner of the region.
-fn put_row<W: ByteSink>(out: &mut OutputBuffer, sink: &mut W, nx: u32, cut: &Cut, y: u32)
+fn put_row<W: ByteSink>(out: &mut Printer<'_, W>, nx: u32, cut: &Cut, y: u32)
     requires { nx ≤ longest_side }
-    ensures { SendsTo W.taken W.failed sink.old sink.new out.old out.new (row_text nx cut.now y) }
+    ensures { PrintsTo W.ByteSink out.old out.new (row_text nx cut.now y) }
 {
     if has_row(nx, cut, y) {
-        put_row_line(out, sink, nx, cut, y);
+        put_row_line(out, nx, cut, y);
     }
 }
 
 /// Prints the lines of the rows.
-pub(crate) fn put_region<W: ByteSink>(
-    out: &mut OutputBuffer,
-    sink: &mut W,
-    nx: u32,
-    ny: u32,
-    cut: &Cut,
-)
+pub(crate) fn put_region<W: ByteSink>(out: &mut Printer<'_, W>, nx: u32, ny: u32, cut: &Cut)
     requires columns { nx ≤ longest_side }
     requires rows { ny ≤ longest_side }
-    ensures { SendsTo W.taken W.failed sink.old sink.new out.old out.new
+    ensures { PrintsTo W.ByteSink out.old out.new
         (region_text nx ny cut.now) }
 {
     for y in 0..ny + 1 {
-        put_row(out, sink, nx, cut, y);
+        put_row(out, nx, cut, y);
     }
 }

@@ -12,7 +12,7 @@ use crate::certificate::put_cut;
 use crate::lines::put_bound;
 use run_inputs::{AppFault, InputFile, NetlistText, PlacedNetlist};
 use std::alloc::Global;
-use text_output::{ByteSink, OutputBuffer};
+use text_output::{ByteSink, Printer};
 use vpr_text::ByteSource;
 use width_bound::{Cut, CutFigures};
 
@@ -21,9 +21,9 @@ fn print_bound<W: ByteSink>(figures: CutFigures, out: &mut W) -> Result<(), AppF
     ensures { PrintsText (writing_to W.taken W.failed out.old out.new)
         (bound_lines figures) tt result }
 {
-    let mut buffer = OutputBuffer::new();
-    put_bound(&mut buffer, out, figures);
-    match buffer.finish(out) {
+    let mut printer = Printer::new(out);
+    put_bound(&mut printer, figures);
+    match printer.finish() {
         Ok(()) => Ok(()),
         Err(_) => Err(AppFault::Unwritten),
     }
@@ -40,9 +40,9 @@ fn print_cut<C: ByteSink>(
     ensures { PrintsText (writing_to C.taken C.failed cut.old cut.new)
         (cut_text placed.now found.now) tt result }
 {
-    let mut buffer = OutputBuffer::new();
-    put_cut(&mut buffer, cut, placed, found, figures);
-    match buffer.finish(cut) {
+    let mut printer = Printer::new(cut);
+    put_cut(&mut printer, placed, found, figures);
+    match printer.finish() {
         Ok(()) => Ok(()),
         Err(_) => Err(AppFault::Unwritten),
     }

@@ -5,6 +5,7 @@ use Rattle.std.specs.Str.Parse.{IsNumeral, digits_value, without_leading_plus}
 use Rattle.clap.specs.Words.{found_of, first_value, one_text}
 use Rattle.clap.specs.declared.parser.matches.ArgMatches.{ArgMatches}
 use Rattle.node_cost.specs.Options.{RouterOptions}
+use Rattle.command_line.specs.declared.command.RunWords.{RunWords}
 use Rattle.command_line.specs.declared.command.RouteWords.{RouteWords}
 use Rattle.command_line.specs.declared.command.WidthWords.{WidthWords}
 use Rattle.command_line.specs.declared.command.CheckWords.{CheckWords}
@@ -49,13 +50,12 @@ pub record AreSettingsGiven (m : ArgMatches) (o : RouterOptions) : Type 0 where
   pub iterations : IsNumberGiven m (codes "iterations") o.iterations
   pub steady : IsFlagGiven m (codes "steady") o.steady
 
--- what was given to `route`
-pub record IsRouteGiven (m : ArgMatches) (r : RouteWords) : Type 0 where
+-- what was given to `route` and to `width` alike
+pub record IsRunGiven (m : ArgMatches) (r : RunWords) : Type 0 where
   pub net : IsTextGiven m (codes "NET") r.net
   pub arch : IsTextGiven m (codes "ARCH") r.arch
   pub place : IsTextGiven m (codes "PLACE") r.place
   pub route : IsTextGiven m (codes "ROUTE") r.route
-  pub width : IsNumberGiven m (codes "width") r.width
   pub global : IsFlagGiven m (codes "global") r.global
   pub explain : IsFlagGiven m (codes "explain") r.explain
   pub workers : IsNumberGiven m (codes "workers") r.workers
@@ -63,22 +63,15 @@ pub record IsRouteGiven (m : ArgMatches) (r : RouteWords) : Type 0 where
   pub log : IsTextIfGiven m (codes "log") r.log
   pub schedule : IsTextIfGiven m (codes "schedule") r.schedule
   pub follow : IsTextIfGiven m (codes "follow") r.follow
+
+-- what else was given to `route`
+pub record IsRouteGiven (m : ArgMatches) (r : RouteWords) : Type 0 where
+  pub width : IsNumberGiven m (codes "width") r.width
   pub rest : IsTextIfGiven m (codes "rest") r.rest
 
--- what was given to `width`
+-- what else was given to `width`
 pub record IsWidthGiven (m : ArgMatches) (w : WidthWords) : Type 0 where
-  pub net : IsTextGiven m (codes "NET") w.net
-  pub arch : IsTextGiven m (codes "ARCH") w.arch
-  pub place : IsTextGiven m (codes "PLACE") w.place
-  pub route : IsTextGiven m (codes "ROUTE") w.route
   pub start : IsNumberGiven m (codes "start") w.start
-  pub global : IsFlagGiven m (codes "global") w.global
-  pub explain : IsFlagGiven m (codes "explain") w.explain
-  pub workers : IsNumberGiven m (codes "workers") w.workers
-  pub settings : AreSettingsGiven m w.settings
-  pub log : IsTextIfGiven m (codes "log") w.log
-  pub schedule : IsTextIfGiven m (codes "schedule") w.schedule
-  pub follow : IsTextIfGiven m (codes "follow") w.follow
   pub keep : IsTextIfGiven m (codes "keep") w.keep
   pub verify : IsNumberGiven m (codes "verify") w.verify
   pub upward : IsFlagGiven m (codes "upward") w.upward

@@ -3,7 +3,7 @@
 ghost use Rattle.std.specs.Prelude.{◌≤◌, IfSome};
 ghost use Rattle.rr_graph.specs.Fabric.{longest_side, most_tracks};
 ghost use Rattle.node_cost.specs.Options.{most_workers};
-ghost use Rattle.command_line.specs.Given.{IsRouteGiven, IsWidthGiven, IsCheckGiven, IsReportGiven, IsBoundGiven, IsGraphGiven, IsNetsGiven};
+ghost use Rattle.command_line.specs.Given.{IsRunGiven, IsRouteGiven, IsWidthGiven, IsCheckGiven, IsReportGiven, IsBoundGiven, IsGraphGiven, IsNetsGiven};
 
 use crate::choices::from_to;
 use crate::given::{
@@ -170,14 +170,13 @@ pub fn command<'a>(alloc: Global) -> Result<Command<'a>, AllocError> {
         .subcommand(nets_command(alloc)?)
 }
 
-/// The values given to the `route` command.
+/// The values that are given to `route` and to `width` alike.
 #[derive(Clone, Copy)]
-pub struct RouteWords<'a> {
+pub struct RunWords<'a> {
     pub net: &'a str,
     pub arch: &'a str,
     pub place: &'a str,
     pub route: &'a str,
-    pub width: u32,
     pub global: bool,
     pub explain: bool,
     pub workers: u32,
@@ -188,28 +187,20 @@ pub struct RouteWords<'a> {
     pub schedule: Option<&'a str>,
     /// The file of the schedule that is followed, if there is one.
     pub follow: Option<&'a str>,
+}
+
+/// The other values given to the `route` command.
+#[derive(Clone, Copy)]
+pub struct RouteWords<'a> {
+    pub width: u32,
     /// The file of the trees that were left, if one is wanted.
     pub rest: Option<&'a str>,
 }
 
-/// The values given to the `width` command.
+/// The other values given to the `width` command.
 #[derive(Clone, Copy)]
 pub struct WidthWords<'a> {
-    pub net: &'a str,
-    pub arch: &'a str,
-    pub place: &'a str,
-    pub route: &'a str,
     pub start: u32,
-    pub global: bool,
-    pub explain: bool,
-    pub workers: u32,
-    pub settings: Settings,
-    /// The file of the log, if one is wanted; `-` is standard error.
-    pub log: Option<&'a str>,
-    /// The file of the schedule, if one is wanted.
-    pub schedule: Option<&'a str>,
-    /// The file of the schedule that is followed, if there is one.
-    pub follow: Option<&'a str>,
     /// The prefix of the names of the trials' files, if they are wanted.
     pub keep: Option<&'a str>,
     /// How many widths below the least are also tried.
@@ -281,20 +272,18 @@ pub struct NetsWords<'a> {
     pub explain: bool,
 }
 
-/// Returns the values given to the `route` command, or `None` if one is out of its range.
-pub fn route_words<'a>(matches: &ArgMatches<'a>) -> Option<RouteWords<'a>>
-    ensures tracks { IfSome result (λ r. (1 ≤ r.width) × (r.width ≤ most_tracks)) }
+/// Returns what `route` and `width` are given alike, or `None` if a value is out of its range.
+pub fn run_words<'a>(matches: &ArgMatches<'a>) -> Option<RunWords<'a>>
     ensures workers { IfSome result (λ r. (1 ≤ r.workers) × (r.workers ≤ most_workers)) }
-    ensures given { IfSome result (λ w. IsRouteGiven matches.now w) }
+    ensures given { IfSome result (λ w. IsRunGiven matches.now w) }
 {
     let design = design_files(matches)?;
     let side = side_files(matches);
-    Some(RouteWords {
+    Some(RunWords {
         net: design.net,
         arch: design.arch,
         place: design.place,
         route: text(matches, "ROUTE")?,
-        width: number_within(matches, "width", MOST_TRACKS)?,
         global: flag(matches, "global"),
         explain: flag(matches, "explain"),
         workers: number_within(matches, "workers", MOST_WORKERS)?,
@@ -302,31 +291,27 @@ pub fn route_words<'a>(matches: &ArgMatches<'a>) -> Option<RouteWords<'a>>
         log: side.log,
         schedule: side.schedule,
         follow: side.follow,
+    })
+}
+
+/// Returns the other values given to the `route` command, or `None` if one is out of its range.
+pub fn route_words<'a>(matches: &ArgMatches<'a>) -> Option<RouteWords<'a>>
+    ensures tracks { IfSome result (λ r. (1 ≤ r.width) × (r.width ≤ most_tracks)) }
+    ensures given { IfSome result (λ w. IsRouteGiven matches.now w) }
+{
+    Some(RouteWords {
+        width: number_within(matches, "width", MOST_TRACKS)?,
         rest: optional(matches, "rest"),
     })
 }
 
-/// Returns the values given to the `width` command, or `None` if one is out of its range.
+/// Returns the other values given to the `width` command, or `None` if one is out of its range.
 pub fn width_words<'a>(matches: &ArgMatches<'a>) -> Option<WidthWords<'a>>
     ensures start { IfSome result (λ w. (1 ≤ w.start) × (w.start ≤ most_tracks)) }
-    ensures workers { IfSome result (λ w. (1 ≤ w.workers) × (w.workers ≤ most_workers)) }
     ensures given { IfSome result (λ w. IsWidthGiven matches.now w) }
 {
-    let design = design_files(matches)?;
-    let side = side_files(matches);
     Some(WidthWords {
-        net: design.net,
-        arch: design.arch,
-        place: design.place,
-        route: text(matches, "ROUTE")?,
         start: number_within(matches, "start", MOST_TRACKS)?,
-        global: flag(matches, "global"),
-        explain: flag(matches, "explain"),
-        workers: number_within(matches, "workers", MOST_WORKERS)?,
-        settings: settings(matches)?,
-        log: side.log,
-        schedule: side.schedule,
-        follow: side.follow,
         keep: optional(matches, "keep"),
         verify: number(matches, "verify")?,
         upward: flag(matches, "upward"),

@@ -30,25 +30,37 @@ fn close(alloc: Global, book: &mut Book) -> Result<(), WorkFault>
     }
 }
 
-/// Makes the next iteration of a book by this many workers, which search in the workspace, and
-/// closes it. The gate is called before and after.
+/// How an iteration is made: the settings, the number of workers, and the gate that is called.
+#[derive(Clone, Copy)]
+pub(crate) struct Rules<'a, G> {
+    pub(crate) settings: &'a Settings,
+    pub(crate) workers: u32,
+    pub(crate) gate: &'a G,
+}
+
+/// Makes the next iteration of a book by workers that search in the workspace, and closes it. The
+/// gate is called before and after.
 pub(crate) fn make_iteration<R: Threads + Wait + Sync, G: Gate + Sync>(
     rt: &R,
     alloc: Global,
     workspace: &mut Workspace,
     book: Book,
-    settings: &Settings,
-    workers: u32,
-    gate: &G,
+    rules: &Rules<'_, G>,
 ) -> Result<Book, WorkFault>
     requires problem { workspace.old ≡ book.problem }
     requires fresh { IsFresh book }
     requires few { length book.rows < most_iterations }
-    requires workers { (1 ≤ workers) × (workers ≤ most_workers) }
-    ensures made { IfOk result (IsIteration settings.now workers (G.accepted gate.now) book) }
-    ensures thread { IfErr result (λ fault. fault ≡ NoThread → 1 < workers) }
+    requires workers { (1 ≤ rules.now.workers) × (rules.now.workers ≤ most_workers) }
+    ensures made { IfOk result (IsIteration rules.now.settings.now rules.now.workers
+        (G.accepted rules.now.gate.now) book) }
+    ensures thread { IfErr result (λ fault. fault ≡ NoThread → 1 < rules.now.workers) }
     ensures workspace { workspace.new ≡ workspace.old }
 {
+    let Rules {
+        settings,
+        workers,
+        gate,
+    } = *rules;
     let iteration = book.rows().len() as u32 + 1;
     gate.opened(iteration, book.problem().nets());
     let (mut book, reports) = iterate_in(

@@ -7,7 +7,7 @@ ghost use Rattle.net_workers.specs.declared.fault.WorkFault.TheVariants.{Memory,
 ghost use Rattle.iteration.specs.Progress.{IsIteration, IsReached, goes_on, unrouted_of, overused_of};
 ghost use Rattle.iteration.specs.Outcomes.{IsOutcomeOf, EndsNegotiation, IsOutcome};
 
-use crate::closing::make_iteration;
+use crate::closing::{Rules, make_iteration};
 use crate::outcome::Outcome;
 use crate::routing::routing_of;
 use congestion_book::Book;
@@ -94,7 +94,12 @@ impl Negotiation {
             book,
             mut workspace,
         } = self;
-        let book = make_iteration(rt, alloc, &mut workspace, book, settings, workers, gate)?;
+        let rules = Rules {
+            settings,
+            workers,
+            gate,
+        };
+        let book = make_iteration(rt, alloc, &mut workspace, book, &rules)?;
         Ok(Negotiation { book, workspace })
     }
 
@@ -116,9 +121,7 @@ impl Negotiation {
         let routing = success(rt, alloc, self.workspace.problem(), &self.book)?;
         Ok(Outcome::Success(routing, iterations))
     }
-}
 
-impl Negotiation {
     /// Calls the gate with the outcome.
     fn tell<G: Gate>(&self, outcome: &Outcome, gate: &G) {
         match outcome {
@@ -186,26 +189,6 @@ fn run<R: Threads + Wait + Sync, G: Gate + Sync>(
     Ok(negotiation)
 }
 
-/// Makes iterations until none follows, and returns the outcome.
-fn outcome_of<R: Threads + Wait + Sync, G: Gate + Sync>(
-    rt: &R,
-    alloc: Global,
-    problem: Problem,
-    settings: &Settings,
-    workers: u32,
-    gate: &G,
-) -> Result<Outcome, WorkFault>
-    requires { (1 ≤ workers) × (workers ≤ most_workers) }
-    ensures run { IfOk result
-        (EndsNegotiation problem settings.now workers (G.accepted gate.now)) }
-    ensures limit { OnOk result (1 ≤ settings.now.iterations) }
-    ensures thread { IfErr result (λ fault. fault ≡ NoThread → 1 < workers) }
-{
-    gate.begins(&problem);
-    let negotiation = run(rt, alloc, problem, settings, workers, gate)?;
-    negotiation.end(rt, alloc, gate)
-}
-
 /// Negotiates a routing of the problem, on one congestion book. In each iteration this many workers
 /// route each net anew, and then the iteration is closed: nodes that stay overused cost more from
 /// then on. The negotiation ends when each net has a tree and no node is overused. Otherwise it
@@ -232,6 +215,7 @@ pub fn negotiate<R: Threads + Wait + Sync, G: Gate + Sync>(
     // One worker needs no thread.
     ensures thread { IfErr result (λ fault. fault ≡ NoThread → 1 < workers) }
 {
-    let outcome = outcome_of(rt, alloc, problem, settings, workers, gate)?;
-    Ok(outcome)
+    gate.begins(&problem);
+    let negotiation = run(rt, alloc, problem, settings, workers, gate)?;
+    negotiation.end(rt, alloc, gate)
 }

@@ -230,7 +230,7 @@ fn call_devices(
         Err(Unanswered::NoCall) => (),
         made => return made,
     }
-    match report_calls::call(alloc, &session.problem, &session.routing, call, out) {
+    match report_calls::call(alloc, session, call, out) {
         Err(Unanswered::NoCall) => (),
         made => return made,
     }

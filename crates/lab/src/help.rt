@@ -37,8 +37,8 @@ fn put_names(out: &mut String) -> Result<(), Unanswered> {
     added(writeln!(out, "\n\n{END}"))
 }
 
-/// Adds a name behind so many columns of a line, or in the next line if it has no room there.
-/// Returns the column behind it.
+/// Adds a name after so many columns of a line, or on the next line if there is no room.
+/// Returns the column after it.
 fn put_name(out: &mut String, column: usize, name: &str) -> Result<usize, Unanswered> {
     let next = column.saturating_add(1).saturating_add(name.len());
     if column == 0 {

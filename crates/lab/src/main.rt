@@ -10,7 +10,6 @@ mod shown;
 mod table;
 mod usage;
 
-use lab_session::session::Session;
 use runner::{Watched, run_script};
 use shown::Shown;
 use std::io::{ErrorKind, IsTerminal};
@@ -106,7 +105,7 @@ fn run_scripts(
     watched: Watched,
 ) -> io::Result<bool> {
     if names.is_empty() {
-        return run_script(rt, STDIN, rt.reader(), Session::new(), watched);
+        return run_script(rt, STDIN, rt.reader(), watched);
     }
     let mut is_good = true;
     for name in names {
@@ -128,7 +127,7 @@ fn run_file(
                 input: false,
                 output: watched.output,
             };
-            run_script(rt, name, file, Session::new(), watched)
+            run_script(rt, name, file, watched)
         }
         Err(error) => {
             let _ = eprintln!(rt; "lab: {}: {error}", Shown::within_line(name));

@@ -380,27 +380,38 @@ impl<R: Runtime + Threads + Wait + Sync + AllocGlobal, I: BufRead> ScriptRun<'_,
     }
 }
 
-/// Runs a script in a session, and returns whether all answers were as expected. `watched` is which
-/// of its input and of standard output are terminals.
+/// Returns a script from this input, before its first line is read, and room for its answers.
+fn opened<'a, I: Read + Drop>(
+    alloc: Global,
+    name: &'a str,
+    input: I,
+    is_typed: bool,
+) -> IoResult<(Script<'a, BufReader<I>>, Answer)> {
+    let mut text = String::new(alloc);
+    text.reserve(ROOM)?;
+    let script = Script {
+        name,
+        input: BufReader::new(alloc, input)?,
+        line: 0,
+        is_typed,
+    };
+    Ok((script, Answer::new(text)))
+}
+
+/// Runs a script in a new session, and returns whether all answers were as expected. `watched` is
+/// which of its input and of standard output are terminals.
 pub fn run_script<R: Runtime + Threads + Wait + Sync + AllocGlobal, I: Read + Drop>(
     rt: &R,
     name: &str,
     input: I,
-    session: Session,
     watched: Watched,
 ) -> IoResult<bool> {
-    let mut text = String::new(rt.alloc());
-    text.reserve(ROOM)?;
+    let (script, answer) = opened(rt.alloc(), name, input, watched.input)?;
     let mut run = ScriptRun {
         rt,
-        script: Script {
-            name,
-            input: BufReader::new(rt.alloc(), input)?,
-            line: 0,
-            is_typed: watched.input,
-        },
-        session,
-        answer: Answer::new(text),
+        script,
+        session: Session::new(),
+        answer,
         call_line: 0,
         repeats: false,
         mark: Mark::none(rt.alloc()),

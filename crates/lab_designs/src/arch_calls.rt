@@ -5,7 +5,7 @@ use lab_session::answer::{added, put, put_maybe_named, put_named};
 use lab_session::session::Design;
 use lab_session::sources::source;
 use lab_session::unanswered::Unanswered;
-use lab_session::words::{Call, NO_WORDS, numbers};
+use lab_session::words::{Call, no_words, numbers};
 use std::alloc::Global;
 use std::fmt::Debug;
 use std::rt::Runtime;
@@ -19,11 +19,19 @@ pub fn call(
 ) -> Result<(), Unanswered> {
     match call.name {
         "arch" => read(rt, design, call, out),
-        "class_size" | "class_direction" => {
-            let arch = design.arch()?;
-            let [class] = numbers::<1>(call.given)?;
-            look_at(arch, call.name, class, out)
-        }
+        _ => look_into(rt.alloc(), design, call, out),
+    }
+}
+
+/// Makes a look-up of the design's architecture.
+fn look_into(
+    alloc: Global,
+    design: &Design,
+    call: Call<'_>,
+    out: &mut String,
+) -> Result<(), Unanswered> {
+    match call.name {
+        "class_size" | "class_direction" => look_at_class(design, call, out),
         "io_rat"
         | "class_count"
         | "fc_output"
@@ -33,14 +41,27 @@ pub fn call(
         | "pins"
         | "segments"
         | "switches"
-        | "copy_arch" => {
-            if !call.given.is_empty() {
-                return Err(NO_WORDS);
-            }
-            look_up(rt.alloc(), design.arch()?, call.name, out)
-        }
+        | "copy_arch" => look_at_all(alloc, design, call, out),
         _ => Err(Unanswered::NoCall),
     }
+}
+
+/// Makes a look-up of a class of the design's architecture.
+fn look_at_class(design: &Design, call: Call<'_>, out: &mut String) -> Result<(), Unanswered> {
+    let arch = design.arch()?;
+    let [class] = numbers::<1>(call.given)?;
+    look_at(arch, call.name, class, out)
+}
+
+/// Makes a look-up of the whole architecture of the design.
+fn look_at_all(
+    alloc: Global,
+    design: &Design,
+    call: Call<'_>,
+    out: &mut String,
+) -> Result<(), Unanswered> {
+    no_words(call.given)?;
+    look_up(alloc, design.arch()?, call.name, out)
 }
 
 /// Reads an architecture. Drops the netlist and the placement that were read for the one before.

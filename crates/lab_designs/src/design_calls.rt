@@ -1,7 +1,7 @@
 //! Calls of `net_file` and `place_file`: netlists and placements.
 
 use arch_file::Arch;
-use lab_session::answer::{added, put, put_maybe, put_name};
+use lab_session::answer::{added, put, put_maybe, put_name, put_numbers};
 use lab_session::designs::are_suited;
 use lab_session::session::{Design, DesignTexts, NO_DEVICE, NO_NETLIST};
 use lab_session::sources::source;
@@ -133,7 +133,7 @@ fn put_site_for(
 
 fn put_site(site: Option<Site>, out: &mut String) -> Result<(), Unanswered> {
     match site {
-        Some(Site { x, y, subblk }) => { added(writeln!(out, "{x} {y} {subblk}")) }
+        Some(Site { x, y, subblk }) => put_numbers(out, &[x, y, subblk]),
         None => put(out, "none"),
     }
 }

@@ -5,7 +5,7 @@ use crate::node_calls::call as node_call;
 use lab_session::answer::{added, put};
 use lab_session::session::{Design, NO_DEVICE, Session};
 use lab_session::unanswered::Unanswered;
-use lab_session::words::{Call, NO_NUMBER, NO_WORDS, mode, number};
+use lab_session::words::{Call, NO_NUMBER, mode, no_words, number};
 use rr_graph::{Device, Mode};
 use std::alloc::Global;
 
@@ -19,19 +19,33 @@ pub fn call(
     match call.name {
         "device" => make(alloc, session, call.given, out),
         "has_architecture" => {
-            if !call.given.is_empty() {
-                return Err(NO_WORDS);
-            }
-            put(out, has_architecture(&session.device, &session.design)?)
+            put_architecture(&session.device, &session.design, call.given, out)
         }
-        "suits" => {
-            if !call.given.is_empty() {
-                return Err(NO_WORDS);
-            }
-            put(out, suits(alloc, &session.design, &session.device)?)
-        }
+        "suits" => put_suits(alloc, session, call.given, out),
         _ => node_call(alloc, &session.device, call, out),
     }
+}
+
+/// Adds whether the device has the design's architecture.
+fn put_architecture(
+    device: &Option<Device>,
+    design: &Design,
+    given: &[&str],
+    out: &mut String,
+) -> Result<(), Unanswered> {
+    no_words(given)?;
+    put(out, has_architecture(device, design)?)
+}
+
+/// Adds whether the netlist and the placement suit the device.
+fn put_suits(
+    alloc: Global,
+    session: &Session,
+    given: &[&str],
+    out: &mut String,
+) -> Result<(), Unanswered> {
+    no_words(given)?;
+    put(out, suits(alloc, &session.design, &session.device)?)
 }
 
 /// Returns whether the device has the design's architecture.

@@ -2,7 +2,7 @@
 
 use lab_session::answer::{added, put};
 use lab_session::session::{RunFiles, RunText};
-use lab_session::sources::whole_source;
+use lab_session::sources::run_text;
 use lab_session::unanswered::Unanswered;
 use lab_session::words::{Call, NO_NUMBER, NO_WORDS, number};
 use std::rt::Runtime;
@@ -15,12 +15,27 @@ pub fn call(
     out: &mut String,
 ) -> Result<(), Unanswered> {
     match call.name {
-        "run_arch" | "run_net" | "run_place" | "run_route" => {
-            let (bytes, failing) = whole_source(rt, call)?;
-            let count = bytes.len();
-            keep(files, call.name, RunText { bytes, failing });
-            added(writeln!(out, "{count} bytes"))
-        }
+        "run_arch" | "run_net" | "run_place" | "run_route" => read(rt, files, call, out),
+        _ => call_sinks(files, call, out),
+    }
+}
+
+/// Reads a file, keeps it, and adds its number of bytes.
+fn read(
+    rt: &(impl Runtime + AllocGlobal),
+    files: &mut RunFiles,
+    call: Call<'_>,
+    out: &mut String,
+) -> Result<(), Unanswered> {
+    let text = run_text(rt, call)?;
+    let count = text.bytes.len();
+    keep(files, call.name, text);
+    added(writeln!(out, "{count} bytes"))
+}
+
+/// Makes a call of the sinks of runs or of all files, and adds its answer.
+fn call_sinks(files: &mut RunFiles, call: Call<'_>, out: &mut String) -> Result<(), Unanswered> {
+    match call.name {
         "route_sink" | "out_sink" | "words_sink" => {
             keep_room(files, call.name, room(call.given, out)?);
             Ok(())

@@ -3,7 +3,7 @@
 use lab_session::answer::{added, put, put_maybe, put_maybe_named, put_numbers};
 use lab_session::session::NO_DEVICE;
 use lab_session::unanswered::Unanswered;
-use lab_session::words::{Call, NO_NUMBER, NO_WORDS, number, numbers, pairs};
+use lab_session::words::{Call, NO_NUMBER, no_words, number, numbers, pairs};
 use rr_graph::{Device, EdgeFinder, Kind, Node, Span};
 use smallvec::SmallVec;
 use std::alloc::Global;
@@ -16,10 +16,7 @@ pub fn call(
     out: &mut String,
 ) -> Result<(), Unanswered> {
     match call.name {
-        "id" | "edge" | "lacks_edge" | "joins" => match device {
-            Some(device) => look_for(alloc, device, call, out),
-            None => Err(NO_DEVICE),
-        },
+        "id" | "edge" | "lacks_edge" | "joins" => look_for(alloc, device, call, out),
         "successors"
         | "node"
         | "kind"
@@ -30,13 +27,7 @@ pub fn call(
         | "sink_of"
         | "is_source"
         | "is_sink"
-        | "track_type" => {
-            let [id] = numbers::<1>(call.given)?;
-            match device {
-                Some(device) => look_up(alloc, device, call.name, id, out),
-                None => Err(NO_DEVICE),
-            }
-        }
+        | "track_type" => look_up_number(alloc, device, call, out),
         "node_count"
         | "edge_count"
         | "first_wire"
@@ -45,26 +36,49 @@ pub fn call(
         | "track_types"
         | "parts"
         | "dump_device"
-        | "copy_device" => {
-            if !call.given.is_empty() {
-                return Err(NO_WORDS);
-            }
-            match device {
-                Some(device) => look_at_all(alloc, device, call.name, out),
-                None => Err(NO_DEVICE),
-            }
-        }
+        | "copy_device" => look_at_whole(alloc, device, call, out),
         _ => Err(Unanswered::NoCall),
     }
+}
+
+/// Returns the device, or the refusal if there is none.
+fn there(device: &Option<Device>) -> Result<&Device, Unanswered> {
+    match device {
+        Some(device) => Ok(device),
+        None => Err(NO_DEVICE),
+    }
+}
+
+/// Makes a look-up of a node or a track by the number that a call gives.
+fn look_up_number(
+    alloc: Global,
+    device: &Option<Device>,
+    call: Call<'_>,
+    out: &mut String,
+) -> Result<(), Unanswered> {
+    let [id] = numbers::<1>(call.given)?;
+    look_up(alloc, there(device)?, call.name, id, out)
+}
+
+/// Makes a look-up of the whole device, by a call without words.
+fn look_at_whole(
+    alloc: Global,
+    device: &Option<Device>,
+    call: Call<'_>,
+    out: &mut String,
+) -> Result<(), Unanswered> {
+    no_words(call.given)?;
+    look_at_all(alloc, there(device)?, call.name, out)
 }
 
 /// Looks up the number of a node, or edges.
 fn look_for(
     alloc: Global,
-    device: &Device,
+    device: &Option<Device>,
     call: Call<'_>,
     out: &mut String,
 ) -> Result<(), Unanswered> {
+    let device = there(device)?;
     match call.name {
         "id" => put_id(device, call.given, out),
         "edge" => put_edge(device, call.given, out),
@@ -133,7 +147,7 @@ fn put_node(node: Option<Node>, out: &mut String) -> Result<(), Unanswered> {
 /// Adds a span: its lower end, and its upper end.
 fn put_span(span: Option<Span>, out: &mut String) -> Result<(), Unanswered> {
     match span {
-        Some(Span { x1, y1, x2, y2 }) => { added(writeln!(out, "{x1} {y1} {x2} {y2}")) }
+        Some(Span { x1, y1, x2, y2 }) => put_numbers(out, &[x1, y1, x2, y2]),
         None => put(out, "none"),
     }
 }

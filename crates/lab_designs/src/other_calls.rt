@@ -6,7 +6,7 @@ use lab_session::session::{
     Design, DesignTexts, NO_ARCHITECTURE, NO_DEVICE, NO_PROBLEM, NO_TREE, Session,
 };
 use lab_session::unanswered::Unanswered;
-use lab_session::words::{Call, NO_WORDS, one};
+use lab_session::words::{Call, no_words, one};
 use net_file::Netlist;
 use rr_graph::Device;
 use std::alloc::Global;
@@ -22,22 +22,37 @@ pub fn call(
     out: &mut String,
 ) -> Result<(), Unanswered> {
     match call.name {
-        "other" => {
-            let is_there = exchange(session, one(call.given)?)?;
-            put(out, if is_there { "there is one" } else { "none" })
-        }
-        "same" => put(out, are_same(session, one(call.given)?)?),
-        "suits_other" => {
-            if !call.given.is_empty() {
-                return Err(NO_WORDS);
-            }
-            put(
-                out,
-                suits_other(alloc, &session.design, &session.device, &session.others.net)?,
-            )
-        }
+        "other" => put_exchange(session, call.given, out),
+        "same" => put_same(session, call.given, out),
+        "suits_other" => put_suits_other(alloc, session, call.given, out),
         _ => Err(Unanswered::NoCall),
     }
+}
+
+/// Exchanges the value of a kind with the other one, and adds whether there is a value afterwards.
+fn put_exchange(session: &mut Session, given: &[&str], out: &mut String) -> Result<(), Unanswered> {
+    let is_there = exchange(session, one(given)?)?;
+    put(out, if is_there { "there is one" } else { "none" })
+}
+
+/// Adds whether the value of a kind and the other one are equal.
+fn put_same(session: &Session, given: &[&str], out: &mut String) -> Result<(), Unanswered> {
+    put(out, are_same(session, one(given)?)?)
+}
+
+/// Adds whether the device suits the netlist with the other netlist's placement.
+fn put_suits_other(
+    alloc: Global,
+    session: &Session,
+    given: &[&str],
+    out: &mut String,
+) -> Result<(), Unanswered> {
+    no_words(given)?;
+    let (design, device) = (&session.design, &session.device);
+    put(
+        out,
+        suits_other(alloc, design, device, &session.others.net)?,
+    )
 }
 
 /// Exchanges two values, and returns whether the first one is there afterwards.

@@ -6,15 +6,13 @@ ghost use Rattle.rr_graph.specs.Fabric.{most_tracks};
 
 use crate::route_text_calls::problem_of;
 use lab_session::answer::{added, put, put_numbers};
-use lab_session::bounds::channel_width;
-use lab_session::session::{Design, DesignTexts, NO_DEVICE, NO_PROBLEM, Session};
+use lab_session::asked::{AskedDevice, asked_device};
+use lab_session::session::{Design, DesignTexts, NO_DEVICE, NO_PROBLEM, Searching, Session};
 use lab_session::sources::BELOW;
 use lab_session::unanswered::Unanswered;
-use lab_session::words::{
-    Call, NO_NUMBER, NO_WORDS, mode, number, number_list, numbers, text_of, words,
-};
+use lab_session::words::{Call, NO_NUMBER, no_words, number, number_list, numbers, text_of, words};
 use net_file::Netlist;
-use rr_graph::{Device, MadeOfDesigns, Mode, Problem, Terminals};
+use rr_graph::{Device, MadeOfDesigns, Problem, Terminals};
 use std::alloc::{AllocError, Global};
 
 /// The syntax of a line with a net of a problem.
@@ -29,24 +27,39 @@ pub fn call(
 ) -> Result<(), Unanswered> {
     match call.name {
         "problem" => make(alloc, session, call, out),
-        "net_number" | "source" | "sinks" => {
-            let [net] = numbers::<1>(call.given)?;
-            match &session.problem {
-                Some(problem) => look_up(problem, call.name, net, out),
-                None => Err(NO_PROBLEM),
-            }
-        }
-        "nets" | "copy_problem" | "dump_problem" => {
-            if !call.given.is_empty() {
-                return Err(NO_WORDS);
-            }
-            match &session.problem {
-                Some(problem) => look_at_all(alloc, problem, call.name, out),
-                None => Err(NO_PROBLEM),
-            }
-        }
+        "net_number" | "source" | "sinks" => look_up_number(&session.problem, call, out),
+        "nets" | "copy_problem" | "dump_problem" => look_at(alloc, &session.problem, call, out),
         _ => Err(Unanswered::NoCall),
     }
+}
+
+/// Returns the problem, or the refusal if there is none.
+fn there(problem: &Option<Problem>) -> Result<&Problem, Unanswered> {
+    match problem {
+        Some(problem) => Ok(problem),
+        None => Err(NO_PROBLEM),
+    }
+}
+
+/// Makes a look-up of a net by the number that a call gives.
+fn look_up_number(
+    problem: &Option<Problem>,
+    call: Call<'_>,
+    out: &mut String,
+) -> Result<(), Unanswered> {
+    let [net] = numbers::<1>(call.given)?;
+    look_up(there(problem)?, call.name, net, out)
+}
+
+/// Makes a look-up of the whole problem, by a call without words.
+fn look_at(
+    alloc: Global,
+    problem: &Option<Problem>,
+    call: Call<'_>,
+    out: &mut String,
+) -> Result<(), Unanswered> {
+    no_words(call.given)?;
+    look_at_all(alloc, there(problem)?, call.name, out)
 }
 
 /// Makes a look-up of the whole problem.
@@ -74,7 +87,8 @@ fn make(
     let problem = made(alloc, &session.design, &session.device, call)?;
     let nets = problem.nets();
     let device = device_at_width(alloc, &problem, call.given)?;
-    keep(session, problem, device);
+    keep_device(&mut session.device, device);
+    keep_problem(&mut session.problem, &mut session.searching, problem);
     added(writeln!(out, "{nets} nets"))
 }
 
@@ -91,13 +105,17 @@ fn device_at_width(
     Ok(Some(device))
 }
 
-/// Keeps a problem, and the device if there is one.
-fn keep(session: &mut Session, problem: Problem, device: Option<Device>) {
-    if device.is_some() {
-        session.device = device;
+/// Keeps a device if there is one.
+fn keep_device(kept: &mut Option<Device>, device: Option<Device>) {
+    if let Some(device) = device {
+        *kept = Some(device);
     }
-    session.problem = Some(problem);
-    session.searching = None;
+}
+
+/// Keeps a problem, and drops what was prepared for searches in the one before.
+fn keep_problem(kept: &mut Option<Problem>, searching: &mut Option<Searching>, problem: Problem) {
+    *kept = Some(problem);
+    *searching = None;
 }
 
 /// Returns whether the words of a call give the width of a device.
@@ -119,7 +137,7 @@ fn made(
     match call.given {
         [] => of_design(alloc, design, device),
         [word] if *word == BELOW => of_parts(alloc, device, call.text),
-        [width, rest @ ..] => at_width(alloc, design, channel_width(width)?, mode(rest)?),
+        [width, rest @ ..] => at_width(alloc, design, asked_device(width, rest)?),
     }
 }
 
@@ -148,26 +166,26 @@ fn of_netlist(
     problem_of(alloc, device, netlist, &placement)
 }
 
-/// Returns the problem of the netlist and the placement on the device of their array at a width.
-fn at_width(alloc: Global, design: &Design, width: u32, mode: Mode) -> Result<Problem, Unanswered>
-    requires width { (1 ≤ width) × (width ≤ most_tracks) }
+/// Returns the problem of the netlist and the placement on the device that a call asks for.
+fn at_width(alloc: Global, design: &Design, asked: AskedDevice) -> Result<Problem, Unanswered>
+    requires width { (1 ≤ asked.width) × (asked.width ≤ most_tracks) }
 {
     let design = design.texts()?;
     let netlist = net_file::parse(alloc, design.net, design.arch)?;
-    of_netlist_at(alloc, design, &netlist, width, mode)
+    of_netlist_at(alloc, design, &netlist, asked)
 }
 
-/// Returns the problem of a design with this netlist on the device of its array at a width.
+/// Returns the problem of a design with this netlist on the device that a call asks for.
 fn of_netlist_at(
     alloc: Global,
     design: DesignTexts<'_>,
     netlist: &Netlist<'_>,
-    width: u32,
-    mode: Mode,
+    asked: AskedDevice,
 ) -> Result<Problem, Unanswered>
-    requires width { (1 ≤ width) × (width ≤ most_tracks) }
+    requires width { (1 ≤ asked.width) × (asked.width ≤ most_tracks) }
     requires read { (bytes : List ℕ) × ReadsBytes design.arch.now.pins bytes netlist.now }
 {
+    let AskedDevice { width, mode } = asked;
     let arch = design.arch;
     let placement = place_file::parse(alloc, design.place, arch, netlist)?;
     Ok(Problem::from_design(alloc, arch, netlist, &placement, width, mode)?)

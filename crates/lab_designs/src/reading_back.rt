@@ -9,7 +9,7 @@ ghost use Rattle.route_check.specs.Routed.{IsRouted};
 
 use crate::route_text_calls::problem_of;
 use lab_session::answer::put;
-use lab_session::session::{Design, DesignTexts, NO_DEVICE, NO_ROUTING, Session};
+use lab_session::session::{DesignTexts, RoutedDevice, Session};
 use lab_session::unanswered::Unanswered;
 use lab_session::words::{Call, NO_WORDS};
 use net_file::Netlist;
@@ -18,7 +18,7 @@ use route_check::check_routing;
 use route_file::laws::{one_reading, read_back};
 use route_file::{parse, write};
 use route_tree::{Routing, fits};
-use rr_graph::{Device, Problem};
+use rr_graph::Problem;
 use std::alloc::Global;
 use std::rt::Runtime;
 use std::thread::Threads;
@@ -36,8 +36,7 @@ pub fn call(
             if !call.given.is_empty() {
                 return Err(NO_WORDS);
             }
-            let is_so = is_read_back(rt, &session.design, &session.device, &session.routing)?;
-            put(out, is_so)
+            put(out, is_read_back(rt, session)?)
         }
         _ => Err(Unanswered::NoCall),
     }
@@ -47,41 +46,33 @@ pub fn call(
 /// routing must be legal.
 fn is_read_back(
     rt: &(impl Runtime + Threads + Sync + AllocGlobal),
-    design: &Design,
-    device: &Option<Device>,
-    routing: &Option<Routing>,
+    session: &Session,
 ) -> Result<bool, Unanswered> {
-    let design = design.texts()?;
-    let Some(device) = device else {
-        return Err(NO_DEVICE);
-    };
-    let Some(routing) = routing else {
-        return Err(NO_ROUTING);
-    };
+    let design = session.design.texts()?;
+    let routed = session.routed_device()?;
     let netlist = net_file::parse(rt.alloc(), design.net, design.arch)?;
-    is_read_back_on(rt, design, device, &netlist, routing)
+    is_read_back_on(rt, design, routed, &netlist)
 }
 
 /// Does the same for a design with this netlist.
 fn is_read_back_on(
     rt: &(impl Runtime + Threads + Sync + AllocGlobal),
     design: DesignTexts<'_>,
-    device: &Device,
+    routed: RoutedDevice<'_>,
     netlist: &Netlist<'_>,
-    routing: &Routing,
 ) -> Result<bool, Unanswered> {
     let placement = place_file::parse(rt.alloc(), design.place, design.arch, netlist)?;
-    is_placed_read_back(rt, device, netlist, &placement, routing)
+    is_placed_read_back(rt, routed, netlist, &placement)
 }
 
 /// Does the same for a placed design.
 fn is_placed_read_back(
     rt: &(impl Runtime + Threads + Sync + AllocGlobal),
-    device: &Device,
+    routed: RoutedDevice<'_>,
     netlist: &Netlist<'_>,
     placement: &Placement,
-    routing: &Routing,
 ) -> Result<bool, Unanswered> {
+    let RoutedDevice { device, routing } = routed;
     let problem = problem_of(rt.alloc(), device, netlist, placement)?;
     is_legal_read_back(rt, netlist, placement, &problem, routing)
 }
@@ -97,21 +88,29 @@ fn is_legal_read_back(
     requires numbers { map (λ n. n.number) problem.now.nets ≡ routed_numbers netlist.now }
     requires design { IsDesign netlist.now placement.now problem.now }
 {
-    if check_routing(rt, rt.alloc(), problem, routing)?.is_some() {
-        return Err(Unanswered::Refused("the routing is not legal"));
+    match check_routing(rt, rt.alloc(), problem, routing)? {
+        None => is_text_read_back(rt.alloc(), netlist, placement, problem, routing),
+        Some(_) => Err(Unanswered::Refused("the routing is not legal")),
     }
+}
+
+/// Does the same for a legal routing.
+fn is_text_read_back(
+    alloc: Global,
+    netlist: &Netlist<'_>,
+    placement: &Placement,
+    problem: &Problem,
+    routing: &Routing,
+) -> Result<bool, Unanswered>
+    requires numbers { map (λ n. n.number) problem.now.nets ≡ routed_numbers netlist.now }
+    requires design { IsDesign netlist.now placement.now problem.now }
+    requires routed { IsRouted problem.now routing.now }
+{
     if !fits(problem, routing) {
         return Err(Unanswered::Refused("the routing does not fit the problem"));
     }
-    let text = text_again(rt.alloc(), netlist, placement, problem, routing)?;
-    is_again(
-        rt.alloc(),
-        netlist,
-        placement,
-        problem,
-        routing,
-        text.as_slice(),
-    )
+    let text = text_again(alloc, netlist, placement, problem, routing)?;
+    is_again(alloc, netlist, placement, problem, routing, text.as_slice())
 }
 
 /// Returns the text of a routing.

@@ -1,9 +1,9 @@
 //! Calls of `route_report`: the figures of the routing.
 
-use lab_session::answer::{added, put, put_maybe};
-use lab_session::session::{NO_PROBLEM, NO_ROUTING};
+use lab_session::answer::{added, put, put_labelled, put_maybe};
+use lab_session::session::{RoutedProblem, Session};
 use lab_session::unanswered::Unanswered;
-use lab_session::words::{Call, NO_WORDS};
+use lab_session::words::{Call, no_words};
 use route_report::{
     ChannelUse, Figures, NetFigures, NetTotals, OverusedNode, WireTypeUse, channel_uses,
     figures_of, net_figures, node_uses, overused_nodes, wire_type_uses, wirelengths,
@@ -15,8 +15,7 @@ use std::alloc::Global;
 /// Makes a call, and adds its answer.
 pub fn call(
     alloc: Global,
-    problem: &Option<Problem>,
-    routing: &Option<Routing>,
+    session: &Session,
     call: Call<'_>,
     out: &mut String,
 ) -> Result<(), Unanswered> {
@@ -27,18 +26,21 @@ pub fn call(
         | "figures_of"
         | "net_figures"
         | "channel_uses"
-        | "wire_type_uses" => {
-            if !call.given.is_empty() {
-                return Err(NO_WORDS);
-            }
-            match (problem, routing) {
-                (Some(problem), Some(routing)) => report(alloc, problem, routing, call.name, out),
-                (None, _) => Err(NO_PROBLEM),
-                _ => Err(NO_ROUTING),
-            }
-        }
+        | "wire_type_uses" => report_kept(alloc, session, call, out),
         _ => Err(Unanswered::NoCall),
     }
+}
+
+/// Adds the figures of a kind of the session's routing.
+fn report_kept(
+    alloc: Global,
+    session: &Session,
+    call: Call<'_>,
+    out: &mut String,
+) -> Result<(), Unanswered> {
+    no_words(call.given)?;
+    let RoutedProblem { problem, routing } = session.routed_problem()?;
+    report(alloc, problem, routing, call.name, out)
 }
 
 /// Adds the figures of a kind.
@@ -143,17 +145,16 @@ fn put_figures(
 }
 
 fn put_whole(figures: Figures, out: &mut String) -> Result<(), Unanswered> {
-    let (nets, listed) = (figures.nets, figures.listed);
-    let (wires, places) = (figures.wires, figures.places);
-    let (wirelength, greatest) = (figures.wirelength, figures.greatest);
-    write!(
-        out,
-        "nets {nets}, listed {listed}, wires {wires}, places {places}, "
-    )?;
-    write!(
-        out,
-        "wirelength {wirelength}, greatest {greatest}, longest "
-    )?;
+    let numbers = [
+        ("nets", u64::from(figures.nets)),
+        ("listed", u64::from(figures.listed)),
+        ("wires", u64::from(figures.wires)),
+        ("places", figures.places),
+        ("wirelength", figures.wirelength),
+        ("greatest", figures.greatest),
+    ];
+    put_labelled(out, &numbers)?;
+    out.push_str(", longest ")?;
     put_maybe(out, figures.longest)
 }
 
@@ -174,7 +175,7 @@ fn put_all_totals(nets: NetFigures, out: &mut String) -> Result<(), Unanswered> 
     put_totals("places", nets.places, out)
 }
 
-/// Adds what a number for each net comes to: the sum, and the greatest with its net.
+/// Adds the sum of a number of each net, and the greatest of these numbers with its net.
 fn put_totals(name: &str, totals: NetTotals, out: &mut String) -> Result<(), Unanswered> {
     write!(out, "{name} {}, most {}, net ", totals.total, totals.most)?;
     put_maybe(out, totals.first)

@@ -7,7 +7,7 @@ ghost use Rattle.route_file.specs.Design.{IsDesign};
 
 use crate::routing_calls::keep;
 use lab_session::answer::{added, put_name};
-use lab_session::session::{Design, DesignTexts, NO_DEVICE, NO_ROUTING, Session};
+use lab_session::session::{Design, DesignTexts, NO_DEVICE, RoutedDevice, Session};
 use lab_session::sinks::{ShortSink, sink};
 use lab_session::sources::{bytes_before_failing, source};
 use lab_session::unanswered::Unanswered;
@@ -28,15 +28,8 @@ pub fn call(
     out: &mut String,
 ) -> Result<(), Unanswered> {
     match call.name {
-        "route" => {
-            let routing = read_source(rt, &session.design, &session.device, call)?;
-            keep(&mut session.routing, routing, out)
-        }
-        "write" => {
-            let left = bytes_before_failing(call.given)?;
-            let (design, device) = (&session.design, &session.device);
-            put_text(rt.alloc(), design, device, &session.routing, left, out)
-        }
+        "route" => read_source(rt, session, call, out),
+        "write" => put_text(rt.alloc(), session, call.given, out),
         _ => Err(Unanswered::NoCall),
     }
 }
@@ -76,15 +69,17 @@ pub fn problem_of(
     Ok(problem)
 }
 
-/// Reads a routing from the file or the text that a call names.
+/// Reads a routing from the file or the text that a call names, and keeps it.
 fn read_source(
     rt: &(impl Runtime + AllocGlobal),
-    design: &Design,
-    device: &Option<Device>,
+    session: &mut Session,
     call: Call<'_>,
-) -> Result<Routing, Unanswered> {
+    out: &mut String,
+) -> Result<(), Unanswered> {
     let text = source(rt, call)?;
-    read(rt.alloc(), design, device, text.as_slice())
+    let (design, device) = (&session.design, &session.device);
+    let routing = read(rt.alloc(), design, device, text.as_slice())?;
+    keep(&mut session.routing, routing, out)
 }
 
 /// Reads a routing of the design on the device.
@@ -126,50 +121,44 @@ fn read_on(
     Ok(parse(alloc, text, netlist, &problem)?)
 }
 
-/// Writes the routing of the design on the device, and adds its text.
+/// Writes the routing of the design on the device, and adds its text. The words of a call give the
+/// number of bytes after which the sink fails, if it does.
 fn put_text(
     alloc: Global,
-    design: &Design,
-    device: &Option<Device>,
-    routing: &Option<Routing>,
-    left: Option<usize>,
+    session: &Session,
+    given: &[&str],
     out: &mut String,
 ) -> Result<(), Unanswered> {
-    let design = design.texts()?;
-    let Some(device) = device else {
-        return Err(NO_DEVICE);
-    };
-    let Some(routing) = routing else {
-        return Err(NO_ROUTING);
-    };
+    let left = bytes_before_failing(given)?;
+    let design = session.design.texts()?;
+    let routed = session.routed_device()?;
     let netlist = net_file::parse(alloc, design.net, design.arch)?;
-    put_placed(alloc, design, device, &netlist, routing, left, out)
+    put_placed(alloc, design, routed, &netlist, left, out)
 }
 
 /// Writes a routing of a design with this netlist on a device, and adds its text.
 fn put_placed(
     alloc: Global,
     design: DesignTexts<'_>,
-    device: &Device,
+    routed: RoutedDevice<'_>,
     netlist: &Netlist<'_>,
-    routing: &Routing,
     left: Option<usize>,
     out: &mut String,
 ) -> Result<(), Unanswered> {
     let placement = place_file::parse(alloc, design.place, design.arch, netlist)?;
-    put_on(alloc, device, netlist, &placement, routing, left, out)
+    put_on(alloc, routed, netlist, &placement, left, out)
 }
 
 /// Writes a routing of a placed design on a device, and adds its text.
 fn put_on(
     alloc: Global,
-    device: &Device,
+    routed: RoutedDevice<'_>,
     netlist: &Netlist<'_>,
     placement: &Placement,
-    routing: &Routing,
     left: Option<usize>,
     out: &mut String,
 ) -> Result<(), Unanswered> {
+    let RoutedDevice { device, routing } = routed;
     let problem = problem_of(alloc, device, netlist, placement)?;
     if !fits(&problem, routing) {
         return Err(Unanswered::Refused("the routing does not fit the problem"));

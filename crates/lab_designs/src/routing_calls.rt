@@ -1,7 +1,7 @@
 //! Calls of `route_tree` and `route_check`: routings.
 
 use lab_session::answer::{added, put, put_named};
-use lab_session::session::{NO_PROBLEM, NO_ROUTING, Session};
+use lab_session::session::{NO_ROUTING, RoutedProblem, Session};
 use lab_session::trees::tree_of_words;
 use lab_session::unanswered::Unanswered;
 use lab_session::words::{Call, NO_WORDS, pairs, text_below, words};
@@ -20,34 +20,54 @@ pub fn call(
     out: &mut String,
 ) -> Result<(), Unanswered> {
     match call.name {
-        "routing" => {
-            let routing = of_pairs(rt.alloc(), text_below(call)?)?;
-            keep(&mut session.routing, routing, out)
-        }
-        "routing_of_trees" => {
-            let routing = of_trees(rt.alloc(), text_below(call)?)?;
-            keep(&mut session.routing, routing, out)
-        }
-        "fits" | "check" => {
-            if !call.given.is_empty() {
-                return Err(NO_WORDS);
-            }
-            match (&session.problem, &session.routing) {
-                (Some(problem), Some(routing)) => judge(rt, problem, routing, call.name, out),
-                (None, _) => Err(NO_PROBLEM),
-                _ => Err(NO_ROUTING),
-            }
-        }
-        "dump_routing" => {
-            if !call.given.is_empty() {
-                return Err(NO_WORDS);
-            }
-            match &session.routing {
-                Some(routing) => dump(routing, out),
-                None => Err(NO_ROUTING),
-            }
-        }
+        "routing" | "routing_of_trees" => read(rt.alloc(), &mut session.routing, call, out),
+        "fits" | "check" => judge_kept(rt, session, call, out),
+        "dump_routing" => dump_kept(&session.routing, call.given, out),
         _ => Err(Unanswered::NoCall),
+    }
+}
+
+/// Reads a routing from the text below a call, and keeps it.
+fn read(
+    alloc: Global,
+    kept: &mut Option<Routing>,
+    call: Call<'_>,
+    out: &mut String,
+) -> Result<(), Unanswered> {
+    let text = text_below(call)?;
+    let routing = match call.name {
+        "routing" => of_pairs(alloc, text)?,
+        _ => of_trees(alloc, text)?,
+    };
+    keep(kept, routing, out)
+}
+
+/// Adds whether the routing fits the problem, or its first fault.
+fn judge_kept(
+    rt: &(impl Runtime + Threads + Sync + AllocGlobal),
+    session: &Session,
+    call: Call<'_>,
+    out: &mut String,
+) -> Result<(), Unanswered> {
+    if !call.given.is_empty() {
+        return Err(NO_WORDS);
+    }
+    let RoutedProblem { problem, routing } = session.routed_problem()?;
+    judge(rt, problem, routing, call.name, out)
+}
+
+/// Adds a line for each list of the routing.
+fn dump_kept(
+    routing: &Option<Routing>,
+    given: &[&str],
+    out: &mut String,
+) -> Result<(), Unanswered> {
+    if !given.is_empty() {
+        return Err(NO_WORDS);
+    }
+    match routing {
+        Some(routing) => dump(routing, out),
+        None => Err(NO_ROUTING),
     }
 }
 

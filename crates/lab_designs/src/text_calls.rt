@@ -15,13 +15,20 @@ pub fn call(
     out: &mut String,
 ) -> Result<(), Unanswered> {
     match call.name {
-        "read" | "lines" => {
-            let text = source(rt, call)?;
-            put_text(rt.alloc(), call.name, text.as_slice(), out)
-        }
+        "read" | "lines" => put_source(rt, call, out),
         "number" | "fixed" | "is_decimal" => look_up(call.name, one(call.given)?.as_bytes(), out),
         _ => Err(Unanswered::NoCall),
     }
+}
+
+/// Reads the file or the text that a call names, and adds its number of bytes, or its lines.
+fn put_source(
+    rt: &(impl Runtime + AllocGlobal),
+    call: Call<'_>,
+    out: &mut String,
+) -> Result<(), Unanswered> {
+    let text = source(rt, call)?;
+    put_text(rt.alloc(), call.name, text.as_slice(), out)
 }
 
 /// Adds the number of bytes of a text, or its lines.

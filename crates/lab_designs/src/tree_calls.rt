@@ -3,11 +3,11 @@
 ghost use Rattle.std.specs.Prelude.{◌≡◌};
 ghost use Rattle.rr_graph.specs.Nodes.{node_count_of};
 
-use lab_session::answer::{added, put, put_maybe, put_named};
+use lab_session::answer::{added, put, put_maybe, put_named, put_numbers};
 use lab_session::session::{NO_PROBLEM, NO_TREE, Session};
 use lab_session::trees::{attach_at, put_tree, tree_of_words};
 use lab_session::unanswered::Unanswered;
-use lab_session::words::{Call, NO_NUMBER, NO_WORDS, number, number_list, numbers};
+use lab_session::words::{Call, NO_NUMBER, no_words, number, number_list, numbers};
 use route_tree::{Marks, Tree, check_tree};
 use rr_graph::Problem;
 use std::alloc::Global;
@@ -22,35 +22,51 @@ pub fn call(
     match call.name {
         "tree" => make(alloc, &mut session.tree, call.given, out),
         "attach" => attach(alloc, &mut session.tree, call.given, out),
-        "check_tree" => {
-            let [net] = numbers::<1>(call.given)?;
-            let (problem, tree) = (&session.problem, &session.tree);
-            check(alloc, problem, tree, &mut session.marks, net, out)
-        }
+        "check_tree" => check_net(alloc, session, call, out),
         "rows" | "pair_count" | "dump_tree" | "copy_tree" => {
-            if !call.given.is_empty() {
-                return Err(NO_WORDS);
-            }
-            match &session.tree {
-                Some(tree) => look_up(alloc, tree, call.name, out),
-                None => Err(NO_TREE),
-            }
+            look_at_all(alloc, &session.tree, call, out)
         }
-        "marks_fit" => {
-            if !call.given.is_empty() {
-                return Err(NO_WORDS);
-            }
-            put_marks_fit(&session.problem, &session.marks, out)
-        }
-        "row_node" | "pair" | "covers" => {
-            let [index] = numbers::<1>(call.given)?;
-            match &session.tree {
-                Some(tree) => look_at(tree, call.name, index, out),
-                None => Err(NO_TREE),
-            }
-        }
+        "marks_fit" => put_marks_fit(&session.problem, &session.marks, call.given, out),
+        "row_node" | "pair" | "covers" => look_up_number(&session.tree, call, out),
         _ => Err(Unanswered::NoCall),
     }
+}
+
+/// Adds whether the tree routes the net of the problem that a call gives.
+fn check_net(
+    alloc: Global,
+    session: &mut Session,
+    call: Call<'_>,
+    out: &mut String,
+) -> Result<(), Unanswered> {
+    let [net] = numbers::<1>(call.given)?;
+    let (problem, tree) = (&session.problem, &session.tree);
+    check(alloc, problem, tree, &mut session.marks, net, out)
+}
+
+/// Returns the tree, or the refusal if there is none.
+fn there(tree: &Option<Tree>) -> Result<&Tree, Unanswered> {
+    match tree {
+        Some(tree) => Ok(tree),
+        None => Err(NO_TREE),
+    }
+}
+
+/// Makes a look-up of the whole tree, by a call without words.
+fn look_at_all(
+    alloc: Global,
+    tree: &Option<Tree>,
+    call: Call<'_>,
+    out: &mut String,
+) -> Result<(), Unanswered> {
+    no_words(call.given)?;
+    look_up(alloc, there(tree)?, call.name, out)
+}
+
+/// Makes a look-up of a row, a pair or a node by the number that a call gives.
+fn look_up_number(tree: &Option<Tree>, call: Call<'_>, out: &mut String) -> Result<(), Unanswered> {
+    let [index] = numbers::<1>(call.given)?;
+    look_at(there(tree)?, call.name, index, out)
 }
 
 /// Makes a tree, and adds its number of rows.
@@ -100,8 +116,10 @@ fn attach_way(
 fn put_marks_fit(
     problem: &Option<Problem>,
     marks: &Option<Marks>,
+    given: &[&str],
     out: &mut String,
 ) -> Result<(), Unanswered> {
+    no_words(given)?;
     match (problem, marks) {
         (Some(problem), Some(marks)) => put(out, marks.fits(problem)),
         (None, _) => Err(NO_PROBLEM),
@@ -208,5 +226,5 @@ fn put_pair(tree: &Tree, index: usize, out: &mut String) -> Result<(), Unanswere
         return put(out, "none");
     }
     let (from, to) = tree.pair(index);
-    added(writeln!(out, "{from} {to}"))
+    put_numbers(out, &[from, to])
 }

@@ -3,20 +3,17 @@
 ghost use Rattle.std.specs.Prelude.{◌≡◌, ◌≤◌, length};
 ghost use Rattle.rr_graph.specs.Fabric.{most_tracks};
 
-use crate::run_calls::{
-    DesignFiles, kept_design, kept_route, put_end, put_print, put_taken, source_of,
-};
+use crate::run_calls::{RoutedFiles, kept_routed, put_end, put_print, put_taken, source_of};
+use lab_session::asked::{AskedDevice, asked_device};
 use lab_session::bounds::channel_width;
-use lab_session::session::{DesignTexts, NO_PROBLEM, NO_ROUTING, RunFiles, RunText, Session};
+use lab_session::session::{DesignTexts, RoutedProblem, RunFiles, Session};
 use lab_session::sinks::sink;
 use lab_session::sources::source;
 use lab_session::unanswered::Unanswered;
-use lab_session::words::{Call, mode, mode_before};
+use lab_session::words::{Call, mode_before};
 use net_file::Netlist;
 use report_run::{ReportForm, report_run};
-use route_explain::{Explained, explain, explain_run};
-use route_tree::Routing;
-use rr_graph::{Mode, Problem};
+use route_explain::{Explained, ReadRouting, explain, explain_run};
 use run_inputs::AppFault;
 use runs::verdict_status;
 use std::alloc::Global;
@@ -83,33 +80,31 @@ fn run_report(
     let width = channel_width(width)?;
     let (mode, rest) = mode_before(rest);
     let form = form_of(rest)?;
-    let (design, route) = (kept_design(files)?, kept_route(files)?);
-    report_design(alloc, files, design, route, width, mode, form, out)
+    let routed = kept_routed(files)?;
+    report_design(alloc, files, routed, AskedDevice { width, mode }, form, out)
 }
 
 /// Runs `report` on the files of a design and a routing.
 fn report_design(
     alloc: Global,
     files: &RunFiles,
-    design: DesignFiles<'_>,
-    route: &RunText,
-    width: u32,
-    mode: Mode,
+    routed: RoutedFiles<'_>,
+    asked: AskedDevice,
     form: ReportForm,
     out: &mut String,
 ) -> Result<(), Unanswered>
-    requires width { (1 ≤ width) × (width ≤ most_tracks) }
+    requires width { (1 ≤ asked.width) × (asked.width ≤ most_tracks) }
 {
     let mut printed = sink(alloc, files.out_room);
     let answer = report_run(
         alloc,
-        &mut source_of(design.net),
-        &mut source_of(design.arch),
-        &mut source_of(design.place),
-        &mut source_of(route),
+        &mut source_of(routed.design.net),
+        &mut source_of(routed.design.arch),
+        &mut source_of(routed.design.place),
+        &mut source_of(routed.route),
         &mut printed,
-        width,
-        mode,
+        asked.width,
+        asked.mode,
         form,
     );
     put_print(alloc, answer.map(|_| 0), printed.into_inner(), out)
@@ -125,9 +120,8 @@ fn run_explain(
     let [width, rest @ ..] = given else {
         return Err(Unanswered::Misread("explain_run W, or with `global` behind it"));
     };
-    let (width, mode) = (channel_width(width)?, mode(rest)?);
-    let (design, route) = (kept_design(files)?, kept_route(files)?);
-    explain_design(rt, files, design, route, width, mode, out)
+    let asked = asked_device(width, rest)?;
+    explain_design(rt, files, kept_routed(files)?, asked, out)
 }
 
 /// Returns whether memory ran out before a verdict was explained.
@@ -142,27 +136,25 @@ fn lacks_memory(answer: &Result<Explained, AppFault>) -> bool {
 fn explain_design(
     rt: &(impl Threads + Sync + AllocGlobal),
     files: &RunFiles,
-    design: DesignFiles<'_>,
-    route: &RunText,
-    width: u32,
-    mode: Mode,
+    routed: RoutedFiles<'_>,
+    asked: AskedDevice,
     out: &mut String,
 ) -> Result<(), Unanswered>
-    requires width { (1 ≤ width) × (width ≤ most_tracks) }
+    requires width { (1 ≤ asked.width) × (asked.width ≤ most_tracks) }
 {
     let mut printed = sink(rt.alloc(), files.out_room);
     let mut words = sink(rt.alloc(), files.words_room);
     let answer = explain_run(
         rt,
         ROUTE,
-        &mut source_of(design.net),
-        &mut source_of(design.arch),
-        &mut source_of(design.place),
-        &mut source_of(route),
+        &mut source_of(routed.design.net),
+        &mut source_of(routed.design.arch),
+        &mut source_of(routed.design.place),
+        &mut source_of(routed.route),
         &mut printed,
         &mut words,
-        width,
-        mode,
+        asked.width,
+        asked.mode,
     );
     let (printed, words) = (printed.into_inner(), words.into_inner());
     if lacks_memory(&answer) {
@@ -194,47 +186,48 @@ fn explain_lines(
     out: &mut String,
 ) -> Result<(), Unanswered> {
     let design = session.design.texts()?;
-    match (&session.problem, &session.routing) {
-        (Some(problem), Some(routing)) => {
-            let room = session.files.words_room;
-            explain_named(rt, design, problem, lines, routing, room, out)
-        }
-        (None, _) => Err(NO_PROBLEM),
-        _ => Err(NO_ROUTING),
-    }
+    let routed = session.routed_problem()?;
+    explain_named(rt, design, routed, lines, session.files.words_room, out)
 }
 
 /// Explains a routing of a problem, with the names of a design.
 fn explain_named(
     rt: &(impl Threads + Sync + AllocGlobal),
     design: DesignTexts<'_>,
-    problem: &Problem,
+    routed: RoutedProblem<'_>,
     lines: &Lines<'_>,
-    routing: &Routing,
     room: Option<usize>,
     out: &mut String,
 ) -> Result<(), Unanswered> {
+    let RoutedProblem { problem, routing } = routed;
     if routing.lists.len() != problem.nets() as usize {
         return Err(Unanswered::Refused("the routing has not an entry for each net"));
     }
     let netlist = net_file::parse(rt.alloc(), design.net, design.arch)?;
-    explain_to(rt, &netlist, problem, lines, routing, room, out)
+    explain_to(rt, &netlist, routed, lines, room, out)
 }
 
 /// Explains a routing of a problem, and adds the explanation.
 fn explain_to(
     rt: &(impl Threads + Sync + AllocGlobal),
     netlist: &Netlist<'_>,
-    problem: &Problem,
+    routed: RoutedProblem<'_>,
     lines: &Lines<'_>,
-    routing: &Routing,
     room: Option<usize>,
     out: &mut String,
 ) -> Result<(), Unanswered>
-    requires { length routing.now ≡ length problem.now.nets }
+    requires { length routed.routing.now ≡ length routed.problem.now.nets }
 {
+    let RoutedProblem { problem, routing } = routed;
     let mut words = sink(rt.alloc(), room);
-    let answer = explain(rt, ROUTE, netlist, problem, lines, routing, &mut words);
+    let file = ReadRouting {
+        path: ROUTE,
+        netlist,
+        problem,
+        lines,
+        routing,
+    };
+    let answer = explain(rt, &file, &mut words);
     let words = words.into_inner();
     if matches!(answer, Err(AppFault::Memory)) {
         return Err(Unanswered::Memory);

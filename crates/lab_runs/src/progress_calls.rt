@@ -3,9 +3,10 @@
 
 use lab_session::answer::{added, put};
 use lab_session::sources::BELOW;
+use lab_session::trial_ends::tried;
 use lab_session::unanswered::Unanswered;
 use lab_session::words::{Call, NO_NUMBER, NO_WORDS, number, numbers, words};
-use net_workers::{Gate, TrialEnd};
+use net_workers::Gate;
 use run_log::Progress;
 use std::alloc::Global;
 use std::fmt;
@@ -182,7 +183,7 @@ fn show_lines<R: Wait>(
     Ok(())
 }
 
-/// Sets the clock or makes a call of the progress, as a line says.
+/// Sets the clock or makes a call of the progress, as a line asks.
 fn show_line<R: Wait>(
     alloc: Global,
     terminal: &Screen<'_, R>,
@@ -221,7 +222,7 @@ fn step<T: Eprint + Clock>(
             Ok(())
         }
         "tried" => {
-            let (width, end) = tried(given)?;
+            let (width, end) = tried(given, PROGRESS)?;
             progress.tried(width, end);
             Ok(())
         }
@@ -262,30 +263,4 @@ fn step_of_negotiation<T: Eprint + Clock>(
         _ => return Err(Unanswered::Misread(PROGRESS)),
     }
     Ok(())
-}
-
-/// Reads a width, and how its trial ended.
-fn tried(given: &[&str]) -> Result<(u32, TrialEnd), Unanswered> {
-    let [width, word, rest @ ..] = given else {
-        return Err(Unanswered::Misread(PROGRESS));
-    };
-    let Some(width) = number(width) else {
-        return Err(NO_NUMBER);
-    };
-    match *word {
-        "routed" => {
-            let [iterations] = numbers::<1>(rest)?;
-            Ok((width, TrialEnd::Routed { iterations }))
-        }
-        "unrouted" => {
-            let [unrouted, overused, iterations] = numbers::<3>(rest)?;
-            let end = TrialEnd::NotRouted {
-                unrouted,
-                overused,
-                iterations,
-            };
-            Ok((width, end))
-        }
-        _ => Err(Unanswered::Misread(PROGRESS)),
-    }
 }

@@ -5,16 +5,16 @@ ghost use Rattle.rr_graph.specs.Fabric.{most_tracks};
 ghost use Rattle.node_cost.specs.Options.{most_workers};
 
 use lab_session::answer::{added, put_name};
+use lab_session::asked::{AskedDevice, AskedRun, asked_device};
 use lab_session::bounds::{array_side, channel_width, worker_count};
 use lab_session::lab_gate::{LabGate, gate_words};
 use lab_session::session::{RunFiles, RunText};
 use lab_session::sinks::{ShortSink, sink};
 use lab_session::sources::{Failing, failing_source};
 use lab_session::unanswered::Unanswered;
-use lab_session::words::{Call, mode, mode_before};
+use lab_session::words::{Call, mode_before};
 use net_workers::WorkFault;
 use node_cost::Settings;
-use rr_graph::Mode;
 use run_inputs::{AppFault, print_fault, status};
 use runs::{
     NoFiles, SideFiles, WidthPlan, check_run, graph_run, outcome_status, report_status, route_run,
@@ -65,7 +65,7 @@ fn run_graph(
         return Err(Unanswered::Misread("graph_run NX NY W, or with `global` behind it"));
     };
     let (nx, ny) = (array_side(nx)?, array_side(ny)?);
-    let (width, mode) = (channel_width(width)?, mode(rest)?);
+    let AskedDevice { width, mode } = asked_device(width, rest)?;
     let Some(arch) = &files.arch else {
         return Err(Unanswered::Refused(NO_ARCH));
     };
@@ -101,10 +101,18 @@ pub fn kept_design(files: &RunFiles) -> Result<DesignFiles<'_>, Unanswered> {
     }
 }
 
-/// Returns the file of a routing, if it is kept.
-pub fn kept_route(files: &RunFiles) -> Result<&RunText, Unanswered> {
+/// The files of a design and of a routing of it, which a run reads.
+#[derive(Clone, Copy)]
+pub struct RoutedFiles<'a> {
+    pub design: DesignFiles<'a>,
+    pub route: &'a RunText,
+}
+
+/// Returns the files of the design and of the routing, if all of them are kept.
+pub fn kept_routed(files: &RunFiles) -> Result<RoutedFiles<'_>, Unanswered> {
+    let design = kept_design(files)?;
     match &files.route {
-        Some(route) => Ok(route),
+        Some(route) => Ok(RoutedFiles { design, route }),
         None => Err(Unanswered::Refused("there is no run_route")),
     }
 }
@@ -126,9 +134,13 @@ fn run_route(
     let (mode, rest) = mode_before(rest);
     let design = kept_design(files)?;
     let gate = LabGate::new(rt, gate_words(rest, workers)?, 0)?;
-    route_design(
-        rt, files, design, settings, width, mode, workers, &gate, out,
-    )
+    let asked = AskedRun {
+        settings,
+        workers,
+        width,
+        mode,
+    };
+    route_design(rt, files, design, &asked, &gate, out)
 }
 
 /// Runs `route` on the files of a design, under a gate.
@@ -136,15 +148,12 @@ fn route_design<R: Runtime + Threads + Wait + Sync + AllocGlobal>(
     rt: &R,
     files: &RunFiles,
     design: DesignFiles<'_>,
-    settings: &Settings,
-    width: u32,
-    mode: Mode,
-    workers: u32,
+    asked: &AskedRun<'_>,
     gate: &LabGate<'_, R>,
     out: &mut String,
 ) -> Result<(), Unanswered>
-    requires width { (1 ≤ width) × (width ≤ most_tracks) }
-    requires workers { (1 ≤ workers) × (workers ≤ most_workers) }
+    requires width { (1 ≤ asked.now.width) × (asked.now.width ≤ most_tracks) }
+    requires workers { (1 ≤ asked.now.workers) × (asked.now.workers ≤ most_workers) }
 {
     let mut written = sink(rt.alloc(), files.route_room);
     let mut printed = sink(rt.alloc(), files.out_room);
@@ -155,10 +164,10 @@ fn route_design<R: Runtime + Threads + Wait + Sync + AllocGlobal>(
         &mut source_of(design.place),
         &mut written,
         &mut printed,
-        width,
-        mode,
-        settings,
-        workers,
+        asked.width,
+        asked.mode,
+        asked.settings,
+        asked.workers,
         gate,
         &NoFiles,
     );
@@ -186,13 +195,17 @@ fn run_width(
             "width_run START WORKERS, or with `global` and a gate behind it",
         ));
     };
-    let (start, workers) = (channel_width(start)?, worker_count(workers)?);
+    let (width, workers) = (channel_width(start)?, worker_count(workers)?);
     let (mode, rest) = mode_before(rest);
     let design = kept_design(files)?;
     let gate = LabGate::new(rt, gate_words(rest, workers)?, 0)?;
-    search_design(
-        rt, files, design, settings, start, mode, workers, &gate, out,
-    )
+    let asked = AskedRun {
+        settings,
+        workers,
+        width,
+        mode,
+    };
+    search_design(rt, files, design, &asked, &gate, out)
 }
 
 /// Runs `width` on the files of a design, under a gate.
@@ -200,21 +213,18 @@ fn search_design<R: Runtime + Threads + Wait + Sync + AllocGlobal>(
     rt: &R,
     files: &RunFiles,
     design: DesignFiles<'_>,
-    settings: &Settings,
-    start: u32,
-    mode: Mode,
-    workers: u32,
+    asked: &AskedRun<'_>,
     gate: &LabGate<'_, R>,
     out: &mut String,
 ) -> Result<(), Unanswered>
-    requires start { (1 ≤ start) × (start ≤ most_tracks) }
-    requires workers { (1 ≤ workers) × (workers ≤ most_workers) }
+    requires width { (1 ≤ asked.now.width) × (asked.now.width ≤ most_tracks) }
+    requires workers { (1 ≤ asked.now.workers) × (asked.now.workers ≤ most_workers) }
 {
     let mut written = sink(rt.alloc(), files.route_room);
     let mut printed = sink(rt.alloc(), files.out_room);
     let mut words = NoFiles.words();
     let plan = WidthPlan::Search {
-        start,
+        start: asked.width,
         below: 0,
         shows_bound: false,
     };
@@ -227,9 +237,9 @@ fn search_design<R: Runtime + Threads + Wait + Sync + AllocGlobal>(
         &mut printed,
         &mut words,
         plan,
-        mode,
-        settings,
-        workers,
+        asked.mode,
+        asked.settings,
+        asked.workers,
         gate,
         &NoFiles,
     );
@@ -254,33 +264,30 @@ fn run_check(
     let [width, rest @ ..] = given else {
         return Err(Unanswered::Misread("check_run W, or with `global` behind it"));
     };
-    let (width, mode) = (channel_width(width)?, mode(rest)?);
-    let (design, route) = (kept_design(files)?, kept_route(files)?);
-    check_design(rt, files, design, route, width, mode, out)
+    let asked = asked_device(width, rest)?;
+    check_design(rt, files, kept_routed(files)?, asked, out)
 }
 
 /// Runs `check` on the files of a design and a routing.
 fn check_design(
     rt: &(impl Runtime + Threads + Sync + AllocGlobal),
     files: &RunFiles,
-    design: DesignFiles<'_>,
-    route: &RunText,
-    width: u32,
-    mode: Mode,
+    routed: RoutedFiles<'_>,
+    asked: AskedDevice,
     out: &mut String,
 ) -> Result<(), Unanswered>
-    requires width { (1 ≤ width) × (width ≤ most_tracks) }
+    requires width { (1 ≤ asked.width) × (asked.width ≤ most_tracks) }
 {
     let mut printed = sink(rt.alloc(), files.out_room);
     let answer = check_run(
         rt,
-        &mut source_of(design.net),
-        &mut source_of(design.arch),
-        &mut source_of(design.place),
-        &mut source_of(route),
+        &mut source_of(routed.design.net),
+        &mut source_of(routed.design.arch),
+        &mut source_of(routed.design.place),
+        &mut source_of(routed.route),
         &mut printed,
-        width,
-        mode,
+        asked.width,
+        asked.mode,
     );
     let answer = answer.map(|verdict| verdict_status(verdict));
     put_print(rt.alloc(), answer, printed.into_inner(), out)
@@ -335,7 +342,7 @@ pub fn put_end(
         _ if sinks.iter().any(|sink| sink.lacked) => Err(Unanswered::Memory),
         Ok(code) => { added(writeln!(out, "status {code}")) }
         Err(AppFault::Memory) if is_untouched => Err(Unanswered::Memory),
-        Err(AppFault::NoThread) if is_untouched => Err(Unanswered::Work(WorkFault::NoThread)),
+        Err(AppFault::NoThread) if is_untouched => Err(Unanswered::from(WorkFault::NoThread)),
         Err(fault) => {
             writeln!(out, "status {}", status(&fault))?;
             put_fault(alloc, &fault, out)

@@ -53,6 +53,16 @@ pub fn put_numbers(out: &mut String, numbers: &[u32]) -> Result<(), Unanswered> 
     added(out.push('\n'))
 }
 
+/// Adds names, each with its number, to a line, with commas between them.
+pub fn put_labelled(out: &mut String, numbers: &[(&str, u64)]) -> Result<(), Unanswered> {
+    let mut comma = "";
+    for (label, number) in numbers {
+        write!(out, "{comma}{label} {number}")?;
+        comma = ", ";
+    }
+    Ok(())
+}
+
 /// Adds a name to a line. A name that isn't UTF-8 is added as a list of bytes.
 pub fn put_name(out: &mut String, name: &[u8]) -> Result<(), Unanswered> {
     match str::from_utf8(name) {

@@ -2,7 +2,7 @@
 
 use crate::answer::added;
 use crate::meeting::flag;
-use crate::told::{Told, ToldList};
+use crate::told::{Told, ToldList, ToldTrial};
 use crate::unanswered::Unanswered;
 use net_workers::TrialEnd;
 use std::alloc::Global;
@@ -85,10 +85,10 @@ impl<R: Wait> Counting<'_, R> {
     }
 
     pub fn tries(&self, width: u32) {
-        self.told.add(Told::Tries(width));
+        self.told.add(Told::Trial(ToldTrial::Tries(width)));
     }
 
     pub fn tried(&self, width: u32, end: TrialEnd) {
-        self.told.add(Told::tried(width, end));
+        self.told.add(Told::Trial(ToldTrial::tried(width, end)));
     }
 }

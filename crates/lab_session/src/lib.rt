@@ -3,6 +3,7 @@
 #![tactic(auto)]
 
 pub mod answer;
+pub mod asked;
 pub mod bounds;
 pub mod counting;
 pub mod delaying;
@@ -19,5 +20,6 @@ pub mod sources;
 pub mod timing;
 pub mod told;
 pub mod trees;
+pub mod trial_ends;
 pub mod unanswered;
 pub mod words;

@@ -62,7 +62,7 @@ fn put_heard(
 }
 
 /// A gate that keeps each call under its name.
-#[derive(Clone, Copy)]
+#[derive(Drop)]
 pub struct Listener<'a, R: Wait> {
     pub name: &'a str,
     pub heard: &'a Heard<'a, R>,

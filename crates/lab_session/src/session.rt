@@ -158,6 +158,20 @@ impl Design {
     }
 }
 
+/// A device, and a routing on it.
+#[derive(Clone, Copy)]
+pub struct RoutedDevice<'a> {
+    pub device: &'a Device,
+    pub routing: &'a Routing,
+}
+
+/// A problem, and a routing of it.
+#[derive(Clone, Copy)]
+pub struct RoutedProblem<'a> {
+    pub problem: &'a Problem,
+    pub routing: &'a Routing,
+}
+
 /// The book, a view of it, and how far a list of events got.
 #[derive(Drop)]
 pub struct Books {
@@ -235,6 +249,24 @@ impl Session {
                 counts: None,
                 view: None,
             },
+        }
+    }
+
+    /// Returns the device and the routing, or the refusal if one is missing.
+    pub fn routed_device(&self) -> Result<RoutedDevice<'_>, Unanswered> {
+        match (&self.device, &self.routing) {
+            (Some(device), Some(routing)) => Ok(RoutedDevice { device, routing }),
+            (None, _) => Err(NO_DEVICE),
+            _ => Err(NO_ROUTING),
+        }
+    }
+
+    /// Returns the problem and the routing, or the refusal if one is missing.
+    pub fn routed_problem(&self) -> Result<RoutedProblem<'_>, Unanswered> {
+        match (&self.problem, &self.routing) {
+            (Some(problem), Some(routing)) => Ok(RoutedProblem { problem, routing }),
+            (None, _) => Err(NO_PROBLEM),
+            _ => Err(NO_ROUTING),
         }
     }
 

@@ -1,6 +1,7 @@
 //! The sources that calls read texts from.
 
-use crate::unanswered::Unanswered;
+use crate::session::RunText;
+use crate::unanswered::{FileFault, Unanswered};
 use crate::words::{Call, NO_NUMBER, number};
 use std::alloc::Global;
 use std::fs;
@@ -73,28 +74,41 @@ fn named_source(
     }
     match fs::open(rt, name) {
         Ok(file) => bytes_of(rt.alloc(), file, left),
-        Err(_) => Err(Unanswered::Unopened),
+        Err(_) => Err(Unanswered::File(FileFault::Unopened)),
     }
+}
+
+/// The file that a call names, or `<<`, and the number of bytes after which its source fails, if it
+/// does.
+#[derive(Clone, Copy)]
+struct NamedFile<'a> {
+    name: &'a str,
+    left: Option<usize>,
+}
+
+/// Reads the file that the words of a call name.
+fn named_file<'a>(given: &[&'a str]) -> Result<NamedFile<'a>, Unanswered> {
+    let [name, rest @ ..] = given else {
+        return Err(Unanswered::Misread("NAME FILE"));
+    };
+    let left = bytes_before_failing(rest)?;
+    Ok(NamedFile { name: *name, left })
 }
 
 /// Returns the bytes of the file that a call names, or of the text below it. If the last words of
 /// the call give a number of bytes, the source fails after so many.
 pub fn source(rt: &(impl Runtime + AllocGlobal), call: Call<'_>) -> Result<Vec<u8>, Unanswered> {
-    let [name, rest @ ..] = call.given else {
-        return Err(Unanswered::Misread("NAME FILE"));
-    };
-    named_source(rt, *name, call.text, bytes_before_failing(rest)?)
+    let NamedFile { name, left } = named_file(call.given)?;
+    named_source(rt, name, call.text, left)
 }
 
-/// Returns all bytes of the file that a call names, or of the text below it, and the number of
-/// bytes after which a source of them is to fail, if it is.
-pub fn whole_source(
-    rt: &(impl Runtime + AllocGlobal),
-    call: Call<'_>,
-) -> Result<(Vec<u8>, Option<usize>), Unanswered> {
-    let [name, rest @ ..] = call.given else {
-        return Err(Unanswered::Misread("NAME FILE"));
-    };
-    let left = bytes_before_failing(rest)?;
-    Ok((named_source(rt, *name, call.text, None)?, left))
+/// Returns the text of a file for runs: all bytes of the file that a call names, or of the text
+/// below it, and the number of bytes after which a run's source of them fails, if it does.
+pub fn run_text(rt: &(impl Runtime + AllocGlobal), call: Call<'_>) -> Result<RunText, Unanswered> {
+    let NamedFile { name, left } = named_file(call.given)?;
+    let bytes = named_source(rt, name, call.text, None)?;
+    Ok(RunText {
+        bytes,
+        failing: left,
+    })
 }

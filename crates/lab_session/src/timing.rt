@@ -1,7 +1,7 @@
 //! A gate that measures times.
 
 use crate::answer::added;
-use crate::told::{Told, ToldList};
+use crate::told::{IterationTimes, Told, ToldList, ToldTrial};
 use crate::unanswered::Unanswered;
 use std::alloc::{AllocError, Global};
 use std::sync::Wait;
@@ -115,13 +115,13 @@ impl<R: Wait + Clock> Timing<'_, R> {
 
     pub fn closed(&self, iteration: u32) {
         let now = self.now();
-        self.told.add(Told::Iteration {
+        self.told.add(Told::Iteration(IterationTimes {
             iteration,
             all: now.saturating_sub(self.opened.load(Ordering::SeqCst)),
             searches: self.searches.load(Ordering::SeqCst),
             turns: self.turns.load(Ordering::SeqCst),
             end: now.saturating_sub(self.last.load(Ordering::SeqCst)),
-        });
+        }));
     }
 
     pub fn tries(&self) {
@@ -130,9 +130,9 @@ impl<R: Wait + Clock> Timing<'_, R> {
 
     pub fn tried(&self, width: u32) {
         let began = self.tried.load(Ordering::SeqCst);
-        self.told.add(Told::Trial {
+        self.told.add(Told::Trial(ToldTrial::Took {
             width,
             all: self.now().saturating_sub(began),
-        });
+        }));
     }
 }

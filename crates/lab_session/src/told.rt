@@ -9,7 +9,7 @@ use std::sync::{Mutex, Wait};
 
 /// A call of a gate by the driver of a negotiation, or the times that the parts of an iteration or
 /// a trial took, in microseconds.
-#[derive(Clone, Copy, Debug)]
+#[derive(Clone, Copy)]
 pub enum Told {
     Opened {
         iteration: u32,
@@ -20,31 +20,62 @@ pub enum Told {
         unrouted: u32,
         overused: u32,
     },
-    Tries(u32),
-    Routed {
-        width: u32,
-        iterations: u32,
-    },
-    NotRouted(u32),
-    Iteration {
-        iteration: u32,
-        all: u64,
-        searches: u64,
-        turns: u64,
-        end: u64,
-    },
-    Trial {
-        width: u32,
-        all: u64,
-    },
+    Iteration(IterationTimes),
+    Trial(ToldTrial),
 }
 
-impl Told {
-    /// Returns the record of a trial at a width that ended so.
-    pub fn tried(width: u32, end: TrialEnd) -> Told {
+/// The times that the parts of an iteration took, in microseconds.
+#[derive(Clone, Copy)]
+pub struct IterationTimes {
+    pub iteration: u32,
+    pub all: u64,
+    pub searches: u64,
+    pub turns: u64,
+    pub end: u64,
+}
+
+/// The beginning or the end of the trial of a width, or the time that it took, in microseconds.
+#[derive(Clone, Copy)]
+pub enum ToldTrial {
+    Tries(u32),
+    Routed { width: u32, iterations: u32 },
+    NotRouted(u32),
+    Took { width: u32, all: u64 },
+}
+
+impl ToldTrial {
+    /// Returns the record of a trial of this width with this end.
+    pub fn tried(width: u32, end: TrialEnd) -> ToldTrial {
         match end {
-            TrialEnd::Routed { iterations } => Told::Routed { width, iterations },
-            TrialEnd::NotRouted { .. } => Told::NotRouted(width),
+            TrialEnd::Routed { iterations } => ToldTrial::Routed { width, iterations },
+            TrialEnd::NotRouted { .. } => ToldTrial::NotRouted(width),
+        }
+    }
+}
+
+impl fmt::Display for IterationTimes {
+    fn fmt<W: fmt::Write>(&self, f: &mut fmt::Formatter<W>) -> fmt::Result {
+        let IterationTimes {
+            iteration,
+            all,
+            searches,
+            turns,
+            end,
+        } = *self;
+        write!(f, "iteration {iteration}: {all} us; searches {searches} us")?;
+        write!(f, ", turns {turns} us, end {end} us")
+    }
+}
+
+impl fmt::Display for ToldTrial {
+    fn fmt<W: fmt::Write>(&self, f: &mut fmt::Formatter<W>) -> fmt::Result {
+        match *self {
+            ToldTrial::Tries(width) => write!(f, "tries {width}"),
+            ToldTrial::Routed { width, iterations } => {
+                write!(f, "tried {width}, routed in {iterations}")
+            }
+            ToldTrial::NotRouted(width) => write!(f, "tried {width}, not routed"),
+            ToldTrial::Took { width, all } => write!(f, "width {width}: {all} us"),
         }
     }
 }
@@ -61,23 +92,8 @@ impl fmt::Display for Told {
                 f,
                 "closed {iteration}, unrouted {unrouted}, overused {overused}"
             ),
-            Told::Tries(width) => write!(f, "tries {width}"),
-            Told::Routed { width, iterations } => write!(
-                f,
-                "tried {width}, routed in {iterations}"
-            ),
-            Told::NotRouted(width) => write!(f, "tried {width}, not routed"),
-            Told::Iteration {
-                iteration,
-                all,
-                searches,
-                turns,
-                end,
-            } => {
-                write!(f, "iteration {iteration}: {all} us; searches {searches} us")?;
-                write!(f, ", turns {turns} us, end {end} us")
-            }
-            Told::Trial { width, all } => write!(f, "width {width}: {all} us"),
+            Told::Iteration(times) => write!(f, "{times}"),
+            Told::Trial(trial) => write!(f, "{trial}"),
         }
     }
 }

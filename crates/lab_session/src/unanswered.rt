@@ -27,35 +27,49 @@ pub enum Unanswered {
     Refused(&'static str),
     #[error("memory")]
     Memory,
-    #[error("fault: the file cannot be opened")]
-    Unopened,
-    #[error("fault: read: {0:?}")]
-    Read(ReadFault),
-    #[error("fault: text: {0:?}")]
-    Text(TextFault),
-    #[error("fault: arch: {0:?}")]
-    Arch(ArchFault),
-    #[error("fault: net: {0:?}")]
-    Net(NetFault),
-    #[error("fault: place: {0:?}")]
-    Place(PlaceFault),
-    #[error("fault: device: {0:?}")]
-    Device(DeviceFault),
-    #[error("fault: problem: {0:?}")]
-    Parts(PartsFault),
-    #[error("fault: route: {0:?}")]
-    Route(RouteFileFault),
-    #[error("fault: settings: {0:?}")]
-    Settings(Range),
-    #[error("fault: search: {0:?}")]
-    Search(SearchFault),
     /// Memory ran out after this many events of a list.
     #[error("memory after {0} events")]
     Stopped(usize),
-    #[error("fault: work: {0:?}")]
-    Work(WorkFault),
     #[error("fault: the clock cannot be read")]
     Clock,
+    #[error("fault: {0}")]
+    File(FileFault),
+    #[error("fault: {0}")]
+    Library(LibraryFault),
+}
+
+/// What is wrong with a file.
+#[derive(Debug, Drop, Error)]
+pub enum FileFault {
+    #[error("the file cannot be opened")]
+    Unopened,
+    #[error("read: {0:?}")]
+    Read(ReadFault),
+    #[error("text: {0:?}")]
+    Text(TextFault),
+    #[error("arch: {0:?}")]
+    Arch(ArchFault),
+    #[error("net: {0:?}")]
+    Net(NetFault),
+    #[error("place: {0:?}")]
+    Place(PlaceFault),
+    #[error("route: {0:?}")]
+    Route(RouteFileFault),
+}
+
+/// The fault of a library that reads no file.
+#[derive(Debug, Drop, Error)]
+pub enum LibraryFault {
+    #[error("device: {0:?}")]
+    Device(DeviceFault),
+    #[error("problem: {0:?}")]
+    Parts(PartsFault),
+    #[error("settings: {0:?}")]
+    Settings(Range),
+    #[error("search: {0:?}")]
+    Search(SearchFault),
+    #[error("work: {0:?}")]
+    Work(WorkFault),
 }
 
 impl Unanswered {
@@ -64,7 +78,7 @@ impl Unanswered {
     pub fn is_for_want(&self) -> bool {
         match self {
             Unanswered::Memory | Unanswered::Stopped(_) => true,
-            Unanswered::Work(fault) => matches!(fault, WorkFault::NoThread),
+            Unanswered::Library(fault) => matches!(fault, LibraryFault::Work(WorkFault::NoThread)),
             _ => false,
         }
     }
@@ -86,7 +100,7 @@ impl From<ReadFault> for Unanswered {
     fn from(fault: ReadFault) -> Unanswered {
         match fault {
             ReadFault::Memory => Unanswered::Memory,
-            ReadFault::Failed => Unanswered::Read(fault),
+            ReadFault::Failed => Unanswered::File(FileFault::Read(fault)),
         }
     }
 }
@@ -95,7 +109,7 @@ impl From<TextFault> for Unanswered {
     fn from(fault: TextFault) -> Unanswered {
         match fault {
             TextFault::Memory => Unanswered::Memory,
-            _ => Unanswered::Text(fault),
+            _ => Unanswered::File(FileFault::Text(fault)),
         }
     }
 }
@@ -104,7 +118,7 @@ impl From<ArchFault> for Unanswered {
     fn from(fault: ArchFault) -> Unanswered {
         match fault {
             ArchFault::Memory | ArchFault::Text(TextFault::Memory) => Unanswered::Memory,
-            _ => Unanswered::Arch(fault),
+            _ => Unanswered::File(FileFault::Arch(fault)),
         }
     }
 }
@@ -113,7 +127,7 @@ impl From<NetFault> for Unanswered {
     fn from(fault: NetFault) -> Unanswered {
         match fault {
             NetFault::Memory | NetFault::Text(TextFault::Memory) => Unanswered::Memory,
-            _ => Unanswered::Net(fault),
+            _ => Unanswered::File(FileFault::Net(fault)),
         }
     }
 }
@@ -122,7 +136,7 @@ impl From<PlaceFault> for Unanswered {
     fn from(fault: PlaceFault) -> Unanswered {
         match fault {
             PlaceFault::Memory | PlaceFault::Text(TextFault::Memory) => Unanswered::Memory,
-            _ => Unanswered::Place(fault),
+            _ => Unanswered::File(FileFault::Place(fault)),
         }
     }
 }
@@ -131,7 +145,7 @@ impl From<DeviceFault> for Unanswered {
     fn from(fault: DeviceFault) -> Unanswered {
         match fault {
             DeviceFault::Memory => Unanswered::Memory,
-            DeviceFault::Width => Unanswered::Device(fault),
+            DeviceFault::Width => Unanswered::Library(LibraryFault::Device(fault)),
         }
     }
 }
@@ -140,7 +154,7 @@ impl From<PartsFault> for Unanswered {
     fn from(fault: PartsFault) -> Unanswered {
         match fault {
             PartsFault::Memory => Unanswered::Memory,
-            _ => Unanswered::Parts(fault),
+            _ => Unanswered::Library(LibraryFault::Parts(fault)),
         }
     }
 }
@@ -149,14 +163,14 @@ impl From<RouteFileFault> for Unanswered {
     fn from(fault: RouteFileFault) -> Unanswered {
         match fault {
             RouteFileFault::Memory | RouteFileFault::Text(TextFault::Memory) => Unanswered::Memory,
-            _ => Unanswered::Route(fault),
+            _ => Unanswered::File(FileFault::Route(fault)),
         }
     }
 }
 
 impl From<Range> for Unanswered {
     fn from(fault: Range) -> Unanswered {
-        Unanswered::Settings(fault)
+        Unanswered::Library(LibraryFault::Settings(fault))
     }
 }
 
@@ -164,7 +178,7 @@ impl From<SearchFault> for Unanswered {
     fn from(fault: SearchFault) -> Unanswered {
         match fault {
             SearchFault::Memory => Unanswered::Memory,
-            SearchFault::ViewSize => Unanswered::Search(fault),
+            SearchFault::ViewSize => Unanswered::Library(LibraryFault::Search(fault)),
         }
     }
 }
@@ -180,7 +194,7 @@ impl From<WorkFault> for Unanswered {
     fn from(fault: WorkFault) -> Unanswered {
         match fault {
             WorkFault::Memory => Unanswered::Memory,
-            _ => Unanswered::Work(fault),
+            _ => Unanswered::Library(LibraryFault::Work(fault)),
         }
     }
 }

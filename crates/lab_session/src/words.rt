@@ -11,6 +11,15 @@ pub const NO_WORDS: Unanswered = Unanswered::Misread("the call with no word behi
 /// The answer to a call with a word that should be a number and isn't.
 pub const NO_NUMBER: Unanswered = Unanswered::Misread("a number below 2^32 in each place of one");
 
+/// Refuses words that a call doesn't take.
+pub fn no_words(given: &[&str]) -> Result<(), Unanswered> {
+    if given.is_empty() {
+        Ok(())
+    } else {
+        Err(NO_WORDS)
+    }
+}
+
 /// A call of a script: its name, the words after it, and the text below its line.
 #[derive(Clone, Copy)]
 pub struct Call<'a> {

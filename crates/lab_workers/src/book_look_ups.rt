@@ -102,9 +102,18 @@ pub fn dump(book: &Book, out: &mut String) -> Result<(), Unanswered> {
     dump_nodes(book, out)?;
     put_rows(book.rows(), out)?;
     dump_turns(book, out)?;
-    write!(out, "overused {}", book.overused())?;
-    write!(out, ", unrouted {}", book.unrouted())?;
-    added(writeln!(out, ", fresh {}", book.fresh()))
+    put_totals(book, out)
+}
+
+/// Adds a line: how many nodes are overused, how many nets are unrouted, and whether no net was
+/// drawn in the open iteration.
+fn put_totals(book: &Book, out: &mut String) -> Result<(), Unanswered> {
+    let (overused, unrouted) = (book.overused(), book.unrouted());
+    added(writeln!(
+        out,
+        "overused {overused}, unrouted {unrouted}, fresh {}",
+        book.fresh()
+    ))
 }
 
 /// Adds a line for each net.

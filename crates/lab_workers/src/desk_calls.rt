@@ -37,6 +37,13 @@ struct Step {
     act: Act,
 }
 
+/// What a call asks for: how many workers are at the desk, and their steps, in order.
+#[derive(Drop)]
+struct Asked {
+    workers: u32,
+    steps: Vec<Step>,
+}
+
 /// Makes a call, and adds its answer.
 pub fn call(
     alloc: Global,
@@ -63,7 +70,7 @@ fn begin_desk(
 ) -> Result<(), Unanswered> {
     let mut view = view_of(alloc, book)?;
     let steps = steps_of_text(alloc, workers, text_of(text)?)?;
-    share_desk(alloc, book, workers, steps, &mut view, out)
+    share_desk(alloc, book, Asked { workers, steps }, &mut view, out)
 }
 
 /// Returns a view of the book's nodes.
@@ -78,14 +85,13 @@ fn view_of(alloc: Global, book: &Option<Book>) -> Result<View, Unanswered> {
 fn share_desk(
     alloc: Global,
     book: &mut Option<Book>,
-    workers: u32,
-    steps: Vec<Step>,
+    asked: Asked,
     view: &mut View,
     out: &mut String,
 ) -> Result<(), Unanswered> {
     let taken = take_fresh(book)?;
-    let blank = Blank::new(workers as u64);
-    let taken = at_desk::<Brand>(alloc, taken, workers, blank, steps, view, out)?;
+    let blank = Blank::new(asked.workers as u64);
+    let taken = at_desk::<Brand>(alloc, taken, blank, asked, view, out)?;
     *book = Some(taken);
     Ok(())
 }
@@ -133,10 +139,7 @@ fn step_of_words(alloc: Global, workers: u32, words: &[&str]) -> Result<Step, Un
 fn act_of_words(alloc: Global, name: &str, given: &[&str]) -> Result<Act, Unanswered> {
     match (name, given) {
         ("draw", []) => Ok(Act::Draw),
-        ("commit", [net, tree @ ..]) => match number(net) {
-            Some(net) => Ok(Act::Commit(net, tree_of_words(alloc, tree)?)),
-            None => Err(NO_NUMBER),
-        },
+        ("commit", [net, tree @ ..]) => commit_of_words(alloc, net, tree),
         ("pass", [net]) => match number(net) {
             Some(net) => Ok(Act::Pass(net)),
             None => Err(NO_NUMBER),
@@ -145,31 +148,39 @@ fn act_of_words(alloc: Global, name: &str, given: &[&str]) -> Result<Act, Unansw
     }
 }
 
-/// Takes the steps of `workers` workers at a desk of a book, adds the number of turns that each
-/// share counts, and returns the book.
+/// Reads a commit from the words of its net and of its tree.
+fn commit_of_words(alloc: Global, net: &str, tree: &[&str]) -> Result<Act, Unanswered> {
+    let Some(net) = number(net) else {
+        return Err(NO_NUMBER);
+    };
+    Ok(Act::Commit(net, tree_of_words(alloc, tree)?))
+}
+
+/// Takes workers' steps at a desk of a book, adds the number of turns that each share counts, and
+/// returns the book.
 fn at_desk<L: Round>(
     alloc: Global,
     book: Book,
-    workers: u32,
     blank: Blank,
-    steps: Vec<Step>,
+    asked: Asked,
     view: &mut View,
     out: &mut String,
 ) -> Result<Book, Unanswered>
     requires fresh { IsFresh book }
-    requires workers { workers ≡ L.workers }
+    requires workers { asked.workers ≡ L.workers }
     requires book { book ≡ L.opening }
     requires name { blank.name ≡ L.name }
     requires parts { blank.parts ≡ L.parts }
-    requires one_each { blank.parts ≡ workers }
+    requires one_each { blank.parts ≡ asked.workers }
 {
+    let Asked { workers, steps } = asked;
     let (mut desk, mut shares) = Desk::<L>::new(alloc, book, workers, blank)?;
-    take_and_tell(&mut desk, &mut shares, steps, view, out)?;
+    take_and_put(&mut desk, &mut shares, steps, view, out)?;
     Ok(desk.end())
 }
 
 /// Takes steps, and adds the number of turns that each share counts after them.
-fn take_and_tell<L: Round>(
+fn take_and_put<L: Round>(
     desk: &mut Desk<L>,
     shares: &mut Vec<Share<L>>,
     steps: Vec<Step>,

@@ -4,9 +4,10 @@ use congestion_book::Book;
 use lab_session::listening::{Heard, Listener};
 use lab_session::session::{NO_BOOK, NO_PROBLEM, NO_ROUTING, Session};
 use lab_session::sources::BELOW;
+use lab_session::trial_ends::tried;
 use lab_session::unanswered::Unanswered;
-use lab_session::words::{Call, NO_NUMBER, number, numbers, text_of, words};
-use net_workers::{BothGates, Gate, ScheduledTurn, TrialEnd};
+use lab_session::words::{Call, numbers, text_of, words};
+use net_workers::{BothGates, Gate, ScheduledTurn};
 use route_tree::Routing;
 use rr_graph::Problem;
 use std::alloc::Global;
@@ -70,8 +71,8 @@ pub fn call(
     }
 }
 
-/// Makes the calls that a text lists of a pair of gates, of which the first may be none, and adds
-/// what the two heard.
+/// Makes the calls that a text lists of a pair of gates, and adds what the two heard. The first one
+/// is no gate unless `has_first`.
 fn show(
     rt: &(impl Wait + AllocGlobal),
     passed: Passed<'_>,
@@ -145,11 +146,25 @@ fn call_line<R: Wait, G: Gate>(
 /// Makes a call of a gate that takes no number.
 fn call_with_values<G: Gate>(gate: &G, name: &str, passed: Passed<'_>) -> Result<(), Unanswered> {
     match name {
-        "begins" => gate.begins(passed.problem()?),
-        "found" => gate.found(passed.problem()?, passed.routing()?),
-        "left" => gate.left(passed.book()?),
-        _ => return Err(Unanswered::Misread(BOTH)),
+        "begins" => begin(gate, passed),
+        "found" => find(gate, passed),
+        "left" => leave(gate, passed),
+        _ => Err(Unanswered::Misread(BOTH)),
     }
+}
+
+fn begin<G: Gate>(gate: &G, passed: Passed<'_>) -> Result<(), Unanswered> {
+    gate.begins(passed.problem()?);
+    Ok(())
+}
+
+fn find<G: Gate>(gate: &G, passed: Passed<'_>) -> Result<(), Unanswered> {
+    gate.found(passed.problem()?, passed.routing()?);
+    Ok(())
+}
+
+fn leave<G: Gate>(gate: &G, passed: Passed<'_>) -> Result<(), Unanswered> {
+    gate.left(passed.book()?);
     Ok(())
 }
 
@@ -162,13 +177,14 @@ fn call_with_numbers<R: Wait, G: Gate>(
     given: &[&str],
 ) -> Result<(), Unanswered> {
     match name {
-        "schedule" | "accepts" => ask(heard, gate, name, given),
+        "schedule" => ask_for_schedule(heard, gate, given),
+        "accepts" => ask_whether_accepted(heard, gate, given),
         "tries" | "closed" => {
             let [number] = numbers::<1>(given)?;
             call_with_one(gate, name, passed, number)
         }
         "tried" => {
-            let (width, end) = tried(given)?;
+            let (width, end) = tried(given, BOTH)?;
             gate.tried(width, end);
             Ok(())
         }
@@ -206,23 +222,25 @@ fn call_with_two<G: Gate>(gate: &G, name: &str, first: u32, second: u32) -> Resu
     Ok(())
 }
 
-/// Asks a gate, and adds its answer.
-fn ask<R: Wait, G: Gate>(
+/// Asks a gate for the schedule of an iteration, and adds its answer.
+fn ask_for_schedule<R: Wait, G: Gate>(
     heard: &Heard<'_, R>,
     gate: &G,
-    name: &str,
     given: &[&str],
 ) -> Result<(), Unanswered> {
-    match name {
-        "schedule" => {
-            let [iteration] = numbers::<1>(given)?;
-            heard.add("both", schedule_word(gate, iteration), &[]);
-        }
-        _ => {
-            let [iteration, worker, net] = numbers::<3>(given)?;
-            heard.add("both", accepts_word(gate, iteration, worker, net), &[]);
-        }
-    }
+    let [iteration] = numbers::<1>(given)?;
+    heard.add("both", schedule_word(gate, iteration), &[]);
+    Ok(())
+}
+
+/// Asks a gate whether it accepts a turn of an iteration, and adds its answer.
+fn ask_whether_accepted<R: Wait, G: Gate>(
+    heard: &Heard<'_, R>,
+    gate: &G,
+    given: &[&str],
+) -> Result<(), Unanswered> {
+    let [iteration, worker, net] = numbers::<3>(given)?;
+    heard.add("both", accepts_word(gate, iteration, worker, net), &[]);
     Ok(())
 }
 
@@ -246,31 +264,5 @@ fn accepts_word<G: Gate>(gate: &G, iteration: u32, worker: u32, net: u32) -> &'s
         "accepted"
     } else {
         "refused"
-    }
-}
-
-/// Reads a width, and how its trial ended.
-fn tried(given: &[&str]) -> Result<(u32, TrialEnd), Unanswered> {
-    let [width, word, rest @ ..] = given else {
-        return Err(Unanswered::Misread(BOTH));
-    };
-    let Some(width) = number(width) else {
-        return Err(NO_NUMBER);
-    };
-    match *word {
-        "routed" => {
-            let [iterations] = numbers::<1>(rest)?;
-            Ok((width, TrialEnd::Routed { iterations }))
-        }
-        "unrouted" => {
-            let [unrouted, overused, iterations] = numbers::<3>(rest)?;
-            let end = TrialEnd::NotRouted {
-                unrouted,
-                overused,
-                iterations,
-            };
-            Ok((width, end))
-        }
-        _ => Err(Unanswered::Misread(BOTH)),
     }
 }

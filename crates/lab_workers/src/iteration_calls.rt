@@ -7,7 +7,7 @@ ghost use Rattle.congestion_book.specs.Contents.{IsFresh};
 use congestion_book::Book;
 use lab_session::answer::{added, put};
 use lab_session::bounds::{iteration_number, worker_count};
-use lab_session::lab_gate::{LabGate, gate_words};
+use lab_session::lab_gate::{GateWords, LabGate, gate_words};
 use lab_session::session::{NO_BOOK, Session};
 use lab_session::trees::put_tree;
 use lab_session::unanswered::Unanswered;
@@ -19,6 +19,9 @@ use std::rt::Runtime;
 use std::sync::Wait;
 use std::thread::Threads;
 use std::time::Clock;
+
+/// The refusal of a book in whose open iteration a net was drawn.
+const BEGUN: Unanswered = Unanswered::Refused("the open iteration is begun");
 
 /// Makes a call, and adds its answer.
 pub fn call(
@@ -47,7 +50,7 @@ pub fn take_fresh(kept: &mut Option<Book>) -> Result<Book, Unanswered>
 {
     match kept {
         Some(book) if book.fresh() => (),
-        Some(_) => return Err(Unanswered::Refused("the open iteration is begun")),
+        Some(_) => return Err(BEGUN),
         None => return Err(NO_BOOK),
     }
     match kept.take() {
@@ -56,8 +59,45 @@ pub fn take_fresh(kept: &mut Option<Book>) -> Result<Book, Unanswered>
     }
 }
 
-/// Makes an iteration of the book by several workers, and adds their reports, worker by worker or
-/// net by net. If it fails, the book is dropped.
+/// An iteration that a call asks for: the settings, its number, the number of workers and their
+/// gate, and whether the answer lists turns net by net instead of worker by worker.
+#[derive(Clone, Copy)]
+struct AskedIteration<'a> {
+    settings: &'a Settings,
+    iteration: u32,
+    workers: u32,
+    gate: GateWords,
+    is_by_net: bool,
+}
+
+/// Reads an iteration from a call with this syntax.
+fn asked_iteration<'a>(
+    settings: &'a Settings,
+    call: Call<'_>,
+    syntax: &'static str,
+) -> Result<AskedIteration<'a>, Unanswered>
+    ensures iteration { IfOk result
+        (λ asked. (1 ≤ asked.iteration) × (asked.iteration ≤ most_iterations)) }
+    ensures workers { IfOk result
+        (λ asked. (1 ≤ asked.workers) × (asked.workers ≤ most_workers)) }
+{
+    let [iteration, workers, rest @ ..] = call.given else {
+        return Err(Unanswered::Misread(syntax));
+    };
+    let iteration = iteration_number(iteration)?;
+    let workers = worker_count(workers)?;
+    let gate = gate_words(rest, workers)?;
+    Ok(AskedIteration {
+        settings,
+        iteration,
+        workers,
+        gate,
+        is_by_net: matches!(call.name, "iterate_nets" | "iterate_nets_in"),
+    })
+}
+
+/// Makes an iteration of the book by several workers, and adds their reports. If it fails, the book
+/// is dropped.
 fn make_iteration(
     rt: &(impl Runtime + Threads + Wait + Sync + AllocGlobal),
     book: &mut Option<Book>,
@@ -65,17 +105,13 @@ fn make_iteration(
     call: Call<'_>,
     out: &mut String,
 ) -> Result<(), Unanswered> {
-    let [iteration, workers, rest @ ..] = call.given else {
-        return Err(Unanswered::Misread("iterate K WORKERS, or with a gate behind it"));
-    };
-    let iteration = iteration_number(iteration)?;
-    let workers = worker_count(workers)?;
-    let words = gate_words(rest, workers)?;
-    let gate = LabGate::new(rt, words, net_count(book)?)?;
-    let is_by_net = call.name == "iterate_nets";
-    iterate_under(
-        rt, book, settings, iteration, workers, &gate, is_by_net, out,
-    )
+    let asked = asked_iteration(
+        settings,
+        call,
+        "iterate K WORKERS, or with a gate behind it",
+    )?;
+    let gate = LabGate::new(rt, asked.gate, net_count(book)?)?;
+    iterate_under(rt, book, &asked, &gate, out)
 }
 
 /// Returns the number of nets of the book's problem.
@@ -91,18 +127,15 @@ fn net_count(book: &Option<Book>) -> Result<u32, Unanswered> {
 fn iterate_under<R: Runtime + Threads + Wait + Sync + AllocGlobal>(
     rt: &R,
     kept: &mut Option<Book>,
-    settings: &Settings,
-    iteration: u32,
-    workers: u32,
+    asked: &AskedIteration<'_>,
     gate: &LabGate<'_, R>,
-    is_by_net: bool,
     out: &mut String,
 ) -> Result<(), Unanswered>
-    requires iteration { (1 ≤ iteration) × (iteration ≤ most_iterations) }
-    requires workers { (1 ≤ workers) × (workers ≤ most_workers) }
+    requires iteration { (1 ≤ asked.now.iteration) × (asked.now.iteration ≤ most_iterations) }
+    requires workers { (1 ≤ asked.now.workers) × (asked.now.workers ≤ most_workers) }
 {
     let book = take_fresh(kept)?;
-    let book = iterated(rt, book, settings, iteration, workers, gate, is_by_net, out)?;
+    let book = iterated(rt, book, asked, gate, out)?;
     *kept = Some(book);
     Ok(())
 }
@@ -111,17 +144,21 @@ fn iterate_under<R: Runtime + Threads + Wait + Sync + AllocGlobal>(
 fn iterated<R: Runtime + Threads + Wait + Sync + AllocGlobal>(
     rt: &R,
     book: Book,
-    settings: &Settings,
-    iteration: u32,
-    workers: u32,
+    asked: &AskedIteration<'_>,
     gate: &LabGate<'_, R>,
-    is_by_net: bool,
     out: &mut String,
 ) -> Result<Book, Unanswered>
     requires fresh { IsFresh book }
-    requires iteration { (1 ≤ iteration) × (iteration ≤ most_iterations) }
-    requires workers { (1 ≤ workers) × (workers ≤ most_workers) }
+    requires iteration { (1 ≤ asked.now.iteration) × (asked.now.iteration ≤ most_iterations) }
+    requires workers { (1 ≤ asked.now.workers) × (asked.now.workers ≤ most_workers) }
 {
+    let AskedIteration {
+        settings,
+        iteration,
+        workers,
+        is_by_net,
+        ..
+    } = *asked;
     let (book, reports) = iterate(rt, rt.alloc(), book, settings, iteration, workers, gate)?;
     put_iteration(&book, reports.as_slice(), gate, is_by_net, out)?;
     Ok(book)
@@ -152,8 +189,8 @@ fn workspace_of(alloc: Global, book: &Option<Book>) -> Result<Workspace, Unanswe
     Ok(Workspace::new(alloc, problem)?)
 }
 
-/// Makes an iteration of the book by several workers in the workspace, and adds their reports,
-/// worker by worker or net by net. If it fails, the book is dropped.
+/// Makes an iteration of the book by several workers in the workspace, and adds their reports. If
+/// it fails, the book is dropped.
 fn make_iteration_in(
     rt: &(impl Runtime + Threads + Wait + Sync + AllocGlobal),
     book: &mut Option<Book>,
@@ -162,17 +199,13 @@ fn make_iteration_in(
     call: Call<'_>,
     out: &mut String,
 ) -> Result<(), Unanswered> {
-    let [iteration, workers, rest @ ..] = call.given else {
-        return Err(Unanswered::Misread("iterate_in K WORKERS, or with a gate behind it"));
-    };
-    let iteration = iteration_number(iteration)?;
-    let workers = worker_count(workers)?;
-    let words = gate_words(rest, workers)?;
-    let gate = LabGate::new(rt, words, net_count(book)?)?;
-    let is_by_net = call.name == "iterate_nets_in";
-    iterate_in_under(
-        rt, book, workspace, settings, iteration, workers, &gate, is_by_net, out,
-    )
+    let asked = asked_iteration(
+        settings,
+        call,
+        "iterate_in K WORKERS, or with a gate behind it",
+    )?;
+    let gate = LabGate::new(rt, asked.gate, net_count(book)?)?;
+    iterate_in_under(rt, book, workspace, &asked, &gate, out)
 }
 
 /// Returns whether a workspace is of a book's problem.
@@ -188,12 +221,16 @@ fn take_of(kept: &mut Option<Book>, workspace: &Workspace) -> Result<Book, Unans
     ensures problem { IfOk result (λ book. workspace.now ≡ book.problem) }
     ensures fresh { IfOk result IsFresh }
 {
-    let book = take_fresh(kept)?;
-    if is_of(workspace, &book) {
-        return Ok(book);
+    match kept {
+        Some(book) if !book.fresh() => return Err(BEGUN),
+        Some(book) if is_of(workspace, book) => (),
+        Some(_) => return Err(Unanswered::Refused("the workspace is of another problem")),
+        None => return Err(NO_BOOK),
     }
-    *kept = Some(book);
-    Err(Unanswered::Refused("the workspace is of another problem"))
+    match kept.take() {
+        Some(book) => Ok(book),
+        None => Err(NO_BOOK),
+    }
 }
 
 /// Makes an iteration of the book in the workspace under a gate, and adds what was done. Puts the
@@ -202,23 +239,18 @@ fn iterate_in_under<R: Runtime + Threads + Wait + Sync + AllocGlobal>(
     rt: &R,
     kept: &mut Option<Book>,
     workspace: &mut Option<Workspace>,
-    settings: &Settings,
-    iteration: u32,
-    workers: u32,
+    asked: &AskedIteration<'_>,
     gate: &LabGate<'_, R>,
-    is_by_net: bool,
     out: &mut String,
 ) -> Result<(), Unanswered>
-    requires iteration { (1 ≤ iteration) × (iteration ≤ most_iterations) }
-    requires workers { (1 ≤ workers) × (workers ≤ most_workers) }
+    requires iteration { (1 ≤ asked.now.iteration) × (asked.now.iteration ≤ most_iterations) }
+    requires workers { (1 ≤ asked.now.workers) × (asked.now.workers ≤ most_workers) }
 {
     let Some(workspace) = workspace else {
         return Err(Unanswered::Refused("there is no workspace"));
     };
     let book = take_of(kept, workspace)?;
-    let book = iterated_in(
-        rt, workspace, book, settings, iteration, workers, gate, is_by_net, out,
-    )?;
+    let book = iterated_in(rt, workspace, book, asked, gate, out)?;
     *kept = Some(book);
     Ok(())
 }
@@ -228,18 +260,22 @@ fn iterated_in<R: Runtime + Threads + Wait + Sync + AllocGlobal>(
     rt: &R,
     workspace: &mut Workspace,
     book: Book,
-    settings: &Settings,
-    iteration: u32,
-    workers: u32,
+    asked: &AskedIteration<'_>,
     gate: &LabGate<'_, R>,
-    is_by_net: bool,
     out: &mut String,
 ) -> Result<Book, Unanswered>
     requires problem { workspace.old ≡ book.problem }
     requires fresh { IsFresh book }
-    requires iteration { (1 ≤ iteration) × (iteration ≤ most_iterations) }
-    requires workers { (1 ≤ workers) × (workers ≤ most_workers) }
+    requires iteration { (1 ≤ asked.now.iteration) × (asked.now.iteration ≤ most_iterations) }
+    requires workers { (1 ≤ asked.now.workers) × (asked.now.workers ≤ most_workers) }
 {
+    let AskedIteration {
+        settings,
+        iteration,
+        workers,
+        is_by_net,
+        ..
+    } = *asked;
     let (book, reports) = iterate_in(
         rt,
         rt.alloc(),

@@ -8,7 +8,7 @@ use lab_session::answer::added;
 use lab_session::session::{NO_PROBLEM, NO_VIEW, Searching, Session};
 use lab_session::trees::put_tree;
 use lab_session::unanswered::Unanswered;
-use lab_session::words::{Call, NO_WORDS, numbers};
+use lab_session::words::{Call, no_words, numbers};
 use node_cost::{GREATEST_PRESENT, View};
 use route_tree::Tree;
 use rr_graph::Problem;
@@ -24,19 +24,17 @@ pub fn call(
     out: &mut String,
 ) -> Result<(), Unanswered> {
     match call.name {
-        "search" => {
-            let [net, present, bb] = numbers::<3>(call.given)?;
-            search(alloc, session, Asked { net, present, bb }, out)
-        }
-        "search_faults" => {
-            if !call.given.is_empty() {
-                return Err(NO_WORDS);
-            }
-            put_fault(SearchFault::ViewSize, out)?;
-            put_fault(SearchFault::Memory, out)
-        }
+        "search" => search(alloc, session, call.given, out),
+        "search_faults" => put_faults(call.given, out),
         _ => Err(Unanswered::NoCall),
     }
+}
+
+/// Adds the names and the messages of all faults.
+fn put_faults(given: &[&str], out: &mut String) -> Result<(), Unanswered> {
+    no_words(given)?;
+    put_fault(SearchFault::ViewSize, out)?;
+    put_fault(SearchFault::Memory, out)
 }
 
 /// Adds the name and the message of a fault.
@@ -58,9 +56,11 @@ struct Asked {
 fn search(
     alloc: Global,
     session: &mut Session,
-    asked: Asked,
+    given: &[&str],
     out: &mut String,
 ) -> Result<(), Unanswered> {
+    let [net, present, bb] = numbers::<3>(given)?;
+    let asked = Asked { net, present, bb };
     prepare(alloc, &session.problem, &mut session.searching)?;
     match found(alloc, &session.books.view, &mut session.searching, asked)? {
         Found::Tree(tree) => keep_tree(&mut session.tree, tree, out),
@@ -93,9 +93,15 @@ fn prepare(
 
 /// Returns a copy of a problem that is prepared for searches, and the memory that they work in.
 fn searching_of(alloc: Global, problem: &Problem) -> Result<Searching, AllocError> {
-    let prepared = PreparedProblem::new(alloc, problem.copy(alloc)?)?;
+    let prepared = prepared_copy(alloc, problem)?;
     let scratch = Scratch::new(alloc, &prepared)?;
     Ok(Searching { prepared, scratch })
+}
+
+/// Returns a copy of a problem that is prepared for searches.
+fn prepared_copy(alloc: Global, problem: &Problem) -> Result<PreparedProblem, AllocError> {
+    let problem = problem.copy(alloc)?;
+    PreparedProblem::new(alloc, problem)
 }
 
 /// Returns what the search of a net in the session's view finds.

@@ -1,9 +1,9 @@
 //! Calls of `node_cost`: settings, costs, and counts and histories of nodes.
 
-use lab_session::answer::{added, put};
+use lab_session::answer::{added, put, put_labelled};
 use lab_session::session::{Choice, NO_COUNTS, NO_HISTORIES, Session};
 use lab_session::unanswered::Unanswered;
-use lab_session::words::{Call, NO_NUMBER, NO_WORDS, number, numbers};
+use lab_session::words::{Call, NO_NUMBER, no_words, number, numbers};
 use node_cost::{
     Counts, GREATEST_HISTORY, GREATEST_OTHERS, GREATEST_PRESENT, Histories, Settings, cost,
 };
@@ -33,19 +33,19 @@ pub fn call(
     out: &mut String,
 ) -> Result<(), Unanswered> {
     match call.name {
-        "settings" => {
-            let choice = chosen(session.choice, call.given)?;
-            put_choice(choice, out)?;
-            session.choice = choice;
-            Ok(())
-        }
-        "present" => {
-            let [iteration] = numbers::<1>(call.given)?;
-            put_present(session.settings(), iteration, out)
-        }
+        "settings" => choose(&mut session.choice, call.given, out),
+        "present" => put_present(session.settings(), call.given, out),
         "cost" => put_cost(call.given, out),
         _ => call_counts(alloc, session, call, out),
     }
+}
+
+/// Chooses settings, and adds them.
+fn choose(kept: &mut Choice, given: &[&str], out: &mut String) -> Result<(), Unanswered> {
+    let choice = chosen(*kept, given)?;
+    put_choice(choice, out)?;
+    *kept = choice;
+    Ok(())
 }
 
 /// Makes a call of counts or histories, and adds its answer.
@@ -58,26 +58,34 @@ fn call_counts(
     match call.name {
         "counts" => make_counts(alloc, &mut session.counts, call.given, out),
         "count" => put_count(&session.counts, call.given, out),
-        "set_count" | "add_one" | "take_one" => match &mut session.counts {
-            Some(counts) => change_count(counts, call.name, call.given, out),
-            None => Err(NO_COUNTS),
-        },
+        "set_count" | "add_one" | "take_one" => change_kept(&mut session.counts, call, out),
         "copy_counts" => {
-            if !call.given.is_empty() {
-                return Err(NO_WORDS);
-            }
-            copy_counts(&session.counts, &mut session.others.counts, out)
+            let other = &mut session.others.counts;
+            copy_counts(&session.counts, other, call.given, out)
         }
-        "dump_counts" => {
-            if !call.given.is_empty() {
-                return Err(NO_WORDS);
-            }
-            match &session.counts {
-                Some(counts) => dump_counts(counts, out),
-                None => Err(NO_COUNTS),
-            }
-        }
+        "dump_counts" => dump_kept(&session.counts, call.given, out),
         _ => call_histories(alloc, &mut session.histories, call, out),
+    }
+}
+
+/// Changes the count of a node, and adds the new count.
+fn change_kept(
+    counts: &mut Option<Counts>,
+    call: Call<'_>,
+    out: &mut String,
+) -> Result<(), Unanswered> {
+    match counts {
+        Some(counts) => change_count(counts, call.name, call.given, out),
+        None => Err(NO_COUNTS),
+    }
+}
+
+/// Adds the counts above 0.
+fn dump_kept(counts: &Option<Counts>, given: &[&str], out: &mut String) -> Result<(), Unanswered> {
+    no_words(given)?;
+    match counts {
+        Some(counts) => dump_counts(counts, out),
+        None => Err(NO_COUNTS),
     }
 }
 
@@ -90,27 +98,40 @@ fn call_histories(
 ) -> Result<(), Unanswered> {
     match call.name {
         "histories" => make_histories(alloc, histories, call.given, out),
-        "history_at" | "is_none" => {
-            let [id] = numbers::<1>(call.given)?;
-            match histories {
-                Some(histories) => look_at_history(histories, call.name, id, out),
-                None => Err(NO_HISTORIES),
-            }
-        }
+        "history_at" | "is_none" => look_at_one(histories, call, out),
         "set_history" => match histories {
             Some(histories) => set_history(histories, call.given, out),
             None => Err(NO_HISTORIES),
         },
-        "copy_histories" | "dump_histories" => {
-            if !call.given.is_empty() {
-                return Err(NO_WORDS);
-            }
-            match histories {
-                Some(histories) => look_at_histories(alloc, histories, call.name, out),
-                None => Err(NO_HISTORIES),
-            }
-        }
+        "copy_histories" | "dump_histories" => look_at_all(alloc, histories, call, out),
         _ => Err(Unanswered::NoCall),
+    }
+}
+
+/// Makes a look-up of the history of the node that a call gives.
+fn look_at_one(
+    histories: &Option<Histories>,
+    call: Call<'_>,
+    out: &mut String,
+) -> Result<(), Unanswered> {
+    let [id] = numbers::<1>(call.given)?;
+    match histories {
+        Some(histories) => look_at_history(histories, call.name, id, out),
+        None => Err(NO_HISTORIES),
+    }
+}
+
+/// Makes a look-up of all histories, by a call without words.
+fn look_at_all(
+    alloc: Global,
+    histories: &Option<Histories>,
+    call: Call<'_>,
+    out: &mut String,
+) -> Result<(), Unanswered> {
+    no_words(call.given)?;
+    match histories {
+        Some(histories) => look_at_histories(alloc, histories, call.name, out),
+        None => Err(NO_HISTORIES),
     }
 }
 
@@ -193,16 +214,22 @@ fn within_ranges(choice: Choice) -> Result<Choice, Unanswered> {
 }
 
 fn put_choice(choice: Choice, out: &mut String) -> Result<(), Unanswered> {
-    write!(out, "first {}, init {}", choice.first, choice.init)?;
-    write!(out, ", mult {}, acc {}", choice.mult, choice.acc)?;
-    write!(out, ", bb {}", choice.bb)?;
-    write!(out, ", iterations {}", choice.iterations)?;
+    let numbers = [
+        ("first", u64::from(choice.first)),
+        ("init", u64::from(choice.init)),
+        ("mult", u64::from(choice.mult)),
+        ("acc", u64::from(choice.acc)),
+        ("bb", u64::from(choice.bb)),
+        ("iterations", u64::from(choice.iterations)),
+    ];
+    put_labelled(out, &numbers)?;
     let steady = if choice.is_steady { ", steady" } else { "" };
     added(writeln!(out, "{steady}"))
 }
 
 /// Adds the present-congestion factor of an iteration.
-fn put_present(settings: Settings, iteration: u32, out: &mut String) -> Result<(), Unanswered> {
+fn put_present(settings: Settings, given: &[&str], out: &mut String) -> Result<(), Unanswered> {
+    let [iteration] = numbers::<1>(given)?;
     if !(1..=500).contains(&iteration) {
         return Err(Unanswered::Refused("an iteration is one of 1 to 500"));
     }
@@ -385,8 +412,10 @@ fn set_history(
 fn copy_counts(
     counts: &Option<Counts>,
     other: &mut Option<Counts>,
+    given: &[&str],
     out: &mut String,
 ) -> Result<(), Unanswered> {
+    no_words(given)?;
     let Some(counts) = counts else {
         return Err(NO_COUNTS);
     };

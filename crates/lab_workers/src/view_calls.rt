@@ -4,7 +4,7 @@ use crate::settings_calls::{NO_HISTORY, NO_NODE, index_of, long_number, number_o
 use lab_session::answer::{added, put};
 use lab_session::session::{NO_COUNTS, NO_HISTORIES, NO_PROBLEM, NO_VIEW, Session};
 use lab_session::unanswered::Unanswered;
-use lab_session::words::{Call, NO_NUMBER, NO_WORDS, number, numbers};
+use lab_session::words::{Call, NO_NUMBER, NO_WORDS, no_words, number, numbers};
 use node_cost::{Counts, GREATEST_HISTORY, GREATEST_OTHERS, Histories, View};
 use rr_graph::Problem;
 use std::alloc::Global;
@@ -25,42 +25,61 @@ pub fn call(
             call.given,
             out,
         ),
-        "seen" | "is_free" => {
-            let [id] = numbers::<1>(call.given)?;
-            match &session.books.view {
-                Some(view) => look_up(view, call.name, id, out),
-                None => Err(NO_VIEW),
-            }
-        }
-        "set" | "leave_out" => match &mut session.books.view {
-            Some(view) => change(view, call.name, call.given, out),
-            None => Err(NO_VIEW),
-        },
-        "look_at" => {
-            if !call.given.is_empty() {
-                return Err(NO_WORDS);
-            }
-            let Some(histories) = &session.histories else {
-                return Err(NO_HISTORIES);
-            };
-            look_at(
-                alloc,
-                &session.counts,
-                histories,
-                &mut session.books.view,
-                out,
-            )
-        }
-        "dump_view" => {
-            if !call.given.is_empty() {
-                return Err(NO_WORDS);
-            }
-            match &session.books.view {
-                Some(view) => dump(view, out),
-                None => Err(NO_VIEW),
-            }
-        }
+        "seen" | "is_free" => look_up_number(&session.books.view, call, out),
+        "set" | "leave_out" => change_kept(&mut session.books.view, call, out),
+        "look_at" => look_at_all(alloc, session, call.given, out),
+        "dump_view" => dump_kept(&session.books.view, call.given, out),
         _ => Err(Unanswered::NoCall),
+    }
+}
+
+/// Makes a look-up of a node by the number that a call gives.
+fn look_up_number(view: &Option<View>, call: Call<'_>, out: &mut String) -> Result<(), Unanswered> {
+    let [id] = numbers::<1>(call.given)?;
+    match view {
+        Some(view) => look_up(view, call.name, id, out),
+        None => Err(NO_VIEW),
+    }
+}
+
+/// Changes what the view shows of a node, and adds it.
+fn change_kept(
+    view: &mut Option<View>,
+    call: Call<'_>,
+    out: &mut String,
+) -> Result<(), Unanswered> {
+    match view {
+        Some(view) => change(view, call.name, call.given, out),
+        None => Err(NO_VIEW),
+    }
+}
+
+/// Fills the view from the session's counts and histories, and adds the number of nodes.
+fn look_at_all(
+    alloc: Global,
+    session: &mut Session,
+    given: &[&str],
+    out: &mut String,
+) -> Result<(), Unanswered> {
+    no_words(given)?;
+    match &session.histories {
+        Some(histories) => look_at(
+            alloc,
+            &session.counts,
+            histories,
+            &mut session.books.view,
+            out,
+        ),
+        None => Err(NO_HISTORIES),
+    }
+}
+
+/// Adds what the view shows of each node.
+fn dump_kept(view: &Option<View>, given: &[&str], out: &mut String) -> Result<(), Unanswered> {
+    no_words(given)?;
+    match view {
+        Some(view) => dump(view, out),
+        None => Err(NO_VIEW),
     }
 }
 

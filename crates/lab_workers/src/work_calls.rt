@@ -7,6 +7,7 @@ ghost use Rattle.node_cost.specs.Options.{most_workers};
 
 use iteration::{Outcome, negotiate};
 use lab_session::answer::{added, put};
+use lab_session::asked::AskedRun;
 use lab_session::bounds::{channel_width, worker_count};
 use lab_session::designs::placement_of;
 use lab_session::lab_gate::{LabGate, gate_words};
@@ -16,7 +17,7 @@ use lab_session::words::{Call, mode_before};
 use net_file::Netlist;
 use node_cost::Settings;
 use route_tree::{Pairs, Routing};
-use rr_graph::{Mode, Problem};
+use rr_graph::Problem;
 use std::alloc::{AllocError, Global};
 use std::rt::Runtime;
 use std::sync::Wait;
@@ -63,26 +64,26 @@ fn negotiate_routing(
         return Err(NO_PROBLEM);
     };
     let gate = LabGate::new(rt, words, problem.nets())?;
-    negotiate_under(rt, problem, routing, settings, workers, &gate, out)
+    let outcome = negotiate_under(rt, problem, settings, workers, &gate, out)?;
+    keep_routed(routing, outcome);
+    Ok(())
 }
 
-/// Negotiates a routing of a copy of the problem under a gate, and keeps it once all is added.
+/// Negotiates a routing of a copy of the problem under a gate, adds the outcome, and returns it.
 fn negotiate_under<R: Runtime + Threads + Wait + Sync + AllocGlobal>(
     rt: &R,
     problem: &Problem,
-    routing: &mut Option<Routing>,
     settings: &Settings,
     workers: u32,
     gate: &LabGate<'_, R>,
     out: &mut String,
-) -> Result<(), Unanswered>
+) -> Result<Outcome, Unanswered>
     requires workers { (1 ≤ workers) × (workers ≤ most_workers) }
 {
     let problem = problem.copy(rt.alloc())?;
     let outcome = negotiate(rt, rt.alloc(), problem, settings, workers, gate)?;
     put_negotiation(&outcome, gate, out)?;
-    keep_routed(routing, outcome);
-    Ok(())
+    Ok(outcome)
 }
 
 /// Keeps the routing of an outcome that has one.
@@ -132,13 +133,16 @@ fn search_widths(
             "least_width START WORKERS, or with `global` and a gate behind it",
         ));
     };
-    let start = channel_width(start)?;
-    let workers = worker_count(workers)?;
+    let (width, workers) = (channel_width(start)?, worker_count(workers)?);
     let (mode, rest) = mode_before(rest);
     let gate = LabGate::new(rt, gate_words(rest, workers)?, 0)?;
-    search_under(
-        rt, design, routing, settings, start, mode, workers, &gate, out,
-    )
+    let asked = AskedRun {
+        settings,
+        workers,
+        width,
+        mode,
+    };
+    search_under(rt, design, routing, &asked, &gate, out)
 }
 
 /// Searches for the least width under a gate, and keeps the routing once all is added.
@@ -146,17 +150,14 @@ fn search_under<R: Runtime + Threads + Wait + Sync + AllocGlobal>(
     rt: &R,
     design: &Design,
     routing: &mut Option<Routing>,
-    settings: &Settings,
-    start: u32,
-    mode: Mode,
-    workers: u32,
+    asked: &AskedRun<'_>,
     gate: &LabGate<'_, R>,
     out: &mut String,
 ) -> Result<(), Unanswered>
-    requires start { (1 ≤ start) × (start ≤ most_tracks) }
-    requires workers { (1 ≤ workers) × (workers ≤ most_workers) }
+    requires width { (1 ≤ asked.now.width) × (asked.now.width ≤ most_tracks) }
+    requires workers { (1 ≤ asked.now.workers) × (asked.now.workers ≤ most_workers) }
 {
-    let report = width_report(rt, design, settings, start, mode, workers, gate)?;
+    let report = width_report(rt, design, asked, gate)?;
     put_widths(&report, gate, out)?;
     keep_least(rt.alloc(), routing, &report)
 }
@@ -188,18 +189,15 @@ fn keep_least(
 fn width_report<R: Runtime + Threads + Wait + Sync + AllocGlobal>(
     rt: &R,
     design: &Design,
-    settings: &Settings,
-    start: u32,
-    mode: Mode,
-    workers: u32,
+    asked: &AskedRun<'_>,
     gate: &LabGate<'_, R>,
 ) -> Result<WidthReport, Unanswered>
-    requires start { (1 ≤ start) × (start ≤ most_tracks) }
-    requires workers { (1 ≤ workers) × (workers ≤ most_workers) }
+    requires width { (1 ≤ asked.now.width) × (asked.now.width ≤ most_tracks) }
+    requires workers { (1 ≤ asked.now.workers) × (asked.now.workers ≤ most_workers) }
 {
     let design = design.texts()?;
     let netlist = net_file::parse(rt.alloc(), design.net, design.arch)?;
-    report_of(rt, design, &netlist, settings, start, mode, workers, gate)
+    report_of(rt, design, &netlist, asked, gate)
 }
 
 /// Searches for the least width of a design with this netlist, and returns the report.
@@ -207,20 +205,26 @@ fn report_of<R: Runtime + Threads + Wait + Sync + AllocGlobal>(
     rt: &R,
     design: DesignTexts<'_>,
     netlist: &Netlist<'_>,
-    settings: &Settings,
-    start: u32,
-    mode: Mode,
-    workers: u32,
+    asked: &AskedRun<'_>,
     gate: &LabGate<'_, R>,
 ) -> Result<WidthReport, Unanswered>
-    requires start { (1 ≤ start) × (start ≤ most_tracks) }
-    requires workers { (1 ≤ workers) × (workers ≤ most_workers) }
+    requires width { (1 ≤ asked.now.width) × (asked.now.width ≤ most_tracks) }
+    requires workers { (1 ≤ asked.now.workers) × (asked.now.workers ≤ most_workers) }
     requires read { (bytes : List ℕ) × ReadsBytes design.arch.now.pins bytes netlist.now }
 {
     let (alloc, arch) = (rt.alloc(), design.arch);
     let placement = placement_of(alloc, design, netlist)?;
     let report = least_width(
-        rt, alloc, arch, netlist, &placement, settings, start, mode, workers, gate,
+        rt,
+        alloc,
+        arch,
+        netlist,
+        &placement,
+        asked.settings,
+        asked.width,
+        asked.mode,
+        asked.workers,
+        gate,
     )?;
     Ok(report)
 }

@@ -1,26 +1,24 @@
 //! What the workers of an iteration share without a lock.
 
-ghost use Rattle.std.specs.Prelude.{◌≡◌, ◌<◌, length, vec_len, IfOk};
+ghost use Rattle.std.specs.Prelude.{◌↔◌, ◌≡◌, ◌<◌, length, Err, IfOk};
 ghost use Rattle.routing_problem.specs.Nodes.{node_count_of};
 ghost use Rattle.route_tree.specs.TreeLists.{list_of_tree, lists_of_trees};
 ghost use Rattle.route_tree.specs.Usage.{list_in};
 ghost use Rattle.congestion_book.specs.Contents.{net_count, node_total};
-ghost use Rattle.net_workers.specs.Searches.{IsFoundIn};
-ghost use Rattle.net_workers.specs.kept.Routes.{RoutesNet};
-ghost use Rattle.wavefront.specs.Growth.{space_of};
+ghost use Rattle.wavefront.specs.Growth.{IsAnswer, RoutesIfFound, space_of};
+ghost use Rattle.wavefront.specs.declared.search_outcome.SearchFault.TheVariants.{ViewSize};
 
-use crate::fault::TurnFault;
 use crate::history::{Head, Logged};
 use crate::page::{Cell, Page, open_row};
 use crate::portion::Portions;
-use crate::search::{SearchOptions, search};
-use gates::Gate;
-use group_wave::Scratch;
+use crate::search::SearchOptions;
+use group_wave::{OldTree, Scratch, route_net};
 use node_cost::View;
-use route_tree::{Row, Tree};
+use route_tree::Tree;
 use std::alloc::{AllocError, Global};
 use std::marker::Model;
 use wave_ground::PreparedProblem;
+use wavefront::{Found, SearchFault};
 
 /// The board of an iteration: the problem and the options, the trees with which it opens, how many
 /// nets are drawn at once, the head of its history, and a cell for each turn. Contracts see only
@@ -56,7 +54,8 @@ impl<'a, L: Logged> Model for Board<'a, L> {
     ghost view = { λ b. tt };
 
     ghost invariant = { λ b.
-        IsBoard L.plan b.prepared.now b.options.present b.options.bb b.opening.items };
+        IsBoard L.plan b.prepared.now b.options.present b.options.bb b.options.workers
+        b.opening.items };
 }
 
 impl<'a, L: Logged> Board<'a, L> {
@@ -69,7 +68,8 @@ impl<'a, L: Logged> Board<'a, L> {
         head: Head<L>,
     ) -> Result<Board<'a, L>, AllocError>
         requires problem { prepared.now ≡ L.plan.opening.problem }
-        requires options { (options.present ≡ L.plan.present) × (options.bb ≡ L.plan.bb) }
+        requires options { (options.present ≡ L.plan.present) × (options.bb ≡ L.plan.bb)
+            × (options.workers ≡ L.plan.workers) }
         requires opening { lists_of_trees opening.items ≡ L.plan.opening.lists }
     {
         let row = open_row(alloc, prepared.problem().nets())?;
@@ -89,19 +89,21 @@ impl<'a, L: Logged> Board<'a, L> {
         &self.head
     }
 
-    /// Returns how many nets are drawn at once, from this one on.
-    pub(crate) fn portion(&self, net: u32) -> u32 {
-        self.portions.count(net)
-    }
-
-    /// Returns how many of this many workers work.
-    pub(crate) fn busy_workers(&self, workers: usize) -> usize {
-        self.portions.busy_workers(workers)
+    /// Returns how many nets are drawn at once.
+    pub(crate) fn portions(&self) -> &Portions {
+        &self.portions
     }
 
     /// Returns the number of the iteration, counted from 1.
     pub(crate) fn iteration(&self) -> u32 {
         self.options.iteration
+    }
+
+    /// Returns the number of workers.
+    pub(crate) fn workers(&self) -> u32
+        ensures { result ≡ L.plan.workers }
+    {
+        self.options.workers
     }
 
     /// Returns how many times a worker may look again at a net that it holds.
@@ -124,40 +126,44 @@ impl<'a, L: Logged> Board<'a, L> {
         &self.opening[net as usize]
     }
 
-    /// Returns the rows of the tree with which the iteration opens for a net, or none.
-    fn opening_rows(&self, net: u32) -> &[Row] {
-        match self.opening.get(net as usize) {
+    /// Returns the tree with which the iteration opens for a net, as a search takes it.
+    fn old_tree(&self, net: u32) -> OldTree<'_> {
+        let rows = match self.opening.get(net as usize) {
             Some(Some(tree)) => tree.as_slice(),
             _ => &[],
+        };
+        OldTree {
+            rows,
+            is_kept: self.options.is_steady,
         }
     }
 
     /// Searches for the tree of a net in this view.
-    pub(crate) fn search<G: Gate>(
+    pub(crate) fn route(
         &self,
         alloc: Global,
         net: u32,
         view: &View,
         scratch: &mut Scratch,
-        gate: &G,
-    ) -> Result<Option<Tree>, TurnFault>
+    ) -> Result<Found, SearchFault>
         requires net { net < net_count L.plan.opening }
         requires fits { scratch.old ≡ node_total L.plan.opening }
-        ensures found { IfOk result (IsFoundIn
+        ensures found { IfOk result (IsAnswer
             (space_of L.plan.opening.problem net view.now L.plan.present L.plan.bb)) }
-        ensures routes { IfOk result (RoutesNet L.plan.opening.problem net) }
+        ensures routed { IfOk result (RoutesIfFound L.plan.opening.problem net) }
+        ensures view_size { (result ≡ Err ViewSize) ↔
+            (length view.now ≡ node_total L.plan.opening → ⊥) }
         ensures fits { scratch.new ≡ scratch.old }
     {
-        let before = self.opening_rows(net);
-        search(
+        route_net(
             alloc,
             self.prepared,
             net,
             view,
-            self.options,
-            before,
+            self.options.present,
+            self.options.bb,
+            self.old_tree(net),
             scratch,
-            gate,
         )
     }
 

@@ -3,6 +3,23 @@
 use gates::ScheduledTurn;
 use std::sync::{Condvar, Mutex, Wait};
 
+/// A turn of a course, and its number: how many turns come before it.
+#[derive(Clone, Copy)]
+pub(crate) struct NumberedTurn {
+    pub(crate) number: u64,
+    pub(crate) turn: ScheduledTurn,
+}
+
+impl NumberedTurn {
+    /// Returns the turn with its number.
+    pub(crate) fn new(number: usize, turn: &ScheduledTurn) -> NumberedTurn {
+        NumberedTurn {
+            number: number as u64,
+            turn: *turn,
+        }
+    }
+}
+
 /// The number of turns that were made, and whether no further one will be.
 #[derive(Drop)]
 struct Count {

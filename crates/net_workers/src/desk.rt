@@ -160,7 +160,7 @@ impl<L: Round> Desk<L> {
         ensures share { share.new ≡ part_with result share.old }
         ensures shown { ShowsAgain L.opening net result view.new }
     {
-        if self.looks_again(net, &tree, view) {
+        if self.look_again(net, &tree, view) {
             return Ok(TurnOrLook::Look);
         }
         match self.commit(share, net, tree) {
@@ -171,7 +171,7 @@ impl<L: Round> Desk<L> {
 
     /// Fills the view of a net anew if the others have filled a node of its tree. Returns whether
     /// it did.
-    fn looks_again(&self, net: u32, tree: &Tree, view: &mut View) -> bool
+    fn look_again(&self, net: u32, tree: &Tree, view: &mut View) -> bool
         ensures exact { result ≡ looks_again self.now net view.old tree.now }
         ensures view { view.new ≡
             (if looks_again self.now net view.old tree.now

@@ -20,7 +20,7 @@ use crate::opening::trees_of;
 use crate::page::Cell;
 use crate::report::Report;
 use crate::scheduled::{draw_all, follow_alone};
-use crate::search::SearchOptions;
+use crate::search::{SearchOptions, Searcher};
 use crate::staff::{dismiss_all, hire_all, leave_tools, send_home};
 use crate::threads::run_all;
 use crate::turn_desk::TurnDesk;
@@ -76,42 +76,39 @@ fn book_and_reports<L: Logged, G: Gate>(
     alloc: Global,
     desk: TurnDesk<L>,
     row: Vec<Cell<L>>,
-    iteration: u32,
-    workers: u32,
+    options: SearchOptions,
     gate: &G,
 ) -> Result<(Book, Vec<Report>), TurnFault>
-    requires workers { workers ≡ L.workers }
+    requires workers { options.workers ≡ L.workers }
     ensures sound { IfOk result (λ r. IsSound r.0) }
     ensures agrees { IfOk result (λ r. Agrees L.opening r.0 L.present L.bb L.workers r.1.items) }
     ensures allowed { IfOk result
-        (λ r. AreAllowed (G.accepted gate.now) iteration r.0 r.1.items) }
+        (λ r. AreAllowed (G.accepted gate.now) options.iteration r.0 r.1.items) }
 {
     let (book, front) = desk.into_parts();
     if !is_done(&book) {
         return Err(TurnFault::Astray);
     }
-    let turns = accepted_turns(alloc, row, &front, iteration, gate)?;
-    let reports = reports_of(alloc, turns, workers)?;
+    let turns = accepted_turns(alloc, row, &front, options.iteration, gate)?;
+    let reports = reports_of(alloc, turns, options.workers)?;
     Ok((book, reports))
 }
 
-/// Lets the workers of a round work at a desk, each in a thread, until no net is left or the turns
-/// of the course are made. They leave their tools.
+/// Lets workers work at a desk, each in a thread, until no net is left or the turns of the course
+/// are made. They leave their tools.
 fn work_together<L: Logged + Send + Sync, R: Threads + Wait + Sync, G: Gate + Sync>(
     rt: &R,
-    alloc: Global,
+    searcher: &Searcher<'_, '_, L, G>,
     desk: TurnDesk<L>,
-    board: &Board<'_, L>,
     course: Option<&Course<'_>>,
     workers: Vec<Worker<L>>,
     tools: &mut Vec<Tools>,
-    gate: &G,
 ) -> Result<TurnDesk<L>, WorkFault>
     ensures { IfErr result (λ fault. fault ≡ NoThread → 1 < vec_len workers) }
 {
     let all = workers.len();
     let desk = Mutex::new(desk);
-    let results = run_all(rt, alloc, &desk, board, course, workers, gate)?;
+    let results = run_all(rt, searcher, &desk, course, workers)?;
     if results.len() != all {
         return Err(WorkFault::NoThread);
     }
@@ -119,21 +116,19 @@ fn work_together<L: Logged + Send + Sync, R: Threads + Wait + Sync, G: Gate + Sy
     Ok(desk.into_inner())
 }
 
-/// Lets the workers of a round work at a desk, in one thread, until the turns of a course are made.
-/// They leave their tools.
+/// Lets workers work at a desk, in one thread, until the turns of a course are made. They leave
+/// their tools.
 fn work_alone<L: Logged, R: Wait, G: Gate>(
     rt: &R,
-    alloc: Global,
+    searcher: &Searcher<'_, '_, L, G>,
     desk: TurnDesk<L>,
-    board: &Board<'_, L>,
     course: &Course<'_>,
     workers: Vec<Worker<L>>,
     tools: &mut Vec<Tools>,
-    gate: &G,
 ) -> Result<TurnDesk<L>, TurnFault> {
     let desk = Mutex::new(desk);
     let mut workers = workers;
-    follow_alone(rt, alloc, &desk, board, course, &mut workers, gate)?;
+    follow_alone(rt, searcher, &desk, course, &mut workers)?;
     leave_tools(workers, tools)?;
     Ok(desk.into_inner())
 }
@@ -142,62 +137,44 @@ fn work_alone<L: Logged, R: Wait, G: Gate>(
 /// their tools.
 fn work_by<L: Logged + Send + Sync, R: Threads + Wait + Sync, G: Gate + Sync>(
     rt: &R,
-    alloc: Global,
+    searcher: &Searcher<'_, '_, L, G>,
     desk: TurnDesk<L>,
-    board: &Board<'_, L>,
     schedule: Schedule<'_>,
     workers: Vec<Worker<L>>,
     tools: &mut Vec<Tools>,
-    gate: &G,
 ) -> Result<TurnDesk<L>, WorkFault>
     ensures { IfErr result (λ fault. fault ≡ NoThread → 1 < vec_len workers) }
 {
     let (mut desk, mut workers) = (desk, workers);
-    draw_all(alloc, board, &mut desk, &mut workers, schedule.turns)?;
+    draw_all(searcher, &mut desk, &mut workers, schedule.turns)?;
     let course = Course::new(schedule.turns);
     if schedule.is_alone {
-        Ok(work_alone(rt, alloc, desk, board, &course, workers, tools, gate)?)
+        Ok(work_alone(rt, searcher, desk, &course, workers, tools)?)
     } else {
-        work_together(rt, alloc, desk, board, Some(&course), workers, tools, gate)
+        work_together(rt, searcher, desk, Some(&course), workers, tools)
     }
 }
 
-/// Lets the workers of a round work at a desk until no net is left: all of them, if there is enough
-/// work for their threads. They leave their tools.
-fn work_freely<L: Logged + Send + Sync, R: Threads + Wait + Sync, G: Gate + Sync>(
-    rt: &R,
-    alloc: Global,
-    desk: TurnDesk<L>,
-    board: &Board<'_, L>,
-    workers: Vec<Worker<L>>,
-    tools: &mut Vec<Tools>,
-    gate: &G,
-) -> Result<TurnDesk<L>, WorkFault>
-    ensures { IfErr result (λ fault. fault ≡ NoThread → 1 < vec_len workers) }
-{
-    let mut workers = workers;
-    let busy = board.busy_workers(workers.len());
-    send_home(&mut workers, busy, tools)?;
-    work_together(rt, alloc, desk, board, None, workers, tools, gate)
-}
-
-/// Lets the workers of a round work at a desk until no net is left, or until the turns of the
-/// gate's schedule are made. They leave their tools.
+/// Lets the workers of a round work at a desk, until no net is left or the turns of the gate's
+/// schedule are made. Without a schedule only as many work as have enough work for their threads.
+/// All leave their tools.
 fn work_at<L: Logged + Send + Sync, R: Threads + Wait + Sync, G: Gate + Sync>(
     rt: &R,
-    alloc: Global,
+    searcher: &Searcher<'_, '_, L, G>,
     desk: TurnDesk<L>,
-    board: &Board<'_, L>,
     workers: Vec<Worker<L>>,
     tools: &mut Vec<Tools>,
-    gate: &G,
 ) -> Result<TurnDesk<L>, WorkFault>
     ensures { IfErr result (λ fault. fault ≡ NoThread → 1 < vec_len workers) }
 {
-    match gate.schedule(board.iteration()) {
-        None => work_freely(rt, alloc, desk, board, workers, tools, gate),
-        Some(schedule) => work_by(rt, alloc, desk, board, schedule, workers, tools, gate),
+    let board = searcher.board;
+    if let Some(schedule) = searcher.gate.schedule(board.iteration()) {
+        return work_by(rt, searcher, desk, schedule, workers, tools);
     }
+    let mut workers = workers;
+    let busy = board.portions().busy_workers(workers.len());
+    send_home(&mut workers, busy, tools)?;
+    work_together(rt, searcher, desk, None, workers, tools)
 }
 
 /// Returns the board of an iteration that opens with the trees of a book. `kept` are some that it
@@ -212,7 +189,8 @@ fn board_of<'a, L: Logged>(
 ) -> Result<Board<'a, L>, AllocError>
     requires problem { prepared.now ≡ book.now.problem }
     requires book { book.now ≡ L.opening }
-    requires options { (options.present ≡ L.present) × (options.bb ≡ L.bb) }
+    requires options { (options.present ≡ L.present) × (options.bb ≡ L.bb)
+        × (options.workers ≡ L.workers) }
     requires plan { L.plan ≡ plan_of L.opening L.present L.bb L.workers }
 {
     let opening = trees_of(alloc, book, kept)?;
@@ -223,72 +201,80 @@ fn board_of<'a, L: Logged>(
 /// the gate's schedule are made. They take the tools that were left, and leave theirs.
 fn work_on<L: Logged + Send + Sync, R: Threads + Wait + Sync, G: Gate + Sync>(
     rt: &R,
-    alloc: Global,
-    board: &Board<'_, L>,
+    searcher: &Searcher<'_, '_, L, G>,
     book: Book,
-    workers: u32,
     blank: Blank,
     front: Front<L>,
     tools: &mut Vec<Tools>,
-    gate: &G,
 ) -> Result<TurnDesk<L>, WorkFault>
     requires fresh { IsFresh book }
-    requires few { workers ≤ most_workers }
-    requires workers { workers ≡ L.workers }
     requires book { book ≡ L.opening }
     requires plan { L.plan ≡ plan_of L.opening L.present L.bb L.workers }
     requires name { blank.name ≡ L.name }
     requires parts { blank.parts ≡ L.parts }
-    requires one_each { blank.parts ≡ workers }
+    requires one_each { blank.parts ≡ L.workers }
     requires none { front ≡ [] }
-    ensures { IfErr result (λ fault. fault ≡ NoThread → 1 < workers) }
+    ensures { IfErr result (λ fault. fault ≡ NoThread → 1 < L.workers) }
 {
-    let (desk, shares) = Desk::<L>::new(alloc, book, workers, blank)?;
+    let Searcher { alloc, board, .. } = *searcher;
+    let (desk, shares) = Desk::<L>::new(alloc, book, board.workers(), blank)?;
     let staff = hire_all(alloc, board, &desk, &front, shares, tools)?;
     let desk = TurnDesk::new(desk, front);
-    work_at(rt, alloc, desk, board, staff, tools, gate)
+    work_at(rt, searcher, desk, staff, tools)
 }
 
-/// Makes an iteration in a round that names its workers, its options and its book. The workers take
-/// the tools that were left, and leave theirs. `trees` are some that may be recorded, and become
-/// those with which the iteration opened.
+/// A book whose iteration begins, and what its round begins with: a ledger and a history in which
+/// there is no turn, and which have no name yet.
+struct Beginning {
+    book: Book,
+    blank: Blank,
+    opened: Opened,
+}
+
+/// Makes an iteration in a round that names its options and its book. The workers take the tools
+/// that were left in the workspace, and leave theirs.
 fn iterate_as<L: Logged + Send + Sync, R: Threads + Wait + Sync, G: Gate + Sync>(
     rt: &R,
     alloc: Global,
-    prepared: &PreparedProblem,
-    tools: &mut Vec<Tools>,
-    trees: &mut Vec<Option<Tree>>,
-    book: Book,
+    workspace: &mut Workspace,
+    beginning: Beginning,
     options: SearchOptions,
-    workers: u32,
-    blank: Blank,
-    opened: Opened,
     gate: &G,
 ) -> Result<(Book, Vec<Report>), WorkFault>
-    requires problem { prepared.now ≡ book.problem }
-    requires fresh { IsFresh book }
-    requires few { workers ≤ most_workers }
-    requires workers { workers ≡ L.workers }
-    requires book { book ≡ L.opening }
+    requires problem { workspace.old ≡ beginning.book.problem }
+    requires fresh { IsFresh beginning.book }
+    requires workers { options.workers ≡ L.workers }
+    requires book { beginning.book ≡ L.opening }
     requires options { (options.present ≡ L.present) × (options.bb ≡ L.bb) }
     requires plan { L.plan ≡ plan_of L.opening L.present L.bb L.workers }
-    requires history { opened.seen.book ≡ L.history }
-    requires name { blank.name ≡ L.name }
-    requires parts { blank.parts ≡ L.parts }
-    requires one_each { blank.parts ≡ workers }
+    requires history { beginning.opened.seen.book ≡ L.history }
+    requires name { beginning.blank.name ≡ L.name }
+    requires parts { beginning.blank.parts ≡ L.parts }
+    requires one_each { beginning.blank.parts ≡ options.workers }
     ensures sound { IfOk result (λ r. IsSound r.0) }
     ensures agrees { IfOk result (λ r. Agrees L.opening r.0 L.present L.bb L.workers r.1.items) }
     ensures allowed { IfOk result
         (λ r. AreAllowed (G.accepted gate.now) options.iteration r.0 r.1.items) }
-    ensures thread { IfErr result (λ fault. fault ≡ NoThread → 1 < workers) }
+    ensures thread { IfErr result (λ fault. fault ≡ NoThread → 1 < L.workers) }
+    ensures workspace { workspace.new ≡ workspace.old }
 {
+    let Beginning {
+        book,
+        blank,
+        opened,
+    } = beginning;
     let (head, front) = opened.named::<L>();
-    let kept = mem::replace(trees, Vec::new(alloc));
-    let board = board_of(alloc, prepared, options, &book, kept, head)?;
-    let desk = work_on(rt, alloc, &board, book, workers, blank, front, tools, gate)?;
+    let kept = mem::replace(&mut workspace.trees, Vec::new(alloc));
+    let board = board_of(alloc, &workspace.prepared, options, &book, kept, head)?;
+    let searcher = Searcher {
+        alloc,
+        board: &board,
+        gate,
+    };
+    let desk = work_on(rt, &searcher, book, blank, front, &mut workspace.tools)?;
     let (row, opening) = board.into_parts();
-    *trees = opening;
-    Ok(book_and_reports(alloc, desk, row, options.iteration, workers, gate)?)
+    workspace.trees = opening;
+    Ok(book_and_reports(alloc, desk, row, options, gate)?)
 }
 
 /// Makes an iteration of a negotiation. This many workers draw the nets of the book, in whose open
@@ -330,16 +316,12 @@ pub fn iterate_in<R: Threads + Wait + Sync, G: Gate + Sync>(
     ensures workspace { workspace.new ≡ workspace.old }
 {
     let options = SearchOptions::of(settings, iteration, workers);
-    let blank = Blank::new(workers as u64);
-    let opened = Opened::new();
-    let Workspace {
-        prepared,
-        tools,
-        trees,
-    } = workspace;
-    iterate_as::<Brand, R, G>(
-        rt, alloc, prepared, tools, trees, book, options, workers, blank, opened, gate,
-    )
+    let beginning = Beginning {
+        book,
+        blank: Blank::new(workers as u64),
+        opened: Opened::new(),
+    };
+    iterate_as::<Brand, R, G>(rt, alloc, workspace, beginning, options, gate)
 }
 
 /// Returns a workspace of a copy of the book's problem.

@@ -15,6 +15,7 @@ use crate::fault::TurnFault;
 use crate::had_room::HadRoom;
 use crate::history::{Front, Logged};
 use crate::page::Page;
+use crate::search::Searcher;
 use congestion_book::{leave_net, replace_net, return_net};
 use gates::Gate;
 use group_wave::Scratch;
@@ -118,13 +119,11 @@ fn is_open(turned: &[bool], net: u32) -> bool
 /// Searches for the tree of a net in this view. Records at which nodes of the tree the others leave
 /// room.
 fn search_noting<L: Logged, G: Gate>(
-    alloc: Global,
-    board: &Board<'_, L>,
+    searcher: &Searcher<'_, '_, L, G>,
     net: u32,
     view: &View,
     scratch: &mut Scratch,
     room: &mut HadRoom,
-    gate: &G,
 ) -> Result<Option<Tree>, TurnFault>
     requires net { net < net_count L.plan.opening }
     requires fits { scratch.old ≡ node_total L.plan.opening }
@@ -133,8 +132,8 @@ fn search_noting<L: Logged, G: Gate>(
     ensures routes { IfOk result (RoutesNet L.plan.opening.problem net) }
     ensures fits { scratch.new ≡ scratch.old }
 {
-    let found = board.search(alloc, net, view, scratch, gate)?;
-    room.note(board, view, &found)?;
+    let found = searcher.search(net, view, scratch)?;
+    room.note(searcher.board, view, &found)?;
     Ok(found)
 }
 
@@ -195,12 +194,10 @@ impl<L: Logged> Replica<L> {
     /// nodes of it the others leave room. Returns `Astray` if the net had a turn.
     pub(crate) fn search<G: Gate>(
         &mut self,
-        alloc: Global,
-        board: &Board<'_, L>,
+        searcher: &Searcher<'_, '_, L, G>,
         net: u32,
         scratch: &mut Scratch,
         room: &mut HadRoom,
-        gate: &G,
     ) -> Result<FoundTree<L>, TurnFault>
         requires fits { scratch.old ≡ node_total L.plan.opening }
         ensures turns { self.new ≡ self.old }
@@ -209,9 +206,9 @@ impl<L: Logged> Replica<L> {
         if !is_open(&self.turned, net) {
             return Err(TurnFault::Astray);
         }
-        let own = board.opening_tree(net);
+        let own = searcher.board.opening_tree(net);
         leave_net(&mut self.view, net, own);
-        let found = search_noting(alloc, board, net, &self.view, scratch, room, gate);
+        let found = search_noting(searcher, net, &self.view, scratch, room);
         return_net(&mut self.view, net, own);
         Ok(FoundTree::new(net, found?, self.front.again()))
     }

@@ -1,10 +1,10 @@
 //! Workers that make the turns of a schedule. Each makes its own turns in order, and each turn
 //! after those that it has to see and before those that come after it.
 
-use crate::board::Board;
-use crate::course::Course;
+use crate::course::{Course, NumberedTurn};
 use crate::fault::TurnFault;
 use crate::history::Logged;
+use crate::search::Searcher;
 use crate::turn_desk::TurnDesk;
 use crate::worker::Worker;
 use crate::workspace::Tools;
@@ -32,15 +32,14 @@ fn workers_of_nets(
 }
 
 /// Draws all nets, each for the worker that makes its turn.
-pub(crate) fn draw_all<L: Logged>(
-    alloc: Global,
-    board: &Board<'_, L>,
+pub(crate) fn draw_all<L: Logged, G>(
+    searcher: &Searcher<'_, '_, L, G>,
     desk: &mut TurnDesk<L>,
     workers: &mut [Worker<L>],
     turns: &[ScheduledTurn],
 ) -> Result<(), TurnFault> {
-    let nets = board.prepared().problem().nets();
-    for number in workers_of_nets(alloc, turns, nets)? {
+    let nets = searcher.board.prepared().problem().nets();
+    for number in workers_of_nets(searcher.alloc, turns, nets)? {
         let Some(worker) = workers.get_mut(number as usize) else {
             return Err(TurnFault::Astray);
         };
@@ -52,17 +51,16 @@ pub(crate) fn draw_all<L: Logged>(
 /// Makes the turns of one worker. Returns what it searched with.
 fn make_own_turns<L: Logged, R: Wait, G: Gate>(
     rt: &R,
-    alloc: Global,
+    searcher: &Searcher<'_, '_, L, G>,
     desk: &Mutex<TurnDesk<L>>,
-    board: &Board<'_, L>,
     course: &Course<'_>,
     worker: Worker<L>,
-    gate: &G,
 ) -> Result<Tools, TurnFault> {
     let mut worker = worker;
-    for (place, turn) in course.turns().iter().enumerate() {
+    for (number, turn) in course.turns().iter().enumerate() {
         if turn.worker == worker.number() {
-            worker.make_scheduled(rt, alloc, desk, board, course, place as u64, turn, gate)?;
+            let turn = NumberedTurn::new(number, turn);
+            worker.make_scheduled(rt, searcher, desk, course, turn)?;
         }
     }
     Ok(worker.into_tools())
@@ -72,14 +70,12 @@ fn make_own_turns<L: Logged, R: Wait, G: Gate>(
 /// longer wait for it. Returns what it searched with.
 pub(crate) fn follow<L: Logged, R: Wait, G: Gate>(
     rt: &R,
-    alloc: Global,
+    searcher: &Searcher<'_, '_, L, G>,
     desk: &Mutex<TurnDesk<L>>,
-    board: &Board<'_, L>,
     course: &Course<'_>,
     worker: Worker<L>,
-    gate: &G,
 ) -> Result<Tools, TurnFault> {
-    let made = make_own_turns(rt, alloc, desk, board, course, worker, gate);
+    let made = make_own_turns(rt, searcher, desk, course, worker);
     if made.is_err() {
         course.stop(rt);
     }
@@ -89,18 +85,17 @@ pub(crate) fn follow<L: Logged, R: Wait, G: Gate>(
 /// Makes all turns in one thread, each by the worker whose turn it is.
 pub(crate) fn follow_alone<L: Logged, R: Wait, G: Gate>(
     rt: &R,
-    alloc: Global,
+    searcher: &Searcher<'_, '_, L, G>,
     desk: &Mutex<TurnDesk<L>>,
-    board: &Board<'_, L>,
     course: &Course<'_>,
     workers: &mut [Worker<L>],
-    gate: &G,
 ) -> Result<(), TurnFault> {
-    for (place, turn) in course.turns().iter().enumerate() {
+    for (number, turn) in course.turns().iter().enumerate() {
         let Some(worker) = workers.get_mut(turn.worker as usize) else {
             return Err(TurnFault::Astray);
         };
-        worker.make_scheduled(rt, alloc, desk, board, course, place as u64, turn, gate)?;
+        let turn = NumberedTurn::new(number, turn);
+        worker.make_scheduled(rt, searcher, desk, course, turn)?;
     }
     Ok(())
 }

@@ -1,7 +1,7 @@
 //! How workers search in an iteration.
 
 ghost use Rattle.std.specs.Prelude.{◌≡◌, ◌<◌, ◌≤◌, length, IfOk, IfErr};
-ghost use Rattle.routing_problem.specs.Nodes.{node_count_of};
+ghost use Rattle.congestion_book.specs.Contents.{net_count, node_total};
 ghost use Rattle.node_cost.specs.Options.{greatest_present, present_of, most_iterations};
 ghost use Rattle.wavefront.specs.Growth.{space_of};
 ghost use Rattle.net_workers.specs.Searches.{IsFoundIn};
@@ -9,13 +9,14 @@ ghost use Rattle.net_workers.specs.kept.Routes.{RoutesNet};
 ghost use Rattle.net_workers.specs.kept.Looks.{most_looks};
 ghost use Rattle.net_workers.specs.declared.fault.TurnFault.TheVariants.{Memory};
 
+use crate::board::Board;
 use crate::fault::TurnFault;
+use crate::history::Logged;
 use gates::Gate;
-use group_wave::{OldTree, Scratch, route_net};
+use group_wave::Scratch;
 use node_cost::{Settings, View};
-use route_tree::{Row, Tree};
+use route_tree::Tree;
 use std::alloc::Global;
-use wave_ground::PreparedProblem;
 use wavefront::{Found, SearchFault};
 
 /// The number of times that a worker may look again at a net that it holds.
@@ -41,6 +42,7 @@ impl SearchOptions {
     pub(crate) fn of(settings: &Settings, iteration: u32, workers: u32) -> SearchOptions
         requires { (1 ≤ iteration) × (iteration ≤ most_iterations) }
         ensures iteration { result.iteration ≡ iteration }
+        ensures workers { result.workers ≡ workers }
         ensures present { result.present ≡ present_of settings.now iteration }
         ensures bb { result.bb ≡ settings.now.bb }
         ensures looks { result.looks ≡ most_looks iteration workers }
@@ -60,47 +62,41 @@ impl SearchOptions {
     }
 }
 
-/// Searches for the tree of a net. Returns the tree, or none if the net is stuck. In that case the
-/// gate is called. The net's tree has had the rows `before`, or there was none.
-pub(crate) fn search<G: Gate>(
-    alloc: Global,
-    prepared: &PreparedProblem,
-    net: u32,
-    view: &View,
-    options: SearchOptions,
-    before: &[Row],
-    scratch: &mut Scratch,
-    gate: &G,
-) -> Result<Option<Tree>, TurnFault>
-    requires net { net < length prepared.now.nets }
-    requires fits { scratch.old ≡ node_count_of prepared.now.device }
-    ensures found { IfOk result (IsFoundIn
-        (space_of prepared.now net view.now options.present options.bb)) }
-    ensures routes { IfOk result (RoutesNet prepared.now net) }
-    ensures memory { length view.now ≡ node_count_of prepared.now.device →
-        IfErr result (λ fault. fault ≡ Memory) }
-    ensures fits { scratch.new ≡ scratch.old }
-{
-    let before = OldTree {
-        rows: before,
-        is_kept: options.is_steady,
-    };
-    match route_net(
-        alloc,
-        prepared,
-        net,
-        view,
-        options.present,
-        options.bb,
-        before,
-        scratch,
-    ) {
-        Ok(Found::Tree(tree)) => Ok(Some(tree)),
-        Ok(Found::NoPath(sink)) => {
-            gate.stuck(net, sink);
-            Ok(None)
+/// What all workers of an iteration search with: the board, the gate that they call, and what gives
+/// them memory.
+#[derive(Clone, Copy)]
+pub(crate) struct Searcher<'a, 'b, L: Logged, G> {
+    pub(crate) alloc: Global,
+    pub(crate) board: &'a Board<'b, L>,
+    pub(crate) gate: &'a G,
+}
+
+impl<L: Logged, G: Gate> Searcher<'_, '_, L, G> {
+    /// Searches for the tree of a net in this view. Returns the tree, or none if the net is stuck.
+    /// In that case the gate is called.
+    pub(crate) fn search(
+        &self,
+        net: u32,
+        view: &View,
+        scratch: &mut Scratch,
+    ) -> Result<Option<Tree>, TurnFault>
+        requires net { net < net_count L.plan.opening }
+        requires fits { scratch.old ≡ node_total L.plan.opening }
+        ensures found { IfOk result (IsFoundIn
+            (space_of L.plan.opening.problem net view.now L.plan.present L.plan.bb)) }
+        ensures routes { IfOk result (RoutesNet L.plan.opening.problem net) }
+        ensures memory { length view.now ≡ node_total L.plan.opening →
+            IfErr result (λ fault. fault ≡ Memory) }
+        ensures fits { scratch.new ≡ scratch.old }
+    {
+        match self.board.route(self.alloc, net, view, scratch) {
+            Ok(Found::Tree(tree)) => Ok(Some(tree)),
+            Ok(Found::NoPath(sink)) => {
+                self.gate.stuck(net, sink);
+                Ok(None)
+            }
+            Err(SearchFault::Memory) => Err(TurnFault::Memory),
+            Err(SearchFault::ViewSize) => Err(TurnFault::Astray),
         }
-        Err(SearchFault::Memory) => Err(TurnFault::Memory),
-        Err(SearchFault::ViewSize) => Err(TurnFault::Astray),
     }
 }

@@ -4,15 +4,16 @@ ghost use Rattle.std.specs.Prelude.{◌≡◌, ◌<◌, [], false, replicate, If
 ghost use Rattle.congestion_book.specs.Contents.{node_total};
 
 use crate::board::Board;
-use crate::course::Course;
+use crate::course::{Course, NumberedTurn};
 use crate::fault::TurnFault;
 use crate::had_room::HadRoom;
 use crate::history::{Front, Logged};
 use crate::replica::{FoundTree, MOST_TURNS, Replica};
+use crate::search::Searcher;
 use crate::share::Share;
 use crate::turn_desk::TurnDesk;
 use crate::workspace::Tools;
-use gates::{Gate, ScheduledTurn};
+use gates::Gate;
 use group_wave::Scratch;
 use std::alloc::Global;
 use std::marker::Model;
@@ -111,10 +112,8 @@ impl<L: Logged> Worker<L> {
     /// Searches for the tree of a net, after the turns that the replica has seen.
     fn search<G: Gate>(
         &mut self,
-        alloc: Global,
-        board: &Board<'_, L>,
+        searcher: &Searcher<'_, '_, L, G>,
         net: u32,
-        gate: &G,
     ) -> Result<FoundTree<L>, TurnFault> {
         let Worker {
             replica,
@@ -122,11 +121,12 @@ impl<L: Logged> Worker<L> {
             scratch,
             ..
         } = self;
-        replica.search(alloc, board, net, scratch, room, gate)
+        replica.search(searcher, net, scratch, room)
     }
 
-    /// Returns whether the others have filled a node of what was found, by the turns up to now.
-    fn is_filled(&mut self, board: &Board<'_, L>, found: &FoundTree<L>) -> bool {
+    /// Looks: replays the turns up to now, and returns whether they have filled a node of what was
+    /// found.
+    fn look(&mut self, board: &Board<'_, L>, found: &FoundTree<L>) -> bool {
         let Worker { replica, room, .. } = self;
         let seen = replica.len();
         replica.catch_up(board, MOST_TURNS);
@@ -135,21 +135,21 @@ impl<L: Logged> Worker<L> {
 
     /// Makes the turn with what was found. If it may look and the others have filled a node of what
     /// was found, makes no turn and returns what was found.
-    fn try_turn<R: Wait>(
+    fn try_turn<R: Wait, G: Gate>(
         &mut self,
         rt: &R,
-        alloc: Global,
+        searcher: &Searcher<'_, '_, L, G>,
         desk: &Mutex<TurnDesk<L>>,
-        board: &Board<'_, L>,
         found: FoundTree<L>,
         may_look: bool,
     ) -> Result<Option<FoundTree<L>>, TurnFault> {
-        let mut tree = found.copy_tree(alloc)?;
-        if may_look && self.is_filled(board, &found) {
+        let board = searcher.board;
+        let mut tree = found.copy_tree(searcher.alloc)?;
+        if may_look && self.look(board, &found) {
             return Ok(Some(found));
         }
         let mut desk = hold(rt, desk);
-        if may_look && desk.len() != self.replica.len() && self.is_filled(board, &found) {
+        if may_look && desk.len() != self.replica.len() && self.look(board, &found) {
             return Ok(Some(found));
         }
         let made = desk.make_turn(board, &mut self.share, found, &mut tree);
@@ -164,41 +164,37 @@ impl<L: Logged> Worker<L> {
 
     /// Makes its turn for a net with what it found. If the others have filled a node of the tree,
     /// it looks and searches again, as often as the board allows.
-    fn settle<R: Wait, G: Gate>(
+    fn make_turn_looking<R: Wait, G: Gate>(
         &mut self,
         rt: &R,
-        alloc: Global,
+        searcher: &Searcher<'_, '_, L, G>,
         desk: &Mutex<TurnDesk<L>>,
-        board: &Board<'_, L>,
         found: FoundTree<L>,
-        gate: &G,
     ) -> Result<(), TurnFault> {
         let mut found = found;
-        for _ in 0..board.looks() {
-            let Some(filled) = self.try_turn(rt, alloc, desk, board, found, true)? else {
+        for _ in 0..searcher.board.looks() {
+            let Some(filled) = self.try_turn(rt, searcher, desk, found, true)? else {
                 return Ok(());
             };
-            gate.looked(self.share.worker(), filled.net());
-            found = self.search(alloc, board, filled.net(), gate)?;
+            searcher.gate.looked(self.share.worker(), filled.net());
+            found = self.search(searcher, filled.net())?;
         }
-        self.try_turn(rt, alloc, desk, board, found, false)?;
+        self.try_turn(rt, searcher, desk, found, false)?;
         Ok(())
     }
 
     /// Searches for the tree of a net that it drew, after this many turns.
     fn search_drawn<G: Gate>(
         &mut self,
-        alloc: Global,
-        board: &Board<'_, L>,
+        searcher: &Searcher<'_, '_, L, G>,
         net: u32,
         turns: u64,
-        gate: &G,
     ) -> Result<FoundTree<L>, TurnFault> {
         let worker = self.number();
-        gate.between(worker, net);
-        self.replica.catch_up(board, turns);
-        let found = self.search(alloc, board, net, gate)?;
-        gate.searched(worker, net);
+        searcher.gate.between(worker, net);
+        self.replica.catch_up(searcher.board, turns);
+        let found = self.search(searcher, net)?;
+        searcher.gate.searched(worker, net);
         Ok(found)
     }
 
@@ -217,7 +213,7 @@ impl<L: Logged> Worker<L> {
             return Ok(None);
         };
         held.push(net)?;
-        for _ in 1..board.portion(net) {
+        for _ in 1..board.portions().count(net) {
             let Some((net, _)) = desk.draw(share) else {
                 break;
             };
@@ -231,19 +227,17 @@ impl<L: Logged> Worker<L> {
     fn make_turns<R: Wait, G: Gate>(
         &mut self,
         rt: &R,
-        alloc: Global,
+        searcher: &Searcher<'_, '_, L, G>,
         desk: &Mutex<TurnDesk<L>>,
-        board: &Board<'_, L>,
-        gate: &G,
     ) -> Result<bool, TurnFault> {
-        let Some(made) = self.draw_portion(rt, desk, board)? else {
+        let Some(made) = self.draw_portion(rt, desk, searcher.board)? else {
             return Ok(false);
         };
         let mut seen = made;
-        let held = mem::replace(&mut self.held, Vec::new(alloc));
+        let held = mem::replace(&mut self.held, Vec::new(searcher.alloc));
         for net in held.iter() {
-            let found = self.search_drawn(alloc, board, *net, seen, gate)?;
-            self.settle(rt, alloc, desk, board, found, gate)?;
+            let found = self.search_drawn(searcher, *net, seen)?;
+            self.make_turn_looking(rt, searcher, desk, found)?;
             seen = MOST_TURNS;
         }
         self.held = held;
@@ -255,18 +249,16 @@ impl<L: Logged> Worker<L> {
     pub(crate) fn make_scheduled<R: Wait, G: Gate>(
         &mut self,
         rt: &R,
-        alloc: Global,
+        searcher: &Searcher<'_, '_, L, G>,
         desk: &Mutex<TurnDesk<L>>,
-        board: &Board<'_, L>,
         course: &Course<'_>,
-        place: u64,
-        turn: &ScheduledTurn,
-        gate: &G,
+        numbered: NumberedTurn,
     ) -> Result<(), TurnFault> {
-        await_turns(rt, board, course, turn.seen)?;
-        let found = self.search_drawn(alloc, board, turn.net, turn.seen, gate)?;
-        await_turns(rt, board, course, place)?;
-        self.try_turn(rt, alloc, desk, board, found, false)?;
+        let NumberedTurn { number, turn } = numbered;
+        await_turns(rt, searcher.board, course, turn.seen)?;
+        let found = self.search_drawn(searcher, turn.net, turn.seen)?;
+        await_turns(rt, searcher.board, course, number)?;
+        self.try_turn(rt, searcher, desk, found, false)?;
         course.count(rt);
         Ok(())
     }
@@ -293,15 +285,13 @@ impl<L: Logged> Worker<L> {
 /// searched with.
 pub(crate) fn work_through<L: Logged, R: Wait, G: Gate>(
     rt: &R,
-    alloc: Global,
+    searcher: &Searcher<'_, '_, L, G>,
     desk: &Mutex<TurnDesk<L>>,
-    board: &Board<'_, L>,
     worker: Worker<L>,
-    gate: &G,
 ) -> Result<Tools, TurnFault> {
     let mut worker = worker;
     for _ in rt.forever() {
-        if !worker.make_turns(rt, alloc, desk, board, gate)? {
+        if !worker.make_turns(rt, searcher, desk)? {
             return Ok(worker.into_tools());
         }
     }

@@ -12,7 +12,7 @@ use net_file::Netlist;
 use rr_graph::{Mode, Problem};
 use run_inputs::{AppFault, Design, InputFile, NetlistText};
 use std::alloc::Global;
-use text_output::{ByteSink, OutputBuffer};
+use text_output::{ByteSink, Printer};
 use vpr_text::ByteSource;
 
 /// Prints the lines of the nets of a problem. There is one at least.
@@ -25,9 +25,9 @@ fn print_lines<W: ByteSink>(
     ensures { PrintsText (writing_to W.taken W.failed out.old out.new)
         (nets_text netlist.now problem.now) tt result }
 {
-    let mut buffer = OutputBuffer::new();
-    put_nets(&mut buffer, out, netlist, problem);
-    match buffer.finish(out) {
+    let mut printer = Printer::new(out);
+    put_nets(&mut printer, netlist, problem);
+    match printer.finish() {
         Ok(()) => Ok(()),
         Err(_) => Err(AppFault::Unwritten),
     }

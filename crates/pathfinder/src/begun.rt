@@ -4,13 +4,38 @@ use crate::BAD_WORDS;
 use crate::identity::lacks_standard_input;
 use crate::names::{FurtherNames, ShownNames};
 use crate::opened::{Input, OpenedDesign, open, open_design};
-use refusals::{FilesRead, NameFault, first_standard_input, input_fault, tell_refusal};
+use crate::schedule::{RunFault, read_followed, refused_schedule};
+use command_line::command::RunWords;
+use refusals::{
+    FilesRead, NameFault, first_standard_input, input_fault, is_standard_input, tell_refusal,
+};
 use run_inputs::{AppFault, InputFile, print_fault, status};
 use std::io;
 use vpr_text::Adapted;
 
 /// The names of a run's files, and the opened files of its design.
-pub type Begun = (ShownNames, OpenedDesign);
+#[derive(Drop)]
+pub struct OpenedNames {
+    pub names: ShownNames,
+    pub design: OpenedDesign,
+}
+
+/// The names of a run's files, the opened files of its design, and the opened ROUTE.
+#[derive(Drop)]
+pub struct OpenedRouting {
+    pub names: ShownNames,
+    pub design: OpenedDesign,
+    pub route: Input,
+}
+
+/// The names of a run's files, the opened files of its design, and the bytes of the schedule that
+/// it follows, if it follows one.
+#[derive(Drop)]
+pub struct OpenedRun {
+    pub names: ShownNames,
+    pub design: OpenedDesign,
+    pub followed: Option<Vec<u8>>,
+}
 
 /// Opens the files of a design: NET, ARCH and PLACE, before ROUTE. `further` names the other files
 /// of the run.
@@ -23,14 +48,14 @@ pub fn begin(
     files: [&str; 4],
     further: FurtherNames<'_>,
     is_explained: bool,
-) -> Result<Begun, u8> {
+) -> Result<OpenedNames, u8> {
     let [net, arch, place, _] = files;
     test_inputs(rt, [net, arch, place, ""])?;
     let Ok(names) = ShownNames::of(rt.alloc(), files, further) else {
         return Err(refused(rt, AppFault::Memory));
     };
     match open_design(rt, arch, net, place, is_explained) {
-        Ok(design) => Ok((names, design)),
+        Ok(design) => Ok(OpenedNames { names, design }),
         Err(fault) => Err(refused_with(rt, fault, is_explained, names.without_bytes())),
     }
 }
@@ -44,14 +69,45 @@ pub fn begin_with_route(
     rt: &HostRuntime,
     files: [&str; 4],
     is_explained: bool,
-) -> Result<(Begun, Input), u8> {
+) -> Result<OpenedRouting, u8> {
     let [_, _, _, route] = files;
     test_inputs(rt, files)?;
-    let (names, design) = begin(rt, files, FurtherNames::none(), is_explained)?;
+    let OpenedNames { names, design } = begin(rt, files, FurtherNames::none(), is_explained)?;
     match open(rt, route, InputFile::Route, is_explained) {
-        Ok(route) => Ok(((names, design), route)),
+        Ok(route) => Ok(OpenedRouting {
+            names,
+            design,
+            route,
+        }),
         Err(fault) => Err(refused_with(rt, fault, is_explained, names.without_bytes())),
     }
+}
+
+/// Opens the files of a design for `route` or `width`, and reads the schedule that the run follows.
+///
+/// # Errors
+/// As for `begin`, and for a ROUTE that can't be written or a schedule that can't be read.
+#[inline(never)]
+pub fn begin_run(
+    rt: &HostRuntime,
+    words: &RunWords<'_>,
+    is_explained: bool,
+) -> Result<OpenedRun, u8> {
+    if is_standard_input(words.route) {
+        return Err(refused_name(rt, NameFault::Written));
+    }
+    let files = [words.net, words.arch, words.place, words.route];
+    let further = FurtherNames {
+        log: words.log,
+        schedule: words.schedule,
+        follow: words.follow,
+    };
+    let OpenedNames { names, design } = begin(rt, files, further, is_explained)?;
+    Ok(OpenedRun {
+        names,
+        design,
+        followed: read_followed(rt, words.follow)?,
+    })
 }
 
 /// Tests, before an input is opened, that at most one is standard input, and that there is one
@@ -105,4 +161,19 @@ pub fn refused_with(rt: &HostRuntime, fault: AppFault, explain: bool, files: Fil
         tell_refusal(rt, &fault, files);
     }
     status
+}
+
+/// Prints the line of the fault of a run that may follow a schedule, explains it on standard error
+/// if that is wanted, and returns its status.
+pub fn refused_run(
+    rt: &HostRuntime,
+    fault: RunFault,
+    schedule: Option<&str>,
+    is_explained: bool,
+    files: FilesRead<'_>,
+) -> u8 {
+    match fault {
+        RunFault::Run(fault) => refused_with(rt, fault, is_explained, files),
+        RunFault::Schedule(fault) => refused_schedule(rt, fault, schedule, is_explained),
+    }
 }

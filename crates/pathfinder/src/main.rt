@@ -7,6 +7,7 @@ mod files;
 mod identity;
 mod log_file;
 mod names;
+mod negotiations;
 mod opened;
 mod replacement;
 mod run_gates;
@@ -16,22 +17,25 @@ mod side;
 mod target;
 mod terminal;
 mod warning;
+mod written;
 
 ghost use Rattle.std.specs.Prelude.{◌≤◌};
 ghost use Rattle.rr_graph.specs.Fabric.{longest_side, most_tracks};
 
-use begun::{begin, begin_with_route, read_of, refused, refused_name, refused_with};
+use begun::{
+    OpenedNames, OpenedRouting, OpenedRun, begin, begin_run, begin_with_route, read_of, refused,
+    refused_run, refused_with,
+};
 use clap::error::ErrorKind;
 use clap::{ArgMatches, Error as ClapError};
 use command_line::command;
 use command_line::command::GraphWords;
 use names::{FurtherNames, ShownNames};
 use opened::{Input, open, standard_input};
-use refusals::{FilesRead, NameFault, is_standard_input, tell_vpr_options};
+use refusals::tell_vpr_options;
 use run_inputs::{AppFault, InputFile, status};
 use run_log::Progress;
 use runs::{outcome_status, report_status, verdict_status};
-use schedule::{RunFault, read_followed, refused_schedule};
 use std::io::{IsTerminal, Write};
 use std::process::ExitCode;
 use std::rt::Runtime;
@@ -98,35 +102,28 @@ fn run_route<R: Runtime + Threads + Wait + Sync + AllocGlobal>(
     given: &ArgMatches<'_>,
     watched: Watched,
 ) -> u8 {
-    let Some(given) = command::route_words(given) else {
+    let (Some(words), Some(given)) = (command::run_words(given), command::route_words(given)) else {
         return BAD_WORDS;
     };
-    if is_standard_input(given.route) {
-        return refused_name(rt, NameFault::Written);
-    }
-    let files = [given.net, given.arch, given.place, given.route];
-    let (is_explained, followed) = (watched.explains(given.explain), given.follow);
-    let further = FurtherNames {
-        log: given.log,
-        schedule: given.schedule,
-        follow: given.follow,
-    };
-    let (names, mut design) = match begin(rt, files, further, is_explained) {
-        Ok(begun) => begun,
-        Err(status) => return status,
-    };
-    let schedule = match read_followed(rt, followed) {
-        Ok(bytes) => bytes,
+    let (is_explained, follow) = (watched.explains(words.explain), words.follow);
+    let OpenedRun {
+        names,
+        mut design,
+        followed,
+    } = match begin_run(rt, &words, is_explained) {
+        Ok(opened) => opened,
         Err(status) => return status,
     };
     let progress = progress_on(rt, watched);
-    let answer = commands::route(
+    let followed = bytes_of(&followed);
+    let answer = negotiations::route(
         handle,
         rt,
+        words,
         given,
         &names,
         &mut design,
-        bytes_of(&schedule),
+        followed,
         &progress,
         watched,
     );
@@ -135,7 +132,7 @@ fn run_route<R: Runtime + Threads + Wait + Sync + AllocGlobal>(
         Ok(outcome) => outcome_status(&outcome),
         Err(fault) => {
             let files = read_of(&names, &design, &[]);
-            refused_run(rt, fault, followed, is_explained, files)
+            refused_run(rt, fault, follow, is_explained, files)
         }
     }
 }
@@ -148,35 +145,28 @@ fn run_width<R: Runtime + Threads + Wait + Sync + AllocGlobal>(
     given: &ArgMatches<'_>,
     watched: Watched,
 ) -> u8 {
-    let Some(given) = command::width_words(given) else {
+    let (Some(words), Some(given)) = (command::run_words(given), command::width_words(given)) else {
         return BAD_WORDS;
     };
-    if is_standard_input(given.route) {
-        return refused_name(rt, NameFault::Written);
-    }
-    let files = [given.net, given.arch, given.place, given.route];
-    let (is_explained, followed) = (watched.explains(given.explain), given.follow);
-    let further = FurtherNames {
-        log: given.log,
-        schedule: given.schedule,
-        follow: given.follow,
-    };
-    let (names, mut design) = match begin(rt, files, further, is_explained) {
-        Ok(begun) => begun,
-        Err(status) => return status,
-    };
-    let schedule = match read_followed(rt, followed) {
-        Ok(bytes) => bytes,
+    let (is_explained, follow) = (watched.explains(words.explain), words.follow);
+    let OpenedRun {
+        names,
+        mut design,
+        followed,
+    } = match begin_run(rt, &words, is_explained) {
+        Ok(opened) => opened,
         Err(status) => return status,
     };
     let progress = progress_on(rt, watched);
-    let answer = commands::width(
+    let followed = bytes_of(&followed);
+    let answer = negotiations::width(
         handle,
         rt,
+        words,
         given,
         &names,
         &mut design,
-        bytes_of(&schedule),
+        followed,
         &progress,
         watched,
     );
@@ -185,7 +175,7 @@ fn run_width<R: Runtime + Threads + Wait + Sync + AllocGlobal>(
         Ok(report) => report_status(&report),
         Err(fault) => {
             let files = read_of(&names, &design, &[]);
-            refused_run(rt, fault, followed, is_explained, files)
+            refused_run(rt, fault, follow, is_explained, files)
         }
     }
 }
@@ -195,21 +185,6 @@ fn bytes_of(file: &Option<Vec<u8>>) -> Option<&[u8]> {
     match file {
         Some(bytes) => Some(bytes.as_slice()),
         None => None,
-    }
-}
-
-/// Prints the line of the fault of a run that may follow a schedule, explains it on standard error
-/// if that is wanted, and returns its status.
-fn refused_run(
-    rt: &HostRuntime,
-    fault: RunFault,
-    schedule: Option<&str>,
-    is_explained: bool,
-    files: FilesRead<'_>,
-) -> u8 {
-    match fault {
-        RunFault::Run(fault) => refused_with(rt, fault, is_explained, files),
-        RunFault::Schedule(fault) => refused_schedule(rt, fault, schedule, is_explained),
     }
 }
 
@@ -227,24 +202,20 @@ fn run_check(
     };
     let files = [given.net, given.arch, given.place, given.route];
     let is_explained = watched.explains(given.explain);
-    let ((names, mut design), mut route) = match begin_with_route(rt, files, is_explained) {
-        Ok(begun) => begun,
+    let mut opened = match begin_with_route(rt, files, is_explained) {
+        Ok(opened) => opened,
         Err(status) => return status,
     };
-    match commands::check(
-        handle,
-        rt,
-        given,
-        &names,
-        &mut design,
-        &mut route,
-        errors,
-        watched,
-    ) {
+    match commands::check(handle, rt, given, &mut opened, errors, watched) {
         Ok(verdict) => verdict_status(verdict),
         Err(fault) => {
-            let bytes = route.get_ref().bytes();
-            refused_with(rt, fault, is_explained, read_of(&names, &design, bytes))
+            let bytes = opened.route.get_ref().bytes();
+            refused_with(
+                rt,
+                fault,
+                is_explained,
+                read_of(&opened.names, &opened.design, bytes),
+            )
         }
     }
 }
@@ -256,8 +227,12 @@ fn run_report(rt: &HostRuntime, given: &ArgMatches<'_>, watched: Watched) -> u8 
     };
     let files = [given.net, given.arch, given.place, given.route];
     let is_explained = watched.explains(given.explain);
-    let ((names, mut design), mut route) = match begin_with_route(rt, files, is_explained) {
-        Ok(begun) => begun,
+    let OpenedRouting {
+        names,
+        mut design,
+        mut route,
+    } = match begin_with_route(rt, files, is_explained) {
+        Ok(opened) => opened,
         Err(status) => return status,
     };
     match commands::report(rt, given, &mut design, &mut route, watched) {
@@ -276,8 +251,13 @@ fn run_bound(rt: &HostRuntime, given: &ArgMatches<'_>, watched: Watched) -> u8 {
     };
     let files = [given.net, given.arch, given.place, ""];
     let is_explained = watched.explains(given.explain);
-    let (names, mut design) = match begin(rt, files, FurtherNames::none(), is_explained) {
-        Ok(begun) => begun,
+    let OpenedNames { names, mut design } = match begin(
+        rt,
+        files,
+        FurtherNames::none(),
+        is_explained,
+    ) {
+        Ok(opened) => opened,
         Err(status) => return status,
     };
     let progress = progress_on(rt, watched);
@@ -340,8 +320,13 @@ fn run_nets(rt: &HostRuntime, given: &ArgMatches<'_>, watched: Watched) -> u8 {
     };
     let files = [given.net, given.arch, given.place, ""];
     let is_explained = watched.explains(given.explain);
-    let (names, mut design) = match begin(rt, files, FurtherNames::none(), is_explained) {
-        Ok(begun) => begun,
+    let OpenedNames { names, mut design } = match begin(
+        rt,
+        files,
+        FurtherNames::none(),
+        is_explained,
+    ) {
+        Ok(opened) => opened,
         Err(status) => return status,
     };
     match commands::nets(rt, given, &mut design, watched) {

@@ -6,6 +6,7 @@ ghost use Rattle.node_cost.specs.Options.{most_workers};
 use crate::begun::refused;
 use crate::files::RunFile;
 use crate::shown::Plain;
+use command_line::command::WidthWords;
 use command_line::help::VERSION;
 use node_cost::{MOST_WORKERS, Settings};
 use rr_graph::Mode;
@@ -181,14 +182,13 @@ pub fn route_text(
 /// Returns the command `width` with the options of its own.
 pub fn width_text(
     alloc: Global,
-    start: u32,
-    upward: bool,
-    verify: u32,
+    given: &WidthWords<'_>,
     mode: Mode,
     is_steady: bool,
 ) -> Result<String, RunFault> {
     let (mode, steady) = (mode_text(mode), steady_text(is_steady));
-    let text = if upward {
+    let (start, verify) = (given.start, given.verify);
+    let text = if given.upward {
         format!(in alloc; "width, start {start}, upward, {mode}{steady}")
     } else {
         format!(in alloc; "width, start {start}, verify {verify}, {mode}{steady}")

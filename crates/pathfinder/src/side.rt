@@ -6,13 +6,8 @@ use crate::identity::{STANDARD_ERROR, STANDARD_OUTPUT};
 use crate::log_file::LogFile;
 use crate::shown::Plain;
 use crate::warning::is_free;
-use command_line::help::VERSION;
-use node_cost::Settings;
-use run_log::{Log, Progress, RunFiles};
+use run_log::Progress;
 use runs::SideFiles;
-use std::io::Eprint;
-use std::sync::Wait;
-use std::time::Clock;
 use vpr_text::Adapted;
 
 /// Returns the files of a run that no further file is written over: the inputs, ROUTE, those that
@@ -44,7 +39,7 @@ fn file_named<'a>(name: Option<&'a str>, route: &'a str) -> &'a str {
 /// Returns the sink of a log of this name. Returns `None` if none is wanted, or, after a warning,
 /// if it can't or shouldn't be written.
 #[inline(never)]
-fn log_sink<'a>(
+pub fn log_sink<'a>(
     rt: &'a HostRuntime,
     log: Option<&'a str>,
     others: [&'a str; 9],
@@ -56,32 +51,6 @@ fn log_sink<'a>(
     }
     let file = (name != "-").then_some(name);
     Some(Adapted::new(LogFile::new(rt, progress, file)))
-}
-
-/// Returns the log of a run that begins now, with this many workers. It is written if one is
-/// wanted. `shown_name` and `shown_files` are its name and those of the run's files, as they are
-/// shown.
-pub fn log_of<'a, R: Eprint + Clock + Wait>(
-    handle: &'a R,
-    rt: &'a HostRuntime,
-    name: Option<&'a str>,
-    others: [&'a str; 9],
-    shown_name: &'a str,
-    shown_files: RunFiles<'a>,
-    workers: u32,
-    settings: Settings,
-    progress: &'a Progress<'a, HostRuntime>,
-) -> Log<'a, R, Adapted<LogFile<'a>>> {
-    let sink = log_sink(rt, name, others, progress);
-    Log::new(
-        handle,
-        shown_name,
-        VERSION,
-        shown_files,
-        workers,
-        settings,
-        sink,
-    )
 }
 
 /// Returns the name of a further file of a run with these other files. Returns `None` if none is

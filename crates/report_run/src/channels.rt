@@ -1,13 +1,13 @@
 //! The lines on the channels.
 
 ghost use Rattle.std.specs.Prelude.{◌≡◌};
-ghost use Rattle.vpr_text.specs.Output.{SendsTo};
+ghost use Rattle.text_output.specs.Printing.{PrintsTo};
 ghost use Rattle.report_run.specs.Channels.{axis_text, occupancy_line, channel_lines, places_of_channel};
 
 use crate::text::put_mean;
 use route_report::ChannelUse;
 use rr_graph::{Device, Kind};
-use text_output::{ByteSink, OutputBuffer, put_number};
+use text_output::{ByteSink, Printer};
 
 /// Returns the name of the axis along which a channel runs, which comes before its number.
 fn axis_name(kind: Kind) -> &'static [u8]
@@ -30,41 +30,30 @@ pub(crate) fn places_of_channel(device: &Device, kind: Kind) -> u32
 }
 
 /// Prints the line of a channel.
-fn put_channel<W: ByteSink>(
-    out: &mut OutputBuffer,
-    sink: &mut W,
-    device: &Device,
-    channel: &ChannelUse,
-)
-    ensures { SendsTo W.taken W.failed sink.old sink.new out.old out.new
+fn put_channel<W: ByteSink>(out: &mut Printer<'_, W>, device: &Device, channel: &ChannelUse)
+    ensures { PrintsTo W.ByteSink out.old out.new
         (occupancy_line device.now channel.now) }
 {
-    out.push(sink, b"channel ");
-    out.push(sink, axis_name(channel.kind));
-    put_number(out, sink, channel.number);
-    out.push(sink, b" most ");
-    put_number(out, sink, channel.most);
-    out.push(sink, b" mean ");
-    put_mean(
-        out,
-        sink,
-        channel.total,
-        places_of_channel(device, channel.kind),
-    );
-    out.push(sink, b"\n");
+    out.push(b"channel ");
+    out.push(axis_name(channel.kind));
+    out.put_number(channel.number);
+    out.push(b" most ");
+    out.put_number(channel.most);
+    out.push(b" mean ");
+    put_mean(out, channel.total, places_of_channel(device, channel.kind));
+    out.push(b"\n");
 }
 
 /// Prints the lines of the channels.
 pub(crate) fn put_channels<W: ByteSink>(
-    out: &mut OutputBuffer,
-    sink: &mut W,
+    out: &mut Printer<'_, W>,
     device: &Device,
     channels: &[ChannelUse],
 )
-    ensures { SendsTo W.taken W.failed sink.old sink.new out.old out.new
+    ensures { PrintsTo W.ByteSink out.old out.new
         (channel_lines device.now channels.now) }
 {
     for channel in channels {
-        put_channel(out, sink, device, channel);
+        put_channel(out, device, channel);
     }
 }

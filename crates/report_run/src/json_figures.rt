@@ -2,7 +2,7 @@
 //! nets.
 
 ghost use Rattle.std.specs.Prelude.{◌≡◌};
-ghost use Rattle.vpr_text.specs.Output.{SendsTo};
+ghost use Rattle.text_output.specs.Printing.{PrintsTo};
 ghost use Rattle.report_run.specs.JsonReport.{figure_members, longest_member, net_members, totals_json};
 ghost use Rattle.report_run.specs.kept.Members.{before};
 
@@ -12,25 +12,23 @@ use crate::text::put_mean;
 use net_file::Netlist;
 use route_report::{Figures, NetFigures, NetTotals};
 use rr_graph::Problem;
-use text_output::{ByteSink, OutputBuffer, put_number};
+use text_output::{ByteSink, Printer};
 use width_bound::CutFigures;
 
 /// Prints the members on the whole routing, without the longest net.
 pub(crate) fn put_figure_members<W: ByteSink>(
-    out: &mut OutputBuffer,
-    sink: &mut W,
+    out: &mut Printer<'_, W>,
     netlist: &Netlist<'_>,
     problem: &Problem,
     bound: CutFigures,
     figures: &Figures,
 )
-    ensures { SendsTo W.taken W.failed sink.old sink.new out.old out.new
+    ensures { PrintsTo W.ByteSink out.old out.new
         (before (figure_members netlist.now problem.now bound figures.now)) }
 {
     let device = problem.device();
     put_parts(
         out,
-        sink,
         &[
             Part::Text(b"\"columns\":"),
             Part::Number(u64::from(device.nx())),
@@ -63,60 +61,57 @@ pub(crate) fn put_figure_members<W: ByteSink>(
 
 /// Prints the member on the longest net.
 pub(crate) fn put_longest_member<W: ByteSink>(
-    out: &mut OutputBuffer,
-    sink: &mut W,
+    out: &mut Printer<'_, W>,
     netlist: &Netlist<'_>,
     problem: &Problem,
     figures: &Figures,
 )
-    ensures { SendsTo W.taken W.failed sink.old sink.new out.old out.new
+    ensures { PrintsTo W.ByteSink out.old out.new
         (before (longest_member netlist.now problem.now figures.now)) }
 {
-    out.push(sink, b"\"longest\":");
-    put_name_or_null(out, sink, netlist, problem, figures.longest);
-    out.push(sink, b",");
+    out.push(b"\"longest\":");
+    put_name_or_null(out, netlist, problem, figures.longest);
+    out.push(b",");
 }
 
 /// Prints what a number for each net comes to, of which so many have a list.
 fn put_totals<W: ByteSink>(
-    out: &mut OutputBuffer,
-    sink: &mut W,
+    out: &mut Printer<'_, W>,
     netlist: &Netlist<'_>,
     problem: &Problem,
     listed: u32,
     totals: NetTotals,
 )
-    ensures { SendsTo W.taken W.failed sink.old sink.new out.old out.new
+    ensures { PrintsTo W.ByteSink out.old out.new
         (totals_json netlist.now problem.now listed totals) }
 {
-    out.push(sink, b"{\"total\":");
-    put_number(out, sink, totals.total);
-    out.push(sink, b",\"mean\":");
-    put_mean(out, sink, totals.total, listed);
-    out.push(sink, b",\"most\":");
-    put_number(out, sink, totals.most);
-    out.push(sink, b",\"first\":");
-    put_name_or_null(out, sink, netlist, problem, totals.first);
-    out.push(sink, b"}");
+    out.push(b"{\"total\":");
+    out.put_number(totals.total);
+    out.push(b",\"mean\":");
+    put_mean(out, totals.total, listed);
+    out.push(b",\"most\":");
+    out.put_number(totals.most);
+    out.push(b",\"first\":");
+    put_name_or_null(out, netlist, problem, totals.first);
+    out.push(b"}");
 }
 
 /// Prints the members on the bends, wires and places of the nets, of which so many have a list.
 pub(crate) fn put_net_members<W: ByteSink>(
-    out: &mut OutputBuffer,
-    sink: &mut W,
+    out: &mut Printer<'_, W>,
     netlist: &Netlist<'_>,
     problem: &Problem,
     listed: u32,
     nets: NetFigures,
 )
-    ensures { SendsTo W.taken W.failed sink.old sink.new out.old out.new
+    ensures { PrintsTo W.ByteSink out.old out.new
         (before (net_members netlist.now problem.now listed nets)) }
 {
-    out.push(sink, b"\"net_bends\":");
-    put_totals(out, sink, netlist, problem, listed, nets.bends);
-    out.push(sink, b",\"net_wires\":");
-    put_totals(out, sink, netlist, problem, listed, nets.wires);
-    out.push(sink, b",\"net_places\":");
-    put_totals(out, sink, netlist, problem, listed, nets.places);
-    out.push(sink, b",");
+    out.push(b"\"net_bends\":");
+    put_totals(out, netlist, problem, listed, nets.bends);
+    out.push(b",\"net_wires\":");
+    put_totals(out, netlist, problem, listed, nets.wires);
+    out.push(b",\"net_places\":");
+    put_totals(out, netlist, problem, listed, nets.places);
+    out.push(b",");
 }

@@ -1,7 +1,7 @@
 //! Values of JSON, and members of an object as lists of parts.
 
 ghost use Rattle.std.specs.Prelude.{◌≡◌};
-ghost use Rattle.vpr_text.specs.Output.{SendsTo};
+ghost use Rattle.text_output.specs.Printing.{PrintsTo};
 ghost use Rattle.report_run.specs.JsonReport.{bound_json, name_json, name_or_null, share_json};
 ghost use Rattle.report_run.specs.kept.Members.{part_text, parts_text};
 
@@ -11,7 +11,7 @@ use bound_run::{has_no_way, printed_width};
 use net_file::Netlist;
 use rr_graph::Problem;
 use run_inputs::{net_name, number_of_net};
-use text_output::{ByteSink, OutputBuffer, Piece, put_number, put_pieces};
+use text_output::{ByteSink, Piece, Printer};
 use width_bound::CutFigures;
 
 /// A part of a text of JSON.
@@ -30,84 +30,78 @@ pub(crate) enum Part<'a> {
 
 /// Prints how many, of how many.
 #[tactic(auto, unfolding(crate::specs::JsonReport::share_json))]
-pub(crate) fn put_share<W: ByteSink>(out: &mut OutputBuffer, sink: &mut W, part: u64, whole: u64)
-    ensures { SendsTo W.taken W.failed sink.old sink.new out.old out.new (share_json part whole) }
+pub(crate) fn put_share<W: ByteSink>(out: &mut Printer<'_, W>, part: u64, whole: u64)
+    ensures { PrintsTo W.ByteSink out.old out.new (share_json part whole) }
 {
-    put_pieces(
-        out,
-        sink,
-        &[
-            Piece::Text(b"{\"count\":"),
-            Piece::LongNumber(part),
-            Piece::Text(b",\"of\":"),
-            Piece::LongNumber(whole),
-            Piece::Text(b"}"),
-        ],
-    );
+    out.put_pieces(&[
+        Piece::Text(b"{\"count\":"),
+        Piece::LongNumber(part),
+        Piece::Text(b",\"of\":"),
+        Piece::LongNumber(whole),
+        Piece::Text(b"}"),
+    ]);
 }
 
 /// Prints the width below which there is no routing.
 #[tactic(auto, unfolding(crate::specs::JsonReport::bound_json))]
-fn put_bound<W: ByteSink>(out: &mut OutputBuffer, sink: &mut W, bound: CutFigures)
-    ensures { SendsTo W.taken W.failed sink.old sink.new out.old out.new (bound_json bound) }
+fn put_bound<W: ByteSink>(out: &mut Printer<'_, W>, bound: CutFigures)
+    ensures { PrintsTo W.ByteSink out.old out.new (bound_json bound) }
 {
     if has_no_way(bound) {
-        out.push(sink, b"null");
+        out.push(b"null");
     } else {
-        put_number(out, sink, printed_width(bound));
+        out.put_number(printed_width(bound));
     }
 }
 
 /// Prints a part.
-fn put_part<W: ByteSink>(out: &mut OutputBuffer, sink: &mut W, part: &Part<'_>)
-    ensures { SendsTo W.taken W.failed sink.old sink.new out.old out.new (part_text part.now) }
+fn put_part<W: ByteSink>(out: &mut Printer<'_, W>, part: &Part<'_>)
+    ensures { PrintsTo W.ByteSink out.old out.new (part_text part.now) }
 {
     match part {
-        Part::Text(bytes) => out.push(sink, bytes),
-        Part::Number(number) => put_number(out, sink, *number),
-        Part::Share(part, whole) => put_share(out, sink, *part, *whole),
-        Part::Mean(sum, count) => put_mean(out, sink, *sum, *count),
-        Part::Bound(bound) => put_bound(out, sink, *bound),
+        Part::Text(bytes) => out.push(bytes),
+        Part::Number(number) => out.put_number(*number),
+        Part::Share(part, whole) => put_share(out, *part, *whole),
+        Part::Mean(sum, count) => put_mean(out, *sum, *count),
+        Part::Bound(bound) => put_bound(out, *bound),
     }
 }
 
 /// Prints the parts, one after another.
-pub(crate) fn put_parts<W: ByteSink>(out: &mut OutputBuffer, sink: &mut W, parts: &[Part<'_>])
-    ensures { SendsTo W.taken W.failed sink.old sink.new out.old out.new (parts_text parts.now) }
+pub(crate) fn put_parts<W: ByteSink>(out: &mut Printer<'_, W>, parts: &[Part<'_>])
+    ensures { PrintsTo W.ByteSink out.old out.new (parts_text parts.now) }
 {
     for part in parts {
-        put_part(out, sink, part);
+        put_part(out, part);
     }
 }
 
 /// Prints the name of a net of the problem.
 pub(crate) fn put_name<W: ByteSink>(
-    out: &mut OutputBuffer,
-    sink: &mut W,
+    out: &mut Printer<'_, W>,
     netlist: &Netlist<'_>,
     problem: &Problem,
     net: u32,
 )
-    ensures { SendsTo W.taken W.failed sink.old sink.new out.old out.new
+    ensures { PrintsTo W.ByteSink out.old out.new
         (name_json netlist.now problem.now net) }
 {
     let number = number_of_net(problem, net);
-    put_string(out, sink, net_name(netlist, number));
+    put_string(out, net_name(netlist, number));
 }
 
 /// Prints the name of a net of the problem, or null.
 pub(crate) fn put_name_or_null<W: ByteSink>(
-    out: &mut OutputBuffer,
-    sink: &mut W,
+    out: &mut Printer<'_, W>,
     netlist: &Netlist<'_>,
     problem: &Problem,
     net: Option<u32>,
 )
-    ensures { SendsTo W.taken W.failed sink.old sink.new out.old out.new
+    ensures { PrintsTo W.ByteSink out.old out.new
         (name_or_null netlist.now problem.now net) }
 {
     match net {
-        Some(net) => put_name(out, sink, netlist, problem, net),
-        None => out.push(sink, b"null"),
+        Some(net) => put_name(out, netlist, problem, net),
+        None => out.push(b"null"),
     }
 }

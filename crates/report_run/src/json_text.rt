@@ -2,12 +2,12 @@
 
 ghost use Rattle.std.specs.Prelude.{◌≡◌, ◌==◌, ◌||◌, ◌++◌, ◌<◌, nat_lt, length};
 ghost use Rattle.std.specs.List.{flat_map};
-ghost use Rattle.vpr_text.specs.Output.{SendsTo};
+ghost use Rattle.text_output.specs.Printing.{PrintsTo};
 ghost use Rattle.rr_graph.specs.Fabric.{numbers_below};
 ghost use Rattle.report_run.specs.Json.{byte_at, byte_text, character_size, escaped, greatest_second, hex_text, is_in_character, is_reached, is_second, is_tail, is_within, least_second, size_by, string_text};
 
 use crate::text::digit_code;
-use text_output::{ByteSink, OutputBuffer};
+use text_output::{ByteSink, Printer};
 
 /// Returns whether a byte is within these bounds.
 fn is_within(low: u8, high: u8, byte: u8) -> bool
@@ -118,21 +118,21 @@ fn is_in_character(bytes: &[u8], index: usize) -> bool
 }
 
 /// Prints two digits of base 16.
-fn put_hex<W: ByteSink>(out: &mut OutputBuffer, sink: &mut W, byte: u8)
-    ensures { SendsTo W.taken W.failed sink.old sink.new out.old out.new (hex_text byte) }
+fn put_hex<W: ByteSink>(out: &mut Printer<'_, W>, byte: u8)
+    ensures { PrintsTo W.ByteSink out.old out.new (hex_text byte) }
 {
     let high = digit_code(u64::from(byte / 16));
     let low = digit_code(u64::from(byte % 16));
-    out.push(sink, &[high, low]);
+    out.push(&[high, low]);
 }
 
 /// Prints a byte of a string by these characters and two digits of base 16.
-fn put_code<W: ByteSink>(out: &mut OutputBuffer, sink: &mut W, front: &[u8], byte: u8)
-    ensures { SendsTo W.taken W.failed sink.old sink.new out.old out.new
+fn put_code<W: ByteSink>(out: &mut Printer<'_, W>, front: &[u8], byte: u8)
+    ensures { PrintsTo W.ByteSink out.old out.new
         (front.now ++ hex_text byte) }
 {
-    out.push(sink, front);
-    put_hex(out, sink, byte);
+    out.push(front);
+    put_hex(out, byte);
 }
 
 /// Returns whether a byte is a quote or a backslash.
@@ -151,45 +151,45 @@ fn is_plain(byte: u8, is_in: bool) -> bool
 
 /// Prints a byte of a string, which is or isn't one of a character of two bytes or more.
 #[tactic(auto, unfolding(crate::specs::Json::escaped))]
-fn put_escaped<W: ByteSink>(out: &mut OutputBuffer, sink: &mut W, byte: u8, is_in: bool)
-    ensures { SendsTo W.taken W.failed sink.old sink.new out.old out.new (escaped byte is_in) }
+fn put_escaped<W: ByteSink>(out: &mut Printer<'_, W>, byte: u8, is_in: bool)
+    ensures { PrintsTo W.ByteSink out.old out.new (escaped byte is_in) }
 {
     if is_quote(byte) {
-        out.push(sink, &[b'\\', byte]);
+        out.push(&[b'\\', byte]);
     } else if byte < 32 {
-        put_code(out, sink, b"\\u00", byte);
+        put_code(out, b"\\u00", byte);
     } else if is_plain(byte, is_in) {
-        out.push(sink, &[byte]);
+        out.push(&[byte]);
     } else {
-        put_code(out, sink, b"\\udc", byte);
+        put_code(out, b"\\udc", byte);
     }
 }
 
 /// Prints the byte of a string at an index.
-fn put_byte<W: ByteSink>(out: &mut OutputBuffer, sink: &mut W, bytes: &[u8], index: usize)
+fn put_byte<W: ByteSink>(out: &mut Printer<'_, W>, bytes: &[u8], index: usize)
     requires { index < length bytes.now }
-    ensures { SendsTo W.taken W.failed sink.old sink.new out.old out.new
+    ensures { PrintsTo W.ByteSink out.old out.new
         (byte_text bytes.now index) }
 {
     let is_in = is_in_character(bytes, index);
-    put_escaped(out, sink, byte_at(bytes, index), is_in);
+    put_escaped(out, byte_at(bytes, index), is_in);
 }
 
 /// Prints the bytes of a string.
-fn put_bytes<W: ByteSink>(out: &mut OutputBuffer, sink: &mut W, bytes: &[u8])
-    ensures { SendsTo W.taken W.failed sink.old sink.new out.old out.new
+fn put_bytes<W: ByteSink>(out: &mut Printer<'_, W>, bytes: &[u8])
+    ensures { PrintsTo W.ByteSink out.old out.new
         (flat_map (byte_text bytes.now) (numbers_below (length bytes.now))) }
 {
     for index in 0..bytes.len() {
-        put_byte(out, sink, bytes, index);
+        put_byte(out, bytes, index);
     }
 }
 
 /// Prints a string.
-pub(crate) fn put_string<W: ByteSink>(out: &mut OutputBuffer, sink: &mut W, bytes: &[u8])
-    ensures { SendsTo W.taken W.failed sink.old sink.new out.old out.new (string_text bytes.now) }
+pub(crate) fn put_string<W: ByteSink>(out: &mut Printer<'_, W>, bytes: &[u8])
+    ensures { PrintsTo W.ByteSink out.old out.new (string_text bytes.now) }
 {
-    out.push(sink, b"\"");
-    put_bytes(out, sink, bytes);
-    out.push(sink, b"\"");
+    out.push(b"\"");
+    put_bytes(out, bytes);
+    out.push(b"\"");
 }

@@ -2,14 +2,14 @@
 
 ghost use Rattle.std.specs.Prelude.{◌≡◌, ◌≤◌, ◌<◌, ◌+◌, get_or};
 ghost use Rattle.std.specs.List.{flat_map};
-ghost use Rattle.vpr_text.specs.Output.{SendsTo};
+ghost use Rattle.text_output.specs.Printing.{PrintsTo};
 ghost use Rattle.rr_graph.specs.Fabric.{numbers_below};
 ghost use Rattle.report_run.specs.Map.{axis_line, axis_lines, blanks_before, block_at, blocks_line, cell_text, column_code, column_digit, crossing_at, crossing_line, digit_line, map_head, map_text, occupied_at, place_code, right_of, row_lines, row_number};
 
 use crate::text::digit_code;
 use route_report::ChannelUse;
 use rr_graph::Device;
-use text_output::{ByteSink, OutputBuffer, Piece, put_number, put_pieces};
+use text_output::{ByteSink, Piece, Printer};
 
 /// How many columns an array has at most, for a map that is at most 80 characters wide.
 const MOST_MAPPED: u32 = 35;
@@ -51,60 +51,56 @@ fn place_code(occupied: u64, over: u64) -> u8
 
 /// Prints a place of a channel, and the byte right of it.
 fn put_cell<W: ByteSink>(
-    out: &mut OutputBuffer,
-    sink: &mut W,
+    out: &mut Printer<'_, W>,
     channels: &[ChannelUse],
     over: &[ChannelUse],
     channel: u32,
     place: u32,
     right: u8,
 )
-    ensures { SendsTo W.taken W.failed sink.old sink.new out.old out.new
+    ensures { PrintsTo W.ByteSink out.old out.new
         (cell_text channels.now over.now channel place right) }
 {
     let occupied = occupied_at(channels, channel, place);
     let code = place_code(occupied, occupied_at(over, channel, place));
-    out.push(sink, &[code, right]);
+    out.push(&[code, right]);
 }
 
 /// Prints the places of the channel above a row, each with the crossing of channels right of it.
 fn put_crossings<W: ByteSink>(
-    out: &mut OutputBuffer,
-    sink: &mut W,
+    out: &mut Printer<'_, W>,
     channels: &[ChannelUse],
     over: &[ChannelUse],
     row: u32,
     places: u32,
 )
-    ensures { SendsTo W.taken W.failed sink.old sink.new out.old out.new
+    ensures { PrintsTo W.ByteSink out.old out.new
         (flat_map (crossing_at channels.now over.now row) (numbers_below places)) }
 {
     for place in 0..places {
-        put_cell(out, sink, channels, over, row, place, b'+');
+        put_cell(out, channels, over, row, place, b'+');
     }
 }
 
 /// Prints the channel above a row.
 fn put_crossing_line<W: ByteSink>(
-    out: &mut OutputBuffer,
-    sink: &mut W,
+    out: &mut Printer<'_, W>,
     device: &Device,
     channels: &[ChannelUse],
     over: &[ChannelUse],
     row: u32,
 )
-    ensures { SendsTo W.taken W.failed sink.old sink.new out.old out.new
+    ensures { PrintsTo W.ByteSink out.old out.new
         (crossing_line device.now channels.now over.now row) }
 {
-    out.push(sink, b"    +");
-    put_crossings(out, sink, channels, over, row, device.nx());
-    out.push(sink, b"\n");
+    out.push(b"    +");
+    put_crossings(out, channels, over, row, device.nx());
+    out.push(b"\n");
 }
 
 /// Prints a place of the channel right of a column, and the block right of it.
 fn put_block_at<W: ByteSink>(
-    out: &mut OutputBuffer,
-    sink: &mut W,
+    out: &mut Printer<'_, W>,
     device: &Device,
     channels: &[ChannelUse],
     over: &[ChannelUse],
@@ -112,17 +108,16 @@ fn put_block_at<W: ByteSink>(
     column: u32,
 )
     requires { column < 65536 }
-    ensures { SendsTo W.taken W.failed sink.old sink.new out.old out.new
+    ensures { PrintsTo W.ByteSink out.old out.new
         (block_at device.now channels.now over.now place column) }
 {
     let right = right_of(device, column);
-    put_cell(out, sink, channels, over, right, place, b'.');
+    put_cell(out, channels, over, right, place, b'.');
 }
 
 /// Prints the blocks of a row, each after the place of the channel left of it.
 fn put_blocks<W: ByteSink>(
-    out: &mut OutputBuffer,
-    sink: &mut W,
+    out: &mut Printer<'_, W>,
     device: &Device,
     channels: &[ChannelUse],
     over: &[ChannelUse],
@@ -130,11 +125,11 @@ fn put_blocks<W: ByteSink>(
     columns: u32,
 )
     requires { columns < 65536 }
-    ensures { SendsTo W.taken W.failed sink.old sink.new out.old out.new
+    ensures { PrintsTo W.ByteSink out.old out.new
         (flat_map (block_at device.now channels.now over.now place) (numbers_below columns)) }
 {
     for column in 0..columns {
-        put_block_at(out, sink, device, channels, over, place, column);
+        put_block_at(out, device, channels, over, place, column);
     }
 }
 
@@ -152,67 +147,64 @@ fn blanks_before(number: u32) -> &'static [u8]
 }
 
 /// Prints a number that ends in the third column of text.
-fn put_row_number<W: ByteSink>(out: &mut OutputBuffer, sink: &mut W, number: u32)
-    ensures { SendsTo W.taken W.failed sink.old sink.new out.old out.new (row_number number) }
+fn put_row_number<W: ByteSink>(out: &mut Printer<'_, W>, number: u32)
+    ensures { PrintsTo W.ByteSink out.old out.new (row_number number) }
 {
-    out.push(sink, blanks_before(number));
-    put_number(out, sink, number);
+    out.push(blanks_before(number));
+    out.put_number(number);
 }
 
 /// Prints a row of blocks between its numbers.
 fn put_blocks_line<W: ByteSink>(
-    out: &mut OutputBuffer,
-    sink: &mut W,
+    out: &mut Printer<'_, W>,
     device: &Device,
     channels: &[ChannelUse],
     over: &[ChannelUse],
     place: u32,
 )
     requires { place < 65536 }
-    ensures { SendsTo W.taken W.failed sink.old sink.new out.old out.new
+    ensures { PrintsTo W.ByteSink out.old out.new
         (blocks_line device.now channels.now over.now place) }
 {
     let columns = device.nx();
     let right = right_of(device, columns);
-    put_row_number(out, sink, place + 1);
-    out.push(sink, b" ");
-    put_blocks(out, sink, device, channels, over, place, columns);
-    put_cell(out, sink, channels, over, right, place, b' ');
-    put_row_number(out, sink, place + 1);
-    out.push(sink, b"\n");
+    put_row_number(out, place + 1);
+    out.push(b" ");
+    put_blocks(out, device, channels, over, place, columns);
+    put_cell(out, channels, over, right, place, b' ');
+    put_row_number(out, place + 1);
+    out.push(b"\n");
 }
 
 /// Prints the row of blocks that has this many rows above it, and the channel below it.
 fn put_row<W: ByteSink>(
-    out: &mut OutputBuffer,
-    sink: &mut W,
+    out: &mut Printer<'_, W>,
     device: &Device,
     channels: &[ChannelUse],
     over: &[ChannelUse],
     above: u32,
 )
-    ensures { SendsTo W.taken W.failed sink.old sink.new out.old out.new
+    ensures { PrintsTo W.ByteSink out.old out.new
         (row_lines device.now channels.now over.now above) }
 {
     let row = device.ny().saturating_sub(1).saturating_sub(above);
-    put_blocks_line(out, sink, device, channels, over, row);
-    put_crossing_line(out, sink, device, channels, over, row);
+    put_blocks_line(out, device, channels, over, row);
+    put_crossing_line(out, device, channels, over, row);
 }
 
 /// Prints this many rows from the top.
 fn put_rows<W: ByteSink>(
-    out: &mut OutputBuffer,
-    sink: &mut W,
+    out: &mut Printer<'_, W>,
     device: &Device,
     channels: &[ChannelUse],
     over: &[ChannelUse],
     rows: u32,
 )
-    ensures { SendsTo W.taken W.failed sink.old sink.new out.old out.new
+    ensures { PrintsTo W.ByteSink out.old out.new
         (flat_map (row_lines device.now channels.now over.now) (numbers_below rows)) }
 {
     for above in 0..rows {
-        put_row(out, sink, device, channels, over, above);
+        put_row(out, device, channels, over, above);
     }
 }
 
@@ -231,96 +223,91 @@ fn column_code(unit: u32, column: u32) -> u8
 
 /// Prints a digit of the number of a column.
 #[tactic(auto, unfolding(crate::specs::Map::column_digit))]
-fn put_column_digit<W: ByteSink>(out: &mut OutputBuffer, sink: &mut W, unit: u32, column: u32)
+fn put_column_digit<W: ByteSink>(out: &mut Printer<'_, W>, unit: u32, column: u32)
     requires unit { 1 ≤ unit }
     requires column { column < 65536 }
-    ensures { SendsTo W.taken W.failed sink.old sink.new out.old out.new
+    ensures { PrintsTo W.ByteSink out.old out.new
         (column_digit unit column) }
 {
-    out.push(sink, &[b' ', column_code(unit, column)]);
+    out.push(&[b' ', column_code(unit, column)]);
 }
 
 /// Prints a digit of the numbers of all columns.
-fn put_column_digits<W: ByteSink>(out: &mut OutputBuffer, sink: &mut W, unit: u32, columns: u32)
+fn put_column_digits<W: ByteSink>(out: &mut Printer<'_, W>, unit: u32, columns: u32)
     requires unit { 1 ≤ unit }
     requires columns { columns < 65536 }
-    ensures { SendsTo W.taken W.failed sink.old sink.new out.old out.new
+    ensures { PrintsTo W.ByteSink out.old out.new
         (flat_map (column_digit unit) (numbers_below columns)) }
 {
     for column in 0..columns {
-        put_column_digit(out, sink, unit, column);
+        put_column_digit(out, unit, column);
     }
 }
 
 /// Prints the line of a digit of the numbers of all columns.
-fn put_digit_line<W: ByteSink>(out: &mut OutputBuffer, sink: &mut W, columns: u32, unit: u32)
+fn put_digit_line<W: ByteSink>(out: &mut Printer<'_, W>, columns: u32, unit: u32)
     requires unit { 1 ≤ unit }
     requires columns { columns < 65536 }
-    ensures { SendsTo W.taken W.failed sink.old sink.new out.old out.new
+    ensures { PrintsTo W.ByteSink out.old out.new
         (digit_line columns unit) }
 {
-    out.push(sink, b"    ");
-    put_column_digits(out, sink, unit, columns);
-    out.push(sink, b"\n");
+    out.push(b"    ");
+    put_column_digits(out, unit, columns);
+    out.push(b"\n");
 }
 
 /// Prints the line of a digit of the numbers of all columns, if there is a column that has it.
-fn put_axis_line<W: ByteSink>(out: &mut OutputBuffer, sink: &mut W, columns: u32, unit: u32)
+fn put_axis_line<W: ByteSink>(out: &mut Printer<'_, W>, columns: u32, unit: u32)
     requires unit { 1 ≤ unit }
     requires columns { columns < 65536 }
-    ensures { SendsTo W.taken W.failed sink.old sink.new out.old out.new (axis_line columns unit) }
+    ensures { PrintsTo W.ByteSink out.old out.new (axis_line columns unit) }
 {
     if unit <= columns {
-        put_digit_line(out, sink, columns, unit);
+        put_digit_line(out, columns, unit);
     }
 }
 
 /// Prints the numbers of the columns.
-fn put_axis_lines<W: ByteSink>(out: &mut OutputBuffer, sink: &mut W, columns: u32)
+fn put_axis_lines<W: ByteSink>(out: &mut Printer<'_, W>, columns: u32)
     requires { columns < 65536 }
-    ensures { SendsTo W.taken W.failed sink.old sink.new out.old out.new (axis_lines columns) }
+    ensures { PrintsTo W.ByteSink out.old out.new (axis_lines columns) }
 {
-    put_axis_line(out, sink, columns, 100);
-    put_axis_line(out, sink, columns, 10);
-    put_axis_line(out, sink, columns, 1);
+    put_axis_line(out, columns, 100);
+    put_axis_line(out, columns, 10);
+    put_axis_line(out, columns, 1);
 }
 
 /// Prints the first line, which has the width of a map that is wider than 80 characters.
 #[tactic(auto, unfolding(crate::specs::Map::map_head))]
-fn put_head<W: ByteSink>(out: &mut OutputBuffer, sink: &mut W, columns: u32)
+fn put_head<W: ByteSink>(out: &mut Printer<'_, W>, columns: u32)
     requires { columns < 65536 }
-    ensures { SendsTo W.taken W.failed sink.old sink.new out.old out.new (map_head columns) }
+    ensures { PrintsTo W.ByteSink out.old out.new (map_head columns) }
 {
     if columns <= MOST_MAPPED {
-        out.push(sink, b"map\n");
+        out.push(b"map\n");
     } else {
-        put_pieces(
-            out,
-            sink,
-            &[
-                Piece::Text(b"map, "),
-                Piece::Number(columns * 2 + 9),
-                Piece::Text(b" characters wide\n"),
-            ],
-        );
+        out.put_pieces(&[
+            Piece::Text(b"map, "),
+            Piece::Number(columns * 2 + 9),
+            Piece::Text(b" characters wide\n"),
+        ]);
     }
 }
 
 /// Prints the map of the channels of a device; `over` has how many overused wires run through each
 /// of their places.
 pub(crate) fn put_map<W: ByteSink>(
-    out: &mut OutputBuffer,
-    sink: &mut W,
+    out: &mut Printer<'_, W>,
     device: &Device,
     channels: &[ChannelUse],
     over: &[ChannelUse],
 )
-    ensures { SendsTo W.taken W.failed sink.old sink.new out.old out.new
+    ensures { PrintsTo W.ByteSink out.old out.new
         (map_text device.now channels.now over.now) }
 {
     let (columns, rows) = (device.nx(), device.ny());
-    put_head(out, sink, columns);
-    put_crossing_line(out, sink, device, channels, over, rows);
-    put_rows(out, sink, device, channels, over, rows);
-    put_axis_lines(out, sink, columns);
+    put_head(out, columns);
+    put_crossing_line(out, device, channels, over, rows);
+    put_rows(out, device, channels, over, rows);
+    put_axis_lines(out, columns);
 }

@@ -1,7 +1,7 @@
 //! The report of a routing, and its text.
 
 ghost use Rattle.std.specs.Prelude.{◌≡◌, IfOk};
-ghost use Rattle.vpr_text.specs.Output.{SendsTo};
+ghost use Rattle.text_output.specs.Printing.{PrintsTo};
 ghost use Rattle.report_run.specs.kept.Members.{before};
 ghost use Rattle.report_run.specs.Report.{counted_lines, map_if, map_member_if, net_lines_if, net_members_if, report_json, report_text, route_report_on, route_report_text};
 
@@ -27,7 +27,7 @@ use route_tree::Routing;
 use rr_graph::{Device, Problem};
 use std::alloc::{AllocError, Global};
 use std::marker::Model;
-use text_output::{ByteSink, OutputBuffer};
+use text_output::{ByteSink, Printer};
 use vpr_text::Lines;
 use width_bound::CutFigures;
 
@@ -85,51 +85,43 @@ impl RouteReport {
     /// Prints the lines of the report, with the bound of a cut.
     fn put_lines<W: ByteSink>(
         &self,
-        out: &mut OutputBuffer,
-        sink: &mut W,
+        out: &mut Printer<'_, W>,
         netlist: &Netlist<'_>,
         problem: &Problem,
         bound: CutFigures,
     )
-        ensures { SendsTo W.taken W.failed sink.old sink.new out.old out.new
+        ensures { PrintsTo W.ByteSink out.old out.new
             (counted_lines netlist.now problem.now bound self.now) }
     {
-        put_figures(out, sink, netlist, problem, bound, &self.figures);
-        put_types(out, sink, &self.types);
-        put_channels(out, sink, problem.device(), &self.channels);
-        put_overused(out, sink, netlist, problem, &self.overused);
+        put_figures(out, netlist, problem, bound, &self.figures);
+        put_types(out, &self.types);
+        put_channels(out, problem.device(), &self.channels);
+        put_overused(out, netlist, problem, &self.overused);
     }
 
     /// Prints the lines on the bends, wires and places of the nets, if they are asked for.
     fn put_nets_if<W: ByteSink>(
         &self,
-        out: &mut OutputBuffer,
-        sink: &mut W,
+        out: &mut Printer<'_, W>,
         netlist: &Netlist<'_>,
         problem: &Problem,
         form: ReportForm,
     )
-        ensures { SendsTo W.taken W.failed sink.old sink.new out.old out.new
+        ensures { PrintsTo W.ByteSink out.old out.new
             (net_lines_if form netlist.now problem.now self.now) }
     {
         if form.full {
-            put_net_lines(out, sink, netlist, problem, self.figures.listed, self.nets);
+            put_net_lines(out, netlist, problem, self.figures.listed, self.nets);
         }
     }
 
     /// Prints the map of the channels, if it is asked for.
-    fn put_map_if<W: ByteSink>(
-        &self,
-        out: &mut OutputBuffer,
-        sink: &mut W,
-        device: &Device,
-        form: ReportForm,
-    )
-        ensures { SendsTo W.taken W.failed sink.old sink.new out.old out.new
+    fn put_map_if<W: ByteSink>(&self, out: &mut Printer<'_, W>, device: &Device, form: ReportForm)
+        ensures { PrintsTo W.ByteSink out.old out.new
             (map_if form device.now self.now) }
     {
         if form.map {
-            put_map(out, sink, device, &self.channels, &self.over);
+            put_map(out, device, &self.channels, &self.over);
         }
     }
 
@@ -137,101 +129,89 @@ impl RouteReport {
     /// and what else is asked for.
     fn put_text<W: ByteSink>(
         &self,
-        out: &mut OutputBuffer,
-        sink: &mut W,
+        out: &mut Printer<'_, W>,
         netlist: &Netlist<'_>,
         problem: &Problem,
         bound: CutFigures,
         lines: &Lines<'_>,
         form: ReportForm,
     )
-        ensures { SendsTo W.taken W.failed sink.old sink.new out.old out.new
+        ensures { PrintsTo W.ByteSink out.old out.new
             (route_report_text form netlist.now problem.now bound lines.now self.now) }
     {
-        self.put_lines(out, sink, netlist, problem, bound);
-        put_naming_lines(out, sink, problem.device(), &self.uses, lines);
-        self.put_nets_if(out, sink, netlist, problem, form);
-        self.put_map_if(out, sink, problem.device(), form);
+        self.put_lines(out, netlist, problem, bound);
+        put_naming_lines(out, problem.device(), &self.uses, lines);
+        self.put_nets_if(out, netlist, problem, form);
+        self.put_map_if(out, problem.device(), form);
     }
 
     /// Prints the members on the bends, wires and places of the nets, if they are asked for.
     fn put_net_members_if<W: ByteSink>(
         &self,
-        out: &mut OutputBuffer,
-        sink: &mut W,
+        out: &mut Printer<'_, W>,
         netlist: &Netlist<'_>,
         problem: &Problem,
         form: ReportForm,
     )
-        ensures { SendsTo W.taken W.failed sink.old sink.new out.old out.new
+        ensures { PrintsTo W.ByteSink out.old out.new
             (before (net_members_if form netlist.now problem.now self.now)) }
     {
         if form.full {
-            put_net_members(out, sink, netlist, problem, self.figures.listed, self.nets);
+            put_net_members(out, netlist, problem, self.figures.listed, self.nets);
         }
     }
 
     /// Prints the member on the map of the channels, if it is asked for.
-    fn put_map_member_if<W: ByteSink>(&self, out: &mut OutputBuffer, sink: &mut W, form: ReportForm)
-        ensures { SendsTo W.taken W.failed sink.old sink.new out.old out.new
+    fn put_map_member_if<W: ByteSink>(&self, out: &mut Printer<'_, W>, form: ReportForm)
+        ensures { PrintsTo W.ByteSink out.old out.new
             (before (map_member_if form self.now)) }
     {
         if form.map {
-            put_map_member(out, sink, &self.channels, &self.over);
+            put_map_member(out, &self.channels, &self.over);
         }
     }
 
     /// Prints the report as an object of JSON.
     fn put_json<W: ByteSink>(
         &self,
-        out: &mut OutputBuffer,
-        sink: &mut W,
+        out: &mut Printer<'_, W>,
         netlist: &Netlist<'_>,
         problem: &Problem,
         bound: CutFigures,
         lines: &Lines<'_>,
         form: ReportForm,
     )
-        ensures { SendsTo W.taken W.failed sink.old sink.new out.old out.new
+        ensures { PrintsTo W.ByteSink out.old out.new
             (report_json form netlist.now problem.now bound lines.now self.now) }
     {
-        out.push(sink, b"{");
-        put_figure_members(out, sink, netlist, problem, bound, &self.figures);
-        put_longest_member(out, sink, netlist, problem, &self.figures);
-        self.put_net_members_if(out, sink, netlist, problem, form);
-        put_list_members(out, sink, problem.device(), &self.types, &self.channels);
-        self.put_map_member_if(out, sink, form);
-        put_over_members(
-            out,
-            sink,
-            netlist,
-            problem,
-            &self.uses,
-            lines,
-            &self.overused,
-        );
-        out.push(sink, b"\n");
+        out.push(b"{");
+        put_figure_members(out, netlist, problem, bound, &self.figures);
+        put_longest_member(out, netlist, problem, &self.figures);
+        self.put_net_members_if(out, netlist, problem, form);
+        put_list_members(out, problem.device(), &self.types, &self.channels);
+        self.put_map_member_if(out, form);
+        put_over_members(out, netlist, problem, &self.uses, lines, &self.overused);
+        out.push(b"\n");
     }
 
     /// Prints the report with the bound of a cut and the lines of the file that name overused
     /// nodes, in the form that is asked for.
     pub(crate) fn put<W: ByteSink>(
         &self,
-        out: &mut OutputBuffer,
-        sink: &mut W,
+        out: &mut Printer<'_, W>,
         netlist: &Netlist<'_>,
         problem: &Problem,
         bound: CutFigures,
         lines: &Lines<'_>,
         form: ReportForm,
     )
-        ensures { SendsTo W.taken W.failed sink.old sink.new out.old out.new
+        ensures { PrintsTo W.ByteSink out.old out.new
             (report_text form netlist.now problem.now bound lines.now self.now) }
     {
         if form.json {
-            self.put_json(out, sink, netlist, problem, bound, lines, form);
+            self.put_json(out, netlist, problem, bound, lines, form);
         } else {
-            self.put_text(out, sink, netlist, problem, bound, lines, form);
+            self.put_text(out, netlist, problem, bound, lines, form);
         }
     }
 }

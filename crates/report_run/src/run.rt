@@ -13,31 +13,46 @@ ghost use Rattle.report_run.specs.kept.Placed.{design_with};
 use crate::form::ReportForm;
 use crate::report::RouteReport;
 use bound_run::find_bound;
-use net_file::Netlist;
 use route_tree::Routing;
 use rr_graph::{Mode, Problem};
 use run_inputs::{AppFault, InputFile, NetlistText, PlacedNetlist, parse_routing, read_input};
 use std::alloc::Global;
-use text_output::{ByteSink, OutputBuffer};
+use text_output::{ByteSink, Printer};
 use vpr_text::{ByteSource, Lines, TextFault, lines};
 use width_bound::CutFigures;
+
+/// A placed netlist, and its routing problem on a device.
+#[derive(Clone, Copy)]
+struct PlacedProblem<'a, 't> {
+    placed: &'a PlacedNetlist<'t>,
+    problem: &'a Problem,
+}
+
+/// What is asked for: the width and the mode of the device, and the form of the report.
+#[derive(Clone, Copy)]
+struct ReportOptions {
+    width: u32,
+    mode: Mode,
+    form: ReportForm,
+}
 
 /// Prints the text of a report of a routing whose file has these lines, with the bound of a cut.
 fn print_report<W: ByteSink>(
     report: &RouteReport,
-    netlist: &Netlist<'_>,
-    problem: &Problem,
+    design: &PlacedProblem<'_, '_>,
     bound: CutFigures,
     lines: &Lines<'_>,
     out: &mut W,
     form: ReportForm,
 ) -> Result<(), AppFault>
     ensures { PrintsText (writing_to W.taken W.failed out.old out.new)
-        (report_text form netlist.now problem.now bound lines.now report.now) tt result }
+        (report_text form design.now.placed.now.netlist design.now.problem.now bound lines.now
+        report.now) tt result }
 {
-    let mut buffer = OutputBuffer::new();
-    report.put(&mut buffer, out, netlist, problem, bound, lines, form);
-    match buffer.finish(out) {
+    let netlist = design.placed.netlist();
+    let mut printer = Printer::new(out);
+    report.put(&mut printer, netlist, design.problem, bound, lines, form);
+    match printer.finish() {
         Ok(()) => Ok(()),
         Err(_) => Err(AppFault::Unwritten),
     }
@@ -46,8 +61,7 @@ fn print_report<W: ByteSink>(
 /// Finds a bound of a placed netlist, and prints a report with it.
 fn report_bounded<W: ByteSink>(
     alloc: Global,
-    placed: &PlacedNetlist<'_>,
-    problem: &Problem,
+    design: &PlacedProblem<'_, '_>,
     report: &RouteReport,
     lines: &Lines<'_>,
     out: &mut W,
@@ -55,24 +69,22 @@ fn report_bounded<W: ByteSink>(
 ) -> Result<(), AppFault>
     ensures prints { result ≢ Err AppFault.Memory
         → PrintsBounded form (writing_to W.taken W.failed out.old out.new)
-        placed.now problem.now lines.now report.now result }
+        design.now.placed.now design.now.problem.now lines.now report.now result }
     ensures memory { result ≡ Err AppFault.Memory
         → TakesNothing (writing_to W.taken W.failed out.old out.new) }
     ensures late { ends_before InputFile.Route result ≡ false }
 {
-    let Ok(found) = find_bound(alloc, placed) else {
+    let Ok(found) = find_bound(alloc, design.placed) else {
         return Err(AppFault::Memory);
     };
-    let netlist = placed.netlist();
     let bound = found.figures;
-    print_report(report, netlist, problem, bound, lines, out, form)
+    print_report(report, design, bound, lines, out, form)
 }
 
 /// Makes the report of a routing of a placed netlist, and prints it.
 fn report_lines<W: ByteSink>(
     alloc: Global,
-    placed: &PlacedNetlist<'_>,
-    problem: &Problem,
+    design: &PlacedProblem<'_, '_>,
     routing: &Routing,
     lines: &Lines<'_>,
     out: &mut W,
@@ -80,24 +92,24 @@ fn report_lines<W: ByteSink>(
 ) -> Result<(), AppFault>
     ensures reports { result ≢ Err AppFault.Memory
         → PrintsBounded form (writing_to W.taken W.failed out.old out.new)
-        placed.now problem.now lines.now (route_report_on problem.now routing.now) result }
+        design.now.placed.now design.now.problem.now lines.now
+        (route_report_on design.now.problem.now routing.now) result }
     ensures memory { result ≡ Err AppFault.Memory
         → TakesNothing (writing_to W.taken W.failed out.old out.new) }
     ensures late { ends_before InputFile.Route result ≡ false }
 {
-    let report = match RouteReport::new(alloc, problem, routing) {
+    let report = match RouteReport::new(alloc, design.problem, routing) {
         Ok(report) => report,
         Err(_) => return Err(AppFault::Memory),
     };
-    report_bounded(alloc, placed, problem, &report, lines, out, form)
+    report_bounded(alloc, design, &report, lines, out, form)
 }
 
 /// Prints the report of a routing of a placed netlist. The routing was read from these bytes, so
 /// they have lines.
 fn report_routing<W: ByteSink>(
     alloc: Global,
-    placed: &PlacedNetlist<'_>,
-    problem: &Problem,
+    design: &PlacedProblem<'_, '_>,
     routing: &Routing,
     bytes: &[u8],
     out: &mut W,
@@ -105,8 +117,9 @@ fn report_routing<W: ByteSink>(
 ) -> Result<(), AppFault>
     requires { IsOk (lines_of bytes.now) }
     ensures reports { result ≢ Err AppFault.Memory
-        → PrintsReport form (writing_to W.taken W.failed out.old out.new) placed.now
-        (reported_with (design_with placed.now problem.now) bytes.now routing.now) result }
+        → PrintsReport form (writing_to W.taken W.failed out.old out.new) design.now.placed.now
+        (reported_with (design_with design.now.placed.now design.now.problem.now) bytes.now
+        routing.now) result }
     ensures memory { result ≡ Err AppFault.Memory
         → TakesNothing (writing_to W.taken W.failed out.old out.new) }
     ensures late { ends_before InputFile.Route result ≡ false }
@@ -116,7 +129,7 @@ fn report_routing<W: ByteSink>(
         Err(TextFault::Memory) => return Err(AppFault::Memory),
         Err(_) => unreachable!(),
     };
-    report_lines(alloc, placed, problem, routing, &lines, out, form)
+    report_lines(alloc, design, routing, &lines, out, form)
 }
 
 /// Reads bytes as a routing of a placed netlist, and prints its report.
@@ -138,7 +151,8 @@ fn report_bytes<W: ByteSink>(
 {
     let netlist = placed.netlist();
     let routing = parse_routing(alloc, bytes, netlist, problem)?;
-    report_routing(alloc, placed, problem, &routing, bytes, out, form)
+    let design = PlacedProblem { placed, problem };
+    report_routing(alloc, &design, &routing, bytes, out, form)
 }
 
 /// Reads a routing of a placed netlist from a source, and prints its report.
@@ -169,24 +183,22 @@ fn report_placed<R: ByteSource, W: ByteSink>(
     placed: &PlacedNetlist<'_>,
     route: &mut R,
     out: &mut W,
-    width: u32,
-    mode: Mode,
-    form: ReportForm,
+    options: ReportOptions,
 ) -> Result<(), AppFault>
-    requires tracks { (1 ≤ width) × (width ≤ most_tracks) }
+    requires tracks { (1 ≤ options.width) × (options.width ≤ most_tracks) }
     ensures runs { result ≢ Err AppFault.Memory
         → Meets (reading (R.remaining route.old) (R.failed route.new))
-        (λ r. RunsPlaced form (writing_to W.taken W.failed out.old out.new) placed.now
-        (reported_on (design_on width mode placed.now) r) result) }
+        (λ r. RunsPlaced options.form (writing_to W.taken W.failed out.old out.new) placed.now
+        (reported_on (design_on options.width options.mode placed.now) r) result) }
     ensures memory { result ≡ Err AppFault.Memory
         → TakesNothing (writing_to W.taken W.failed out.old out.new) }
     ensures late { ends_before InputFile.Route result ≡ false }
 {
-    let problem = match placed.problem(alloc, width, mode) {
+    let problem = match placed.problem(alloc, options.width, options.mode) {
         Ok(problem) => problem,
         Err(_) => return Err(AppFault::Memory),
     };
-    report_design(alloc, placed, &problem, route, out, form)
+    report_design(alloc, placed, &problem, route, out, options.form)
 }
 
 /// Reads an architecture, a netlist, its placement and its routing in this order, each only if
@@ -228,5 +240,6 @@ pub fn report_run<N: ByteSource, A: ByteSource, P: ByteSource, R: ByteSource, W:
 {
     let text = NetlistText::read(alloc, arch, net)?;
     let placed = PlacedNetlist::read(alloc, &text, place)?;
-    report_placed(alloc, &placed, route, out, width, mode, form)
+    let options = ReportOptions { width, mode, form };
+    report_placed(alloc, &placed, route, out, options)
 }

@@ -1,13 +1,13 @@
 //! Pieces of a report's lines, printed through a buffer.
 
 ghost use Rattle.std.specs.Prelude.{◌≡◌, ◌≤◌, ◌<◌, ◌^◌, max};
-ghost use Rattle.vpr_text.specs.Output.{SendsTo};
+ghost use Rattle.text_output.specs.Printing.{PrintsTo};
 ghost use Rattle.report_run.specs.Texts.{digit_code, hundredths_left, mean_text, name_text, quotient_text, share_text};
 
 use net_file::Netlist;
 use rr_graph::Problem;
 use run_inputs::{net_name, number_of_net};
-use text_output::{ByteSink, OutputBuffer, Piece, put_pieces};
+use text_output::{ByteSink, Piece, Printer};
 
 /// Returns a number in one byte: `0` to `9`, `a` to `z` from 10 on, and `*` from 36 on.
 pub(crate) fn digit_code(number: u64) -> u8
@@ -24,18 +24,14 @@ pub(crate) fn digit_code(number: u64) -> u8
 
 /// Prints a part and the whole, as in `3 of 8`.
 #[tactic(auto, unfolding(crate::specs::Texts::share_text))]
-pub(crate) fn put_share<W: ByteSink>(out: &mut OutputBuffer, sink: &mut W, part: u64, whole: u64)
-    ensures { SendsTo W.taken W.failed sink.old sink.new out.old out.new (share_text part whole) }
+pub(crate) fn put_share<W: ByteSink>(out: &mut Printer<'_, W>, part: u64, whole: u64)
+    ensures { PrintsTo W.ByteSink out.old out.new (share_text part whole) }
 {
-    put_pieces(
-        out,
-        sink,
-        &[
-            Piece::LongNumber(part),
-            Piece::Text(b" of "),
-            Piece::LongNumber(whole),
-        ],
-    );
+    out.put_pieces(&[
+        Piece::LongNumber(part),
+        Piece::Text(b" of "),
+        Piece::LongNumber(whole),
+    ]);
 }
 
 /// Returns the remainder of a division in hundredths of the divisor, rounded down.
@@ -49,22 +45,18 @@ fn hundredths_left(number: u64, by: u64) -> u64
 
 /// Prints a quotient with two decimals.
 #[tactic(auto, unfolding(crate::specs::Texts::quotient_text))]
-fn put_quotient<W: ByteSink>(out: &mut OutputBuffer, sink: &mut W, number: u64, by: u64)
+fn put_quotient<W: ByteSink>(out: &mut Printer<'_, W>, number: u64, by: u64)
     requires some { 1 ≤ by }
     requires few { by < 2 ^ 32 }
-    ensures { SendsTo W.taken W.failed sink.old sink.new out.old out.new (quotient_text number by) }
+    ensures { PrintsTo W.ByteSink out.old out.new (quotient_text number by) }
 {
     let hundredths = hundredths_left(number, by);
-    put_pieces(
-        out,
-        sink,
-        &[
-            Piece::LongNumber(number / by),
-            Piece::Text(b"."),
-            Piece::LongNumber(hundredths / 10),
-            Piece::LongNumber(hundredths % 10),
-        ],
-    );
+    out.put_pieces(&[
+        Piece::LongNumber(number / by),
+        Piece::Text(b"."),
+        Piece::LongNumber(hundredths / 10),
+        Piece::LongNumber(hundredths % 10),
+    ]);
 }
 
 /// Returns a number of things, or 1 if there are none.
@@ -77,28 +69,23 @@ fn some_of(count: u32) -> u64
 }
 
 /// Prints the mean of this many numbers with this sum.
-pub(crate) fn put_mean<W: ByteSink>(out: &mut OutputBuffer, sink: &mut W, sum: u64, count: u32)
-    ensures { SendsTo W.taken W.failed sink.old sink.new out.old out.new (mean_text sum count) }
+pub(crate) fn put_mean<W: ByteSink>(out: &mut Printer<'_, W>, sum: u64, count: u32)
+    ensures { PrintsTo W.ByteSink out.old out.new (mean_text sum count) }
 {
-    put_quotient(out, sink, sum, some_of(count));
+    put_quotient(out, sum, some_of(count));
 }
 
 /// Prints the name of a net of the problem, after a blank.
 #[tactic(auto, unfolding(crate::specs::Texts::name_text))]
 pub fn put_name<W: ByteSink>(
-    out: &mut OutputBuffer,
-    sink: &mut W,
+    out: &mut Printer<'_, W>,
     netlist: &Netlist<'_>,
     problem: &Problem,
     net: u32,
 )
-    ensures { SendsTo W.taken W.failed sink.old sink.new out.old out.new
+    ensures { PrintsTo W.ByteSink out.old out.new
         (name_text netlist.now problem.now net) }
 {
     let number = number_of_net(problem, net);
-    put_pieces(
-        out,
-        sink,
-        &[Piece::Text(b" "), Piece::Text(net_name(netlist, number))],
-    );
+    out.put_pieces(&[Piece::Text(b" "), Piece::Text(net_name(netlist, number))]);
 }

@@ -1,16 +1,15 @@
 -- The line of a step names the node at which the step ends.
-use Rattle.std.proofs.Common.{◌≡◌, ℕ, ◌-◌, ◌<◌, zero, suc, Bool, true, false, cond, eqb, ◌&&◌, ◌==◌, List, [], ◌∷◌, length, get_or, filter_map, Option, Some, None, refl, sym, ap, subst, ◌∙◌, arith}
-use Rattle.std.specs.Prelude.{filter, not, is_some}
+use Rattle.std.proofs.Common.{◌≡◌, ℕ, ◌-◌, ◌<◌, zero, suc, Bool, true, false, cond, eqb, ◌&&◌, ◌==◌, List, [], ◌∷◌, length, filter_map, Option, Some, None, refl, sym, ap, subst, ◌∙◌, arith}
+use Rattle.std.specs.Prelude.{not, is_some}
 use Rattle.std.proofs.lemmas.Bool.{ne_eqb}
 use Rattle.std.specs.List.{cons_option}
 use Rattle.std.specs.Option.{option_or}
 use Rattle.vpr_text.specs.Words.{Line}
 use Rattle.rr_graph.specs.Fabric.{Fabric}
 use Rattle.rr_graph.specs.Problems.{is_sink}
-use Rattle.route_tree.specs.Paths.{Pair}
 use Rattle.route_file.specs.NetLine.{is_net_line}
 use Rattle.route_file.specs.NodeLine.{node_on}
-use Rattle.route_file.specs.Sections.{lines_before, neighbours, pairs_along}
+use Rattle.route_file.specs.Sections.{lines_before, pairs_along}
 use Rattle.route_explain.specs.Lines.{ends_step, first_node_line, left_after, step_line}
 use Rattle.route_explain.specs.Steps.{pair_at}
 use Rattle.route_explain.specs.LinesNamed.{IsLineOf, nodes_from, pairs_from}

@@ -1,7 +1,7 @@
 //! The explanation of what is wrong with a routing.
 
 ghost use Rattle.std.specs.Prelude.{◌≡◌, ◌≢◌, Err, length};
-ghost use Rattle.vpr_text.specs.Output.{SendsTo};
+ghost use Rattle.text_output.specs.Printing.{PrintsTo};
 ghost use Rattle.run_inputs.specs.Faults.{fault_text};
 ghost use Rattle.run_inputs.specs.Runs.{PrintsText, writing_to};
 ghost use Rattle.route_explain.specs.Explanation.{PrintsExplanation, PrintsLine, explanation_text};
@@ -10,73 +10,54 @@ ghost use Rattle.route_explain.specs.kept.Findings.{AreFindings};
 use crate::explained::told_memory;
 use crate::findings::Findings;
 use crate::nets::put_nets;
+use crate::read_routing::ReadRouting;
 use crate::uses::put_use_lines;
-use net_file::Netlist;
 use report_run::put_overused;
-use route_tree::{Pairs, Routing};
-use rr_graph::Problem;
 use run_inputs::AppFault;
 use std::alloc::AllocGlobal;
 use std::thread::Threads;
-use text_output::{ByteSink, OutputBuffer};
-use vpr_text::Lines;
+use text_output::{ByteSink, Printer};
 
 /// Prints an explanation through a buffer.
 fn put_explanation<W: ByteSink>(
-    out: &mut OutputBuffer,
-    sink: &mut W,
-    path: &[u8],
-    netlist: &Netlist<'_>,
-    problem: &Problem,
-    lines: &Lines<'_>,
-    lists: &[Option<Pairs>],
+    out: &mut Printer<'_, W>,
+    file: &ReadRouting<'_, '_, '_>,
     found: &Findings,
 )
-    requires { AreFindings netlist.now problem.now lines.now lists.now found.now }
-    ensures { SendsTo W.taken W.failed sink.old sink.new out.old out.new
-        (explanation_text path.now netlist.now problem.now lines.now lists.now
-        found.now.faults.items) }
+    requires { AreFindings file.now.netlist.now file.now.problem.now file.now.lines.now
+        file.now.routing.now found.now }
+    ensures { PrintsTo W.ByteSink out.old out.new
+        (explanation_text file.now.path.now file.now.netlist.now file.now.problem.now
+        file.now.lines.now file.now.routing.now found.now.faults.items) }
 {
-    put_nets(out, sink, path, netlist, problem, lines, lists, found);
-    put_overused(out, sink, netlist, problem, &found.overused);
-    put_use_lines(out, sink, path, netlist, problem, lines, lists, found);
+    put_nets(out, file, found);
+    put_overused(out, file.netlist, file.problem, &found.overused);
+    put_use_lines(out, file, found);
 }
 
 /// Prints an explanation to a sink.
 fn print_explanation<W: ByteSink>(
-    path: &[u8],
-    netlist: &Netlist<'_>,
-    problem: &Problem,
-    lines: &Lines<'_>,
-    lists: &[Option<Pairs>],
+    file: &ReadRouting<'_, '_, '_>,
     found: &Findings,
     out: &mut W,
 ) -> Result<(), AppFault>
-    requires { AreFindings netlist.now problem.now lines.now lists.now found.now }
+    requires { AreFindings file.now.netlist.now file.now.problem.now file.now.lines.now
+        file.now.routing.now found.now }
     ensures { PrintsText (writing_to W.taken W.failed out.old out.new)
-        (explanation_text path.now netlist.now problem.now lines.now lists.now
-        found.now.faults.items) tt result }
+        (explanation_text file.now.path.now file.now.netlist.now file.now.problem.now
+        file.now.lines.now file.now.routing.now found.now.faults.items) tt result }
 {
-    let mut buffer = OutputBuffer::new();
-    put_explanation(
-        &mut buffer,
-        out,
-        path,
-        netlist,
-        problem,
-        lines,
-        lists,
-        found,
-    );
-    match buffer.finish(out) {
+    let mut printer = Printer::new(out);
+    put_explanation(&mut printer, file, found);
+    match printer.finish() {
         Ok(()) => Ok(()),
         Err(_) => Err(AppFault::Unwritten),
     }
 }
 
-/// Prints what is wrong with a routing of a problem, which was read from a file of this name with
-/// these lines. Each net that has a fault gets a line: the first fault in words, with the nodes
-/// that it is about, after the line number of the file. Then comes the number of overused nodes and
+/// Prints what is wrong with a routing that was read from a file. Each net that has a fault gets a
+/// line: the first fault in words, with the nodes that it is about, after the line number of the
+/// file. Then comes the number of overused nodes and
 /// a line for each, and then a line for each line of the file that names one. It waits for threads
 /// that judge the nets.
 ///
@@ -85,26 +66,23 @@ fn print_explanation<W: ByteSink>(
 /// `Unwritten` exactly if the sink failed, which received a front of the explanation.
 pub fn explain<W: ByteSink>(
     rt: &(impl Threads + Sync + AllocGlobal),
-    path: &[u8],
-    netlist: &Netlist<'_>,
-    problem: &Problem,
-    lines: &Lines<'_>,
-    routing: &Routing,
+    file: &ReadRouting<'_, '_, '_>,
     out: &mut W,
 ) -> Result<(), AppFault>
-    requires { length routing.now ≡ length problem.now.nets }
+    requires { length file.now.routing.now ≡ length file.now.problem.now.nets }
     // The explanation has the first fault of each net.
     ensures prints { result ≢ Err AppFault.Memory
         → PrintsExplanation (writing_to W.taken W.failed out.old out.new)
-        path.now netlist.now problem.now lines.now routing.now result }
+        file.now.path.now file.now.netlist.now file.now.problem.now file.now.lines.now
+        file.now.routing.now result }
     // If memory runs out, the line of that fault is printed and nothing else.
     ensures memory { result ≡ Err AppFault.Memory
         → PrintsLine (writing_to W.taken W.failed out.old out.new)
         (fault_text AppFault.Memory) }
 {
-    let found = match Findings::new(rt, netlist, problem, lines, routing) {
+    let found = match Findings::new(rt, file) {
         Ok(found) => found,
         Err(_) => return told_memory(out),
     };
-    print_explanation(path, netlist, problem, lines, &routing.lists, &found, out)
+    print_explanation(file, &found, out)
 }

@@ -5,16 +5,15 @@ ghost use Rattle.route_explain.specs.kept.Findings.{AreFindings, AreIndexes, IsI
 
 use crate::index::NetIndex;
 use crate::nets::{fault_at, pairs_at};
+use crate::read_routing::ReadRouting;
 use crate::starts::section_starts;
 use crate::users::node_numbers;
-use net_file::Netlist;
 use route_check::{RouteFault, net_faults};
 use route_report::{OverusedNode, node_uses, overused_nodes};
-use route_tree::{Pairs, Routing};
+use route_tree::Pairs;
 use rr_graph::Problem;
 use std::alloc::{AllocError, AllocGlobal, Global};
 use std::thread::Threads;
-use vpr_text::Lines;
 
 /// What is wrong with a routing, and the tables for looking that up.
 #[derive(Drop)]
@@ -68,21 +67,20 @@ fn net_indexes(
 }
 
 impl Findings {
-    /// Finds out what is wrong with a routing whose file has these lines.
+    /// Finds out what is wrong with a routing.
     pub(crate) fn new(
         rt: &(impl Threads + Sync + AllocGlobal),
-        netlist: &Netlist<'_>,
-        problem: &Problem,
-        lines: &Lines<'_>,
-        routing: &Routing,
+        file: &ReadRouting<'_, '_, '_>,
     ) -> Result<Findings, AllocError>
-        requires { length routing.now ≡ length problem.now.nets }
-        ensures { IfOk result (AreFindings netlist.now problem.now lines.now routing.now) }
+        requires { length file.now.routing.now ≡ length file.now.problem.now.nets }
+        ensures { IfOk result (AreFindings file.now.netlist.now file.now.problem.now
+            file.now.lines.now file.now.routing.now) }
     {
         let alloc = rt.alloc();
+        let (problem, routing) = (file.problem, file.routing);
         let faults = net_faults(rt, alloc, problem, &routing.lists)?;
         let indexes = net_indexes(alloc, problem, &routing.lists, &faults)?;
-        let starts = section_starts(alloc, netlist, lines)?;
+        let starts = section_starts(alloc, file.netlist, file.lines)?;
         let uses = node_uses(alloc, problem, routing)?;
         let overused = overused_nodes(alloc, problem, routing, &uses)?;
         let nodes = node_numbers(alloc, &overused)?;

@@ -11,6 +11,7 @@ mod lines;
 mod nets;
 mod order;
 mod places;
+mod read_routing;
 mod reasons;
 mod run;
 mod spots;
@@ -23,4 +24,5 @@ mod uses;
 
 pub use explained::Explained;
 pub use explanation::explain;
+pub use read_routing::ReadRouting;
 pub use run::explain_run;

@@ -9,6 +9,7 @@ ghost use Rattle.route_explain.specs.ExplainRun.{IsTold, PrintsBoth, RunsExplain
 
 use crate::explained::{Explained, told_memory};
 use crate::explanation::explain;
+use crate::read_routing::ReadRouting;
 use route_tree::Routing;
 use rr_graph::Mode;
 use run_inputs::{AppFault, Design, InputFile, NetlistText, parse_routing, read_input};
@@ -16,6 +17,13 @@ use runs::judge;
 use std::alloc::AllocGlobal;
 use std::thread::Threads;
 use vpr_text::{ByteSink, ByteSource, Lines, lines};
+
+/// The file of a routing: its name, and the bytes that were read from it.
+#[derive(Clone, Copy)]
+struct RoutingFile<'a> {
+    path: &'a [u8],
+    bytes: &'a [u8],
+}
 
 /// Explains a routing of a design, whose file has these lines.
 fn explain_lines<W: ByteSink>(
@@ -32,24 +40,30 @@ fn explain_lines<W: ByteSink>(
 {
     let netlist = design.netlist();
     let problem = design.problem();
-    explain(rt, path, netlist, problem, lines, routing, words)
+    let file = ReadRouting {
+        path,
+        netlist,
+        problem,
+        lines,
+        routing,
+    };
+    explain(rt, &file, words)
 }
 
 /// Explains a routing of a design, which was read from these bytes. Without memory, prints that.
 fn explain_to<W: ByteSink>(
     rt: &(impl Threads + Sync + AllocGlobal),
-    path: &[u8],
+    file: &RoutingFile<'_>,
     design: &Design<'_>,
-    bytes: &[u8],
     routing: &Routing,
     words: &mut W,
 ) -> Result<(), AppFault>
     requires { length routing.now ≡ length design.now.problem.nets }
     ensures { IsTold (writing_to W.taken W.failed words.old words.new)
-        path.now (reported_with design.now bytes.now routing.now) result }
+        file.now.path.now (reported_with design.now file.now.bytes.now routing.now) result }
 {
-    match lines(rt.alloc(), bytes) {
-        Ok(lines) => explain_lines(rt, path, design, &lines, routing, words),
+    match lines(rt.alloc(), file.bytes) {
+        Ok(lines) => explain_lines(rt, file.path, design, &lines, routing, words),
         Err(_) => told_memory(words),
     }
 }
@@ -57,9 +71,8 @@ fn explain_to<W: ByteSink>(
 /// Judges a routing of a design, prints the verdict, and explains it.
 fn judge_and_explain<W: ByteSink, X: ByteSink>(
     rt: &(impl Threads + Sync + AllocGlobal),
-    path: &[u8],
+    file: &RoutingFile<'_>,
     design: &Design<'_>,
-    bytes: &[u8],
     routing: &Routing,
     out: &mut W,
     words: &mut X,
@@ -67,8 +80,8 @@ fn judge_and_explain<W: ByteSink, X: ByteSink>(
     requires { length routing.now ≡ length design.now.problem.nets }
     ensures judges { result ≢ Err AppFault.Memory
         → PrintsBoth (writing_to W.taken W.failed out.old out.new)
-        (writing_to X.taken X.failed words.old words.new) path.now
-        (reported_with design.now bytes.now routing.now) result }
+        (writing_to X.taken X.failed words.old words.new) file.now.path.now
+        (reported_with design.now file.now.bytes.now routing.now) result }
     ensures memory { result ≡ Err AppFault.Memory
         → TakesNothing (writing_to W.taken W.failed out.old out.new) }
     ensures untold { result ≡ Err AppFault.Memory
@@ -76,7 +89,7 @@ fn judge_and_explain<W: ByteSink, X: ByteSink>(
     ensures late { ends_before InputFile.Route result ≡ false }
 {
     let verdict = judge(rt, design, routing, out)?;
-    let told = explain_to(rt, path, design, bytes, routing, words);
+    let told = explain_to(rt, file, design, routing, words);
     Ok(Explained { verdict, told })
 }
 
@@ -102,7 +115,8 @@ fn explain_bytes<W: ByteSink, X: ByteSink>(
     let netlist = design.netlist();
     let problem = design.problem();
     let routing = parse_routing(rt.alloc(), bytes, netlist, problem)?;
-    judge_and_explain(rt, path, design, bytes, &routing, out, words)
+    let file = RoutingFile { path, bytes };
+    judge_and_explain(rt, &file, design, &routing, out, words)
 }
 
 /// Reads a routing of a design, judges it, prints the verdict, and explains it.

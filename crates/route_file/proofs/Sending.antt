@@ -1,63 +1,59 @@
 -- Texts that are sent piece by piece.
-use Rattle.std.proofs.Common.{◌≡◌, ℕ, ◌+◌, ◌<◌, Bool, true, false, List, [], ◌∷◌, ◌++◌, length, get_or, drop, Option, Ok, Err, inl, inr, refl, sym, ap, subst, ◌∙◌, drop-cons, add-one, arith}
+use Rattle.std.proofs.Common.{◌≡◌, ℕ, ◌+◌, ◌<◌, Bool, true, false, List, [], ◌∷◌, ◌++◌, length, get_or, drop, Ok, Err, inl, inr, refl, sym, ap, subst, ◌∙◌, drop-cons, add-one, arith}
+use Rattle.std.specs.Borrow.{MutBor}
 use Rattle.std.specs.Io.KnownBytes.{Appends}
-use Rattle.std.proofs.lemmas.Bool.{false≢true}
 use Rattle.std.proofs.lemmas.List.{append-nil}
-use Rattle.vpr_text.specs.Output.{Buffer, Stream, stream, Sends}
-use Rattle.vpr_text.proofs.Printing.{sends_then, sends_none}
+use Rattle.vpr_text.specs.Output.{Sends, holding, stream}
+use Rattle.vpr_text.specs.declared.sink.ByteSink.{Ghosts}
+use Rattle.text_output.specs.declared.printer.Printer.{Printer}
+use Rattle.text_output.specs.Printing.{IsPrinterTo, PrintsTo}
+use Rattle.text_output.proofs.Printing.{prints_none, prints_nothing, prints_then, sends_all}
 use Rattle.route_file.specs.declared.writing.WriteFault.TheVariants.{Failed}
 use Rattle.route_file.specs.Writes.{Writes}
 
--- of a whole text the rest is still to be sent
-pub record Lacks (old now : Stream) (rest whole : List ℕ) : Type 0 where
-  pub then : (new : Stream) → Sends now new rest → Sends old new whole
+-- of a whole text the rest is still to be printed
+pub record Lacks {W : Type 0} (sink : Ghosts W) (old now : Printer W) (rest whole : List ℕ) : Type 0 where
+  pub then : (new : Printer W) → PrintsTo sink now new rest → PrintsTo sink old new whole
 
-pub lacks_all : (s : Stream) (whole : List ℕ) → Lacks s s whole whole
-lacks_all s whole = record { then = λ new sent. sent }
+module _ {W : Type 0} {sink : Ghosts W} where
+  pub lacks_all : (s : Printer W) (whole : List ℕ) → Lacks sink s s whole whole
+  lacks_all s whole = record { then = λ new printed. printed }
 
--- a piece was sent
-pub lacks_less : {old now new : Stream} {piece rest whole : List ℕ} → Lacks old now (piece ++ rest) whole → Sends now new piece → Lacks old new rest whole
-lacks_less h sent = record { then = λ last later. h.then last (sends_then sent later) }
+  -- a piece was printed
+  pub lacks_less : {old now new : Printer W} {piece rest whole : List ℕ} → Lacks sink old now (piece ++ rest) whole → PrintsTo sink now new piece → Lacks sink old new rest whole
+  lacks_less h printed = record { then = λ last later. h.then last (prints_then printed later) }
 
-pub lacks_next : {old now new : Stream} {rest piece later whole : List ℕ} → Lacks old now rest whole → rest ≡ piece ++ later → Sends now new piece → Lacks old new later whole
-lacks_next {old} {now} {new} {rest} {piece} {later} {whole} h e sent = lacks_less (subst (λ (r : List ℕ). Lacks old now r whole) e h) sent
+  pub lacks_next : {old now new : Printer W} {rest piece later whole : List ℕ} → Lacks sink old now rest whole → rest ≡ piece ++ later → PrintsTo sink now new piece → Lacks sink old new later whole
+  lacks_next {old} {now} {new} {rest} {piece} {later} {whole} h e printed = lacks_less (subst (λ (r : List ℕ). Lacks sink old now r whole) e h) printed
 
--- nothing is lacking
-pub lacks_nothing : {old now : Stream} {whole : List ℕ} → Lacks old now [] whole → Sends old now whole
-lacks_nothing {old} {now} {whole} h = h.then now (sends_none now)
+  -- nothing is lacking
+  pub lacks_nothing : {old now : Printer W} {whole : List ℕ} → Lacks sink old now [] whole → PrintsTo sink old now whole
+  lacks_nothing {old} {now} {whole} h = h.then now (prints_none now)
 
--- nothing is sent any more through a broken buffer
-pub sends_nothing : (s : Stream) (text : List ℕ) → s.buffer.broken ≡ true → Sends s s text
-sends_nothing s text broken = record {
-  prints = λ sound. absurd (false≢true (sym sound ∙ broken));
-  breaks = λ sound _. absurd (false≢true (sym sound ∙ broken));
-  stays = λ _. refl;
-}
+  pub lacks_end : {old now : Printer W} {rest whole : List ℕ} → Lacks sink old now rest whole → rest ≡ [] → PrintsTo sink old now whole
+  lacks_end {old} {now} {rest} {whole} h e = lacks_nothing (subst (λ (r : List ℕ). Lacks sink old now r whole) e h)
 
-pub lacks_for_good : {old now : Stream} {rest whole : List ℕ} → Lacks old now rest whole → now.buffer.broken ≡ true → Sends old now whole
-lacks_for_good {old} {now} {rest} {whole} h broken = h.then now (sends_nothing now rest broken)
+  -- nothing is printed any more once the sink broke
+  pub lacks_for_good : {old now : Printer W} {rest whole : List ℕ} → Lacks sink old now rest whole → now.buffer.broken ≡ true → PrintsTo sink old now whole
+  lacks_for_good {old} {now} {rest} {whole} h broken = h.then now (prints_nothing now rest broken)
 
 -- what stands from place i on is its element and what stands after it
 pub drop_next : {X : Type 0} (xs : List X) (i : ℕ) (d : X) → i < length xs → drop i xs ≡ get_or xs i d ∷ drop (i + 1) xs
 drop_next xs i d within = drop-cons xs i d within ∙ ap (λ (n : ℕ). get_or xs i d ∷ drop n xs) (sym (add-one i))
 
--- a buffer that holds nothing
-abbrev pub fresh : Buffer
-fresh = record { held = []; broken = false }
+-- a text that went through a new printer to its sink, which is `end` then
+module _ {W : Type 0} {sink : Ghosts W} {s : MutBor W} {end : W} {p q r : Printer W} {text : List ℕ} (new : IsPrinterTo s p) (sent : PrintsTo sink p q text) (rest : PrintsTo sink q r []) (last : end ≡ r.sink.now) where
+  all : Sends (stream (sink.taken s.now) (sink.failed s.now) (holding [])) (stream (sink.taken end) (sink.failed end) r.buffer) text
+  all = sends_all new sent rest last
 
--- a text that was sent through a buffer, which was emptied then
-module _ (taken taken' : Option (List ℕ)) (failed failed' : Bool) (buffer : Buffer) (t : Stream) (text : List ℕ) (sent : Sends (stream taken failed fresh) t text) (rest : Sends t (stream taken' failed' buffer) []) where
-  all : Sends (stream taken failed fresh) (stream taken' failed' buffer) text
-  all = subst (Sends (stream taken failed fresh) (stream taken' failed' buffer)) (append-nil text) (sends_then sent rest)
-
-  pub writes_all : buffer.broken ≡ false → buffer.held ≡ [] → 0 < length text → Writes failed' taken taken' text (Ok tt)
+  pub writes_all : r.buffer.broken ≡ false → r.buffer.held ≡ [] → 0 < length text → Writes (sink.failed end) (sink.taken s.now) (sink.taken end) text (Ok tt)
   writes_all sound empty some =
-      let p = all.prints sound in
-      let whole : text ≡ p.front = p.whole ∙ (ap (λ (h : List ℕ). p.front ++ h) empty ∙ append-nil p.front) in
-      let healthy : failed' ≡ false = elim p.sound [ inl f ↦ f | inr none ↦ absurd (omega (arith, ap length (whole ∙ none.0), some)) ] in
-      subst (λ (b : Bool). Writes b taken taken' text (Ok tt)) (sym healthy) (refl, subst (Appends taken taken') (sym whole) p.taken)
+      let h = all.prints sound in
+      let whole : text ≡ h.front = h.whole ∙ (ap (λ (b : List ℕ). h.front ++ b) empty ∙ append-nil h.front) in
+      let healthy : sink.failed end ≡ false = elim h.sound [ inl f ↦ f | inr none ↦ absurd (omega (arith, ap length (whole ∙ none.0), some)) ] in
+      subst (λ (b : Bool). Writes b (sink.taken s.now) (sink.taken end) text (Ok tt)) (sym healthy) (refl, subst (Appends (sink.taken s.now) (sink.taken end)) (sym whole) h.taken)
 
-  pub writes_front : buffer.broken ≡ true → Writes failed' taken taken' text (Err Failed)
+  pub writes_front : r.buffer.broken ≡ true → Writes (sink.failed end) (sink.taken s.now) (sink.taken end) text (Err Failed)
   writes_front broken =
       let b = all.breaks refl broken in
-      subst (λ (f : Bool). Writes f taken taken' text (Err Failed)) (sym b.failed) (refl, (b.front, b.rest, b.whole, b.taken))
+      subst (λ (f : Bool). Writes f (sink.taken s.now) (sink.taken end) text (Err Failed)) (sym b.failed) (refl, (b.front, b.rest, b.whole, b.taken))

@@ -1,12 +1,12 @@
 //! Pieces of a routing's text, printed through a buffer.
 
 ghost use Rattle.std.specs.Prelude.{◌≡◌, ◌++◌, codes};
-ghost use Rattle.vpr_text.specs.Output.{SendsTo};
+ghost use Rattle.text_output.specs.Printing.{PrintsTo};
 ghost use Rattle.text_output.specs.Pieces.{pieces_text};
 ghost use Rattle.route_file.specs.TextLine.{Blank, line_text, class_text, kind_field, net_heading};
 
 use rr_graph::Kind;
-use text_output::{ByteSink, OutputBuffer, Piece, put_number, put_pieces};
+use text_output::{ByteSink, Piece, Printer};
 
 /// A node's kind, at the right of six places.
 pub(crate) fn kind_field(kind: Kind) -> &'static [u8]
@@ -23,28 +23,26 @@ pub(crate) fn kind_field(kind: Kind) -> &'static [u8]
 }
 
 /// Prints a line of pieces.
-pub(crate) fn put_line<W: ByteSink>(out: &mut OutputBuffer, sink: &mut W, pieces: &[Piece<'_>])
-    ensures { SendsTo W.taken W.failed sink.old sink.new out.old out.new
+pub(crate) fn put_line<W: ByteSink>(out: &mut Printer<'_, W>, pieces: &[Piece<'_>])
+    ensures { PrintsTo W.ByteSink out.old out.new
         (pieces_text pieces.now ++ codes "\n") }
 {
-    put_pieces(out, sink, pieces);
-    out.push(sink, b"\n");
+    out.put_pieces(pieces);
+    out.push(b"\n");
 }
 
 /// Prints the line that begins a net: its number, its name, and what stands behind that.
 pub(crate) fn put_heading<'a, W: ByteSink>(
-    out: &mut OutputBuffer,
-    sink: &mut W,
+    out: &mut Printer<'_, W>,
     number: usize,
     name: &'a [u8],
     rest: &'a [u8],
 )
-    ensures { SendsTo W.taken W.failed sink.old sink.new out.old out.new
+    ensures { PrintsTo W.ByteSink out.old out.new
         (net_heading number name.now rest.now ++ codes "\n") }
 {
     put_line(
         out,
-        sink,
         &[
             Piece::Text(b"Net "),
             Piece::LongNumber(number as u64),
@@ -57,18 +55,18 @@ pub(crate) fn put_heading<'a, W: ByteSink>(
 
 /// Prints an empty line.
 #[tactic(auto, unfolding(crate::specs::TextLine::bytes_on))]
-pub(crate) fn put_blank<W: ByteSink>(out: &mut OutputBuffer, sink: &mut W)
-    ensures { SendsTo W.taken W.failed sink.old sink.new out.old out.new (line_text Blank) }
+pub(crate) fn put_blank<W: ByteSink>(out: &mut Printer<'_, W>)
+    ensures { PrintsTo W.ByteSink out.old out.new (line_text Blank) }
 {
-    put_line(out, sink, &[]);
+    put_line(out, &[]);
 }
 
 /// Prints the class of a pin; a pad has none.
-pub(crate) fn put_class<W: ByteSink>(out: &mut OutputBuffer, sink: &mut W, class: Option<u32>)
-    ensures { SendsTo W.taken W.failed sink.old sink.new out.old out.new (class_text class) }
+pub(crate) fn put_class<W: ByteSink>(out: &mut Printer<'_, W>, class: Option<u32>)
+    ensures { PrintsTo W.ByteSink out.old out.new (class_text class) }
 {
     match class {
-        Some(class) => put_number(out, sink, class),
-        None => out.push(sink, b"-1"),
+        Some(class) => out.put_number(class),
+        None => out.push(b"-1"),
     }
 }

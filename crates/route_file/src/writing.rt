@@ -2,7 +2,7 @@
 
 ghost use Rattle.std.specs.Prelude.{◌≡◌, true, ◌<◌, length, slice_index_or, Some, None, if◌then◌else◌};
 ghost use Rattle.std.specs.List.{flat_map};
-ghost use Rattle.vpr_text.specs.Output.{SendsTo};
+ghost use Rattle.text_output.specs.Printing.{PrintsTo};
 ghost use Rattle.net_file.specs.Blocks.{numbers_below};
 ghost use Rattle.net_file.specs.Routed.{is_routed_net};
 ghost use Rattle.route_tree.specs.Fits.{fits_problem};
@@ -18,7 +18,7 @@ use net_file::{Net, Netlist};
 use place_file::Placement;
 use route_tree::{Pairs, Routing};
 use rr_graph::{Device, Problem};
-use text_output::{ByteSink, OutputBuffer, Piece};
+use text_output::{ByteSink, Piece, Printer};
 use thiserror::Error;
 
 /// Why a routing could not be written.
@@ -31,12 +31,11 @@ pub enum WriteFault {
 
 /// Prints the line with the size of the array.
 #[tactic(auto, unfolding(crate::specs::TextLine::bytes_on))]
-fn put_size<W: ByteSink>(out: &mut OutputBuffer, sink: &mut W, nx: u32, ny: u32)
-    ensures { SendsTo W.taken W.failed sink.old sink.new out.old out.new (line_text (Size nx ny)) }
+fn put_size<W: ByteSink>(out: &mut Printer<'_, W>, nx: u32, ny: u32)
+    ensures { PrintsTo W.ByteSink out.old out.new (line_text (Size nx ny)) }
 {
     put_line(
         out,
-        sink,
         &[
             Piece::Text(b"Array size: "),
             Piece::Number(nx),
@@ -49,65 +48,62 @@ fn put_size<W: ByteSink>(out: &mut OutputBuffer, sink: &mut W, nx: u32, ny: u32)
 
 /// Prints the line that begins a routed net.
 #[tactic(auto, unfolding(crate::specs::TextLine::bytes_on))]
-fn put_net_heading<W: ByteSink>(out: &mut OutputBuffer, sink: &mut W, number: usize, name: &[u8])
-    ensures { SendsTo W.taken W.failed sink.old sink.new out.old out.new
+fn put_net_heading<W: ByteSink>(out: &mut Printer<'_, W>, number: usize, name: &[u8])
+    ensures { PrintsTo W.ByteSink out.old out.new
         (line_text (RoutedNet number name.now)) }
 {
-    put_heading(out, sink, number, name, b")");
+    put_heading(out, number, name, b")");
 }
 
 /// Prints the lines of a net that is routed by a list of pairs.
 fn put_listed_net<W: ByteSink>(
-    out: &mut OutputBuffer,
-    sink: &mut W,
+    out: &mut Printer<'_, W>,
     device: &Device,
     number: usize,
     name: &[u8],
     pairs: &[(u32, u32)],
 )
-    ensures { SendsTo W.taken W.failed sink.old sink.new out.old out.new
+    ensures { PrintsTo W.ByteSink out.old out.new
         (flat_map line_text (routed_net_lines device.now number name.now (Some pairs.now))) }
 {
-    put_blank(out, sink);
-    put_net_heading(out, sink, number, name);
-    put_blank(out, sink);
-    put_pairs(out, sink, device, pairs);
+    put_blank(out);
+    put_net_heading(out, number, name);
+    put_blank(out);
+    put_pairs(out, device, pairs);
 }
 
 /// Prints the lines of a routed net; none where it has no list.
 fn put_list<W: ByteSink>(
-    out: &mut OutputBuffer,
-    sink: &mut W,
+    out: &mut Printer<'_, W>,
     device: &Device,
     number: usize,
     name: &[u8],
     list: &Option<Pairs>,
 )
-    ensures { SendsTo W.taken W.failed sink.old sink.new out.old out.new
+    ensures { PrintsTo W.ByteSink out.old out.new
         (flat_map line_text (routed_net_lines device.now number name.now list.now)) }
 {
     match list {
-        Some(pairs) => put_listed_net(out, sink, device, number, name, &pairs.items),
+        Some(pairs) => put_listed_net(out, device, number, name, &pairs.items),
         None => {}
     }
 }
 
 /// Prints the lines of a routed net, whose list stands at a place of the routing.
 fn put_routed_net<W: ByteSink>(
-    out: &mut OutputBuffer,
-    sink: &mut W,
+    out: &mut Printer<'_, W>,
     device: &Device,
     number: usize,
     name: &[u8],
     lists: &[Option<Pairs>],
     place: usize,
 )
-    ensures { SendsTo W.taken W.failed sink.old sink.new out.old out.new
+    ensures { PrintsTo W.ByteSink out.old out.new
         (flat_map line_text
         (routed_net_lines device.now number name.now (slice_index_or lists.now place None))) }
 {
     match lists.get(place) {
-        Some(list) => put_list(out, sink, device, number, name, list),
+        Some(list) => put_list(out, device, number, name, list),
         None => {}
     }
 }
@@ -126,51 +122,51 @@ fn list_count(net: &Net<'_>) -> usize
     usize::from(is_routed(net))
 }
 
-/// Prints the lines of a net. Its list, if it is routed, stands at a place of the routing.
+/// A placed netlist, and the device on which it is routed.
+#[derive(Clone, Copy)]
+struct PlacedNets<'a, 'b> {
+    netlist: &'a Netlist<'b>,
+    placement: &'a Placement,
+    device: &'a Device,
+}
+
+/// Prints the lines of a net. Its list, if it is routed, is at a place of the routing.
 fn put_net<W: ByteSink>(
-    out: &mut OutputBuffer,
-    sink: &mut W,
-    netlist: &Netlist<'_>,
-    placement: &Placement,
-    device: &Device,
+    out: &mut Printer<'_, W>,
+    placed: &PlacedNets<'_, '_>,
     number: usize,
     net: &Net<'_>,
     lists: &[Option<Pairs>],
     place: usize,
 )
-    ensures { SendsTo W.taken W.failed sink.old sink.new out.old out.new
-        (flat_map line_text (lines_of_net netlist.now placement.now device.now number net.now
-        (slice_index_or lists.now place None))) }
+    ensures { PrintsTo W.ByteSink out.old out.new (flat_map line_text
+        (lines_of_net placed.now.netlist.now placed.now.placement.now placed.now.device.now number
+        net.now (slice_index_or lists.now place None))) }
 {
     if net.is_global() {
-        put_global_net(out, sink, netlist, placement, number, net);
+        put_global_net(out, placed.netlist, placed.placement, number, net);
         return;
     }
     if is_routed(net) {
-        put_routed_net(out, sink, device, number, net.name(), lists, place);
+        put_routed_net(out, placed.device, number, net.name(), lists, place);
     }
 }
 
 /// Prints the lines of all nets, or until the sink breaks.
 fn put_nets<W: ByteSink>(
-    out: &mut OutputBuffer,
-    sink: &mut W,
-    netlist: &Netlist<'_>,
-    placement: &Placement,
-    device: &Device,
+    out: &mut Printer<'_, W>,
+    placed: &PlacedNets<'_, '_>,
     lists: &[Option<Pairs>],
 )
-    ensures { SendsTo W.taken W.failed sink.old sink.new out.old out.new
-        (flat_map line_text (flat_map (net_lines netlist.now placement.now device.now lists.now)
-        (numbers_below (length netlist.now.nets)))) }
+    ensures { PrintsTo W.ByteSink out.old out.new (flat_map line_text (flat_map
+        (net_lines placed.now.netlist.now placed.now.placement.now placed.now.device.now lists.now)
+        (numbers_below (length placed.now.netlist.now.nets)))) }
 {
-    let nets = netlist.nets();
+    let nets = placed.netlist.nets();
     let mut place = 0;
     for number in 0..nets.len() {
         let net = &nets[number];
-        put_net(
-            out, sink, netlist, placement, device, number, net, lists, place,
-        );
+        put_net(out, placed, number, net, lists, place);
         if out.is_broken() {
             return;
         }
@@ -180,22 +176,26 @@ fn put_nets<W: ByteSink>(
 
 /// Prints the text of a routing, or until the sink breaks.
 fn put_text<W: ByteSink>(
-    out: &mut OutputBuffer,
-    sink: &mut W,
+    out: &mut Printer<'_, W>,
     netlist: &Netlist<'_>,
     placement: &Placement,
     problem: &Problem,
     routing: &Routing,
 )
-    ensures { SendsTo W.taken W.failed sink.old sink.new out.old out.new
+    ensures { PrintsTo W.ByteSink out.old out.new
         (text_of netlist.now placement.now problem.now routing.now) }
 {
     let device = problem.device();
-    put_size(out, sink, device.nx(), device.ny());
-    put_blank(out, sink);
-    out.push(sink, b"Routing:");
-    out.push(sink, b"\n");
-    put_nets(out, sink, netlist, placement, device, &routing.lists);
+    put_size(out, device.nx(), device.ny());
+    put_blank(out);
+    out.push(b"Routing:");
+    out.push(b"\n");
+    let placed = PlacedNets {
+        netlist,
+        placement,
+        device,
+    };
+    put_nets(out, &placed, &routing.lists);
 }
 
 /// Writes the routing of a placed design, in one pass over its nets and without memory.
@@ -214,9 +214,9 @@ pub fn write<W: ByteSink>(
     ensures { Writes (W.failed sink.new) (W.taken sink.old) (W.taken sink.new)
         (text_of netlist.now placement.now problem.now routing.now) result }
 {
-    let mut out = OutputBuffer::new();
-    put_text(&mut out, sink, netlist, placement, problem, routing);
-    match out.finish(sink) {
+    let mut printer = Printer::new(sink);
+    put_text(&mut printer, netlist, placement, problem, routing);
+    match printer.finish() {
         Ok(()) => Ok(()),
         Err(_) => Err(WriteFault::Failed),
     }

@@ -91,21 +91,32 @@ fn push_channels(
     Ok(())
 }
 
-/// The channels of a kind, so many and of so many places.
+/// The channels of a kind: how many there are, and how many places each has.
+#[derive(Clone, Copy)]
+struct ParallelChannels {
+    kind: Kind,
+    places: u32,
+    count: u32,
+}
+
+/// Adds the channels of a kind to a list.
 fn push_channels_along(
     alloc: Global,
     device: &Device,
     uses: &[u16],
-    kind: Kind,
-    places: u32,
-    count: u32,
+    along: ParallelChannels,
     list: &mut Vec<ChannelUse>,
 ) -> Result<(), AllocError>
     requires limits { IsFabric device.now }
-    requires few { places ≤ 65535 }
-    ensures { OnOk result (list.new.items ≡
-        list.old.items ++ channels_along device.now uses.now kind places count) }
+    requires few { along.places ≤ 65535 }
+    ensures { OnOk result (list.new.items ≡ list.old.items
+        ++ channels_along device.now uses.now along.kind along.places along.count) }
 {
+    let ParallelChannels {
+        kind,
+        places,
+        count,
+    } = along;
     let channels = occupancies(alloc, device, uses, kind, places, count)?;
     push_channels(alloc, kind, &channels, count, list)?;
     Ok(())
@@ -123,23 +134,17 @@ pub fn channel_uses(
 {
     let (columns, rows) = (device.nx(), device.ny());
     let mut list = Vec::new(alloc);
-    push_channels_along(
-        alloc,
-        device,
-        uses,
-        Kind::Chanx,
-        columns,
-        rows + 1,
-        &mut list,
-    )?;
-    push_channels_along(
-        alloc,
-        device,
-        uses,
-        Kind::Chany,
-        rows,
-        columns + 1,
-        &mut list,
-    )?;
+    let above_rows = ParallelChannels {
+        kind: Kind::Chanx,
+        places: columns,
+        count: rows + 1,
+    };
+    let beside_columns = ParallelChannels {
+        kind: Kind::Chany,
+        places: rows,
+        count: columns + 1,
+    };
+    push_channels_along(alloc, device, uses, above_rows, &mut list)?;
+    push_channels_along(alloc, device, uses, beside_columns, &mut list)?;
     Ok(list)
 }

@@ -2,7 +2,7 @@
 
 ghost use Rattle.std.specs.Prelude.{◌≡◌, OnOk, OnErr, IsTrue};
 ghost use Rattle.std.specs.Io.KnownBytes.{Appends};
-ghost use Rattle.vpr_text.specs.Output.{SendsTo};
+ghost use Rattle.text_output.specs.Printing.{PrintsTo};
 ghost use Rattle.run_inputs.specs.declared.fault.AppFault.TheVariants.{Memory};
 ghost use Rattle.run_inputs.specs.Faults.{fault_of_arch, fault_of_net, fault_of_place, fault_of_route, fault_of_work, fault_text, input_text, line_fault_text, status_of, unread_text};
 ghost use Rattle.run_inputs.specs.Runs.{TakesFront, writing_to};
@@ -13,7 +13,7 @@ use net_workers::WorkFault;
 use place_file::PlaceFault;
 use route_file::RouteFileFault;
 use std::alloc::AllocError;
-use text_output::{ByteSink, OutputBuffer, Piece, put_pieces};
+use text_output::{ByteSink, Piece, Printer};
 use thiserror::Error;
 use vpr_text::Broken;
 
@@ -152,70 +152,56 @@ fn input_name(file: InputFile) -> &'static [u8]
 
 /// Prints the line of a fault in an input file.
 #[tactic(auto, unfolding(crate::specs::Faults::line_fault_text))]
-fn put_line_fault<W: ByteSink>(
-    out: &mut OutputBuffer,
-    sink: &mut W,
-    file: InputFile,
-    line: u32,
-    name: &[u8],
-)
-    ensures { SendsTo W.taken W.failed sink.old sink.new out.old out.new
+fn put_line_fault<W: ByteSink>(out: &mut Printer<'_, W>, file: InputFile, line: u32, name: &[u8])
+    ensures { PrintsTo W.ByteSink out.old out.new
         (line_fault_text (input_text file) line name.now) }
 {
-    put_pieces(
-        out,
-        sink,
-        &[
-            Piece::Text(b"error: "),
-            Piece::Text(input_name(file)),
-            Piece::Text(b" line "),
-            Piece::Number(line),
-            Piece::Text(b": "),
-            Piece::Text(name),
-            Piece::Text(b"\n"),
-        ],
-    );
+    out.put_pieces(&[
+        Piece::Text(b"error: "),
+        Piece::Text(input_name(file)),
+        Piece::Text(b" line "),
+        Piece::Number(line),
+        Piece::Text(b": "),
+        Piece::Text(name),
+        Piece::Text(b"\n"),
+    ]);
 }
 
 /// Prints the line of an input file that cannot be read.
 #[tactic(auto, unfolding(crate::specs::Faults::unread_text))]
-fn put_unread<W: ByteSink>(out: &mut OutputBuffer, sink: &mut W, file: InputFile)
-    ensures { SendsTo W.taken W.failed sink.old sink.new out.old out.new
+fn put_unread<W: ByteSink>(out: &mut Printer<'_, W>, file: InputFile)
+    ensures { PrintsTo W.ByteSink out.old out.new
         (unread_text (input_text file)) }
 {
-    put_pieces(
-        out,
-        sink,
-        &[
-            Piece::Text(b"error: "),
-            Piece::Text(input_name(file)),
-            Piece::Text(b" cannot be read\n"),
-        ],
-    );
+    out.put_pieces(&[
+        Piece::Text(b"error: "),
+        Piece::Text(input_name(file)),
+        Piece::Text(b" cannot be read\n"),
+    ]);
 }
 
 /// Prints a fault's line through a buffer.
-fn put_fault<W: ByteSink>(out: &mut OutputBuffer, sink: &mut W, fault: &AppFault)
-    ensures { SendsTo W.taken W.failed sink.old sink.new out.old out.new (fault_text fault.now) }
+fn put_fault<W: ByteSink>(out: &mut Printer<'_, W>, fault: &AppFault)
+    ensures { PrintsTo W.ByteSink out.old out.new (fault_text fault.now) }
 {
     match fault {
         AppFault::Arch(fault) => {
-            put_line_fault(out, sink, InputFile::Arch, fault.line(), fault.name());
+            put_line_fault(out, InputFile::Arch, fault.line(), fault.name());
         }
         AppFault::Net(fault) => {
-            put_line_fault(out, sink, InputFile::Net, fault.line(), fault.name());
+            put_line_fault(out, InputFile::Net, fault.line(), fault.name());
         }
         AppFault::Place(fault) => {
-            put_line_fault(out, sink, InputFile::Place, fault.line(), fault.name());
+            put_line_fault(out, InputFile::Place, fault.line(), fault.name());
         }
         AppFault::Route(fault) => {
-            put_line_fault(out, sink, InputFile::Route, fault.line(), fault.name());
+            put_line_fault(out, InputFile::Route, fault.line(), fault.name());
         }
-        AppFault::Unread(file) => put_unread(out, sink, *file),
-        AppFault::Unwritten => out.push(sink, b"error: cannot write\n"),
-        AppFault::Memory => out.push(sink, b"error: memory\n"),
-        AppFault::NoThread => out.push(sink, b"error: no thread\n"),
-        AppFault::Astray => out.push(sink, b"error: astray\n"),
+        AppFault::Unread(file) => put_unread(out, *file),
+        AppFault::Unwritten => out.push(b"error: cannot write\n"),
+        AppFault::Memory => out.push(b"error: memory\n"),
+        AppFault::NoThread => out.push(b"error: no thread\n"),
+        AppFault::Astray => out.push(b"error: astray\n"),
     }
 }
 
@@ -229,9 +215,9 @@ pub fn print_fault<W: ByteSink>(fault: &AppFault, out: &mut W) -> Result<(), Bro
     ensures front { OnErr result (TakesFront
         (writing_to W.taken W.failed out.old out.new) (fault_text fault.now)) }
 {
-    let mut buffer = OutputBuffer::new();
-    put_fault(&mut buffer, out, fault);
-    match buffer.finish(out) {
+    let mut printer = Printer::new(out);
+    put_fault(&mut printer, fault);
+    match printer.finish() {
         Ok(()) => Ok(()),
         Err(broken) => Err(broken),
     }

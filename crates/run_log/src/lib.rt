@@ -9,5 +9,6 @@ mod run_files;
 mod trial_text;
 
 pub use log::Log;
+pub use log_sink::LogHead;
 pub use progress::Progress;
 pub use run_files::RunFiles;

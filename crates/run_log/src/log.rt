@@ -6,10 +6,8 @@ ghost use Rattle.std.specs.Duration.{as_nanos};
 ghost use Rattle.run_log.specs.kept.Logged.{milliseconds_between};
 
 use crate::log_sink::{LogHead, LogSink, log_head, log_row, log_trial};
-use crate::run_files::RunFiles;
 use congestion_book::Book;
 use net_workers::{Gate, ScheduledTurn, TrialEnd};
-use node_cost::Settings;
 use rr_graph::Problem;
 use std::io::Eprint;
 use std::sync::{Mutex, Wait};
@@ -37,22 +35,16 @@ fn milliseconds(begin: Duration, now: Duration) -> u64
 }
 
 impl<'a, R: Eprint + Clock + Wait, W: ByteSink + Drop> Log<'a, R, W> {
-    /// Returns the log of a run that begins now, with this many workers. `name` is that of the
-    /// log's file, for warnings. The head names the version of the program and the run's files.
-    pub fn new(
-        rt: &'a R,
-        name: &'a str,
-        program: &'a str,
-        files: RunFiles<'a>,
-        workers: u32,
-        settings: Settings,
-        out: Option<W>,
-    ) -> Log<'a, R, W>
-        ensures program { result.head.program ≡ program.entry }
-        ensures files { result.head.files ≡ files.entry }
-        ensures workers { result.head.workers ≡ workers }
-        ensures settings { result.head.settings ≡ settings }
+    /// Returns the log of a run that begins now. `name` is that of the log's file, for warnings.
+    pub fn new(rt: &'a R, name: &'a str, head: LogHead<'a>, out: Option<W>) -> Log<'a, R, W>
+        ensures { result.head ≡ head.entry }
     {
+        let LogHead {
+            program,
+            files,
+            workers,
+            settings,
+        } = head;
         Log {
             rt,
             name,

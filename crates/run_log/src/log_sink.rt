@@ -19,11 +19,11 @@ use vpr_text::ByteSink;
 /// What the head of a log names of its run: the version of the program, the files, the number of
 /// workers, and the settings.
 #[derive(Clone, Copy, Debug)]
-pub(crate) struct LogHead<'a> {
-    pub(crate) program: &'a str,
-    pub(crate) files: RunFiles<'a>,
-    pub(crate) workers: u32,
-    pub(crate) settings: Settings,
+pub struct LogHead<'a> {
+    pub program: &'a str,
+    pub files: RunFiles<'a>,
+    pub workers: u32,
+    pub settings: Settings,
 }
 
 /// The sink of a log.

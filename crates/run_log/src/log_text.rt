@@ -1,7 +1,7 @@
 //! The text of a log: its head, and the line of an iteration.
 
 ghost use Rattle.std.specs.Prelude.{◌≡◌, ◌≤◌, decimal, length, option_copied};
-ghost use Rattle.vpr_text.specs.Output.{SendsTo};
+ghost use Rattle.text_output.specs.Printing.{PrintsTo};
 ghost use Rattle.node_cost.specs.Options.{most_iterations};
 ghost use Rattle.run_inputs.specs.Runs.{PrintsText, writing_to};
 ghost use Rattle.run_log.specs.kept.LogTexts.{array_text, column_text, figures_text, files_text, filled_text, given_text, head_text, iteration_text, mode_name, part_text, point_text, problem_text, row_text, steady_text, time_text, titles_text};
@@ -13,24 +13,20 @@ use node_cost::Settings;
 use rr_graph::{Mode, Problem};
 use run_inputs::AppFault;
 use run_schedule::{put_amount, put_entry, put_options};
-use text_output::{ByteSink, OutputBuffer, Piece, put_pieces};
+use text_output::{ByteSink, Piece, Printer};
 
 /// Prints the size of an array.
 #[tactic(auto, unfolding(crate::specs::kept::LogTexts::array_text))]
-fn put_array<W: ByteSink>(out: &mut OutputBuffer, sink: &mut W, nx: u32, ny: u32)
-    ensures { SendsTo W.taken W.failed sink.old sink.new out.old out.new (array_text nx ny) }
+fn put_array<W: ByteSink>(out: &mut Printer<'_, W>, nx: u32, ny: u32)
+    ensures { PrintsTo W.ByteSink out.old out.new (array_text nx ny) }
 {
-    put_pieces(
-        out,
-        sink,
-        &[
-            Piece::Text(b"# array "),
-            Piece::Number(nx),
-            Piece::Text(b" x "),
-            Piece::Number(ny),
-            Piece::Text(b" blocks\n"),
-        ],
-    );
+    out.put_pieces(&[
+        Piece::Text(b"# array "),
+        Piece::Number(nx),
+        Piece::Text(b" x "),
+        Piece::Number(ny),
+        Piece::Text(b" blocks\n"),
+    ]);
 }
 
 /// Returns the name of a mode.
@@ -44,84 +40,75 @@ fn mode_name(mode: Mode) -> &'static [u8]
 }
 
 /// Prints the line of a name that may have a value.
-fn put_given<'a, W: ByteSink>(
-    out: &mut OutputBuffer,
-    sink: &mut W,
-    name: &'a [u8],
-    value: Option<&'a [u8]>,
-)
-    ensures { SendsTo W.taken W.failed sink.old sink.new out.old out.new
+fn put_given<'a, W: ByteSink>(out: &mut Printer<'_, W>, name: &'a [u8], value: Option<&'a [u8]>)
+    ensures { PrintsTo W.ByteSink out.old out.new
         (given_text name.now (option_copied value.entry)) }
 {
     if let Some(value) = value {
-        put_entry(out, sink, name, value);
+        put_entry(out, name, value);
     }
 }
 
 /// Prints the files of a run, and its schedules.
-fn put_files<W: ByteSink>(out: &mut OutputBuffer, sink: &mut W, files: &RunFiles<'_>)
-    ensures { SendsTo W.taken W.failed sink.old sink.new out.old out.new (files_text files.now) }
+fn put_files<W: ByteSink>(out: &mut Printer<'_, W>, files: &RunFiles<'_>)
+    ensures { PrintsTo W.ByteSink out.old out.new (files_text files.now) }
 {
-    put_entry(out, sink, b"net", files.net);
-    put_entry(out, sink, b"arch", files.arch);
-    put_entry(out, sink, b"place", files.place);
-    put_entry(out, sink, b"route", files.route);
-    put_given(out, sink, b"schedule", files.schedule);
-    put_given(out, sink, b"follow", files.follow);
+    put_entry(out, b"net", files.net);
+    put_entry(out, b"arch", files.arch);
+    put_entry(out, b"place", files.place);
+    put_entry(out, b"route", files.route);
+    put_given(out, b"schedule", files.schedule);
+    put_given(out, b"follow", files.follow);
 }
 
 /// Prints the array, the number of nets, the mode and the width of the first negotiation's problem.
-fn put_problem<W: ByteSink>(out: &mut OutputBuffer, sink: &mut W, problem: &Problem)
-    ensures { SendsTo W.taken W.failed sink.old sink.new out.old out.new
+fn put_problem<W: ByteSink>(out: &mut Printer<'_, W>, problem: &Problem)
+    ensures { PrintsTo W.ByteSink out.old out.new
         (problem_text problem.now) }
 {
     let device = problem.device();
-    put_array(out, sink, device.nx(), device.ny());
-    put_amount(out, sink, b"nets", problem.nets(), b"");
-    put_entry(out, sink, b"routing", mode_name(device.mode()));
-    put_amount(out, sink, b"width", device.width(), b" tracks");
+    put_array(out, device.nx(), device.ny());
+    put_amount(out, b"nets", problem.nets(), b"");
+    put_entry(out, b"routing", mode_name(device.mode()));
+    put_amount(out, b"width", device.width(), b" tracks");
 }
 
 /// Prints that nets keep to the trees that they have, if they do.
-fn put_steady<W: ByteSink>(out: &mut OutputBuffer, sink: &mut W, is_steady: bool)
-    ensures { SendsTo W.taken W.failed sink.old sink.new out.old out.new
+fn put_steady<W: ByteSink>(out: &mut Printer<'_, W>, is_steady: bool)
+    ensures { PrintsTo W.ByteSink out.old out.new
         (steady_text is_steady) }
 {
     if is_steady {
-        put_entry(out, sink, b"steady", b"yes");
+        put_entry(out, b"steady", b"yes");
     }
 }
 
 /// Prints the titles of the columns.
-fn put_titles<W: ByteSink>(out: &mut OutputBuffer, sink: &mut W)
-    ensures { SendsTo W.taken W.failed sink.old sink.new out.old out.new (titles_text) }
+fn put_titles<W: ByteSink>(out: &mut Printer<'_, W>)
+    ensures { PrintsTo W.ByteSink out.old out.new (titles_text) }
 {
-    out.push(
-        sink,
-        b"width iteration    present overused   excess unrouted wirelength   seconds\n",
-    );
+    out.push(b"width iteration    present overused   excess unrouted wirelength   seconds\n");
 }
 
 /// Prints the head of a log.
 fn put_head<W: ByteSink>(
-    out: &mut OutputBuffer,
-    sink: &mut W,
+    out: &mut Printer<'_, W>,
     program: &[u8],
     files: &RunFiles<'_>,
     problem: &Problem,
     workers: u32,
     settings: &Settings,
 )
-    ensures { SendsTo W.taken W.failed sink.old sink.new out.old out.new
+    ensures { PrintsTo W.ByteSink out.old out.new
         (head_text program.now files.now problem.now workers settings.now) }
 {
-    put_entry(out, sink, b"pathfinder", program);
-    put_files(out, sink, files);
-    put_problem(out, sink, problem);
-    put_amount(out, sink, b"workers", workers, b"");
-    put_options(out, sink, settings);
-    put_steady(out, sink, settings.is_steady());
-    put_titles(out, sink);
+    put_entry(out, b"pathfinder", program);
+    put_files(out, files);
+    put_problem(out, problem);
+    put_amount(out, b"workers", workers, b"");
+    put_options(out, settings);
+    put_steady(out, settings.is_steady());
+    put_titles(out);
 }
 
 /// Writes the head of the log of a run with these files, at once.
@@ -137,17 +124,9 @@ pub fn write_head<W: ByteSink>(
     ensures { PrintsText (writing_to W.taken W.failed sink.old sink.new)
         (head_text program.now files.now problem.now workers settings.now) tt result }
 {
-    let mut buffer = OutputBuffer::new();
-    put_head(
-        &mut buffer,
-        sink,
-        program,
-        files,
-        problem,
-        workers,
-        settings,
-    );
-    match buffer.finish(sink) {
+    let mut printer = Printer::new(sink);
+    put_head(&mut printer, program, files, problem, workers, settings);
+    match printer.finish() {
         Ok(()) => Ok(()),
         Err(_) => Err(AppFault::Unwritten),
     }
@@ -155,150 +134,112 @@ pub fn write_head<W: ByteSink>(
 
 /// Prints a text in at least this many places. A shorter text is preceded by a front of the
 /// filling.
-fn put_filled<W: ByteSink>(
-    out: &mut OutputBuffer,
-    sink: &mut W,
-    filling: &[u8],
-    places: usize,
-    text: &[u8],
-)
+fn put_filled<W: ByteSink>(out: &mut Printer<'_, W>, filling: &[u8], places: usize, text: &[u8])
     requires { places ≤ length filling.now }
-    ensures { SendsTo W.taken W.failed sink.old sink.new out.old out.new
+    ensures { PrintsTo W.ByteSink out.old out.new
         (filled_text filling.now places text.now) }
 {
     let missing = places.saturating_sub(text.len());
-    out.push(sink, &filling[..missing]);
-    out.push(sink, text);
+    out.push(&filling[..missing]);
+    out.push(text);
 }
 
 /// Prints a number right-aligned in at least this many places.
-fn put_column<W: ByteSink, I: Integer>(
-    out: &mut OutputBuffer,
-    sink: &mut W,
-    places: usize,
-    number: I,
-)
+fn put_column<W: ByteSink, I: Integer>(out: &mut Printer<'_, W>, places: usize, number: I)
     requires { places ≤ 10 }
-    ensures { SendsTo W.taken W.failed sink.old sink.new out.old out.new
+    ensures { PrintsTo W.ByteSink out.old out.new
         (column_text places (I.text number)) }
 {
     let mut digits = Buffer::new();
-    put_filled(
-        out,
-        sink,
-        b"          ",
-        places,
-        digits.format(number).as_bytes(),
-    );
+    put_filled(out, b"          ", places, digits.format(number).as_bytes());
 }
 
 /// Prints the digits after a decimal point, in this many places.
-fn put_part<W: ByteSink>(out: &mut OutputBuffer, sink: &mut W, places: usize, part: u32)
+fn put_part<W: ByteSink>(out: &mut Printer<'_, W>, places: usize, part: u32)
     requires { places ≤ 4 }
-    ensures { SendsTo W.taken W.failed sink.old sink.new out.old out.new
+    ensures { PrintsTo W.ByteSink out.old out.new
         (part_text places (decimal part)) }
 {
     let mut digits = Buffer::new();
-    put_filled(out, sink, b"0000", places, digits.format(part).as_bytes());
+    put_filled(out, b"0000", places, digits.format(part).as_bytes());
 }
 
 /// Prints a number with this many places after the decimal point.
-fn put_point<W: ByteSink, I: Integer>(
-    out: &mut OutputBuffer,
-    sink: &mut W,
-    whole: I,
-    places: usize,
-    part: u32,
-)
+fn put_point<W: ByteSink, I: Integer>(out: &mut Printer<'_, W>, whole: I, places: usize, part: u32)
     requires { places ≤ 4 }
-    ensures { SendsTo W.taken W.failed sink.old sink.new out.old out.new
+    ensures { PrintsTo W.ByteSink out.old out.new
         (point_text (I.text whole) places (decimal part)) }
 {
-    put_column(out, sink, 5, whole);
-    out.push(sink, b".");
-    put_part(out, sink, places, part);
+    put_column(out, 5, whole);
+    out.push(b".");
+    put_part(out, places, part);
 }
 
 /// Prints the columns for the width, the iteration and the present-congestion factor.
-fn put_iteration<W: ByteSink>(
-    out: &mut OutputBuffer,
-    sink: &mut W,
-    width: u32,
-    iteration: u32,
-    present: u32,
-)
-    ensures { SendsTo W.taken W.failed sink.old sink.new out.old out.new
+fn put_iteration<W: ByteSink>(out: &mut Printer<'_, W>, width: u32, iteration: u32, present: u32)
+    ensures { PrintsTo W.ByteSink out.old out.new
         (iteration_text width iteration present) }
 {
-    put_column(out, sink, 5, width);
-    out.push(sink, b" ");
-    put_column(out, sink, 9, iteration);
-    out.push(sink, b" ");
-    put_point(out, sink, present / 16, 4, present % 16 * 625);
+    put_column(out, 5, width);
+    out.push(b" ");
+    put_column(out, 9, iteration);
+    out.push(b" ");
+    put_point(out, present / 16, 4, present % 16 * 625);
 }
 
 /// Prints the columns for what the iteration left.
 fn put_figures<W: ByteSink>(
-    out: &mut OutputBuffer,
-    sink: &mut W,
+    out: &mut Printer<'_, W>,
     overused: u32,
     excess: u64,
     unrouted: u32,
     wirelength: u64,
 )
-    ensures { SendsTo W.taken W.failed sink.old sink.new out.old out.new
+    ensures { PrintsTo W.ByteSink out.old out.new
         (figures_text overused excess unrouted wirelength) }
 {
-    out.push(sink, b" ");
-    put_column(out, sink, 8, overused);
-    out.push(sink, b" ");
-    put_column(out, sink, 8, excess);
-    out.push(sink, b" ");
-    put_column(out, sink, 8, unrouted);
-    out.push(sink, b" ");
-    put_column(out, sink, 10, wirelength);
+    out.push(b" ");
+    put_column(out, 8, overused);
+    out.push(b" ");
+    put_column(out, 8, excess);
+    out.push(b" ");
+    put_column(out, 8, unrouted);
+    out.push(b" ");
+    put_column(out, 10, wirelength);
 }
 
 /// Prints the time at which the iteration ended, and ends the line.
-fn put_time<W: ByteSink>(out: &mut OutputBuffer, sink: &mut W, milliseconds: u64)
-    ensures { SendsTo W.taken W.failed sink.old sink.new out.old out.new (time_text milliseconds) }
+fn put_time<W: ByteSink>(out: &mut Printer<'_, W>, milliseconds: u64)
+    ensures { PrintsTo W.ByteSink out.old out.new (time_text milliseconds) }
 {
-    out.push(sink, b" ");
-    put_point(
-        out,
-        sink,
-        milliseconds / 1000,
-        3,
-        (milliseconds % 1000) as u32,
-    );
-    out.push(sink, b"\n");
+    out.push(b" ");
+    put_point(out, milliseconds / 1000, 3, (milliseconds % 1000) as u32);
+    out.push(b"\n");
 }
 
 /// Prints the line of an iteration, from the book that it left.
 fn put_row<W: ByteSink>(
-    out: &mut OutputBuffer,
-    sink: &mut W,
+    out: &mut Printer<'_, W>,
     settings: &Settings,
     iteration: u32,
     book: &Book,
     milliseconds: u64,
 )
     requires { (1 ≤ iteration) × (iteration ≤ most_iterations) }
-    ensures { SendsTo W.taken W.failed sink.old sink.new out.old out.new
+    ensures { PrintsTo W.ByteSink out.old out.new
         (row_text settings.now iteration book.now milliseconds) }
 {
     let width = book.problem().device().width();
     let present = settings.present(iteration);
-    put_iteration(out, sink, width, iteration, present);
+    put_iteration(out, width, iteration, present);
     put_figures(
         out,
-        sink,
         book.overused(),
         book.excess(),
         book.unrouted(),
         book.wirelength(),
     );
-    put_time(out, sink, milliseconds);
+    put_time(out, milliseconds);
 }
 
 /// Writes the line of an iteration, from the book that it left, at once.
@@ -314,9 +255,9 @@ pub fn write_row<W: ByteSink>(
     ensures { PrintsText (writing_to W.taken W.failed sink.old sink.new)
         (row_text settings.now iteration book.now milliseconds) tt result }
 {
-    let mut buffer = OutputBuffer::new();
-    put_row(&mut buffer, sink, settings, iteration, book, milliseconds);
-    match buffer.finish(sink) {
+    let mut printer = Printer::new(sink);
+    put_row(&mut printer, settings, iteration, book, milliseconds);
+    match printer.finish() {
         Ok(()) => Ok(()),
         Err(_) => Err(AppFault::Unwritten),
     }

@@ -1,13 +1,17 @@
 -- What was printed of a list, with an element more; and how a text ends.
 use Rattle.std.proofs.Common.{◌≡◌, ℕ, ◌+◌, ◌<◌, suc, Bool, true, false, List, [], ◌∷◌, ◌++◌, length, take, get_or, Option, Result, Ok, Err, inl, inr, refl, sym, ap, subst, ◌∙◌, append_assoc, add-zero, arith, length-append}
 use Rattle.std.specs.Prelude.{OnOk, is_err}
+use Rattle.std.specs.Borrow.{MutBor}
 use Rattle.std.specs.List.{flat_map}
 use Rattle.std.specs.Io.KnownBytes.{Appends}
 use Rattle.std.proofs.lemmas.List.{append-nil, length-take, take_more}
 use Rattle.std.proofs.lemmas.Grind.{flat_map-append}
 use Rattle.vpr_text.specs.declared.source.Broken.{Broken}
-use Rattle.vpr_text.specs.Output.{Buffer, Prints, Stream, stream, Sends}
-use Rattle.vpr_text.proofs.Printing.{sends_then}
+use Rattle.vpr_text.specs.Output.{Prints, Sends, holding, stream}
+use Rattle.vpr_text.specs.declared.sink.ByteSink.{Ghosts}
+use Rattle.text_output.specs.declared.printer.Printer.{Printer}
+use Rattle.text_output.specs.Printing.{IsPrinterTo, PrintsTo}
+use Rattle.text_output.proofs.Printing.{sends_all}
 use Rattle.gates.specs.declared.schedule.ScheduledTurn.{ScheduledTurn}
 use Rattle.run_schedule.specs.Schedules.{TrialTurns}
 use Rattle.run_schedule.specs.Writes.{WritesText}
@@ -45,34 +49,30 @@ iterations_more its i d within =
     let number : 1 + length (take i its) ≡ i + 1 = omega (arith, length-take i its) in
     sym (ap (iterations_text 1) (take_more its i d within) ∙ iterations_push 1 (take i its) turns ∙ ap (λ k. iterations_text 1 (take i its) ++ iteration_text k turns) number)
 
--- a buffer that holds nothing
-abbrev fresh : Buffer
-fresh = record { held = []; broken = false }
+-- a text that went through a new printer to its sink, which is `end` then
+module _ {W : Type 0} {sink : Ghosts W} {s : MutBor W} {end : W} {p q r : Printer W} {text : List ℕ} (new : IsPrinterTo s p) (sent : PrintsTo sink p q text) (rest : PrintsTo sink q r []) (last : end ≡ r.sink.now) where
+  all : Sends (stream (sink.taken s.now) (sink.failed s.now) (holding [])) (stream (sink.taken end) (sink.failed end) r.buffer) text
+  all = sends_all new sent rest last
 
--- a text that was sent through a buffer, which was emptied then
-module _ (taken taken' : Option (List ℕ)) (failed failed' : Bool) (buffer : Buffer) (t : Stream) (text : List ℕ) (sent : Sends (stream taken failed fresh) t text) (rest : Sends t (stream taken' failed' buffer) []) where
-  all : Sends (stream taken failed fresh) (stream taken' failed' buffer) text
-  all = subst (Sends (stream taken failed fresh) (stream taken' failed' buffer)) (append-nil text) (sends_then sent rest)
-
-  whole_front : (p : Prints (stream taken failed fresh) (stream taken' failed' buffer) text) → buffer.held ≡ [] → text ≡ p.front
-  whole_front p empty = p.whole ∙ (ap (λ (h : List ℕ). p.front ++ h) empty ∙ append-nil p.front)
+  whole_front : (h : Prints (stream (sink.taken s.now) (sink.failed s.now) (holding [])) (stream (sink.taken end) (sink.failed end) r.buffer) text) → r.buffer.held ≡ [] → text ≡ h.front
+  whole_front h empty = h.whole ∙ (ap (λ (b : List ℕ). h.front ++ b) empty ∙ append-nil h.front)
 
   -- all of the text was taken
-  pub handed_out : buffer.broken ≡ false → buffer.held ≡ [] → Appends taken taken' text
-  handed_out sound empty = let p = all.prints sound in subst (Appends taken taken') (sym (whole_front p empty)) p.taken
+  pub handed_out : r.buffer.broken ≡ false → r.buffer.held ≡ [] → Appends (sink.taken s.now) (sink.taken end) text
+  handed_out sound empty = let h = all.prints sound in subst (Appends (sink.taken s.now) (sink.taken end)) (sym (whole_front h empty)) h.taken
 
-  taken_whole : buffer.broken ≡ false → buffer.held ≡ [] → 0 < length text → WritesText taken taken' failed' text (Ok tt)
+  taken_whole : r.buffer.broken ≡ false → r.buffer.held ≡ [] → 0 < length text → WritesText (sink.taken s.now) (sink.taken end) (sink.failed end) text (Ok tt)
   taken_whole sound empty some =
-      let p = all.prints sound in
-      let healthy : failed' ≡ false = elim p.sound [ inl f ↦ f | inr none ↦ absurd (omega (arith, ap length (whole_front p empty ∙ none.0), some)) ] in
-      subst (λ (b : Bool). WritesText taken taken' b text (Ok tt)) (sym healthy) (refl, handed_out sound empty)
+      let h = all.prints sound in
+      let healthy : sink.failed end ≡ false = elim h.sound [ inl f ↦ f | inr none ↦ absurd (omega (arith, ap length (whole_front h empty ∙ none.0), some)) ] in
+      subst (λ (b : Bool). WritesText (sink.taken s.now) (sink.taken end) b text (Ok tt)) (sym healthy) (refl, handed_out sound empty)
 
-  taken_front : (e : Broken) → buffer.broken ≡ true → WritesText taken taken' failed' text (Err e)
+  taken_front : (e : Broken) → r.buffer.broken ≡ true → WritesText (sink.taken s.now) (sink.taken end) (sink.failed end) text (Err e)
   taken_front e broken =
       let b = all.breaks refl broken in
-      subst (λ (f : Bool). WritesText taken taken' f text (Err e)) (sym b.failed) (refl, (b.front, b.rest, b.whole, b.taken))
+      subst (λ (f : Bool). WritesText (sink.taken s.now) (sink.taken end) f text (Err e)) (sym b.failed) (refl, (b.front, b.rest, b.whole, b.taken))
 
-  pub written : (result : Result (Unit {0}) Broken) → OnOk result (buffer.held ≡ []) → is_err result ≡ buffer.broken → 0 < length text → WritesText taken taken' failed' text result
+  pub written : (result : Result (Unit {0}) Broken) → OnOk result (r.buffer.held ≡ []) → is_err result ≡ r.buffer.broken → 0 < length text → WritesText (sink.taken s.now) (sink.taken end) (sink.failed end) text result
   written (Ok x) empty broken some = taken_whole (sym broken) empty some
   written (Err e) empty broken some = taken_front e (sym broken)
 

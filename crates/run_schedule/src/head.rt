@@ -1,13 +1,14 @@
 //! The head of a schedule, which describes the run.
 
-ghost use Rattle.std.specs.Prelude.{◌≡◌, IfOk};
-ghost use Rattle.vpr_text.specs.Output.{SendsTo};
+ghost use Rattle.std.specs.Prelude.{◌≡◌, IfOk, OnOk};
+ghost use Rattle.std.specs.Io.KnownBytes.{Appends};
+ghost use Rattle.text_output.specs.Printing.{PrintsTo};
 ghost use Rattle.run_schedule.specs.ScheduleTexts.{head_text, run_text};
 
 use crate::head_lines::{put_amount, put_entry, put_options};
 use node_cost::Settings;
 use std::alloc::Global;
-use text_output::{ByteSink, OutputBuffer};
+use text_output::{ByteSink, Printer};
 use vpr_text::{Adapted, Broken};
 
 /// What the head of a schedule says of the run.
@@ -29,26 +30,38 @@ pub struct Head<'a> {
 }
 
 /// Prints the program, the command and the sums of the files.
-fn put_run<W: ByteSink>(out: &mut OutputBuffer, sink: &mut W, head: &Head<'_>)
-    ensures { SendsTo W.taken W.failed sink.old sink.new out.old out.new
+fn put_run<W: ByteSink>(out: &mut Printer<'_, W>, head: &Head<'_>)
+    ensures { PrintsTo W.ByteSink out.old out.new
         (run_text head.now.program.now head.now.command.now head.now.net.now head.now.arch.now
         head.now.place.now) }
 {
-    put_entry(out, sink, b"pathfinder", head.program);
-    put_entry(out, sink, b"schedule of", head.command);
-    put_entry(out, sink, b"net", head.net);
-    put_entry(out, sink, b"arch", head.arch);
-    put_entry(out, sink, b"place", head.place);
+    put_entry(out, b"pathfinder", head.program);
+    put_entry(out, b"schedule of", head.command);
+    put_entry(out, b"net", head.net);
+    put_entry(out, b"arch", head.arch);
+    put_entry(out, b"place", head.place);
 }
 
 /// Prints a head.
-pub(crate) fn put_head<W: ByteSink>(out: &mut OutputBuffer, sink: &mut W, head: &Head<'_>)
-    ensures { SendsTo W.taken W.failed sink.old sink.new out.old out.new (head_text head.now) }
+pub(crate) fn put_head<W: ByteSink>(out: &mut Printer<'_, W>, head: &Head<'_>)
+    ensures { PrintsTo W.ByteSink out.old out.new (head_text head.now) }
 {
-    put_run(out, sink, head);
-    put_amount(out, sink, b"workers", head.workers, b"");
-    put_options(out, sink, &head.settings);
-    put_amount(out, sink, b"nets", head.nets, b"");
+    put_run(out, head);
+    put_amount(out, b"workers", head.workers, b"");
+    put_options(out, &head.settings);
+    put_amount(out, b"nets", head.nets, b"");
+}
+
+/// Prints a head to a sink.
+///
+/// # Errors
+/// Broken where the sink broke.
+fn print_head<W: ByteSink>(sink: &mut W, head: &Head<'_>) -> Result<(), Broken>
+    ensures { OnOk result (Appends (W.taken sink.old) (W.taken sink.new) (head_text head.now)) }
+{
+    let mut printer = Printer::new(sink);
+    put_head(&mut printer, head);
+    printer.finish()
 }
 
 /// Returns the lines of a head, or `Broken` if memory ran out.
@@ -57,8 +70,6 @@ pub(crate) fn head_lines(alloc: Global, head: &Head<'_>) -> Result<Vec<u8>, Brok
     ensures { IfOk result (λ lines. lines.items ≡ head_text head.now) }
 {
     let mut lines = Adapted::new(Vec::new(alloc));
-    let mut out = OutputBuffer::new();
-    put_head(&mut out, &mut lines, head);
-    out.finish(&mut lines)?;
+    print_head(&mut lines, head)?;
     Ok(lines.into_inner())
 }

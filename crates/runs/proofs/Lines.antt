@@ -5,7 +5,9 @@ use Rattle.std.specs.List.{flat_map}
 use Rattle.std.specs.Option.{option_map}
 use Rattle.std.proofs.lemmas.List.{append-nil}
 use Rattle.std.proofs.lemmas.Bool.{false≢true}
-use Rattle.vpr_text.specs.Output.{Stream, Sends}
+use Rattle.vpr_text.specs.declared.sink.ByteSink.{Ghosts}
+use Rattle.text_output.specs.declared.printer.Printer.{Printer}
+use Rattle.text_output.specs.Printing.{PrintsTo}
 use Rattle.vpr_text.proofs.Printing.{breaks_more}
 use Rattle.rr_graph.specs.node.Node.{Node}
 use Rattle.rr_graph.specs.node.Label.{Label}
@@ -33,18 +35,22 @@ lines_begin line i n le =
     let e : i + (n - i) ≡ n = omega arith in
     (found.0, found.1 ∙ ap (λ m. flat_map line (numbers_below m)) e)
 
--- what broke off may have had more after it
-pub sends_broken : {s t : Stream} {x : List ℕ} (y : List ℕ) → Sends s t x → t.buffer.broken ≡ true → Sends s t (x ++ y)
-sends_broken {s} {t} {x} y p broken = record {
-  prints = λ e. absurd (false≢true (sym e ∙ broken));
-  breaks = λ e f. breaks_more y (p.breaks e f);
-  stays = p.stays;
-}
+module _ {W : Type 0} {sink : Ghosts W} where
+  -- what broke off may have had more after it
+  pub prints_broken : {s t : Printer W} {x : List ℕ} (y : List ℕ) → PrintsTo sink s t x → t.buffer.broken ≡ true → PrintsTo sink s t (x ++ y)
+  prints_broken {s} {t} {x} y p broken = record {
+    same_sink = p.same_sink;
+    sends = record {
+      prints = λ e. absurd (false≢true (sym e ∙ broken));
+      breaks = λ e f. breaks_more y (p.sends.breaks e f);
+      stays = p.sends.stays;
+    };
+  }
 
--- lines up to one after which the sink broke
-pub sends_broken_lines : {s t : Stream} (line : ℕ → List ℕ) (i n : ℕ) → i ≤ n → Sends s t (flat_map line (numbers_below i)) → t.buffer.broken ≡ true → Sends s t (flat_map line (numbers_below n))
-sends_broken_lines {s} {t} line i n le p broken =
-    let rest = lines_begin line i n le in subst (Sends s t) rest.1 (sends_broken rest.0 p broken)
+  -- lines up to one after which the sink broke
+  pub prints_broken_lines : {s t : Printer W} (line : ℕ → List ℕ) (i n : ℕ) → i ≤ n → PrintsTo sink s t (flat_map line (numbers_below i)) → t.buffer.broken ≡ true → PrintsTo sink s t (flat_map line (numbers_below n))
+  prints_broken_lines {s} {t} line i n le p broken =
+      let rest = lines_begin line i n le in subst (PrintsTo sink s t) rest.1 (prints_broken rest.0 p broken)
 
 -- what is printed for a node is its line
 pub line_text : (is_typed : Bool) (f : Fabric) (i : ℕ) (n : Node) (s : Span) (l : Label) (c : ℕ)

@@ -1,13 +1,16 @@
 -- Texts that are printed one after another, and what the sink took in the end.
 use Rattle.std.proofs.Common.{◌≡◌, ℕ, Bool, true, false, List, [], ◌++◌, Option, Result, Ok, Err, MatchBool, ◌⊎◌, inl, inr, refl, sym, ap, subst, ◌∙◌, append_assoc}
 use Rattle.std.specs.Prelude.{IsTrue, OnErr, OnOk, is_err}
+use Rattle.std.specs.Borrow.{MutBor}
 use Rattle.std.specs.Io.KnownBytes.{Appends}
 use Rattle.std.proofs.KnownBytes.{Appends-nil, Appends-trans}
 use Rattle.std.proofs.lemmas.List.{append-nil}
 use Rattle.std.proofs.lemmas.Bool.{false≢true}
-use Rattle.vpr_text.specs.Output.{Buffer, Sends, Stream, stream}
+use Rattle.vpr_text.specs.declared.sink.ByteSink.{Ghosts}
+use Rattle.text_output.specs.declared.printer.Printer.{Printer}
+use Rattle.text_output.specs.Printing.{IsPrinterTo, PrintsTo}
 use Rattle.run_inputs.specs.Runs.{TakesAll, TakesFront, Writing, writing}
-use Rattle.run_inputs.proofs.Ending.{broke_off, broken_front, fresh, handed_out}
+use Rattle.run_inputs.proofs.Ending.{broke_off, broken_front, handed_out}
 use Rattle.runs.specs.WidthRun.{TakesText}
 use Rattle.runs.specs.kept.Told.{Tells, Told, told}
 
@@ -63,22 +66,16 @@ held_none : {E : Type 0} (r : Result (Unit {0}) E) (held : List ℕ) → OnOk r 
 held_none (Ok x) held p e = p
 held_none (Err x) held p e = absurd (false≢true (sym e))
 
--- through a buffer
-module _ {E : Type 0} {taken taken' : Option (List ℕ)} {failed failed' : Bool} {start buffer : Buffer} {t : Stream} {text : List ℕ} (r : Result (Unit {0}) E) (begins : start ≡ fresh) (sent : Sends (stream taken failed start) t text) (rest : Sends t (stream taken' failed' buffer) []) (empty : OnOk r (buffer.held ≡ [])) (ends : is_err r ≡ buffer.broken) where
-  from_fresh : Sends (stream taken failed fresh) t text
-  from_fresh = subst (λ (b : Buffer). Sends (stream taken failed b) t text) begins sent
-
-  sent_so : Tells (told taken failed false) (told taken' failed' (is_err r)) text
+-- through a new printer to a sink, which is `end` then
+module _ {E W : Type 0} {sink : Ghosts W} {s : MutBor W} {end : W} {p q r : Printer W} {text : List ℕ} (answer : Result (Unit {0}) E) (new : IsPrinterTo s p) (sent : PrintsTo sink p q text) (rest : PrintsTo sink q r []) (last : end ≡ r.sink.now) (empty : OnOk answer (r.buffer.held ≡ [])) (ends : is_err answer ≡ r.buffer.broken) where
+  sent_so : Tells (told (sink.taken s.now) (sink.failed s.now) false) (told (sink.taken end) (sink.failed end) (is_err answer)) text
   sent_so = record {
-    whole = λ e. handed_out (tt {0}) taken taken' failed failed' buffer t text from_fresh rest (sym ends ∙ e) (held_none r buffer.held empty e);
-    breaks = λ _ f. (
-      broke_off (tt {0}) taken taken' failed failed' buffer t text from_fresh rest (sym ends ∙ f),
-      broken_front (tt {0}) taken taken' failed failed' buffer t text from_fresh rest (sym ends ∙ f),
-    );
+    whole = λ e. handed_out (tt {0}) new sent rest last (sym ends ∙ e) (held_none answer r.buffer.held empty e);
+    breaks = λ _ f. (broke_off (tt {0}) new sent rest last (sym ends ∙ f), broken_front (tt {0}) new sent rest last (sym ends ∙ f));
     stays = λ e. absurd (false≢true e);
   }
 
-  pub tells_sent : {was broken : Bool} → was ≡ false → broken ≡ is_err r → Tells (told taken failed was) (told taken' failed' broken) text
+  pub tells_sent : {was broken : Bool} → was ≡ false → broken ≡ is_err answer → Tells (told (sink.taken s.now) (sink.failed s.now) was) (told (sink.taken end) (sink.failed end) broken) text
   tells_sent {was} {broken} sound is = rw (sound, is) sent_so
 
 -- by one call

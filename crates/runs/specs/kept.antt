@@ -3,3 +3,4 @@ pub mod Left
 pub mod Trials
 pub mod Told
 pub mod Lesser
+pub mod Negotiated

@@ -9,7 +9,7 @@ ghost use Rattle.runs.specs.kept.Told.{TellsTo};
 use bound_run::{find_bound, has_no_way, printed_width, put_width_line};
 use run_inputs::{AppFault, PlacedNetlist};
 use std::alloc::Global;
-use text_output::{ByteSink, OutputBuffer};
+use text_output::{ByteSink, Printer};
 use width_bound::CutFigures;
 
 /// One more than the greatest width of a device.
@@ -60,7 +60,7 @@ pub(crate) fn tell_bound<W: ByteSink>(words: &mut W, is_broken: &mut bool, figur
     if *is_broken {
         return;
     }
-    let mut out = OutputBuffer::new();
-    put_width_line(&mut out, words, figures);
-    *is_broken = out.finish(words).is_err();
+    let mut printer = Printer::new(words);
+    put_width_line(&mut printer, figures);
+    *is_broken = printer.finish().is_err();
 }

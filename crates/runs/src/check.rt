@@ -15,7 +15,7 @@ use rr_graph::{Mode, Problem};
 use run_inputs::{AppFault, Design, InputFile, NetlistText, read_routing};
 use std::alloc::AllocGlobal;
 use std::thread::Threads;
-use text_output::{ByteSink, OutputBuffer};
+use text_output::{ByteSink, Printer};
 use vpr_text::ByteSource;
 
 /// Prints the line of a verdict, and returns the verdict.
@@ -28,9 +28,9 @@ fn print_verdict<W: ByteSink>(
     ensures { PrintsText (writing_to W.taken W.failed out.old out.new)
         (verdict_text netlist.now problem.now verdict) verdict result }
 {
-    let mut buffer = OutputBuffer::new();
-    put_verdict(&mut buffer, out, netlist, problem, verdict);
-    match buffer.finish(out) {
+    let mut printer = Printer::new(out);
+    put_verdict(&mut printer, netlist, problem, verdict);
+    match printer.finish() {
         Ok(()) => Ok(verdict),
         Err(_) => Err(AppFault::Unwritten),
     }

@@ -13,7 +13,7 @@ use rr_graph::{Device, Mode};
 use run_inputs::{AppFault, read_arch};
 use smallvec::SmallVec;
 use std::alloc::Global;
-use text_output::{ByteSink, OutputBuffer};
+use text_output::{ByteSink, Printer};
 use vpr_text::ByteSource;
 
 /// Prints the listing of a device. Nothing is printed if memory runs out.
@@ -31,9 +31,9 @@ fn print_listing<W: ByteSink>(
 {
     let mut list: SmallVec<u32, 8> = SmallVec::new(alloc);
     make_room(device, &mut list)?;
-    let mut buffer = OutputBuffer::new();
-    put_listing(&mut buffer, out, device, &mut list, is_typed);
-    match buffer.finish(out) {
+    let mut printer = Printer::new(out);
+    put_listing(&mut printer, device, &mut list, is_typed);
+    match printer.finish() {
         Ok(()) => Ok(()),
         Err(_) => Err(AppFault::Unwritten),
     }

@@ -1,7 +1,7 @@
 //! What a negotiation without success left: its trees, and the nets that have none.
 
 ghost use Rattle.std.specs.Prelude.{◌≡◌, true, false, Err};
-ghost use Rattle.vpr_text.specs.Output.{SendsTo};
+ghost use Rattle.text_output.specs.Printing.{PrintsTo};
 ghost use Rattle.route_file.specs.Text.{text_of};
 ghost use Rattle.run_inputs.specs.Faults.{ends_free};
 ghost use Rattle.run_inputs.specs.Runs.{PrintsText, TakesNothing, writing_to};
@@ -19,7 +19,7 @@ use rr_graph::{Device, Problem};
 use run_inputs::{AppFault, Design, net_name, number_of_net};
 use std::alloc::Global;
 use std::sync::{Mutex, Wait};
-use text_output::{ByteSink, OutputBuffer, Piece, put_pieces};
+use text_output::{ByteSink, Piece, Printer};
 
 /// Writes the text of the trees that a book of the design's problem has recorded.
 #[tactic(auto, using(crate::proofs::Leaving::book_fits))]
@@ -77,56 +77,49 @@ fn write_left<W: WholeSink>(
 /// Prints that no path leads to a sink of the net of this name.
 #[tactic(auto, unfolding(crate::specs::kept::Left::stuck_line))]
 fn put_stuck_line<'a, W: ByteSink>(
-    out: &mut OutputBuffer,
-    words: &mut W,
+    out: &mut Printer<'_, W>,
     device: &'a Device,
     name: &'a [u8],
     sink: u32,
 )
-    ensures { SendsTo W.taken W.failed words.old words.new out.old out.new
+    ensures { PrintsTo W.ByteSink out.old out.new
         (stuck_line device.now name.now sink) }
 {
-    put_pieces(
-        out,
-        words,
-        &[
-            Piece::Text(b"net "),
-            Piece::Text(name),
-            Piece::Text(b": stuck at "),
-            Piece::Node(device, sink),
-            Piece::Text(b"\n"),
-        ],
-    );
+    out.put_pieces(&[
+        Piece::Text(b"net "),
+        Piece::Text(name),
+        Piece::Text(b": stuck at "),
+        Piece::Node(device, sink),
+        Piece::Text(b"\n"),
+    ]);
 }
 
 /// Prints that no path leads to a sink of a net of the problem. `stuck` is the net and the sink.
 fn put_stuck<W: ByteSink>(
-    out: &mut OutputBuffer,
-    words: &mut W,
+    out: &mut Printer<'_, W>,
     netlist: &Netlist<'_>,
     problem: &Problem,
     stuck: (u32, u32),
 )
-    ensures { SendsTo W.taken W.failed words.old words.new out.old out.new
+    ensures { PrintsTo W.ByteSink out.old out.new
         (stuck_net netlist.now problem.now stuck) }
 {
     let name = net_name(netlist, number_of_net(problem, stuck.0));
-    put_stuck_line(out, words, problem.device(), name, stuck.1);
+    put_stuck_line(out, problem.device(), name, stuck.1);
 }
 
 /// Prints which nets have no tree, each with a sink that no path leads to.
 fn put_all_stuck<W: ByteSink>(
-    out: &mut OutputBuffer,
-    words: &mut W,
+    out: &mut Printer<'_, W>,
     netlist: &Netlist<'_>,
     problem: &Problem,
     stuck: &[(u32, u32)],
 )
-    ensures { SendsTo W.taken W.failed words.old words.new out.old out.new
+    ensures { PrintsTo W.ByteSink out.old out.new
         (stuck_text netlist.now problem.now stuck.now) }
 {
     for entry in stuck {
-        put_stuck(out, words, netlist, problem, *entry);
+        put_stuck(out, netlist, problem, *entry);
     }
 }
 
@@ -136,9 +129,9 @@ fn tell_stuck<W: ByteSink>(words: &mut W, design: &Design<'_>, stuck: &[(u32, u3
     ensures { TakesText (writing_to W.taken W.failed words.old words.new)
         (stuck_text design.now.netlist design.now.problem stuck.now) }
 {
-    let mut out = OutputBuffer::new();
-    put_all_stuck(&mut out, words, design.netlist(), design.problem(), stuck);
-    let _ = out.finish(words);
+    let mut printer = Printer::new(words);
+    put_all_stuck(&mut printer, design.netlist(), design.problem(), stuck);
+    let _ = printer.finish();
 }
 
 /// A gate of a negotiation. If no routing was found and the file is wanted, it writes the trees

@@ -1,22 +1,23 @@
 //! Widths below the least that a search found. Each is tried, even if the search tried it before.
 
 ghost use Rattle.std.specs.Prelude.{◌≡◌, ℕ, ◌≤◌, true, if◌then◌else◌, List, Some, IfErr, IfOk};
-ghost use Rattle.vpr_text.specs.Output.{SendsTo};
+ghost use Rattle.text_output.specs.Printing.{PrintsTo};
 ghost use Rattle.rr_graph.specs.Fabric.{most_tracks};
 ghost use Rattle.node_cost.specs.Options.{most_workers};
-ghost use Rattle.width_search.specs.Reports.{IsVerifiedReport, IsWidthReport, Negotiates, is_success};
+ghost use Rattle.width_search.specs.Reports.{IsVerifiedReport, IsWidthReport, is_success};
 ghost use Rattle.width_search.specs.Widths.{next_width};
 ghost use Rattle.width_search.specs.kept.Verifying.{IsVerifying};
 ghost use Rattle.run_inputs.specs.Faults.{fault_text, is_free};
-ghost use Rattle.run_inputs.specs.Inputs.{placed_problem};
 ghost use Rattle.runs.specs.LesserWidths.{TriesBelow, TriesLesser, lesser_end, lesser_routed, width_text};
 ghost use Rattle.runs.specs.kept.Lesser.{AddsSuccess, TriesAll, TriesWidth};
+ghost use Rattle.runs.specs.kept.Negotiated.{Negotiated};
 ghost use Rattle.runs.specs.kept.Routing.{ended_text};
 ghost use Rattle.runs.specs.kept.Told.{TellsTo};
 
 use crate::bound::PAST_WIDTHS;
 use crate::kept_trials::KeptTrials;
 use crate::outcome::{OutcomeEnd, end_of, put_end};
+use crate::run_options::RunOptions;
 use crate::side_files::SideFiles;
 use crate::tried_widths::Widths;
 use iteration::Outcome;
@@ -25,43 +26,39 @@ use run_inputs::{AppFault, print_fault};
 use std::alloc::AllocGlobal;
 use std::sync::Wait;
 use std::thread::Threads;
-use text_output::{ByteSink, OutputBuffer, Piece, put_number, put_pieces};
-use width_search::{WidthReport, negotiate_at};
+use text_output::{ByteSink, Piece, Printer};
+use width_search::{Negotiating, PlacedDesign, WidthReport, negotiate_at};
 
 /// Prints how the negotiation of a width ended.
-fn put_line<W: ByteSink>(out: &mut OutputBuffer, words: &mut W, width: u32, end: OutcomeEnd)
-    ensures { SendsTo W.taken W.failed words.old words.new out.old out.new
+fn put_line<W: ByteSink>(out: &mut Printer<'_, W>, width: u32, end: OutcomeEnd)
+    ensures { PrintsTo W.ByteSink out.old out.new
         (width_text width (ended_text end)) }
 {
-    out.push(words, b"width ");
-    put_number(out, words, width);
-    out.push(words, b": ");
-    put_end(out, words, end);
+    out.push(b"width ");
+    out.put_number(width);
+    out.push(b": ");
+    put_end(out, end);
 }
 
 /// Prints that a width was routed.
 #[tactic(auto, unfolding(crate::specs::LesserWidths::lesser_routed))]
-fn put_routed<W: ByteSink>(out: &mut OutputBuffer, words: &mut W, width: u32)
-    ensures { SendsTo W.taken W.failed words.old words.new out.old out.new (lesser_routed width) }
+fn put_routed<W: ByteSink>(out: &mut Printer<'_, W>, width: u32)
+    ensures { PrintsTo W.ByteSink out.old out.new (lesser_routed width) }
 {
-    put_pieces(
-        out,
-        words,
-        &[
-            Piece::Text(b"lesser routed width: "),
-            Piece::Number(width),
-            Piece::Text(b"\n"),
-        ],
-    );
+    out.put_pieces(&[
+        Piece::Text(b"lesser routed width: "),
+        Piece::Number(width),
+        Piece::Text(b"\n"),
+    ]);
 }
 
 /// Prints the least of the lesser widths that were routed, or that none was.
-fn put_last<W: ByteSink>(out: &mut OutputBuffer, words: &mut W, routed: Option<u32>)
-    ensures { SendsTo W.taken W.failed words.old words.new out.old out.new (lesser_end routed) }
+fn put_last<W: ByteSink>(out: &mut Printer<'_, W>, routed: Option<u32>)
+    ensures { PrintsTo W.ByteSink out.old out.new (lesser_end routed) }
 {
     match routed {
-        Some(width) => put_routed(out, words, width),
-        None => out.push(words, b"no lesser width was routed\n"),
+        Some(width) => put_routed(out, width),
+        None => out.push(b"no lesser width was routed\n"),
     }
 }
 
@@ -74,9 +71,9 @@ fn tell_line<W: ByteSink>(words: &mut W, is_broken: &mut bool, width: u32, end: 
     if *is_broken {
         return;
     }
-    let mut out = OutputBuffer::new();
-    put_line(&mut out, words, width, end);
-    *is_broken = out.finish(words).is_err();
+    let mut printer = Printer::new(words);
+    put_line(&mut printer, width, end);
+    *is_broken = printer.finish().is_err();
 }
 
 /// Writes the least of the lesser widths that were routed, or that none was, if the sink hasn't
@@ -89,9 +86,9 @@ fn tell_last<W: ByteSink>(words: &mut W, is_broken: &mut bool, routed: Option<u3
     if *is_broken {
         return;
     }
-    let mut out = OutputBuffer::new();
-    put_last(&mut out, words, routed);
-    *is_broken = out.finish(words).is_err();
+    let mut printer = Printer::new(words);
+    put_last(&mut printer, routed);
+    *is_broken = printer.finish().is_err();
 }
 
 /// Writes why no further width can be tried, if the sink hasn't broken.
@@ -122,59 +119,55 @@ fn add_success(report: &mut WidthReport, width: u32, outcome: Outcome) -> Result
     if !is_routed(&outcome) {
         return Ok(false);
     }
-    report.add_lesser(width, outcome)?;
+    report.add(width, outcome)?;
     Ok(true)
 }
 
 /// Negotiates at a width.
-fn negotiate_lesser<T: Threads + Wait + Sync + AllocGlobal, G: Gate + Sync>(
-    rt: &T,
-    widths: &Widths<'_, '_, '_>,
+fn negotiate_lesser<T: Threads + Wait + Sync + AllocGlobal, G: Gate + Sync, S>(
+    widths: &Widths<'_, '_, '_, T, G, S>,
     width: u32,
-    gate: &G,
 ) -> Result<Outcome, AppFault>
     requires tracks { (1 ≤ width) × (width ≤ most_tracks) }
-    requires workers { (1 ≤ widths.now.workers) × (widths.now.workers ≤ most_workers) }
-    ensures outcome { IfOk result (Negotiates
-        (placed_problem widths.now.mode widths.now.placed.now) widths.now.settings.now
-        widths.now.workers (G.accepted gate.now) width) }
+    requires workers { (1 ≤ widths.now.run.workers) × (widths.now.run.workers ≤ most_workers) }
+    ensures outcome { IfOk result (Negotiated G.accepted widths.now width) }
     ensures free { IfErr result (λ e. is_free e ≡ true) }
 {
-    let placed = widths.placed;
-    let outcome = negotiate_at(
-        rt,
-        rt.alloc(),
-        placed.arch(),
-        placed.netlist(),
-        placed.placement(),
-        widths.settings,
-        width,
-        widths.mode,
-        widths.workers,
-        gate,
-    )?;
+    let Widths {
+        placed,
+        mode,
+        ref run,
+    } = *widths;
+    let design = PlacedDesign {
+        arch: placed.arch(),
+        netlist: placed.netlist(),
+        placement: placed.placement(),
+        mode,
+    };
+    let how = Negotiating {
+        settings: run.settings,
+        workers: run.workers,
+        gate: run.gate,
+    };
+    let outcome = negotiate_at(run.rt, run.rt.alloc(), &design, &how, width)?;
     Ok(outcome)
 }
 
 /// Negotiates at a width, adds a routing to the report, and writes the outcome. Returns whether
 /// there is a routing.
-fn try_lesser<T: Threads + Wait + Sync + AllocGlobal, W: ByteSink, G: Gate + Sync>(
-    rt: &T,
-    widths: &Widths<'_, '_, '_>,
+fn try_lesser<T: Threads + Wait + Sync + AllocGlobal, W: ByteSink, G: Gate + Sync, S>(
+    widths: &Widths<'_, '_, '_, T, G, S>,
     report: &mut WidthReport,
     width: u32,
-    gate: &G,
     words: &mut W,
     is_broken: &mut bool,
 ) -> Result<bool, AppFault>
     requires tracks { (1 ≤ width) × (width ≤ most_tracks) }
-    requires workers { (1 ≤ widths.now.workers) × (widths.now.workers ≤ most_workers) }
-    ensures { TriesWidth (Negotiates (placed_problem widths.now.mode widths.now.placed.now)
-        widths.now.settings.now widths.now.workers (G.accepted gate.now)) width report.old
-        report.new (TellsTo W.taken W.failed words.old words.new is_broken.old is_broken.new)
-        result }
+    requires workers { (1 ≤ widths.now.run.workers) × (widths.now.run.workers ≤ most_workers) }
+    ensures { TriesWidth (Negotiated G.accepted widths.now) width report.old report.new
+        (TellsTo W.taken W.failed words.old words.new is_broken.old is_broken.new) result }
 {
-    let outcome = negotiate_lesser(rt, widths, width, gate)?;
+    let outcome = negotiate_lesser(widths, width)?;
     let end = end_of(&outcome);
     let is_routed = add_success(report, width, outcome)?;
     tell_line(words, is_broken, width, end);
@@ -188,41 +181,52 @@ fn least_with(least: Option<u32>, lesser: u32, is_routed: bool) -> Option<u32>
     if is_routed { Some(lesser) } else { least }
 }
 
+/// What became of the widths below the least: the least of them that was routed, or why no further
+/// one could be tried, and the least width that was tried, or else the width below which they are.
+#[derive(Drop)]
+struct Lesser {
+    routed: Result<Option<u32>, AppFault>,
+    past: u32,
+}
+
 /// Negotiates at up to `count` widths below `width`, the greatest first. Writes the outcome of
-/// each, and adds the routings to the report. Returns the least width that was routed. `past`
-/// becomes the least width that was tried, or `width` if none was.
-fn try_all<T: Threads + Wait + Sync + AllocGlobal, W: ByteSink, G: Gate + Sync>(
-    rt: &T,
-    widths: &Widths<'_, '_, '_>,
+/// each, and adds the routings to the report.
+fn try_all<T: Threads + Wait + Sync + AllocGlobal, W: ByteSink, G: Gate + Sync, S>(
+    widths: &Widths<'_, '_, '_, T, G, S>,
     report: &mut WidthReport,
     width: u32,
     count: u32,
-    gate: &G,
     words: &mut W,
     is_broken: &mut bool,
-    past: &mut u32,
-) -> Result<Option<u32>, AppFault>
+) -> Lesser
     requires tracks { (1 ≤ width) × (width ≤ most_tracks) }
-    requires workers { (1 ≤ widths.now.workers) × (widths.now.workers ≤ most_workers) }
-    ensures tries { TriesAll (Negotiates (placed_problem widths.now.mode widths.now.placed.now)
-        widths.now.settings.now widths.now.workers (G.accepted gate.now)) width count report.old
-        report.new past.new
-        (TellsTo W.taken W.failed words.old words.new is_broken.old is_broken.new) result }
-    ensures verified { (start : ℕ) → IsVerifying (Negotiates
-        (placed_problem widths.now.mode widths.now.placed.now) widths.now.settings.now
-        widths.now.workers (G.accepted gate.now)) start count width 1 report.old
-        → IsVerifiedReport (Negotiates (placed_problem widths.now.mode widths.now.placed.now)
-        widths.now.settings.now widths.now.workers (G.accepted gate.now)) start count report.new }
+    requires workers { (1 ≤ widths.now.run.workers) × (widths.now.run.workers ≤ most_workers) }
+    ensures tries { TriesAll (Negotiated G.accepted widths.now) width count report.old report.new
+        result.past (TellsTo W.taken W.failed words.old words.new is_broken.old is_broken.new)
+        result.routed }
+    ensures verified { (start : ℕ)
+        → IsVerifying (Negotiated G.accepted widths.now) start count width 1 report.old
+        → IsVerifiedReport (Negotiated G.accepted widths.now) start count report.new }
 {
     let mut routed = None;
-    *past = width;
+    let mut past = width;
     for step in 1..width.min(count.saturating_add(1)) {
         let lesser = width - step;
-        let is_routed = try_lesser(rt, widths, report, lesser, gate, words, is_broken)?;
-        routed = least_with(routed, lesser, is_routed);
-        *past = lesser;
+        match try_lesser(widths, report, lesser, words, is_broken) {
+            Ok(is_routed) => routed = least_with(routed, lesser, is_routed),
+            Err(fault) => {
+                return Lesser {
+                    routed: Err(fault),
+                    past,
+                };
+            }
+        }
+        past = lesser;
     }
-    Ok(routed)
+    Lesser {
+        routed: Ok(routed),
+        past,
+    }
 }
 
 /// Tries up to `count` widths below the least that was found. Writes the outcome of each, and at
@@ -234,38 +238,45 @@ fn try_below<
     G: Gate + Sync,
     S: SideFiles + Sync,
 >(
-    rt: &T,
-    widths: &Widths<'_, '_, '_>,
+    widths: &Widths<'_, '_, '_, T, G, S>,
     report: &mut WidthReport,
     width: u32,
     count: u32,
-    gate: &G,
-    kept: &S,
     words: &mut W,
     is_broken: &mut bool,
 ) -> u32
     requires tracks { (1 ≤ width) × (width ≤ most_tracks) }
-    requires workers { (1 ≤ widths.now.workers) × (widths.now.workers ≤ most_workers) }
-    ensures tries { (text : List ℕ) × TriesLesser (Negotiates
-        (placed_problem widths.now.mode widths.now.placed.now) widths.now.settings.now
-        widths.now.workers (G.accepted gate.now)) width count report.old report.new result text
-        × TellsTo W.taken W.failed words.old words.new is_broken.old is_broken.new text }
-    ensures verified { (start : ℕ) → IsVerifying (Negotiates
-        (placed_problem widths.now.mode widths.now.placed.now) widths.now.settings.now
-        widths.now.workers (G.accepted gate.now)) start count width 1 report.old
-        → IsVerifiedReport (Negotiates (placed_problem widths.now.mode widths.now.placed.now)
-        widths.now.settings.now widths.now.workers (G.accepted gate.now)) start count report.new }
+    requires workers { (1 ≤ widths.now.run.workers) × (widths.now.run.workers ≤ most_workers) }
+    ensures tries { (text : List ℕ)
+        × TriesLesser (Negotiated G.accepted widths.now) width count report.old report.new result
+        text × TellsTo W.taken W.failed words.old words.new is_broken.old is_broken.new text }
+    ensures verified { (start : ℕ)
+        → IsVerifying (Negotiated G.accepted widths.now) start count width 1 report.old
+        → IsVerifiedReport (Negotiated G.accepted widths.now) start count report.new }
 {
-    let trials = KeptTrials::new(rt.alloc(), widths.placed, kept);
+    let Widths {
+        placed,
+        mode,
+        ref run,
+    } = *widths;
+    let trials = KeptTrials::new(run.rt.alloc(), placed, run.files);
     let gates = BothGates {
-        first: gate,
+        first: run.gate,
         second: &trials,
     };
-    let mut past = width;
-    let tried = try_all(
-        rt, widths, report, width, count, &gates, words, is_broken, &mut past,
-    );
-    match tried {
+    let kept = Widths {
+        placed,
+        mode,
+        run: RunOptions {
+            rt: run.rt,
+            settings: run.settings,
+            workers: run.workers,
+            gate: &gates,
+            files: run.files,
+        },
+    };
+    let Lesser { routed, past } = try_all(&kept, report, width, count, words, is_broken);
+    match routed {
         Ok(routed) => tell_last(words, is_broken, routed),
         Err(fault) => tell_fault(words, is_broken, &fault),
     }
@@ -281,26 +292,20 @@ pub(crate) fn verify<
     G: Gate + Sync,
     S: SideFiles + Sync,
 >(
-    rt: &T,
-    widths: &Widths<'_, '_, '_>,
+    widths: &Widths<'_, '_, '_, T, G, S>,
     report: &mut WidthReport,
     below: u32,
-    gate: &G,
-    kept: &S,
     words: &mut W,
     is_broken: &mut bool,
 ) -> u32
-    requires workers { (1 ≤ widths.now.workers) × (widths.now.workers ≤ most_workers) }
-    ensures tries { (text : List ℕ) × TriesBelow (Negotiates
-        (placed_problem widths.now.mode widths.now.placed.now) widths.now.settings.now
-        widths.now.workers (G.accepted gate.now)) below report.old report.new result text
+    requires workers { (1 ≤ widths.now.run.workers) × (widths.now.run.workers ≤ most_workers) }
+    ensures tries { (text : List ℕ)
+        × TriesBelow (Negotiated G.accepted widths.now) below report.old report.new result text
         report.old.least
         × TellsTo W.taken W.failed words.old words.new is_broken.old is_broken.new text }
-    ensures verified { (start : ℕ) → IsWidthReport (Negotiates
-        (placed_problem widths.now.mode widths.now.placed.now) widths.now.settings.now
-        widths.now.workers (G.accepted gate.now)) (next_width start) report.old
-        → IsVerifiedReport (Negotiates (placed_problem widths.now.mode widths.now.placed.now)
-        widths.now.settings.now widths.now.workers (G.accepted gate.now)) start below report.new }
+    ensures verified { (start : ℕ)
+        → IsWidthReport (Negotiated G.accepted widths.now) (next_width start) report.old
+        → IsVerifiedReport (Negotiated G.accepted widths.now) start below report.new }
 {
     let width = match report.least() {
         Some(least) => least.width,
@@ -309,7 +314,5 @@ pub(crate) fn verify<
     if below == 0 {
         return width;
     }
-    try_below(
-        rt, widths, report, width, below, gate, kept, words, is_broken,
-    )
+    try_below(widths, report, width, below, words, is_broken)
 }

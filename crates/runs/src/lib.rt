@@ -15,6 +15,7 @@ mod outcome;
 mod plan;
 mod route;
 mod routing;
+mod run_options;
 mod search_plan;
 mod side_files;
 mod trials;

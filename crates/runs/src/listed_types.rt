@@ -1,14 +1,14 @@
 //! What `graph --types` adds to the lines of a listing.
 
 ghost use Rattle.std.specs.Prelude.{◌≡◌, slice_get};
-ghost use Rattle.vpr_text.specs.Output.{SendsTo};
+ghost use Rattle.text_output.specs.Printing.{PrintsTo};
 ghost use Rattle.rr_graph.specs.Nodes.{is_wire, is_wire_at, node_at};
 ghost use Rattle.rr_graph.specs.Wires.{track_type};
 ghost use Rattle.runs.specs.ListedTypes.{if_asked, switch_by, switch_into, switch_number, switch_of, switch_text, type_number, type_text};
 
 use arch_file::Segment;
 use rr_graph::{Device, Kind, Node};
-use text_output::{ByteSink, OutputBuffer, Piece, put_pieces};
+use text_output::{ByteSink, Piece, Printer};
 
 /// Returns whether a node of this kind is a wire.
 fn is_wire(kind: Kind) -> bool
@@ -31,39 +31,34 @@ fn is_wire_at(device: &Device, id: u32) -> bool
 }
 
 /// Prints the number of a type.
-fn put_type_number<W: ByteSink>(out: &mut OutputBuffer, sink: &mut W, kind: usize)
-    ensures { SendsTo W.taken W.failed sink.old sink.new out.old out.new (type_number kind) }
+fn put_type_number<W: ByteSink>(out: &mut Printer<'_, W>, kind: usize)
+    ensures { PrintsTo W.ByteSink out.old out.new (type_number kind) }
 {
-    put_pieces(
-        out,
-        sink,
-        &[Piece::Text(b" type "), Piece::LongNumber(kind as u64)],
-    );
+    out.put_pieces(&[Piece::Text(b" type "), Piece::LongNumber(kind as u64)]);
 }
 
 /// Prints the type of a wire, or nothing for another node.
-fn put_type<W: ByteSink>(out: &mut OutputBuffer, sink: &mut W, device: &Device, node: Node)
-    ensures { SendsTo W.taken W.failed sink.old sink.new out.old out.new
+fn put_type<W: ByteSink>(out: &mut Printer<'_, W>, device: &Device, node: Node)
+    ensures { PrintsTo W.ByteSink out.old out.new
         (type_text device.now node) }
 {
     if is_wire(node.kind) {
-        put_type_number(out, sink, device.track_type(node.number));
+        put_type_number(out, device.track_type(node.number));
     }
 }
 
 /// Prints the type of a wire, if that is asked for.
 pub(crate) fn put_type_if<W: ByteSink>(
-    out: &mut OutputBuffer,
-    sink: &mut W,
+    out: &mut Printer<'_, W>,
     device: &Device,
     node: Node,
     is_asked: bool,
 )
-    ensures { SendsTo W.taken W.failed sink.old sink.new out.old out.new
+    ensures { PrintsTo W.ByteSink out.old out.new
         (if_asked is_asked (type_text device.now node)) }
 {
     if is_asked {
-        put_type(out, sink, device, node);
+        put_type(out, device, node);
     }
 }
 
@@ -93,78 +88,65 @@ fn segment_of(device: &Device, track: u32) -> Option<Segment>
 }
 
 /// Prints the number of a switch.
-fn put_switch_number<W: ByteSink>(out: &mut OutputBuffer, sink: &mut W, number: u32)
-    ensures { SendsTo W.taken W.failed sink.old sink.new out.old out.new (switch_number number) }
+fn put_switch_number<W: ByteSink>(out: &mut Printer<'_, W>, number: u32)
+    ensures { PrintsTo W.ByteSink out.old out.new (switch_number number) }
 {
-    put_pieces(
-        out,
-        sink,
-        &[Piece::Text(b" switch "), Piece::Number(number)],
-    );
+    out.put_pieces(&[Piece::Text(b" switch "), Piece::Number(number)]);
 }
 
 /// Prints the switch that drives a wire of this type, if there is one.
 fn put_switch_by<W: ByteSink>(
-    out: &mut OutputBuffer,
-    sink: &mut W,
+    out: &mut Printer<'_, W>,
     segment: Option<Segment>,
     is_from_wire: bool,
 )
-    ensures { SendsTo W.taken W.failed sink.old sink.new out.old out.new
+    ensures { PrintsTo W.ByteSink out.old out.new
         (switch_by is_from_wire segment) }
 {
     if let Some(segment) = segment {
-        put_switch_number(out, sink, switch_of(segment, is_from_wire));
+        put_switch_number(out, switch_of(segment, is_from_wire));
     }
 }
 
 /// Prints the switch that drives a node, if it is a wire.
 fn put_switch_into<W: ByteSink>(
-    out: &mut OutputBuffer,
-    sink: &mut W,
+    out: &mut Printer<'_, W>,
     device: &Device,
     node: Option<Node>,
     is_from_wire: bool,
 )
-    ensures { SendsTo W.taken W.failed sink.old sink.new out.old out.new
+    ensures { PrintsTo W.ByteSink out.old out.new
         (switch_into is_from_wire device.now node) }
 {
     let Some(node) = node else {
         return;
     };
     if is_wire(node.kind) {
-        put_switch_by(out, sink, segment_of(device, node.number), is_from_wire);
+        put_switch_by(out, segment_of(device, node.number), is_from_wire);
     }
 }
 
 /// Prints the switch of an edge that leads into a wire.
-fn put_switch<W: ByteSink>(
-    out: &mut OutputBuffer,
-    sink: &mut W,
-    device: &Device,
-    from: u32,
-    to: u32,
-)
-    ensures { SendsTo W.taken W.failed sink.old sink.new out.old out.new
+fn put_switch<W: ByteSink>(out: &mut Printer<'_, W>, device: &Device, from: u32, to: u32)
+    ensures { PrintsTo W.ByteSink out.old out.new
         (switch_text device.now from to) }
 {
     let is_from_wire = is_wire_at(device, from);
-    put_switch_into(out, sink, device, device.node(to), is_from_wire);
+    put_switch_into(out, device, device.node(to), is_from_wire);
 }
 
 /// Prints the switch of an edge that leads into a wire, if that is asked for.
 pub(crate) fn put_switch_if<W: ByteSink>(
-    out: &mut OutputBuffer,
-    sink: &mut W,
+    out: &mut Printer<'_, W>,
     device: &Device,
     from: u32,
     to: u32,
     is_asked: bool,
 )
-    ensures { SendsTo W.taken W.failed sink.old sink.new out.old out.new
+    ensures { PrintsTo W.ByteSink out.old out.new
         (if_asked is_asked (switch_text device.now from to)) }
 {
     if is_asked {
-        put_switch(out, sink, device, from, to);
+        put_switch(out, device, from, to);
     }
 }

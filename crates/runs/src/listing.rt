@@ -2,7 +2,7 @@
 
 ghost use Rattle.std.specs.Prelude.{◌≡◌, ℕ, ◌≤◌, length, OnOk, Some};
 ghost use Rattle.std.specs.List.{flat_map};
-ghost use Rattle.vpr_text.specs.Output.{SendsTo};
+ghost use Rattle.text_output.specs.Printing.{PrintsTo};
 ghost use Rattle.rr_graph.specs.Fabric.{numbers_below};
 ghost use Rattle.rr_graph.specs.Nodes.{node_at, node_count_of};
 ghost use Rattle.rr_graph.specs.Edges.{successors_of};
@@ -13,34 +13,24 @@ use crate::listed_types::{put_switch_if, put_type_if};
 use rr_graph::{Device, Node};
 use smallvec::SmallVec;
 use std::alloc::AllocError;
-use text_output::{ByteSink, OutputBuffer, Piece, put_node, put_number, put_pieces};
+use text_output::{ByteSink, Piece, Printer};
 
 /// Prints the first line, with the numbers of nodes and edges.
 #[tactic(auto, unfolding(crate::specs::Texts::counts_line))]
-fn put_counts<W: ByteSink>(out: &mut OutputBuffer, sink: &mut W, nodes: u32, edges: u64)
-    ensures { SendsTo W.taken W.failed sink.old sink.new out.old out.new (counts_line nodes edges) }
+fn put_counts<W: ByteSink>(out: &mut Printer<'_, W>, nodes: u32, edges: u64)
+    ensures { PrintsTo W.ByteSink out.old out.new (counts_line nodes edges) }
 {
-    put_pieces(
-        out,
-        sink,
-        &[
-            Piece::Number(nodes),
-            Piece::Text(b" nodes, "),
-            Piece::LongNumber(edges),
-            Piece::Text(b" edges\n"),
-        ],
-    );
+    out.put_pieces(&[
+        Piece::Number(nodes),
+        Piece::Text(b" nodes, "),
+        Piece::LongNumber(edges),
+        Piece::Text(b" edges\n"),
+    ]);
 }
 
 /// Prints the line of the node of a number, or nothing if there is no such node.
-fn put_line<W: ByteSink>(
-    out: &mut OutputBuffer,
-    sink: &mut W,
-    device: &Device,
-    id: u32,
-    is_typed: bool,
-)
-    ensures { SendsTo W.taken W.failed sink.old sink.new out.old out.new
+fn put_line<W: ByteSink>(out: &mut Printer<'_, W>, device: &Device, id: u32, is_typed: bool)
+    ensures { PrintsTo W.ByteSink out.old out.new
         (line_at is_typed device.now id) }
 {
     let node = match device.node(id) {
@@ -59,22 +49,22 @@ fn put_line<W: ByteSink>(
         Some(capacity) => capacity,
         None => return,
     };
-    put_number(out, sink, id);
-    out.push(sink, b" ");
-    put_node(out, sink, node.kind, span, label, node.number);
-    out.push(sink, b" cap ");
-    put_number(out, sink, capacity);
-    put_type_if(out, sink, device, node, is_typed);
-    out.push(sink, b"\n");
+    out.put_number(id);
+    out.push(b" ");
+    out.put_node(node.kind, span, label, node.number);
+    out.push(b" cap ");
+    out.put_number(capacity);
+    put_type_if(out, device, node, is_typed);
+    out.push(b"\n");
 }
 
 /// Prints the lines of all nodes. Stops if the sink breaks.
-fn put_lines<W: ByteSink>(out: &mut OutputBuffer, sink: &mut W, device: &Device, is_typed: bool)
-    ensures { SendsTo W.taken W.failed sink.old sink.new out.old out.new
+fn put_lines<W: ByteSink>(out: &mut Printer<'_, W>, device: &Device, is_typed: bool)
+    ensures { PrintsTo W.ByteSink out.old out.new
         (flat_map (line_at is_typed device.now) (numbers_below (node_count_of device.now))) }
 {
     for id in 0..device.node_count() {
-        put_line(out, sink, device, id, is_typed);
+        put_line(out, device, id, is_typed);
         if out.is_broken() {
             return;
         }
@@ -83,56 +73,53 @@ fn put_lines<W: ByteSink>(out: &mut OutputBuffer, sink: &mut W, device: &Device,
 
 /// Prints the line of an edge.
 fn put_edge_line<W: ByteSink>(
-    out: &mut OutputBuffer,
-    sink: &mut W,
+    out: &mut Printer<'_, W>,
     device: &Device,
     from: u32,
     to: u32,
     is_typed: bool,
 )
-    ensures { SendsTo W.taken W.failed sink.old sink.new out.old out.new
+    ensures { PrintsTo W.ByteSink out.old out.new
         (edge_line is_typed device.now from to) }
 {
-    put_number(out, sink, from);
-    out.push(sink, b" -> ");
-    put_number(out, sink, to);
-    put_switch_if(out, sink, device, from, to, is_typed);
-    out.push(sink, b"\n");
+    out.put_number(from);
+    out.push(b" -> ");
+    out.put_number(to);
+    put_switch_if(out, device, from, to, is_typed);
+    out.push(b"\n");
 }
 
 /// Prints the lines of the edges from a node to the nodes of a list.
 fn put_edge_lines<W: ByteSink>(
-    out: &mut OutputBuffer,
-    sink: &mut W,
+    out: &mut Printer<'_, W>,
     device: &Device,
     from: u32,
     list: &[u32],
     is_typed: bool,
 )
-    ensures { SendsTo W.taken W.failed sink.old sink.new out.old out.new
+    ensures { PrintsTo W.ByteSink out.old out.new
         (flat_map (edge_line is_typed device.now from) list.now) }
 {
     for to in list {
-        put_edge_line(out, sink, device, from, *to, is_typed);
+        put_edge_line(out, device, from, *to, is_typed);
     }
 }
 
 /// Prints the lines of the edges from a node. Its successors fit in the list.
 fn put_edges_of<W: ByteSink>(
-    out: &mut OutputBuffer,
-    sink: &mut W,
+    out: &mut Printer<'_, W>,
     device: &Device,
     id: u32,
     list: &mut SmallVec<u32, 8>,
     is_typed: bool,
 )
     requires { length (successors_of device.now id) ≤ list.old.capacity }
-    ensures sends { SendsTo W.taken W.failed sink.old sink.new out.old out.new
+    ensures sends { PrintsTo W.ByteSink out.old out.new
         (edge_lines_at is_typed device.now id) }
     ensures kept { list.old.capacity ≤ list.new.capacity }
 {
     device.successors(id, list).unwrap();
-    put_edge_lines(out, sink, device, id, list.as_slice(), is_typed);
+    put_edge_lines(out, device, id, list.as_slice(), is_typed);
 }
 
 /// Makes room in a list for the successors of any node, so that no later call needs memory.
@@ -145,18 +132,17 @@ pub(crate) fn make_room(device: &Device, list: &mut SmallVec<u32, 8>) -> Result<
 
 /// Prints the lines of all edges. Stops if the sink breaks.
 fn put_edges<W: ByteSink>(
-    out: &mut OutputBuffer,
-    sink: &mut W,
+    out: &mut Printer<'_, W>,
     device: &Device,
     list: &mut SmallVec<u32, 8>,
     is_typed: bool,
 )
     requires { (i : ℕ) → length (successors_of device.now i) ≤ list.old.capacity }
-    ensures { SendsTo W.taken W.failed sink.old sink.new out.old out.new
+    ensures { PrintsTo W.ByteSink out.old out.new
         (flat_map (edge_lines_at is_typed device.now) (numbers_below (node_count_of device.now))) }
 {
     for id in 0..device.node_count() {
-        put_edges_of(out, sink, device, id, list, is_typed);
+        put_edges_of(out, device, id, list, is_typed);
         if out.is_broken() {
             return;
         }
@@ -166,17 +152,16 @@ fn put_edges<W: ByteSink>(
 /// Prints the listing of a device, with the types of its wires if they are asked for. Stops if the
 /// sink breaks. The list has room for the successors of any node.
 pub(crate) fn put_listing<W: ByteSink>(
-    out: &mut OutputBuffer,
-    sink: &mut W,
+    out: &mut Printer<'_, W>,
     device: &Device,
     list: &mut SmallVec<u32, 8>,
     is_typed: bool,
 )
     requires { (i : ℕ) → length (successors_of device.now i) ≤ list.old.capacity }
-    ensures { SendsTo W.taken W.failed sink.old sink.new out.old out.new
+    ensures { PrintsTo W.ByteSink out.old out.new
         (listing_of is_typed device.now) }
 {
-    put_counts(out, sink, device.node_count(), device.edge_count());
-    put_lines(out, sink, device, is_typed);
-    put_edges(out, sink, device, list, is_typed);
+    put_counts(out, device.node_count(), device.edge_count());
+    put_lines(out, device, is_typed);
+    put_edges(out, device, list, is_typed);
 }

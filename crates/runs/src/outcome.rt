@@ -1,54 +1,40 @@
 //! The line of an outcome.
 
 ghost use Rattle.std.specs.Prelude.{◌≡◌};
-ghost use Rattle.vpr_text.specs.Output.{SendsTo};
+ghost use Rattle.text_output.specs.Printing.{PrintsTo};
 ghost use Rattle.runs.specs.RouteRun.{left_text, outcome_text, routed_text, status_of_outcome};
 ghost use Rattle.runs.specs.kept.Routing.{ended_text};
 
 use iteration::Outcome;
-use text_output::{ByteSink, OutputBuffer, Piece, put_pieces};
+use text_output::{ByteSink, Piece, Printer};
 
 /// Prints the line of a success.
 #[tactic(auto, unfolding(crate::specs::RouteRun::routed_text))]
-fn put_routed<W: ByteSink>(out: &mut OutputBuffer, sink: &mut W, iterations: u32)
-    ensures { SendsTo W.taken W.failed sink.old sink.new out.old out.new (routed_text iterations) }
+fn put_routed<W: ByteSink>(out: &mut Printer<'_, W>, iterations: u32)
+    ensures { PrintsTo W.ByteSink out.old out.new (routed_text iterations) }
 {
-    put_pieces(
-        out,
-        sink,
-        &[
-            Piece::Text(b"routed, iterations "),
-            Piece::Number(iterations),
-            Piece::Text(b"\n"),
-        ],
-    );
+    out.put_pieces(&[
+        Piece::Text(b"routed, iterations "),
+        Piece::Number(iterations),
+        Piece::Text(b"\n"),
+    ]);
 }
 
 /// Prints the line of an outcome without success.
 #[tactic(auto, unfolding(crate::specs::RouteRun::left_text))]
-fn put_left<W: ByteSink>(
-    out: &mut OutputBuffer,
-    sink: &mut W,
-    unrouted: u32,
-    overused: u32,
-    iterations: u32,
-)
-    ensures { SendsTo W.taken W.failed sink.old sink.new out.old out.new
+fn put_left<W: ByteSink>(out: &mut Printer<'_, W>, unrouted: u32, overused: u32, iterations: u32)
+    ensures { PrintsTo W.ByteSink out.old out.new
         (left_text unrouted overused iterations) }
 {
-    put_pieces(
-        out,
-        sink,
-        &[
-            Piece::Text(b"not routed: unrouted "),
-            Piece::Number(unrouted),
-            Piece::Text(b", overused "),
-            Piece::Number(overused),
-            Piece::Text(b", iterations "),
-            Piece::Number(iterations),
-            Piece::Text(b"\n"),
-        ],
-    );
+    out.put_pieces(&[
+        Piece::Text(b"not routed: unrouted "),
+        Piece::Number(unrouted),
+        Piece::Text(b", overused "),
+        Piece::Number(overused),
+        Piece::Text(b", iterations "),
+        Piece::Number(iterations),
+        Piece::Text(b"\n"),
+    ]);
 }
 
 /// What the line of an outcome reports.
@@ -85,26 +71,26 @@ pub(crate) fn end_of(outcome: &Outcome) -> OutcomeEnd
 }
 
 /// Prints the line of an outcome with these numbers.
-pub(crate) fn put_end<W: ByteSink>(out: &mut OutputBuffer, sink: &mut W, end: OutcomeEnd)
-    ensures { SendsTo W.taken W.failed sink.old sink.new out.old out.new (ended_text end) }
+pub(crate) fn put_end<W: ByteSink>(out: &mut Printer<'_, W>, end: OutcomeEnd)
+    ensures { PrintsTo W.ByteSink out.old out.new (ended_text end) }
 {
     match end {
-        OutcomeEnd::Routed { iterations } => put_routed(out, sink, iterations),
+        OutcomeEnd::Routed { iterations } => put_routed(out, iterations),
         OutcomeEnd::Left {
             unrouted,
             overused,
             iterations,
-        } => put_left(out, sink, unrouted, overused, iterations),
+        } => put_left(out, unrouted, overused, iterations),
     }
 }
 
 /// Prints the line of an outcome.
-pub(crate) fn put_outcome<W: ByteSink>(out: &mut OutputBuffer, sink: &mut W, outcome: &Outcome)
-    ensures { SendsTo W.taken W.failed sink.old sink.new out.old out.new
+pub(crate) fn put_outcome<W: ByteSink>(out: &mut Printer<'_, W>, outcome: &Outcome)
+    ensures { PrintsTo W.ByteSink out.old out.new
         (outcome_text outcome.now) }
 {
     let end = end_of(outcome);
-    put_end(out, sink, end);
+    put_end(out, end);
 }
 
 /// Returns the exit status of an outcome: 0 for a routing, 3 if there is none.

@@ -14,6 +14,7 @@ ghost use Rattle.runs.specs.kept.Routing.{RoutesProblem};
 use crate::left_trees::LeftTrees;
 use crate::outcome::put_outcome;
 use crate::routing::write_routing;
+use crate::run_options::RunOptions;
 use crate::side_files::SideFiles;
 use crate::whole_sink::WholeSink;
 use iteration::{Outcome, negotiate};
@@ -25,7 +26,7 @@ use run_inputs::{AppFault, Design, InputFile, NetlistText};
 use std::alloc::AllocGlobal;
 use std::sync::Wait;
 use std::thread::Threads;
-use text_output::{ByteSink, OutputBuffer};
+use text_output::{ByteSink, Printer};
 use vpr_text::ByteSource;
 
 /// Prints the line of an outcome, and returns the outcome.
@@ -33,9 +34,9 @@ fn print_outcome<W: ByteSink>(outcome: Outcome, out: &mut W) -> Result<Outcome, 
     ensures { PrintsText (writing_to W.taken W.failed out.old out.new)
         (outcome_text outcome) outcome result }
 {
-    let mut buffer = OutputBuffer::new();
-    put_outcome(&mut buffer, out, &outcome);
-    match buffer.finish(out) {
+    let mut printer = Printer::new(out);
+    put_outcome(&mut printer, &outcome);
+    match printer.finish() {
         Ok(()) => Ok(outcome),
         Err(_) => Err(AppFault::Unwritten),
     }
@@ -91,23 +92,27 @@ fn write_outcome<R: WholeSink, W: ByteSink>(
     }
 }
 
-/// Negotiates a routing of a design. What is left without success goes to the file of `rest`.
+/// Negotiates a routing of a design. What is left without success goes to the file of the run.
 fn negotiate_leaving<T: Threads + Wait + Sync + AllocGlobal, G: Gate + Sync, S: SideFiles + Sync>(
-    rt: &T,
     design: &Design<'_>,
-    settings: &Settings,
-    workers: u32,
-    gate: &G,
-    rest: &S,
+    run: &RunOptions<'_, T, G, S>,
 ) -> Result<Outcome, AppFault>
-    requires workers { (1 ≤ workers) × (workers ≤ most_workers) }
-    ensures outcome { IfOk result (negotiation.IsOutcome design.now.problem settings.now) }
+    requires workers { (1 ≤ run.now.workers) × (run.now.workers ≤ most_workers) }
+    ensures outcome { IfOk result
+        (negotiation.IsOutcome design.now.problem run.now.settings.now) }
     ensures run { IfOk result
-        (negotiation.EndsNegotiation design.now.problem settings.now workers
-        (G.accepted gate.now)) }
+        (negotiation.EndsNegotiation design.now.problem run.now.settings.now run.now.workers
+        (G.accepted run.now.gate.now)) }
     ensures free { IfErr result (λ e. is_free e ≡ true) }
 {
-    let left = LeftTrees::new(rt, rt.alloc(), design, rest);
+    let RunOptions {
+        rt,
+        settings,
+        workers,
+        gate,
+        files,
+    } = *run;
+    let left = LeftTrees::new(rt, rt.alloc(), design, files);
     let gates = BothGates {
         first: gate,
         second: &left,
@@ -125,18 +130,14 @@ fn route_design<
     G: Gate + Sync,
     S: SideFiles + Sync,
 >(
-    rt: &T,
     design: &Design<'_>,
     route: &mut R,
     out: &mut W,
-    settings: &Settings,
-    workers: u32,
-    gate: &G,
-    rest: &S,
+    run: &RunOptions<'_, T, G, S>,
 ) -> Result<Outcome, AppFault>
-    requires workers { (1 ≤ workers) × (workers ≤ most_workers) }
-    ensures runs { ends_free result ≡ false → RoutesDesign settings.now workers
-        (G.accepted gate.now) (writing_to R.taken R.failed route.old route.new)
+    requires workers { (1 ≤ run.now.workers) × (run.now.workers ≤ most_workers) }
+    ensures runs { ends_free result ≡ false → RoutesDesign run.now.settings.now run.now.workers
+        (G.accepted run.now.gate.now) (writing_to R.taken R.failed route.old route.new)
         (writing_to W.taken W.failed out.old out.new) design.now result }
     ensures route { ends_free result ≡ true
         → TakesNothing (writing_to R.taken R.failed route.old route.new) }
@@ -145,7 +146,7 @@ fn route_design<
     ensures late { ends_before InputFile.Route result ≡ false }
     ensures placed { IfOk result (PlacesOutcome (R.is_placed route.new)) }
 {
-    let outcome = negotiate_leaving(rt, design, settings, workers, gate, rest)?;
+    let outcome = negotiate_leaving(design, run)?;
     write_outcome(design, outcome, route, out)
 }
 
@@ -207,5 +208,12 @@ pub fn route_run<
 {
     let text = NetlistText::read(rt.alloc(), arch, net)?;
     let design = Design::read(rt.alloc(), &text, place, width, mode)?;
-    route_design(rt, &design, route, out, settings, workers, gate, rest)
+    let run = RunOptions {
+        rt,
+        settings,
+        workers,
+        gate,
+        files: rest,
+    };
+    route_design(&design, route, out, &run)
 }

@@ -3,13 +3,14 @@
 ghost use Rattle.std.specs.Prelude.{◌≡◌, ℕ, ◌≤◌, true, false, List, IfErr, IfOk};
 ghost use Rattle.rr_graph.specs.Fabric.{most_tracks};
 ghost use Rattle.node_cost.specs.Options.{most_workers};
-ghost use Rattle.width_search.specs.Reports.{IsVerifiedReport, IsWidthReport, Negotiates};
+ghost use Rattle.width_search.specs.Reports.{IsVerifiedReport, IsWidthReport};
 ghost use Rattle.width_search.specs.Widths.{next_width};
 ghost use Rattle.run_inputs.specs.Faults.{ends_free, is_free};
-ghost use Rattle.run_inputs.specs.Inputs.{ends_before, placed_problem};
+ghost use Rattle.run_inputs.specs.Inputs.{ends_before};
 ghost use Rattle.run_inputs.specs.Runs.{TakesNothing, writing_to};
 ghost use Rattle.runs.specs.WidthRun.{PlacesLeast, SearchesWidths, TriesAfter};
 ghost use Rattle.runs.specs.declared.plan.WidthPlan.TheVariants.{Search};
+ghost use Rattle.runs.specs.kept.Negotiated.{Negotiated};
 ghost use Rattle.runs.specs.kept.Told.{TellsTo};
 
 use crate::bound::PAST_WIDTHS;
@@ -30,35 +31,35 @@ use width_search::{WidthReport, least_width};
 
 /// Searches for the least width of a placed netlist.
 fn search_widths<T: Threads + Wait + Sync + AllocGlobal, G: Gate + Sync, S: SideFiles + Sync>(
-    rt: &T,
-    widths: &Widths<'_, '_, '_>,
+    widths: &Widths<'_, '_, '_, T, G, S>,
     start: u32,
-    gate: &G,
-    kept: &S,
 ) -> Result<WidthReport, AppFault>
     requires start { (1 ≤ start) × (start ≤ most_tracks) }
-    requires workers { (1 ≤ widths.now.workers) × (widths.now.workers ≤ most_workers) }
-    ensures report { IfOk result (IsWidthReport
-        (Negotiates (placed_problem widths.now.mode widths.now.placed.now)
-        widths.now.settings.now widths.now.workers (G.accepted gate.now)) (next_width start)) }
+    requires workers { (1 ≤ widths.now.run.workers) × (widths.now.run.workers ≤ most_workers) }
+    ensures report { IfOk result (IsWidthReport (Negotiated G.accepted widths.now)
+        (next_width start)) }
     ensures free { IfErr result (λ e. is_free e ≡ true) }
 {
-    let placed = widths.placed;
-    let trials = KeptTrials::new(rt.alloc(), placed, kept);
+    let Widths {
+        placed,
+        mode,
+        ref run,
+    } = *widths;
+    let trials = KeptTrials::new(run.rt.alloc(), placed, run.files);
     let gates = BothGates {
-        first: gate,
+        first: run.gate,
         second: &trials,
     };
     let report = least_width(
-        rt,
-        rt.alloc(),
+        run.rt,
+        run.rt.alloc(),
         placed.arch(),
         placed.netlist(),
         placed.placement(),
-        widths.settings,
+        run.settings,
         start,
-        widths.mode,
-        widths.workers,
+        mode,
+        run.workers,
         &gates,
     )?;
     Ok(report)
@@ -72,35 +73,39 @@ fn search_all<
     G: Gate + Sync,
     S: SideFiles + Sync,
 >(
-    rt: &T,
-    widths: &Widths<'_, '_, '_>,
+    widths: &Widths<'_, '_, '_, T, G, S>,
     start: u32,
     below: u32,
-    gate: &G,
-    kept: &S,
     words: &mut W,
     is_broken: &mut bool,
     past: &mut u32,
 ) -> Result<WidthReport, AppFault>
     requires start { (1 ≤ start) × (start ≤ most_tracks) }
-    requires workers { (1 ≤ widths.now.workers) × (widths.now.workers ≤ most_workers) }
-    ensures report { IfOk result (IsVerifiedReport
-        (Negotiates (placed_problem widths.now.mode widths.now.placed.now)
-        widths.now.settings.now widths.now.workers (G.accepted gate.now)) start below) }
-    ensures tries { IfOk result (λ r. (text : List ℕ) × TriesAfter
-        (Negotiates (placed_problem widths.now.mode widths.now.placed.now)
-        widths.now.settings.now widths.now.workers (G.accepted gate.now)) start below r past.new
-        text × TellsTo W.taken W.failed words.old words.new is_broken.old is_broken.new text) }
+    requires workers { (1 ≤ widths.now.run.workers) × (widths.now.run.workers ≤ most_workers) }
+    ensures report { IfOk result (IsVerifiedReport (Negotiated G.accepted widths.now) start
+        below) }
+    ensures tries { IfOk result (λ r. (text : List ℕ)
+        × TriesAfter (Negotiated G.accepted widths.now) start below r past.new text
+        × TellsTo W.taken W.failed words.old words.new is_broken.old is_broken.new text) }
     ensures free { IfErr result (λ e. is_free e ≡ true) }
 {
-    let mut report = search_widths(rt, widths, start, gate, kept)?;
-    *past = verify(rt, widths, &mut report, below, gate, kept, words, is_broken);
+    let mut report = search_widths(widths, start)?;
+    *past = verify(widths, &mut report, below, words, is_broken);
     Ok(report)
 }
 
-/// Searches for the least width of a placed netlist, and tries up to `below` widths below it. Then
-/// prints the lines of these trials, and writes the routing of the least width that was routed. At
-/// the end reports the width below which there is no routing, if that is wanted.
+/// Where a search begins, up to how many widths below the least that it found are tried, and
+/// whether the width below which there is no routing is wanted.
+#[derive(Clone, Copy)]
+pub(crate) struct SearchPlan {
+    pub(crate) start: u32,
+    pub(crate) below: u32,
+    pub(crate) shows_bound: bool,
+}
+
+/// Searches for the least width of a placed netlist by a plan. Then prints the lines of these
+/// trials, and writes the routing of the least width that was routed. At the end reports the width
+/// below which there is no routing, if that is wanted.
 pub(crate) fn search_placed<
     T: Threads + Wait + Sync + AllocGlobal,
     R: WholeSink,
@@ -109,23 +114,18 @@ pub(crate) fn search_placed<
     G: Gate + Sync,
     S: SideFiles + Sync,
 >(
-    rt: &T,
-    widths: &Widths<'_, '_, '_>,
+    widths: &Widths<'_, '_, '_, T, G, S>,
     route: &mut R,
     out: &mut W,
     words: &mut E,
-    start: u32,
-    below: u32,
-    shows_bound: bool,
-    gate: &G,
-    kept: &S,
+    plan: SearchPlan,
 ) -> Result<WidthReport, AppFault>
-    requires start { (1 ≤ start) × (start ≤ most_tracks) }
-    requires workers { (1 ≤ widths.now.workers) × (widths.now.workers ≤ most_workers) }
+    requires start { (1 ≤ plan.start) × (plan.start ≤ most_tracks) }
+    requires workers { (1 ≤ widths.now.run.workers) × (widths.now.run.workers ≤ most_workers) }
     ensures runs { ends_free result ≡ false
-        → SearchesWidths widths.now.settings.now widths.now.workers (G.accepted gate.now)
-        (Search start below shows_bound) widths.now.mode
-        (writing_to R.taken R.failed route.old route.new)
+        → SearchesWidths widths.now.run.settings.now widths.now.run.workers
+        (G.accepted widths.now.run.gate.now) (Search plan.start plan.below plan.shows_bound)
+        widths.now.mode (writing_to R.taken R.failed route.old route.new)
         (writing_to W.taken W.failed out.old out.new)
         (writing_to E.taken E.failed words.old words.new) widths.now.placed.now result }
     ensures route { ends_free result ≡ true
@@ -135,28 +135,22 @@ pub(crate) fn search_placed<
     ensures late { ends_before InputFile.Route result ≡ false }
     ensures placed { IfOk result (λ report. PlacesLeast (R.is_placed route.new) report.least) }
 {
-    let mut past = PAST_WIDTHS;
-    let mut is_broken = false;
-    let report = search_all(
-        rt,
-        widths,
+    let SearchPlan {
         start,
         below,
-        gate,
-        kept,
-        words,
-        &mut is_broken,
-        &mut past,
-    )?;
-    write_report(rt.alloc(), widths.placed, &report, widths.mode, route, out)?;
-    show_bound(
-        rt.alloc(),
+        shows_bound,
+    } = plan;
+    let mut past = PAST_WIDTHS;
+    let mut is_broken = false;
+    let report = search_all(widths, start, below, words, &mut is_broken, &mut past)?;
+    write_report(
+        widths.run.rt.alloc(),
         widths.placed,
         &report,
-        past,
-        shows_bound,
-        words,
-        &mut is_broken,
-    );
+        widths.mode,
+        route,
+        out,
+    )?;
+    show_bound(widths, &report, past, shows_bound, words, &mut is_broken);
     Ok(report)
 }

@@ -2,10 +2,10 @@
 
 ghost use Rattle.std.specs.Prelude.{◌≡◌, option_copied};
 ghost use Rattle.std.specs.List.{flat_map};
-ghost use Rattle.vpr_text.specs.Output.{SendsTo};
+ghost use Rattle.text_output.specs.Printing.{PrintsTo};
 ghost use Rattle.runs.specs.WidthRun.{found_line, least_line, report_text, status_of_report, trial_end, trial_line};
 
-use text_output::{ByteSink, OutputBuffer, Piece, put_pieces};
+use text_output::{ByteSink, Piece, Printer};
 use width_search::{LeastWidth, Trial, WidthReport};
 
 /// Returns the outcome of a trial, which follows its width.
@@ -21,63 +21,55 @@ fn trial_end(routed: bool) -> &'static [u8]
 
 /// Prints the line of a trial.
 #[tactic(auto, unfolding(crate::specs::WidthRun::trial_line))]
-fn put_trial<W: ByteSink>(out: &mut OutputBuffer, sink: &mut W, trial: Trial)
-    ensures { SendsTo W.taken W.failed sink.old sink.new out.old out.new (trial_line trial) }
+fn put_trial<W: ByteSink>(out: &mut Printer<'_, W>, trial: Trial)
+    ensures { PrintsTo W.ByteSink out.old out.new (trial_line trial) }
 {
-    put_pieces(
-        out,
-        sink,
-        &[
-            Piece::Text(b"width "),
-            Piece::Number(trial.width),
-            Piece::Text(trial_end(trial.routed)),
-        ],
-    );
+    out.put_pieces(&[
+        Piece::Text(b"width "),
+        Piece::Number(trial.width),
+        Piece::Text(trial_end(trial.routed)),
+    ]);
 }
 
 /// Prints the lines of the trials.
-fn put_trials<W: ByteSink>(out: &mut OutputBuffer, sink: &mut W, trials: &[Trial])
-    ensures { SendsTo W.taken W.failed sink.old sink.new out.old out.new
+fn put_trials<W: ByteSink>(out: &mut Printer<'_, W>, trials: &[Trial])
+    ensures { PrintsTo W.ByteSink out.old out.new
         (flat_map trial_line trials.now) }
 {
     for trial in trials {
-        put_trial(out, sink, *trial);
+        put_trial(out, *trial);
     }
 }
 
 /// Prints the line of the least width that was routed.
 #[tactic(auto, unfolding(crate::specs::WidthRun::found_line))]
-fn put_found<W: ByteSink>(out: &mut OutputBuffer, sink: &mut W, width: u32)
-    ensures { SendsTo W.taken W.failed sink.old sink.new out.old out.new (found_line width) }
+fn put_found<W: ByteSink>(out: &mut Printer<'_, W>, width: u32)
+    ensures { PrintsTo W.ByteSink out.old out.new (found_line width) }
 {
-    put_pieces(
-        out,
-        sink,
-        &[
-            Piece::Text(b"least routed width: "),
-            Piece::Number(width),
-            Piece::Text(b"\n"),
-        ],
-    );
+    out.put_pieces(&[
+        Piece::Text(b"least routed width: "),
+        Piece::Number(width),
+        Piece::Text(b"\n"),
+    ]);
 }
 
 /// Prints the last line, with the least width that was routed, or that there is none.
-fn put_least<W: ByteSink>(out: &mut OutputBuffer, sink: &mut W, least: Option<&LeastWidth>)
-    ensures { SendsTo W.taken W.failed sink.old sink.new out.old out.new
+fn put_least<W: ByteSink>(out: &mut Printer<'_, W>, least: Option<&LeastWidth>)
+    ensures { PrintsTo W.ByteSink out.old out.new
         (least_line (option_copied least.entry)) }
 {
     match least {
-        Some(least) => put_found(out, sink, least.width),
-        None => out.push(sink, b"no routed width\n"),
+        Some(least) => put_found(out, least.width),
+        None => out.push(b"no routed width\n"),
     }
 }
 
 /// Prints the lines of a search.
-pub(crate) fn put_report<W: ByteSink>(out: &mut OutputBuffer, sink: &mut W, report: &WidthReport)
-    ensures { SendsTo W.taken W.failed sink.old sink.new out.old out.new (report_text report.now) }
+pub(crate) fn put_report<W: ByteSink>(out: &mut Printer<'_, W>, report: &WidthReport)
+    ensures { PrintsTo W.ByteSink out.old out.new (report_text report.now) }
 {
-    put_trials(out, sink, report.trials());
-    put_least(out, sink, report.least());
+    put_trials(out, report.trials());
+    put_least(out, report.least());
 }
 
 /// Returns the exit status of a search: 0 if a width was routed, 3 if none was.

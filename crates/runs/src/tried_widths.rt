@@ -1,15 +1,13 @@
 //! How the widths of a placed netlist are tried.
 
-use node_cost::Settings;
+use crate::run_options::RunOptions;
 use rr_graph::Mode;
 use run_inputs::PlacedNetlist;
 
-/// A placed netlist, and how each of its widths is negotiated: the mode, the settings, and the
-/// number of workers.
+/// A placed netlist, the mode of its devices, and how each of its widths is negotiated.
 #[derive(Clone, Copy)]
-pub(crate) struct Widths<'p, 't, 's> {
+pub(crate) struct Widths<'p, 't, 'o, T, G, S> {
     pub(crate) placed: &'p PlacedNetlist<'t>,
     pub(crate) mode: Mode,
-    pub(crate) settings: &'s Settings,
-    pub(crate) workers: u32,
+    pub(crate) run: RunOptions<'o, T, G, S>,
 }

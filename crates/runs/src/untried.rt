@@ -3,16 +3,16 @@
 
 ghost use Rattle.std.specs.Prelude.{◌≡◌, ℕ, ◌<◌, ◌-◌, true, ◌&&◌, nat_lt, find, List, Some};
 ghost use Rattle.std.specs.List.{flat_map};
-ghost use Rattle.vpr_text.specs.Output.{SendsTo};
+ghost use Rattle.text_output.specs.Printing.{PrintsTo};
 ghost use Rattle.rr_graph.specs.Fabric.{numbers_below};
 ghost use Rattle.runs.specs.Untried.{are_several, begins_gap, ends_gap, gap_mark, gap_text, is_tried, is_untried, untried_by, untried_from, untried_line, untried_were, untried_word, upward_advice, width_if};
 ghost use Rattle.runs.specs.WidthRun.{PrintsBoundOf, bound_text};
 ghost use Rattle.runs.specs.kept.Told.{TellsTo};
 
 use crate::bound::{bound_of, first_possible, tell_bound};
-use run_inputs::PlacedNetlist;
-use std::alloc::Global;
-use text_output::{ByteSink, OutputBuffer, Piece, put_number, put_pieces};
+use crate::tried_widths::Widths;
+use std::alloc::AllocGlobal;
+use text_output::{ByteSink, Piece, Printer};
 use width_bound::CutFigures;
 use width_search::{Trial, WidthReport};
 
@@ -55,27 +55,21 @@ fn ends_gap(trials: &[Trial], bound: u32, past: u32, width: u32) -> bool
 }
 
 /// Prints a width after a mark.
-fn put_marked<W: ByteSink>(out: &mut OutputBuffer, words: &mut W, mark: &[u8], width: u32)
-    ensures { SendsTo W.taken W.failed words.old words.new out.old out.new
+fn put_marked<W: ByteSink>(out: &mut Printer<'_, W>, mark: &[u8], width: u32)
+    ensures { PrintsTo W.ByteSink out.old out.new
         (width_if true mark.now width) }
 {
-    out.push(words, mark);
-    put_number(out, words, width);
+    out.push(mark);
+    out.put_number(width);
 }
 
 /// Prints a width after a mark, if it is to be printed.
-fn put_if<W: ByteSink>(
-    out: &mut OutputBuffer,
-    words: &mut W,
-    is_printed: bool,
-    mark: &[u8],
-    width: u32,
-)
-    ensures { SendsTo W.taken W.failed words.old words.new out.old out.new
+fn put_if<W: ByteSink>(out: &mut Printer<'_, W>, is_printed: bool, mark: &[u8], width: u32)
+    ensures { PrintsTo W.ByteSink out.old out.new
         (width_if is_printed mark.now width) }
 {
     if is_printed {
-        put_marked(out, words, mark, width);
+        put_marked(out, mark, width);
     }
 }
 
@@ -88,8 +82,7 @@ fn gap_mark(first: u32, width: u32) -> &'static [u8]
 
 /// Prints the beginning or the end of a run at the width.
 fn put_width<W: ByteSink>(
-    out: &mut OutputBuffer,
-    words: &mut W,
+    out: &mut Printer<'_, W>,
     trials: &[Trial],
     bound: u32,
     past: u32,
@@ -97,29 +90,28 @@ fn put_width<W: ByteSink>(
     width: u32,
 )
     requires { width < past }
-    ensures { SendsTo W.taken W.failed words.old words.new out.old out.new
+    ensures { PrintsTo W.ByteSink out.old out.new
         (gap_text trials.now bound past first width) }
 {
     let begins = begins_gap(trials, bound, past, width);
     let ends = ends_gap(trials, bound, past, width);
-    put_if(out, words, begins, gap_mark(first, width), width);
-    put_if(out, words, ends, b" to ", width);
+    put_if(out, begins, gap_mark(first, width), width);
+    put_if(out, ends, b" to ", width);
 }
 
 /// Prints the runs of widths that were left out.
 fn put_gaps<W: ByteSink>(
-    out: &mut OutputBuffer,
-    words: &mut W,
+    out: &mut Printer<'_, W>,
     trials: &[Trial],
     bound: u32,
     past: u32,
     first: u32,
 )
-    ensures { SendsTo W.taken W.failed words.old words.new out.old out.new
+    ensures { PrintsTo W.ByteSink out.old out.new
         (flat_map (gap_text trials.now bound past first) (numbers_below past)) }
 {
     for width in 0..past {
-        put_width(out, words, trials, bound, past, first, width);
+        put_width(out, trials, bound, past, first, width);
     }
 }
 
@@ -146,53 +138,47 @@ fn untried_were(several: bool) -> &'static [u8]
 
 /// Prints how to try each width from the bound on.
 #[tactic(auto, unfolding(crate::specs::Untried::upward_advice))]
-fn put_advice<W: ByteSink>(out: &mut OutputBuffer, words: &mut W, bound: u32)
-    ensures { SendsTo W.taken W.failed words.old words.new out.old out.new (upward_advice bound) }
+fn put_advice<W: ByteSink>(out: &mut Printer<'_, W>, bound: u32)
+    ensures { PrintsTo W.ByteSink out.old out.new (upward_advice bound) }
 {
-    put_pieces(
-        out,
-        words,
-        &[
-            Piece::Text(b" not tried: --upward tries each width from "),
-            Piece::Number(bound),
-            Piece::Text(b" on\n"),
-        ],
-    );
+    out.put_pieces(&[
+        Piece::Text(b" not tried: --upward tries each width from "),
+        Piece::Number(bound),
+        Piece::Text(b" on\n"),
+    ]);
 }
 
 /// Prints the line on the widths that were left out. `several` is whether there are several.
 fn put_from<W: ByteSink>(
-    out: &mut OutputBuffer,
-    words: &mut W,
+    out: &mut Printer<'_, W>,
     trials: &[Trial],
     bound: u32,
     past: u32,
     first: u32,
     several: bool,
 )
-    ensures { SendsTo W.taken W.failed words.old words.new out.old out.new
+    ensures { PrintsTo W.ByteSink out.old out.new
         (untried_from trials.now bound past first several) }
 {
-    out.push(words, untried_word(several));
-    put_gaps(out, words, trials, bound, past, first);
-    out.push(words, untried_were(several));
-    put_advice(out, words, bound);
+    out.push(untried_word(several));
+    put_gaps(out, trials, bound, past, first);
+    out.push(untried_were(several));
+    put_advice(out, bound);
 }
 
 /// Prints the line on the widths that were left out. `first` is the least of them.
 fn put_first<W: ByteSink>(
-    out: &mut OutputBuffer,
-    words: &mut W,
+    out: &mut Printer<'_, W>,
     trials: &[Trial],
     bound: u32,
     past: u32,
     first: u32,
 )
-    ensures { SendsTo W.taken W.failed words.old words.new out.old out.new
+    ensures { PrintsTo W.ByteSink out.old out.new
         (untried_by trials.now bound past (Some first)) }
 {
     let several = are_several(trials, bound, past, first);
-    put_from(out, words, trials, bound, past, first, several);
+    put_from(out, trials, bound, past, first, several);
 }
 
 /// Returns the least width that was left out, if there is one.
@@ -204,18 +190,12 @@ fn first_untried(trials: &[Trial], bound: u32, past: u32) -> Option<u32>
 
 /// Prints which widths from the bound on that are less than `past` were left out, if there are
 /// some.
-fn put_untried<W: ByteSink>(
-    out: &mut OutputBuffer,
-    words: &mut W,
-    trials: &[Trial],
-    bound: u32,
-    past: u32,
-)
-    ensures { SendsTo W.taken W.failed words.old words.new out.old out.new
+fn put_untried<W: ByteSink>(out: &mut Printer<'_, W>, trials: &[Trial], bound: u32, past: u32)
+    ensures { PrintsTo W.ByteSink out.old out.new
         (untried_line trials.now bound past) }
 {
     match first_untried(trials, bound, past) {
-        Some(first) => put_first(out, words, trials, bound, past, first),
+        Some(first) => put_first(out, trials, bound, past, first),
         None => {}
     }
 }
@@ -236,9 +216,9 @@ fn tell_untried<W: ByteSink>(
     if *is_broken {
         return;
     }
-    let mut out = OutputBuffer::new();
-    put_untried(&mut out, words, trials, bound, past);
-    *is_broken = out.finish(words).is_err();
+    let mut printer = Printer::new(words);
+    put_untried(&mut printer, trials, bound, past);
+    *is_broken = printer.finish().is_err();
 }
 
 /// Writes what a bound rules out, and which widths that are less than `past` were left out.
@@ -259,22 +239,22 @@ fn tell_widths<W: ByteSink>(
 /// Writes below which width a placed netlist has no routing, and which widths from there on that
 /// are less than `past` were left out, if that is wanted. If memory runs out, writes nothing.
 #[inline(never)]
-pub(crate) fn show_bound<W: ByteSink>(
-    alloc: Global,
-    placed: &PlacedNetlist<'_>,
+pub(crate) fn show_bound<T: AllocGlobal, W: ByteSink, G, S>(
+    widths: &Widths<'_, '_, '_, T, G, S>,
     report: &WidthReport,
     past: u32,
     is_wanted: bool,
     words: &mut W,
     is_broken: &mut bool,
 )
-    ensures { (text : List ℕ) × PrintsBoundOf is_wanted placed.now report.now.trials past text
+    ensures { (text : List ℕ) × PrintsBoundOf is_wanted widths.now.placed.now
+        report.now.trials past text
         × TellsTo W.taken W.failed words.old words.new is_broken.old is_broken.new text }
 {
     if !is_wanted {
         return;
     }
-    match bound_of(alloc, placed) {
+    match bound_of(widths.run.rt.alloc(), widths.placed) {
         Ok(figures) => tell_widths(words, is_broken, report.trials(), past, figures),
         Err(_) => {}
     }

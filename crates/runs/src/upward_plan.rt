@@ -3,15 +3,15 @@
 ghost use Rattle.std.specs.Prelude.{◌≡◌, ◌≤◌, true, false, IfErr, IfOk};
 ghost use Rattle.rr_graph.specs.Fabric.{most_tracks};
 ghost use Rattle.node_cost.specs.Options.{most_workers};
-ghost use Rattle.width_search.specs.Reports.{Negotiates};
 ghost use Rattle.width_search.specs.Widths.{GoesUpward};
 ghost use Rattle.bound_run.specs.Bounds.{IsTrueOf};
 ghost use Rattle.run_inputs.specs.Faults.{ends_free, is_free};
-ghost use Rattle.run_inputs.specs.Inputs.{ends_before, placed_problem};
+ghost use Rattle.run_inputs.specs.Inputs.{ends_before};
 ghost use Rattle.run_inputs.specs.Runs.{TakesNothing, writing_to};
 ghost use Rattle.runs.specs.Known.{first_width};
 ghost use Rattle.runs.specs.WidthRun.{IsUpwardReport, PlacesLeast, SearchesWidths};
 ghost use Rattle.runs.specs.declared.plan.WidthPlan.TheVariants.{Upward};
+ghost use Rattle.runs.specs.kept.Negotiated.{Negotiated};
 
 use crate::bound::{bound_of, first_possible, first_width, tell_bound};
 use crate::kept_trials::KeptTrials;
@@ -27,46 +27,46 @@ use std::sync::Wait;
 use std::thread::Threads;
 use text_output::ByteSink;
 use width_bound::CutFigures;
-use width_search::{WidthReport, upward_width};
+use width_search::{Negotiating, PlacedDesign, WidthReport, upward_width};
 
 /// Tries the widths of a placed netlist upward, from the start on or from the least width that
 /// these figures don't rule out, whichever is greater.
 fn try_upward<T: Threads + Wait + Sync + AllocGlobal, G: Gate + Sync, S: SideFiles + Sync>(
-    rt: &T,
-    widths: &Widths<'_, '_, '_>,
+    widths: &Widths<'_, '_, '_, T, G, S>,
     start: u32,
     figures: CutFigures,
-    gate: &G,
-    kept: &S,
 ) -> Result<WidthReport, AppFault>
     requires start { (1 ≤ start) × (start ≤ most_tracks) }
-    requires workers { (1 ≤ widths.now.workers) × (widths.now.workers ≤ most_workers) }
+    requires workers { (1 ≤ widths.now.run.workers) × (widths.now.run.workers ≤ most_workers) }
     requires sound { IsTrueOf widths.now.placed.now figures }
-    ensures report { IfOk result (IsUpwardReport
-        (Negotiates (placed_problem widths.now.mode widths.now.placed.now)
-        widths.now.settings.now widths.now.workers (G.accepted gate.now)) widths.now.placed.now
-        start) }
+    ensures report { IfOk result (IsUpwardReport (Negotiated G.accepted widths.now)
+        widths.now.placed.now start) }
     ensures tried { IfOk result (λ r. GoesUpward (first_width start figures) r.trials) }
     ensures free { IfErr result (λ e. is_free e ≡ true) }
 {
-    let placed = widths.placed;
-    let trials = KeptTrials::new(rt.alloc(), placed, kept);
+    let Widths {
+        placed,
+        mode,
+        ref run,
+    } = *widths;
+    let trials = KeptTrials::new(run.rt.alloc(), placed, run.files);
     let gates = BothGates {
-        first: gate,
+        first: run.gate,
         second: &trials,
     };
-    let report = upward_width(
-        rt,
-        rt.alloc(),
-        placed.arch(),
-        placed.netlist(),
-        placed.placement(),
-        widths.settings,
-        first_width(start, figures),
-        widths.mode,
-        widths.workers,
-        &gates,
-    )?;
+    let design = PlacedDesign {
+        arch: placed.arch(),
+        netlist: placed.netlist(),
+        placement: placed.placement(),
+        mode,
+    };
+    let how = Negotiating {
+        settings: run.settings,
+        workers: run.workers,
+        gate: &gates,
+    };
+    let first = first_width(start, figures);
+    let report = upward_width(run.rt, run.rt.alloc(), &design, &how, first)?;
     Ok(report)
 }
 
@@ -82,20 +82,17 @@ pub(crate) fn upward_placed<
     G: Gate + Sync,
     S: SideFiles + Sync,
 >(
-    rt: &T,
-    widths: &Widths<'_, '_, '_>,
+    widths: &Widths<'_, '_, '_, T, G, S>,
     route: &mut R,
     out: &mut W,
     words: &mut E,
     start: u32,
-    gate: &G,
-    kept: &S,
 ) -> Result<WidthReport, AppFault>
     requires start { (1 ≤ start) × (start ≤ most_tracks) }
-    requires workers { (1 ≤ widths.now.workers) × (widths.now.workers ≤ most_workers) }
+    requires workers { (1 ≤ widths.now.run.workers) × (widths.now.run.workers ≤ most_workers) }
     ensures runs { ends_free result ≡ false
-        → SearchesWidths widths.now.settings.now widths.now.workers (G.accepted gate.now)
-        (Upward start) widths.now.mode
+        → SearchesWidths widths.now.run.settings.now widths.now.run.workers
+        (G.accepted widths.now.run.gate.now) (Upward start) widths.now.mode
         (writing_to R.taken R.failed route.old route.new)
         (writing_to W.taken W.failed out.old out.new)
         (writing_to E.taken E.failed words.old words.new) widths.now.placed.now result }
@@ -106,11 +103,18 @@ pub(crate) fn upward_placed<
     ensures late { ends_before InputFile.Route result ≡ false }
     ensures placed { IfOk result (λ report. PlacesLeast (R.is_placed route.new) report.least) }
 {
-    let figures = bound_of(rt.alloc(), widths.placed)?;
+    let figures = bound_of(widths.run.rt.alloc(), widths.placed)?;
     let mut is_broken = false;
     tell_bound(words, &mut is_broken, figures);
-    let report = try_upward(rt, widths, start, figures, gate, kept)?;
-    write_report(rt.alloc(), widths.placed, &report, widths.mode, route, out)?;
+    let report = try_upward(widths, start, figures)?;
+    write_report(
+        widths.run.rt.alloc(),
+        widths.placed,
+        &report,
+        widths.mode,
+        route,
+        out,
+    )?;
     let bound = first_possible(figures);
     tell_known(words, &mut is_broken, start, bound, &report);
     Ok(report)

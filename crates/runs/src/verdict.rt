@@ -1,7 +1,7 @@
 //! The line of a verdict on a routing.
 
 ghost use Rattle.std.specs.Prelude.{◌≡◌, slice_index_or};
-ghost use Rattle.vpr_text.specs.Output.{SendsTo};
+ghost use Rattle.text_output.specs.Printing.{PrintsTo};
 ghost use Rattle.net_file.specs.Routed.{no_net};
 ghost use Rattle.rr_graph.specs.Problems.{net_in};
 ghost use Rattle.runs.specs.Verdict.{net_fault_text, overuse_text, status_of_verdict, text_of_net, tree_fault_text, verdict_text};
@@ -11,7 +11,7 @@ use route_check::RouteFault;
 use route_tree::TreeFault;
 use rr_graph::{Device, Problem};
 use run_inputs::{net_name, number_of_net};
-use text_output::{ByteSink, OutputBuffer, Piece, put_pieces};
+use text_output::{ByteSink, Piece, Printer};
 
 /// Returns the name of a fault of a net's list.
 pub fn tree_fault_name(fault: TreeFault) -> &'static [u8]
@@ -33,89 +33,78 @@ pub fn tree_fault_name(fault: TreeFault) -> &'static [u8]
 /// Prints the line of a net that is not routed.
 #[tactic(auto, unfolding(crate::specs::Verdict::net_fault_text))]
 fn put_net_line<'a, W: ByteSink>(
-    out: &mut OutputBuffer,
-    sink: &mut W,
+    out: &mut Printer<'_, W>,
     number: u32,
     name: &'a [u8],
     fault: &'a [u8],
 )
-    ensures { SendsTo W.taken W.failed sink.old sink.new out.old out.new
+    ensures { PrintsTo W.ByteSink out.old out.new
         (net_fault_text number name.now fault.now) }
 {
-    put_pieces(
-        out,
-        sink,
-        &[
-            Piece::Text(b"not legal: net "),
-            Piece::Number(number),
-            Piece::Text(b" ("),
-            Piece::Text(name),
-            Piece::Text(b"): "),
-            Piece::Text(fault),
-            Piece::Text(b"\n"),
-        ],
-    );
+    out.put_pieces(&[
+        Piece::Text(b"not legal: net "),
+        Piece::Number(number),
+        Piece::Text(b" ("),
+        Piece::Text(name),
+        Piece::Text(b"): "),
+        Piece::Text(fault),
+        Piece::Text(b"\n"),
+    ]);
 }
 
 /// Prints the line of a net of the problem that is not routed.
 fn put_net_fault<W: ByteSink>(
-    out: &mut OutputBuffer,
-    sink: &mut W,
+    out: &mut Printer<'_, W>,
     netlist: &Netlist<'_>,
     problem: &Problem,
     net: u32,
     fault: &[u8],
 )
-    ensures { SendsTo W.taken W.failed sink.old sink.new out.old out.new
+    ensures { PrintsTo W.ByteSink out.old out.new
         (text_of_net netlist.now problem.now net fault.now) }
 {
     let number = number_of_net(problem, net);
-    put_net_line(out, sink, number, net_name(netlist, number), fault);
+    put_net_line(out, number, net_name(netlist, number), fault);
 }
 
 /// Prints the line of a node that too many nets use.
 #[tactic(auto, unfolding(crate::specs::Verdict::overuse_text))]
-fn put_overuse<W: ByteSink>(out: &mut OutputBuffer, sink: &mut W, device: &Device, id: u32, by: u32)
-    ensures { SendsTo W.taken W.failed sink.old sink.new out.old out.new
+fn put_overuse<W: ByteSink>(out: &mut Printer<'_, W>, device: &Device, id: u32, by: u32)
+    ensures { PrintsTo W.ByteSink out.old out.new
         (overuse_text device.now id by) }
 {
-    put_pieces(
-        out,
-        sink,
-        &[
-            Piece::Text(b"not legal: node "),
-            Piece::Number(id),
-            Piece::Text(b" "),
-            Piece::Node(device, id),
-            Piece::Text(b" overused by "),
-            Piece::Number(by),
-            Piece::Text(b"\n"),
-        ],
-    );
+    out.put_pieces(&[
+        Piece::Text(b"not legal: node "),
+        Piece::Number(id),
+        Piece::Text(b" "),
+        Piece::Node(device, id),
+        Piece::Text(b" overused by "),
+        Piece::Number(by),
+        Piece::Text(b"\n"),
+    ]);
 }
 
 /// Prints the line of a verdict.
 pub fn put_verdict<W: ByteSink>(
-    out: &mut OutputBuffer,
-    sink: &mut W,
+    out: &mut Printer<'_, W>,
     netlist: &Netlist<'_>,
     problem: &Problem,
     verdict: Option<RouteFault>,
 )
-    ensures { SendsTo W.taken W.failed sink.old sink.new out.old out.new
+    ensures { PrintsTo W.ByteSink out.old out.new
         (verdict_text netlist.now problem.now verdict) }
 {
     match verdict {
-        None => out.push(sink, b"legal\n"),
-        Some(RouteFault::Length) => out.push(sink, b"not legal: Length\n"),
+        None => out.push(b"legal\n"),
+        Some(RouteFault::Length) => out.push(b"not legal: Length\n"),
         Some(RouteFault::Unrouted(net)) => {
-            put_net_fault(out, sink, netlist, problem, net, b"Unrouted");
+            put_net_fault(out, netlist, problem, net, b"Unrouted");
         }
         Some(RouteFault::Tree(net, fault)) => {
-            put_net_fault(out, sink, netlist, problem, net, tree_fault_name(fault));
+            put_net_fault(out, netlist, problem, net, tree_fault_name(fault));
         }
         Some(RouteFault::Overused(node, by)) => {
-            put_overuse(out, sink, problem.device(), node, by);
+            put_overuse(out, problem.device(), node, by);
         }
     }
 }

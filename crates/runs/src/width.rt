@@ -9,7 +9,8 @@ ghost use Rattle.run_inputs.specs.Runs.{MeetsDesign, TakesNothing, reading, writ
 ghost use Rattle.runs.specs.WidthRun.{PlacesLeast, RunsWidth, SearchesWidths, start_of};
 
 use crate::plan::WidthPlan;
-use crate::search_plan::search_placed;
+use crate::run_options::RunOptions;
+use crate::search_plan::{SearchPlan, search_placed};
 use crate::side_files::SideFiles;
 use crate::tried_widths::Widths;
 use crate::upward_plan::upward_placed;
@@ -35,20 +36,18 @@ fn width_placed<
     G: Gate + Sync,
     S: SideFiles + Sync,
 >(
-    rt: &T,
-    widths: &Widths<'_, '_, '_>,
+    widths: &Widths<'_, '_, '_, T, G, S>,
     route: &mut R,
     out: &mut W,
     words: &mut E,
     plan: WidthPlan,
-    gate: &G,
-    kept: &S,
 ) -> Result<WidthReport, AppFault>
     requires plan { (1 ≤ start_of plan) × (start_of plan ≤ most_tracks) }
-    requires workers { (1 ≤ widths.now.workers) × (widths.now.workers ≤ most_workers) }
+    requires workers { (1 ≤ widths.now.run.workers) × (widths.now.run.workers ≤ most_workers) }
     ensures runs { ends_free result ≡ false
-        → SearchesWidths widths.now.settings.now widths.now.workers (G.accepted gate.now) plan
-        widths.now.mode (writing_to R.taken R.failed route.old route.new)
+        → SearchesWidths widths.now.run.settings.now widths.now.run.workers
+        (G.accepted widths.now.run.gate.now) plan widths.now.mode
+        (writing_to R.taken R.failed route.old route.new)
         (writing_to W.taken W.failed out.old out.new)
         (writing_to E.taken E.failed words.old words.new) widths.now.placed.now result }
     ensures route { ends_free result ≡ true
@@ -63,21 +62,15 @@ fn width_placed<
             start,
             below,
             shows_bound,
-        } => search_placed(
-            rt,
-            widths,
-            route,
-            out,
-            words,
-            start,
-            below,
-            shows_bound,
-            gate,
-            kept,
-        ),
-        WidthPlan::Upward { start } => upward_placed(
-            rt, widths, route, out, words, start, gate, kept,
-        ),
+        } => {
+            let plan = SearchPlan {
+                start,
+                below,
+                shows_bound,
+            };
+            search_placed(widths, route, out, words, plan)
+        }
+        WidthPlan::Upward { start } => upward_placed(widths, route, out, words, start),
     }
 }
 
@@ -147,11 +140,17 @@ pub fn width_run<
 {
     let text = NetlistText::read(rt.alloc(), arch, net)?;
     let placed = PlacedNetlist::read(rt.alloc(), &text, place)?;
+    let run = RunOptions {
+        rt,
+        settings,
+        workers,
+        gate,
+        files: kept,
+    };
     let widths = Widths {
         placed: &placed,
         mode,
-        settings,
-        workers,
+        run,
     };
-    width_placed(rt, &widths, route, out, words, plan, gate, kept)
+    width_placed(&widths, route, out, words, plan)
 }

@@ -17,7 +17,7 @@ use route_tree::Routing;
 use rr_graph::{Mode, Problem};
 use run_inputs::{AppFault, InputFile, PlacedNetlist};
 use std::alloc::Global;
-use text_output::{ByteSink, OutputBuffer};
+use text_output::{ByteSink, Printer};
 use width_search::WidthReport;
 
 /// Prints the lines of a search.
@@ -25,9 +25,9 @@ fn print_report<W: ByteSink>(report: &WidthReport, out: &mut W) -> Result<(), Ap
     ensures { PrintsText (writing_to W.taken W.failed out.old out.new)
         (report_text report.now) tt result }
 {
-    let mut buffer = OutputBuffer::new();
-    put_report(&mut buffer, out, report);
-    match buffer.finish(out) {
+    let mut printer = Printer::new(out);
+    put_report(&mut printer, report);
+    match printer.finish() {
         Ok(()) => Ok(()),
         Err(_) => Err(AppFault::Unwritten),
     }

@@ -1,2 +1,3 @@
 pub mod NodeTexts
 pub mod Pieces
+pub mod Printing

@@ -1,15 +1,15 @@
-//! The pieces of which printed texts are made, through one buffer: numbers, places, nodes.
+//! The pieces of which printed texts are made, through a printer: numbers, places, nodes.
 #![tactic(auto)]
 
 mod node;
 mod number;
 mod piece;
 mod place;
+mod printer;
 #[cfg(test)]
 mod tests;
 
-pub use node::{kind_name, label_name, put_node, put_node_of};
-pub use number::put_number;
-pub use piece::{Piece, put_pieces};
-pub use place::{put_place, put_span};
-pub use vpr_text::{ByteSink, OutputBuffer};
+pub use node::{kind_name, label_name};
+pub use piece::Piece;
+pub use printer::Printer;
+pub use vpr_text::ByteSink;

@@ -37,7 +37,7 @@ pub fn label_name(label: Label) -> &'static [u8]
 }
 
 /// Prints a node, as `CHANX (1,2) Track: 0`.
-pub fn put_node<W: ByteSink>(
+pub(crate) fn put_node<W: ByteSink>(
     out: &mut OutputBuffer,
     sink: &mut W,
     kind: Kind,
@@ -57,7 +57,12 @@ pub fn put_node<W: ByteSink>(
 }
 
 /// Prints the node of a number; nothing for what is no node.
-pub fn put_node_of<W: ByteSink>(out: &mut OutputBuffer, sink: &mut W, device: &Device, id: u32)
+pub(crate) fn put_node_of<W: ByteSink>(
+    out: &mut OutputBuffer,
+    sink: &mut W,
+    device: &Device,
+    id: u32,
+)
     ensures { SendsTo W.taken W.failed sink.old sink.new out.old out.new
         (text_of_node device.now (node_at device.now id)) }
 {

@@ -6,7 +6,7 @@ use itoa::{Buffer, Integer};
 use vpr_text::{ByteSink, OutputBuffer};
 
 /// Prints a number in decimal digits.
-pub fn put_number<W: ByteSink, I: Integer>(out: &mut OutputBuffer, sink: &mut W, number: I)
+pub(crate) fn put_number<W: ByteSink, I: Integer>(out: &mut OutputBuffer, sink: &mut W, number: I)
     ensures { SendsTo W.taken W.failed sink.old sink.new out.old out.new (I.text number) }
 {
     let mut digits = Buffer::new();

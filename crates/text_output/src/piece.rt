@@ -39,7 +39,7 @@ fn put_piece<W: ByteSink>(out: &mut OutputBuffer, sink: &mut W, piece: &Piece<'_
 }
 
 /// Prints the pieces, one after another.
-pub fn put_pieces<W: ByteSink>(out: &mut OutputBuffer, sink: &mut W, pieces: &[Piece<'_>])
+pub(crate) fn put_pieces<W: ByteSink>(out: &mut OutputBuffer, sink: &mut W, pieces: &[Piece<'_>])
     ensures { SendsTo W.taken W.failed sink.old sink.new out.old out.new (pieces_text pieces.now) }
 {
     for piece in pieces {

@@ -9,7 +9,7 @@ use routing_problem::Span;
 use vpr_text::{ByteSink, OutputBuffer};
 
 /// Prints a place, as `(1,2)`.
-pub fn put_place<W: ByteSink>(out: &mut OutputBuffer, sink: &mut W, x: u32, y: u32)
+pub(crate) fn put_place<W: ByteSink>(out: &mut OutputBuffer, sink: &mut W, x: u32, y: u32)
     ensures { SendsTo W.taken W.failed sink.old sink.new out.old out.new (place_text x y) }
 {
     out.push(sink, b"(");
@@ -27,7 +27,7 @@ fn is_one_place(span: Span) -> bool
 
 /// Prints where a node stands: its place, or the two ends of a wire of several places, as `(1,2) to
 /// (4,2)`.
-pub fn put_span<W: ByteSink>(out: &mut OutputBuffer, sink: &mut W, span: Span)
+pub(crate) fn put_span<W: ByteSink>(out: &mut OutputBuffer, sink: &mut W, span: Span)
     ensures { SendsTo W.taken W.failed sink.old sink.new out.old out.new (span_text span) }
 {
     put_place(out, sink, span.x1, span.y1);

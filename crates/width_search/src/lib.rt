@@ -8,6 +8,6 @@ mod trial;
 mod upward;
 
 pub use report::{LeastWidth, WidthReport};
-pub use search::{least_width, negotiate_at};
+pub use search::{Negotiating, PlacedDesign, least_width, negotiate_at};
 pub use trial::Trial;
 pub use upward::upward_width;

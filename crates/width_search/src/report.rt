@@ -73,8 +73,12 @@ impl WidthReport {
     }
 
     /// Adds the trial of a width with the outcome of its negotiation. A routing replaces the one
-    /// before.
-    pub(crate) fn add(&mut self, width: u32, outcome: Outcome) -> Result<(), AllocError>
+    /// before. Callers add widths that the search itself left out, each less than those that were
+    /// routed.
+    ///
+    /// # Errors
+    /// If memory ran out. The report is then as before.
+    pub fn add(&mut self, width: u32, outcome: Outcome) -> Result<(), AllocError>
         requires { (1 ≤ width) × (width ≤ most_tracks) }
         ensures adds { OnOk result (self.new ≡ with_trial self.old width outcome) }
         ensures keeps { OnErr result (self.new ≡ self.old) }
@@ -85,19 +89,5 @@ impl WidthReport {
             self.least = Some(LeastWidth { width, routing });
         }
         Ok(())
-    }
-
-    /// Adds the trial of a width that is less than those that were routed, with the outcome of its
-    /// negotiation. A routing replaces the one before. Callers use this for widths that the search
-    /// itself left out.
-    ///
-    /// # Errors
-    /// If memory ran out. The report is then as before.
-    pub fn add_lesser(&mut self, width: u32, outcome: Outcome) -> Result<(), AllocError>
-        requires { (1 ≤ width) × (width ≤ most_tracks) }
-        ensures adds { OnOk result (self.new ≡ with_trial self.old width outcome) }
-        ensures keeps { OnErr result (self.new ≡ self.old) }
-    {
-        self.add(width, outcome)
     }
 }

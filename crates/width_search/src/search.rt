@@ -43,34 +43,59 @@ pub(crate) fn end_of(outcome: &Outcome) -> TrialEnd
     }
 }
 
-/// Negotiates a routing of a placed netlist on a device of this width. The gate is called with the
-/// width before.
+/// A netlist, read and placed for an architecture, and how its nets are routed on a device.
+#[derive(Clone, Copy)]
+pub struct PlacedDesign<'a, 't> {
+    pub arch: &'a Arch,
+    pub netlist: &'a Netlist<'t>,
+    pub placement: &'a Placement,
+    pub mode: Mode,
+}
+
+/// How each width is negotiated: the settings, the number of workers, and the gate that is called.
+#[derive(Clone, Copy)]
+pub struct Negotiating<'a, G> {
+    pub settings: &'a Settings,
+    pub workers: u32,
+    pub gate: &'a G,
+}
+
+/// Negotiates a routing of a design on a device of this width. The gate is called with the width
+/// before.
 ///
 /// # Errors
 /// As for `least_width`.
 pub fn negotiate_at<R: Threads + Wait + Sync, G: Gate + Sync>(
     rt: &R,
     alloc: Global,
-    arch: &Arch,
-    netlist: &Netlist<'_>,
-    placement: &Placement,
-    settings: &Settings,
+    design: &PlacedDesign<'_, '_>,
+    how: &Negotiating<'_, G>,
     width: u32,
-    mode: Mode,
-    workers: u32,
-    gate: &G,
 ) -> Result<Outcome, WorkFault>
     requires tracks { (1 ≤ width) × (width ≤ most_tracks) }
-    requires workers { (1 ≤ workers) × (workers ≤ most_workers) }
-    requires read { (bytes : List ℕ) × ReadsBytes arch.now.pins bytes netlist.now }
-    requires placed { IsPlaced arch.now.io_rat netlist.now.blocks placement.now }
-    ensures { IfOk result (Negotiates (problem_with mode arch.now netlist.now placement.now)
-        settings.now workers (G.accepted gate.now) width) }
+    requires workers { (1 ≤ how.now.workers) × (how.now.workers ≤ most_workers) }
+    requires read { (bytes : List ℕ)
+        × ReadsBytes design.now.arch.now.pins bytes design.now.netlist.now }
+    requires placed { IsPlaced design.now.arch.now.io_rat design.now.netlist.now.blocks
+        design.now.placement.now }
+    ensures { IfOk result (Negotiates (problem_with design.now.mode design.now.arch.now
+        design.now.netlist.now design.now.placement.now) how.now.settings.now how.now.workers
+        (G.accepted how.now.gate.now) width) }
 {
+    let PlacedDesign {
+        arch,
+        netlist,
+        placement,
+        mode,
+    } = *design;
+    let Negotiating {
+        settings,
+        workers,
+        gate,
+    } = *how;
     gate.tries(width);
     let problem = Problem::from_design(alloc, arch, netlist, placement, width, mode)?;
-    let outcome = negotiate(rt, alloc, problem, settings, workers, gate)?;
-    Ok(outcome)
+    negotiate(rt, alloc, problem, settings, workers, gate)
 }
 
 /// Searches for the least channel width at which a netlist, read and placed for this architecture,
@@ -107,11 +132,20 @@ pub fn least_width<R: Threads + Wait + Sync, G: Gate + Sync>(
         (problem_with mode arch.now netlist.now placement.now) settings.now workers
         (G.accepted gate.now)) (next_width start)) }
 {
+    let design = PlacedDesign {
+        arch,
+        netlist,
+        placement,
+        mode,
+    };
+    let how = Negotiating {
+        settings,
+        workers,
+        gate,
+    };
     let mut report = WidthReport::new(alloc);
     while let Some(width) = next_width(start, report.trials()) {
-        let outcome = negotiate_at(
-            rt, alloc, arch, netlist, placement, settings, width, mode, workers, gate,
-        )?;
+        let outcome = negotiate_at(rt, alloc, &design, &how, width)?;
         gate.tried(width, end_of(&outcome));
         report.add(width, outcome)?;
     }

@@ -52,10 +52,11 @@ pub record IsReplica (p : Plan) (view : NetView) (turned : List Bool) (log : Lis
 
 -- what all workers read with no lock: the problem, what they search with, and the trees with which
 -- the iteration opens
-pub record IsBoard (p : Plan) (problem : RoutingProblem) (present bb : ℕ) (trees : List (Option (List Row))) : Type 0 where
+pub record IsBoard (p : Plan) (problem : RoutingProblem) (present bb workers : ℕ) (trees : List (Option (List Row))) : Type 0 where
   pub of : problem ≡ p.opening.problem
   pub factor : present ≡ p.present
   pub margin : bb ≡ p.bb
+  pub count : workers ≡ p.workers
   pub opens : lists_of_trees trees ≡ p.opening.lists
 
 -- the desk's book has the lists after these turns, and the turns

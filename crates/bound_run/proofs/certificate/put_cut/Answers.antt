@@ -1,4 +1,4 @@
-use Rattle.vpr_text.proofs.Printing.{sends_then}
+use Rattle.text_output.proofs.Printing.{prints_then}
 use Rattle.bound_run.specs.CutTexts.{cut_text}
 use Rattle.bound_run.proofs.certificate.put_cut.Goals as goal
 
@@ -9,4 +9,4 @@ returns g c =
     let region = rw (c.nx-nx.ensures.entry, c.ny-ny.ensures.entry, c.placement-placement.ensures.placement) at c.put_region.ensures in
     let places = rw c.places.ensures at c.put_places.ensures in
     let pins = rw c.pins.ensures at c.put_pins.ensures in
-    sends_then head (sends_then region (sends_then places pins))
+    prints_then head (prints_then region (prints_then places pins))

@@ -1,6 +1,6 @@
 use Rattle.std.proofs.Common.{take}
 use Rattle.std.specs.List.{flat_map}
-use Rattle.vpr_text.specs.Output.{Sends, stream}
+use Rattle.text_output.specs.Printing.{PrintsTo}
 use Rattle.bound_run.specs.CutTexts.{pin_text}
 use Rattle.bound_run.proofs.pins.put_pins.Given as goal
 
@@ -8,4 +8,4 @@ use Rattle.bound_run.proofs.pins.put_pins.Given as goal
 abbrev pub invariant-loop-pin : goal.invariant-loop-pin
 invariant-loop-pin g l =
     let sink = g.W.ByteSink in
-    Sends (stream (sink.taken l.initial.sink) (sink.failed l.initial.sink) l.initial.out) (stream (sink.taken l.sink) (sink.failed l.sink) l.out) (flat_map (pin_text l.placed) (take l.pin-index l.pins))
+    PrintsTo sink l.initial.out l.out (flat_map (pin_text l.placed) (take l.pin-index l.pins))

@@ -1,4 +1,4 @@
-use Rattle.vpr_text.proofs.Printing.{sends_then}
+use Rattle.text_output.proofs.Printing.{prints_then}
 use Rattle.bound_run.specs.CutTexts.{corner_text}
 use Rattle.bound_run.proofs.region.put_corner.Goals as goal
 
@@ -7,4 +7,4 @@ unfolding corner_text
 returns g c =
     let first = rw c.begins_run.ensures at c.put_if.ensures in
     let last = rw c.ends_run.ensures at c.put_if-2.ensures in
-    sends_then first last
+    prints_then first last

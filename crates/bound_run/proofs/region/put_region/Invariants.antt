@@ -1,5 +1,5 @@
 use Rattle.std.specs.List.{flat_map}
-use Rattle.vpr_text.specs.Output.{Sends, stream}
+use Rattle.text_output.specs.Printing.{PrintsTo}
 use Rattle.rr_graph.specs.Fabric.{numbers_below}
 use Rattle.bound_run.specs.CutTexts.{row_text}
 use Rattle.bound_run.proofs.region.put_region.Given as goal
@@ -8,4 +8,4 @@ use Rattle.bound_run.proofs.region.put_region.Given as goal
 abbrev pub invariant-loop-y : goal.invariant-loop-y
 invariant-loop-y g l =
     let sink = g.W.ByteSink in
-    Sends (stream (sink.taken l.initial.sink) (sink.failed l.initial.sink) l.initial.out) (stream (sink.taken l.sink) (sink.failed l.sink) l.out) (flat_map (row_text l.nx l.cut) (numbers_below l.y))
+    PrintsTo sink l.initial.out l.out (flat_map (row_text l.nx l.cut) (numbers_below l.y))

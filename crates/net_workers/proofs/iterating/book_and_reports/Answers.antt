@@ -3,13 +3,6 @@ use Rattle.net_workers.specs.kept.TurnLogs.{IsLegal, plan_of, entries_of, turn_i
 use Rattle.net_workers.proofs.Entries.{agrees_by, schedule_by}
 use Rattle.net_workers.proofs.iterating.book_and_reports.Goals as goal
 
-pub reports_of-requires : goal.reports_of-requires
-reports_of-requires g c =
-    let parts = c.into_parts-book.ensures in
-    let turns : c.in_ok-turns.turns.items ≡ c.args.desk = c.in_ok-turns.ensures.turns ∙ parts.history in
-    let legal : IsLegal (plan_of g.L.Round.opening g.L.Round.present g.L.Round.bb g.L.Round.workers) c.args.desk = rw parts.plan at parts.legal in
-    rw (turns, c.requires.workers) (λ k d low. (legal.each k d low).worker)
-
 pub returns-clause-agrees : goal.returns-clause-agrees
 returns-clause-agrees g c =
     let round = g.L.Round in
@@ -28,9 +21,9 @@ returns-clause-allowed g c =
     let parts = c.into_parts-book.ensures in
     let turns : c.in_ok-turns.turns.items ≡ c.args.desk = c.in_ok-turns.ensures.turns ∙ parts.history in
     let reports = c.in_ok-reports.ensures in
-    let count : length c.in_ok-reports.reports.items ≡ c.args.workers = search rules in (
+    let count : length c.in_ok-reports.reports.items ≡ c.args.options.workers = search rules in (
       map turn_in_schedule c.args.desk,
-      schedule_by c.into_parts-book.result.0 c.args.workers c.args.desk c.in_ok-reports.reports.items parts.turns count
+      schedule_by c.into_parts-book.result.0 c.args.options.workers c.args.desk c.in_ok-reports.reports.items parts.turns count
           (λ w low. reports.each w low ∙ ap (entries_of w) turns),
-      subst (λ ts. g.G.Gate.accepted c.args.gate.now c.args.iteration (map turn_in_schedule ts)) turns c.in_ok-turns.ensures.accepted,
+      subst (λ ts. g.G.Gate.accepted c.args.gate.now c.args.options.iteration (map turn_in_schedule ts)) turns c.in_ok-turns.ensures.accepted,
     )

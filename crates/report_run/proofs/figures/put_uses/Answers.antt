@@ -1,4 +1,4 @@
-use Rattle.vpr_text.proofs.Printing.{sends_then}
+use Rattle.text_output.proofs.Printing.{prints_then}
 use Rattle.report_run.specs.Figures.{use_lines}
 use Rattle.report_run.proofs.figures.put_uses.Goals as goal
 
@@ -7,4 +7,4 @@ unfolding use_lines
 returns g c =
     let wires = rw (c.from.ensures, c.wires_in.ensures) at c.put_share.ensures in
     let places = rw c.places_in.ensures at c.put_share-2.ensures in
-    sends_then c.push.ensures (sends_then wires (sends_then c.push-2.ensures (sends_then places c.push-3.ensures)))
+    prints_then c.push.ensures (prints_then wires (prints_then c.push-2.ensures (prints_then places c.push-3.ensures)))

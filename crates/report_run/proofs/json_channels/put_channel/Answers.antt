@@ -1,6 +1,6 @@
 use Rattle.std.proofs.Common.{subst}
-use Rattle.vpr_text.specs.Output.{Sends, stream}
-use Rattle.vpr_text.proofs.Printing.{sends_then}
+use Rattle.text_output.specs.Printing.{PrintsTo}
+use Rattle.text_output.proofs.Printing.{prints_then}
 use Rattle.route_report.specs.Channels.{Channel}
 use Rattle.route_report.specs.kept.Channels.{channel_inside}
 use Rattle.report_run.specs.JsonReport.{channel_json}
@@ -10,11 +10,11 @@ pub returns : goal.returns
 unfolding channel_json
 returns g c =
     let sink = g.W.ByteSink in
-    let s = stream (sink.taken c.args.sink.now) (sink.failed c.args.sink.now) c.args.out.now in
-    let t = stream (sink.taken c.push-6.new.sink) (sink.failed c.push-6.new.sink) c.push-6.new.self in
+    let s = c.args.out.now in
+    let t = c.push-6.new.self in
     let axis = rw c.axis_json.ensures at c.push-2.ensures in
     let mean = rw c.places_of_channel.ensures at c.put_mean.ensures in
-    let sent : Sends s t (channel_json c.args.device.now (channel_inside c.channel.inside)) =
-    sends_then c.push.ensures (sends_then axis (sends_then c.push-3.ensures (sends_then c.put_number.ensures (sends_then c.push-4.ensures
-    (sends_then c.put_number-2.ensures (sends_then c.push-5.ensures (sends_then mean c.push-6.ensures))))))) in
-    subst (λ (channel : Channel). Sends s t (channel_json c.args.device.now channel)) c.channel.view_is sent
+    let sent : PrintsTo sink s t (channel_json c.args.device.now (channel_inside c.channel.inside)) =
+    prints_then c.push.ensures (prints_then axis (prints_then c.push-3.ensures (prints_then c.put_number.ensures (prints_then c.push-4.ensures
+    (prints_then c.put_number-2.ensures (prints_then c.push-5.ensures (prints_then mean c.push-6.ensures))))))) in
+    subst (λ (channel : Channel). PrintsTo sink s t (channel_json c.args.device.now channel)) c.channel.view_is sent

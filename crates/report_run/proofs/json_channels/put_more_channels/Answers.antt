@@ -1,6 +1,6 @@
 use Rattle.std.proofs.Common.{subst}
-use Rattle.vpr_text.specs.Output.{Sends, stream}
-use Rattle.vpr_text.proofs.Printing.{sends_then}
+use Rattle.text_output.specs.Printing.{PrintsTo}
+use Rattle.text_output.proofs.Printing.{prints_then}
 use Rattle.report_run.specs.Json.{next_item}
 use Rattle.report_run.specs.JsonReport.{channel_json}
 use Rattle.report_run.proofs.Loops.{each_more}
@@ -9,7 +9,7 @@ use Rattle.report_run.proofs.json_channels.put_more_channels.Goals as goal
 pub loop-channel-preserved : goal.loop-channel-preserved
 loop-channel-preserved g c =
     let sink = g.W.ByteSink in
-    let s = stream (sink.taken c.args.sink.now) (sink.failed c.args.sink.now) c.args.out.now in
-    let t = stream (sink.taken c.put_next_channel.new.sink) (sink.failed c.put_next_channel.new.sink) c.put_next_channel.new.out in
+    let s = c.args.out.now in
+    let t = c.put_next_channel.new.out in
     let more = each_more (next_item (channel_json c.args.device.now)) c.args.channels.now c.loop-channel.channel-index c.channel-item.result c.loop-channel-test.true c.channel-item.is in
-    subst (Sends s t) more (sends_then c.loop-channel.invariant c.put_next_channel.ensures)
+    subst (PrintsTo sink s t) more (prints_then c.loop-channel.invariant c.put_next_channel.ensures)

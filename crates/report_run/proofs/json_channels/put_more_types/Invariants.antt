@@ -1,6 +1,6 @@
 use Rattle.std.proofs.Common.{take}
 use Rattle.std.specs.List.{flat_map}
-use Rattle.vpr_text.specs.Output.{Sends, stream}
+use Rattle.text_output.specs.Printing.{PrintsTo}
 use Rattle.report_run.specs.Json.{next_item}
 use Rattle.report_run.specs.JsonReport.{type_json}
 use Rattle.report_run.proofs.json_channels.put_more_types.Given as goal
@@ -9,4 +9,4 @@ use Rattle.report_run.proofs.json_channels.put_more_types.Given as goal
 abbrev pub invariant-loop-kind : goal.invariant-loop-kind
 invariant-loop-kind g l =
     let sink = g.W.ByteSink in
-    Sends (stream (sink.taken l.initial.sink) (sink.failed l.initial.sink) l.initial.out) (stream (sink.taken l.sink) (sink.failed l.sink) l.out) (flat_map (next_item type_json) (take l.kind-index l.types))
+    PrintsTo sink l.initial.out l.out (flat_map (next_item type_json) (take l.kind-index l.types))

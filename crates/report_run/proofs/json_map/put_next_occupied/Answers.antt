@@ -1,6 +1,6 @@
-use Rattle.vpr_text.proofs.Printing.{sends_then}
+use Rattle.text_output.proofs.Printing.{prints_then}
 use Rattle.report_run.proofs.json_map.put_next_occupied.Goals as goal
 
 pub returns : goal.returns
 returns g c =
-    sends_then c.push.ensures c.put_occupied.ensures
+    prints_then c.push.ensures c.put_occupied.ensures

@@ -1,6 +1,6 @@
 use Rattle.std.proofs.Common.{take}
 use Rattle.std.specs.List.{flat_map}
-use Rattle.vpr_text.specs.Output.{Sends, stream}
+use Rattle.text_output.specs.Printing.{PrintsTo}
 use Rattle.report_run.specs.Json.{next_item}
 use Rattle.report_run.specs.JsonReport.{name_json}
 use Rattle.report_run.proofs.json_overused.put_more_names.Given as goal
@@ -9,4 +9,4 @@ use Rattle.report_run.proofs.json_overused.put_more_names.Given as goal
 abbrev pub invariant-loop-net : goal.invariant-loop-net
 invariant-loop-net g l =
     let sink = g.W.ByteSink in
-    Sends (stream (sink.taken l.initial.sink) (sink.failed l.initial.sink) l.initial.out) (stream (sink.taken l.sink) (sink.failed l.sink) l.out) (flat_map (next_item (name_json l.netlist l.problem)) (take l.net-index l.nets))
+    PrintsTo sink l.initial.out l.out (flat_map (next_item (name_json l.netlist l.problem)) (take l.net-index l.nets))

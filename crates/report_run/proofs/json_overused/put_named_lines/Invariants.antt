@@ -1,6 +1,6 @@
 use Rattle.std.proofs.Common.{◌≡◌}
 use Rattle.std.specs.List.{flat_map, list_any}
-use Rattle.vpr_text.specs.Output.{Sends, stream}
+use Rattle.text_output.specs.Printing.{PrintsTo}
 use Rattle.rr_graph.specs.Fabric.{numbers_below}
 use Rattle.report_run.specs.JsonReport.{is_naming, named_item}
 use Rattle.report_run.proofs.json_overused.put_named_lines.Given as goal
@@ -9,5 +9,5 @@ use Rattle.report_run.proofs.json_overused.put_named_lines.Given as goal
 abbrev pub invariant-loop-index : goal.invariant-loop-index
 invariant-loop-index g l =
     let sink = g.W.ByteSink in
-    Sends (stream (sink.taken l.initial.sink) (sink.failed l.initial.sink) l.initial.out) (stream (sink.taken l.sink) (sink.failed l.sink) l.out) (flat_map (named_item l.device l.uses l.lines) (numbers_below l.index))
+    PrintsTo sink l.initial.out l.out (flat_map (named_item l.device l.uses l.lines) (numbers_below l.index))
     × (l.is_next ≡ list_any (is_naming l.device l.uses l.lines) (numbers_below l.index))

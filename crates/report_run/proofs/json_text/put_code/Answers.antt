@@ -1,5 +1,5 @@
-use Rattle.vpr_text.proofs.Printing.{sends_then}
+use Rattle.text_output.proofs.Printing.{prints_then}
 use Rattle.report_run.proofs.json_text.put_code.Goals as goal
 
 pub returns : goal.returns
-returns g c = sends_then c.push.ensures c.put_hex.ensures
+returns g c = prints_then c.push.ensures c.put_hex.ensures

@@ -1,4 +1,4 @@
-use Rattle.vpr_text.proofs.Printing.{sends_then}
+use Rattle.text_output.proofs.Printing.{prints_then}
 use Rattle.report_run.specs.Map.{map_text}
 use Rattle.report_run.proofs.map.put_map.Goals as goal
 
@@ -9,4 +9,4 @@ returns g c =
     let top = rw c.ny-rows.ensures.entry at c.put_crossing_line.ensures in
     let rows = rw c.ny-rows.ensures.entry at c.put_rows.ensures in
     let axis = rw c.nx-columns.ensures.entry at c.put_axis_lines.ensures in
-    sends_then head (sends_then top (sends_then rows axis))
+    prints_then head (prints_then top (prints_then rows axis))

@@ -1,4 +1,4 @@
-use Rattle.vpr_text.proofs.Printing.{sends_then}
+use Rattle.text_output.proofs.Printing.{prints_then}
 use Rattle.report_run.specs.Map.{row_number}
 use Rattle.report_run.proofs.map.put_row_number.Goals as goal
 
@@ -6,4 +6,4 @@ pub returns : goal.returns
 unfolding row_number
 returns g c =
     let blanks = rw c.blanks_before.ensures at c.push.ensures in
-    sends_then blanks c.put_number.ensures
+    prints_then blanks c.put_number.ensures

@@ -1,5 +1,5 @@
 use Rattle.std.specs.List.{flat_map}
-use Rattle.vpr_text.specs.Output.{Sends, stream}
+use Rattle.text_output.specs.Printing.{PrintsTo}
 use Rattle.rr_graph.specs.Fabric.{numbers_below}
 use Rattle.report_run.specs.Map.{row_lines}
 use Rattle.report_run.proofs.map.put_rows.Given as goal
@@ -8,4 +8,4 @@ use Rattle.report_run.proofs.map.put_rows.Given as goal
 abbrev pub invariant-loop-above : goal.invariant-loop-above
 invariant-loop-above g l =
     let sink = g.W.ByteSink in
-    Sends (stream (sink.taken l.initial.sink) (sink.failed l.initial.sink) l.initial.out) (stream (sink.taken l.sink) (sink.failed l.sink) l.out) (flat_map (row_lines l.device l.channels l.over) (numbers_below l.above))
+    PrintsTo sink l.initial.out l.out (flat_map (row_lines l.device l.channels l.over) (numbers_below l.above))

@@ -1,4 +1,4 @@
-use Rattle.vpr_text.proofs.Printing.{sends_then}
+use Rattle.text_output.proofs.Printing.{prints_then}
 use Rattle.report_run.specs.WireTypes.{type_line}
 use Rattle.report_run.proofs.wire_types.put_type.Goals as goal
 
@@ -6,5 +6,5 @@ pub returns : goal.returns
 unfolding type_line
 returns g c =
     let wires = rw (c.from.ensures, c.from-2.ensures) at c.put_share.ensures in
-    sends_then c.push.ensures (sends_then c.put_number.ensures (sends_then c.push-2.ensures (sends_then c.put_number-2.ensures
-    (sends_then c.push-3.ensures (sends_then wires (sends_then c.push-4.ensures (sends_then c.put_share-2.ensures c.push-5.ensures)))))))
+    prints_then c.push.ensures (prints_then c.put_number.ensures (prints_then c.push-2.ensures (prints_then c.put_number-2.ensures
+    (prints_then c.push-3.ensures (prints_then wires (prints_then c.push-4.ensures (prints_then c.put_share-2.ensures c.push-5.ensures)))))))

@@ -1,4 +1,4 @@
-use Rattle.vpr_text.proofs.Printing.{sends_then}
+use Rattle.text_output.proofs.Printing.{prints_then}
 use Rattle.route_explain.specs.Explanation.{fault_line, fault_line_number}
 use Rattle.route_explain.proofs.nets.put_fault_line.Goals as goal
 
@@ -6,4 +6,4 @@ pub returns : goal.returns
 unfolding fault_line fault_line_number
 returns g c =
     let line = rw (c.fault_line_number-line.ensures, c.requires.starts) at c.put_where.ensures in
-    sends_then line c.put_fault.ensures
+    prints_then line c.put_fault.ensures

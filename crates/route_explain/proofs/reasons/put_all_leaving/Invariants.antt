@@ -1,6 +1,6 @@
 use Rattle.std.proofs.Common.{take}
 use Rattle.std.specs.List.{flat_map}
-use Rattle.vpr_text.specs.Output.{Sends, stream}
+use Rattle.text_output.specs.Printing.{PrintsTo}
 use Rattle.route_explain.specs.Reasons.{leaving_text}
 use Rattle.route_explain.proofs.reasons.put_all_leaving.Given as goal
 
@@ -8,4 +8,4 @@ use Rattle.route_explain.proofs.reasons.put_all_leaving.Given as goal
 abbrev pub invariant-loop-pair : goal.invariant-loop-pair
 invariant-loop-pair g l =
     let sink = g.W.ByteSink in
-    Sends (stream (sink.taken l.initial.sink) (sink.failed l.initial.sink) l.initial.out) (stream (sink.taken l.sink) (sink.failed l.sink) l.out) (flat_map (leaving_text l.device l.source) (take l.pair-index l.pairs))
+    PrintsTo sink l.initial.out l.out (flat_map (leaving_text l.device l.source) (take l.pair-index l.pairs))

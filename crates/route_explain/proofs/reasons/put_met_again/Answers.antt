@@ -1,4 +1,4 @@
-use Rattle.vpr_text.proofs.Printing.{sends_then}
+use Rattle.text_output.proofs.Printing.{prints_then}
 use Rattle.route_explain.specs.Reasons.{met_again_text}
 use Rattle.route_explain.proofs.reasons.put_met_again.Goals as goal
 
@@ -6,4 +6,4 @@ pub returns : goal.returns
 unfolding met_again_text
 returns g c =
     let step = rw (c.row_that_ends_again-row.ensures, c.pairs.ensures) at c.put_end.ensures in
-    sends_then c.push.ensures step
+    prints_then c.push.ensures step

@@ -1,4 +1,4 @@
-use Rattle.vpr_text.proofs.Printing.{sends_then}
+use Rattle.text_output.proofs.Printing.{prints_then}
 use Rattle.route_explain.specs.Reasons.{no_switch_text}
 use Rattle.route_explain.proofs.reasons.put_no_switch.Goals as goal
 
@@ -7,4 +7,4 @@ unfolding no_switch_text
 returns g c =
     let step = rw c.row_without_switch-row.ensures at c.put_step.ensures in
     let why = rw c.row_without_switch-row.ensures at c.put_why.ensures in
-    sends_then c.push.ensures (sends_then step why)
+    prints_then c.push.ensures (prints_then step why)

@@ -9,7 +9,7 @@ pub returns-in-Ok : goal.returns-in-Ok
 returns-in-Ok g c =
     let sink = g.W.ByteSink in
     let words = writing (sink.taken c.args.words.now) (sink.taken c.explain_lines.new.words) (sink.failed c.explain_lines.new.words) in
-    subst (λ (lines : List Line). IsTold words c.args.path.now (record { design = c.args.design.now; lines = lines; routing = c.args.routing.now }) c.explain_lines.result)
+    subst (λ (lines : List Line). IsTold words c.args.file.now.path.now (record { design = c.args.design.now; lines = lines; routing = c.args.routing.now }) c.explain_lines.result)
     (sym (ap lines_read c.in-Ok.ensures)) c.explain_lines.ensures
 
 pub returns-in-Err : goal.returns-in-Err

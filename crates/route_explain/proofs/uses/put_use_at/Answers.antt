@@ -11,12 +11,13 @@ use Rattle.route_explain.proofs.uses.put_use_at.Goals as goal
 
 pub put_use_of-requires-clause-over : goal.put_use_of-requires-clause-over
 put_use_of-requires-clause-over g c =
-    let p = c.args.problem.now in
-    let uses = uses_of p c.args.lists.now in
+    let p = c.args.file.now.problem.now in
+    let lines = c.args.file.now.lines.now in
+    let uses = uses_of p c.args.file.now.routing.now in
     let node = c.overused_on-node.ensures
-    ∙ ap (λ (f : Fabric). overused_on f c.deref.result.now c.args.lines.now c.args.index) c.device.ensures.device
-    ∙ ap (λ us. overused_on p.device us c.args.lines.now c.args.index) (c.deref.ensures.value ∙ c.requires.uses) in
-    subst (λ o. IfSome o (λ a. is_over p.device uses a ≡ true)) (sym node) (over_if p.device uses (node_on p.device (words_at c.args.lines.now c.args.index)))
+    ∙ ap (λ (f : Fabric). overused_on f c.deref.result.now lines c.args.index) c.device.ensures.device
+    ∙ ap (λ us. overused_on p.device us lines c.args.index) (c.deref.ensures.value ∙ c.requires.uses) in
+    subst (λ o. IfSome o (λ a. is_over p.device uses a ≡ true)) (sym node) (over_if p.device uses (node_on p.device (words_at lines c.args.index)))
 
 pub returns : goal.returns
 returns g c =

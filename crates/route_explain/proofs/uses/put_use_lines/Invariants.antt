@@ -1,6 +1,6 @@
 use Rattle.std.proofs.Common.{◌≡◌, take}
 use Rattle.std.specs.List.{flat_map}
-use Rattle.vpr_text.specs.Output.{Sends, stream}
+use Rattle.text_output.specs.Printing.{PrintsTo}
 use Rattle.rr_graph.specs.Fabric.{numbers_below}
 use Rattle.route_file.specs.Sections.{latest}
 use Rattle.route_explain.specs.Uses.{use_text_at}
@@ -10,6 +10,6 @@ use Rattle.route_explain.proofs.uses.put_use_lines.Given as goal
 abbrev pub invariant-loop-index : goal.invariant-loop-index
 invariant-loop-index g l =
     let sink = g.W.ByteSink in
-    Sends (stream (sink.taken l.initial.sink) (sink.failed l.initial.sink) l.initial.out) (stream (sink.taken l.sink) (sink.failed l.sink) l.out)
-    (flat_map (use_text_at l.path l.netlist l.problem l.lists l.lines) (numbers_below l.index))
-    × (l.net ≡ latest l.netlist (take l.index l.lines))
+    PrintsTo sink l.initial.out l.out
+    (flat_map (use_text_at l.file.path.now l.file.netlist.now l.file.problem.now l.file.routing.now l.file.lines.now) (numbers_below l.index))
+    × (l.net ≡ latest l.file.netlist.now (take l.index l.file.lines.now))

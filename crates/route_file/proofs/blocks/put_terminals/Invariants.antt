@@ -1,6 +1,5 @@
 use Rattle.std.proofs.Common.{drop, map}
 use Rattle.std.specs.List.{flat_map}
-use Rattle.vpr_text.specs.Output.{stream}
 use Rattle.route_file.specs.TextLine.{line_text}
 use Rattle.route_file.specs.Text.{block_line}
 use Rattle.route_file.proofs.Sending.{Lacks}
@@ -10,5 +9,5 @@ use Rattle.route_file.proofs.blocks.put_terminals.Given as goal
 abbrev pub invariant-loop-terminal : goal.invariant-loop-terminal
 invariant-loop-terminal g l =
     let sink = g.W.ByteSink in
-    Lacks (stream (sink.taken l.initial.sink) (sink.failed l.initial.sink) l.initial.out) (stream (sink.taken l.sink) (sink.failed l.sink) l.out)
+    Lacks sink l.initial.out l.out
     (flat_map line_text (map (block_line l.netlist l.placement) (drop l.terminal-index l.terminals))) (flat_map line_text (map (block_line l.netlist l.placement) l.terminals))

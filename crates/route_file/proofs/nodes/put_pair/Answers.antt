@@ -1,6 +1,6 @@
 use Rattle.std.proofs.Common.{◌≡◌, true, false, sym, subst, ◌∙◌}
-use Rattle.vpr_text.specs.Output.{Sends, stream}
-use Rattle.vpr_text.proofs.Printing.{sends_then}
+use Rattle.text_output.specs.Printing.{PrintsTo}
+use Rattle.text_output.proofs.Printing.{prints_then}
 use Rattle.route_file.specs.PrintedNodes.{goes_on}
 use Rattle.route_file.proofs.NodeTexts.{one_node, two_nodes}
 use Rattle.route_file.proofs.nodes.put_pair.Goals as goal
@@ -8,15 +8,15 @@ use Rattle.route_file.proofs.nodes.put_pair.Goals as goal
 pub returns-then-goes_on : goal.returns-then-goes_on
 returns-then-goes_on g c =
     let sink = g.W.ByteSink in
-    let s = stream (sink.taken c.args.sink.now) (sink.failed c.args.sink.now) c.args.out.now in
-    let t = stream (sink.taken c.put_node_at.new.sink) (sink.failed c.put_node_at.new.sink) c.put_node_at.new.out in
+    let s = c.args.out.now in
+    let t = c.put_node_at.new.out in
     let on : goes_on c.args.device.now c.args.before c.args.pair ≡ true = sym c.goes_on.ensures ∙ c.if-goes_on.true in
-    rw on (subst (Sends s t) (one_node c.args.device.now c.args.pair.1) c.put_node_at.ensures)
+    rw on (subst (PrintsTo sink s t) (one_node c.args.device.now c.args.pair.1) c.put_node_at.ensures)
 
 pub returns : goal.returns
 returns g c =
     let sink = g.W.ByteSink in
-    let s = stream (sink.taken c.args.sink.now) (sink.failed c.args.sink.now) c.args.out.now in
-    let t = stream (sink.taken c.put_node_at-3.new.sink) (sink.failed c.put_node_at-3.new.sink) c.put_node_at-3.new.out in
+    let s = c.args.out.now in
+    let t = c.put_node_at-3.new.out in
     let on : goes_on c.args.device.now c.args.before c.args.pair ≡ false = sym c.goes_on.ensures ∙ c.if-goes_on.false in
-    rw on (subst (Sends s t) (two_nodes c.args.device.now c.args.pair.0 c.args.pair.1) (sends_then c.put_node_at-2.ensures c.put_node_at-3.ensures))
+    rw on (subst (PrintsTo sink s t) (two_nodes c.args.device.now c.args.pair.0 c.args.pair.1) (prints_then c.put_node_at-2.ensures c.put_node_at-3.ensures))

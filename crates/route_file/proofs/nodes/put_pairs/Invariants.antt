@@ -1,5 +1,4 @@
 use Rattle.std.proofs.Common.{drop}
-use Rattle.vpr_text.specs.Output.{stream}
 use Rattle.route_file.specs.PrintedNodes.{nodes_after, printed_nodes}
 use Rattle.route_file.proofs.Sending.{Lacks}
 use Rattle.route_file.proofs.NodeTexts.{nodes_text}
@@ -9,5 +8,5 @@ use Rattle.route_file.proofs.nodes.put_pairs.Given as goal
 abbrev pub invariant-loop-pair : goal.invariant-loop-pair
 invariant-loop-pair g l =
     let sink = g.W.ByteSink in
-    Lacks (stream (sink.taken l.initial.sink) (sink.failed l.initial.sink) l.initial.out) (stream (sink.taken l.sink) (sink.failed l.sink) l.out)
+    Lacks sink l.initial.out l.out
     (nodes_text l.device (nodes_after l.device l.before (drop l.pair-index l.pairs))) (nodes_text l.device (printed_nodes l.device l.pairs))

@@ -1,7 +1,7 @@
-use Rattle.vpr_text.proofs.Printing.{sends_then}
+use Rattle.text_output.proofs.Printing.{prints_then}
 use Rattle.route_file.specs.Text.{routed_net_lines}
 use Rattle.route_file.proofs.writing.put_listed_net.Goals as goal
 
 pub returns : goal.returns
 unfolding routed_net_lines
-returns g c = sends_then c.put_blank.ensures (sends_then c.put_net_heading.ensures (sends_then c.put_blank-2.ensures c.put_pairs.ensures))
+returns g c = prints_then c.put_blank.ensures (prints_then c.put_net_heading.ensures (prints_then c.put_blank-2.ensures c.put_pairs.ensures))

@@ -1,5 +1,4 @@
 use Rattle.std.proofs.Common.{◌≡◌, length}
-use Rattle.vpr_text.specs.Output.{stream}
 use Rattle.route_file.specs.Text.{net_lines, routed_before}
 use Rattle.route_file.proofs.Sending.{Lacks}
 use Rattle.route_file.proofs.NetTexts.{nets_text}
@@ -10,7 +9,7 @@ use Rattle.route_file.proofs.writing.put_nets.Given as goal
 abbrev pub invariant-loop-number : goal.invariant-loop-number
 invariant-loop-number g l =
     let sink = g.W.ByteSink in
-    let lines = net_lines l.netlist l.placement l.device l.lists in
-    Lacks (stream (sink.taken l.initial.sink) (sink.failed l.initial.sink) l.initial.out) (stream (sink.taken l.sink) (sink.failed l.sink) l.out)
-    (nets_text lines l.number (length l.netlist.nets)) (nets_text lines 0 (length l.netlist.nets))
-    × (l.place ≡ routed_before l.netlist l.number)
+    let lines = net_lines l.placed.netlist.now l.placed.placement.now l.placed.device.now l.lists in
+    Lacks sink l.initial.out l.out
+    (nets_text lines l.number (length l.placed.netlist.now.nets)) (nets_text lines 0 (length l.placed.netlist.now.nets))
+    × (l.place ≡ routed_before l.placed.netlist.now l.number)

@@ -1,7 +1,6 @@
 use Rattle.std.specs.Prelude.{None}
 use Rattle.std.proofs.lemmas.List.{get_or_past}
-use Rattle.vpr_text.specs.Output.{stream}
-use Rattle.vpr_text.proofs.Printing.{sends_none}
+use Rattle.text_output.proofs.Printing.{prints_none}
 use Rattle.route_file.specs.Text.{routed_net_lines}
 use Rattle.route_file.proofs.writing.put_routed_net.Goals as goal
 
@@ -9,5 +8,5 @@ pub returns-in-None : goal.returns-in-None
 unfolding routed_net_lines
 returns-in-None g c =
     let sink = g.W.ByteSink in
-    let s = stream (sink.taken c.args.sink.now) (sink.failed c.args.sink.now) c.args.out.now in
-    rw (get_or_past c.args.lists.now c.args.place None c.in-None.ensures.lookup.3) (sends_none s)
+    let s = c.args.out.now in
+    rw (get_or_past c.args.lists.now c.args.place None c.in-None.ensures.lookup.3) (prints_none s)

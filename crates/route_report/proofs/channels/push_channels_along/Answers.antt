@@ -7,15 +7,15 @@ use Rattle.route_report.proofs.channels.push_channels_along.Goals as goal
 
 pub push_channels-requires-clause-count : goal.push_channels-requires-clause-count
 push_channels-requires-clause-count c =
-    ap length (c.deref.ensures.value ∙ c.in_ok-channels.ensures) ∙ length_below (occupancies_in c.args.device.now c.args.uses.now c.args.kind c.args.places) c.args.count
+    ap length (c.deref.ensures.value ∙ c.in_ok-channels.ensures) ∙ length_below (occupancies_in c.args.device.now c.args.uses.now c.args.along.kind c.args.along.places) c.args.along.count
 
 pub push_channels-requires-clause-small : goal.push_channels-requires-clause-small
 push_channels-requires-clause-small c =
     subst AreSmall (sym (c.deref.ensures.value ∙ c.in_ok-channels.ensures))
-    (are_small c.args.device.now c.args.uses.now (λ a. omega (arith, c.type_inv.uses a)) c.requires.limits c.args.kind c.args.places c.args.count c.requires.few)
+    (are_small c.args.device.now c.args.uses.now (λ a. omega (arith, c.type_inv.uses a)) c.requires.limits c.args.along.kind c.args.along.places c.args.along.count c.requires.few)
 
 pub returns : goal.returns
 returns c =
     c.in_ok-push_channels.ensures
     ∙ ap (λ channels. c.args.list.now.items ++ channels)
-    (numbered_all c.args.device.now c.args.uses.now c.args.kind c.args.places c.args.count c.deref.result.now (c.deref.ensures.value ∙ c.in_ok-channels.ensures))
+    (numbered_all c.args.device.now c.args.uses.now c.args.along.kind c.args.along.places c.args.along.count c.deref.result.now (c.deref.ensures.value ∙ c.in_ok-channels.ensures))

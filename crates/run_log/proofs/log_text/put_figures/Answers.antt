@@ -1,8 +1,8 @@
-use Rattle.vpr_text.proofs.Printing.{sends_then}
+use Rattle.text_output.proofs.Printing.{prints_then}
 use Rattle.run_log.specs.kept.LogTexts.{figures_text}
 use Rattle.run_log.proofs.log_text.put_figures.Goals as goal
 
 pub returns : goal.returns
 unfolding figures_text
 returns g c =
-    sends_then c.push.ensures (sends_then c.put_column.ensures (sends_then c.push-2.ensures (sends_then c.put_column-2.ensures (sends_then c.push-3.ensures (sends_then c.put_column-3.ensures (sends_then c.push-4.ensures c.put_column-4.ensures))))))
+    prints_then c.push.ensures (prints_then c.put_column.ensures (prints_then c.push-2.ensures (prints_then c.put_column-2.ensures (prints_then c.push-3.ensures (prints_then c.put_column-3.ensures (prints_then c.push-4.ensures c.put_column-4.ensures))))))

@@ -1,23 +1,13 @@
-use Rattle.std.proofs.Common.{sym, subst}
-use Rattle.vpr_text.specs.Output.{Buffer, Sends, stream}
-use Rattle.run_log.specs.kept.LogTexts.{trial_routed_text}
+use Rattle.std.proofs.Common.{rules, sym}
 use Rattle.run_inputs.proofs.Ending.{printed, broken_text}
 use Rattle.run_log.proofs.Logging.{routed_filled}
 use Rattle.run_log.proofs.trial_text.write_routed.Goals as goal
 
 pub returns-in-Ok : goal.returns-in-Ok
 returns-in-Ok g c =
-    let sink = g.W.ByteSink in
-    let t = stream (sink.taken c.put_routed.new.sink) (sink.failed c.put_routed.new.sink) c.put_routed.new.out in
-    let text = trial_routed_text c.args.width c.args.iterations in
-    let sent = subst (λ (b : Buffer). Sends (stream (sink.taken c.args.sink.now) (sink.failed c.args.sink.now) b) t text) c.new-buffer.ensures c.put_routed.ensures in
-    printed tt (sink.taken c.args.sink.now) (sink.taken c.finish.new.sink) (sink.failed c.args.sink.now) (sink.failed c.finish.new.sink) c.finish.new.self t text sent c.in-Ok.ensures.sends (sym c.in-Ok.ensures.broken) c.in-Ok.ensures.empty
+    printed tt c.new-printer.ensures c.put_routed.ensures c.in-Ok.ensures.prints (search rules) (sym c.in-Ok.ensures.broken) c.in-Ok.ensures.empty
     (routed_filled c.args.width c.args.iterations)
 
-pub returns-in-Err : goal.returns-in-Err
-returns-in-Err g c =
-    let sink = g.W.ByteSink in
-    let t = stream (sink.taken c.put_routed.new.sink) (sink.failed c.put_routed.new.sink) c.put_routed.new.out in
-    let text = trial_routed_text c.args.width c.args.iterations in
-    let sent = subst (λ (b : Buffer). Sends (stream (sink.taken c.args.sink.now) (sink.failed c.args.sink.now) b) t text) c.new-buffer.ensures c.put_routed.ensures in
-    broken_text tt (sink.taken c.args.sink.now) (sink.taken c.finish.new.sink) (sink.failed c.args.sink.now) (sink.failed c.finish.new.sink) c.finish.new.self t text sent c.in-Err.ensures.sends (sym c.in-Err.ensures.broken)
+pub returns : goal.returns
+returns g c =
+    broken_text tt c.new-printer.ensures c.put_routed.ensures c.in-Err.ensures.prints (search rules) (sym c.in-Err.ensures.broken)

@@ -1,7 +1,7 @@
-use Rattle.vpr_text.proofs.Printing.{sends_then}
+use Rattle.text_output.proofs.Printing.{prints_then}
 use Rattle.run_schedule.specs.ScheduleTexts.{iteration_text}
 use Rattle.run_schedule.proofs.writing.put_iteration.Goals as goal
 
 pub returns : goal.returns
 unfolding iteration_text
-returns g c = sends_then c.put_numbered.ensures c.put_turns.ensures
+returns g c = prints_then c.put_numbered.ensures c.put_turns.ensures

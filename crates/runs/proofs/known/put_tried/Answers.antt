@@ -1,7 +1,7 @@
-use Rattle.vpr_text.proofs.Printing.{sends_then}
+use Rattle.text_output.proofs.Printing.{prints_then}
 use Rattle.runs.specs.Known.{tried_text}
 use Rattle.runs.proofs.known.put_tried.Goals as goal
 
 pub returns : goal.returns
 unfolding tried_text
-returns g c = sends_then c.put_range.ensures c.put_also.ensures
+returns g c = prints_then c.put_range.ensures c.put_also.ensures

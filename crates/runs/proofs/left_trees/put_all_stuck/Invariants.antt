@@ -1,6 +1,6 @@
 use Rattle.std.proofs.Common.{take}
 use Rattle.std.specs.List.{flat_map}
-use Rattle.vpr_text.specs.Output.{Sends, stream}
+use Rattle.text_output.specs.Printing.{PrintsTo}
 use Rattle.runs.specs.kept.Left.{stuck_net}
 use Rattle.runs.proofs.left_trees.put_all_stuck.Given as goal
 
@@ -8,4 +8,4 @@ use Rattle.runs.proofs.left_trees.put_all_stuck.Given as goal
 abbrev pub invariant-loop-entry : goal.invariant-loop-entry
 invariant-loop-entry g l =
     let sink = g.W.ByteSink in
-    Sends (stream (sink.taken l.initial.words) (sink.failed l.initial.words) l.initial.out) (stream (sink.taken l.words) (sink.failed l.words) l.out) (flat_map (stuck_net l.netlist l.problem) (take l.entry-index l.stuck))
+    PrintsTo sink l.initial.out l.out (flat_map (stuck_net l.netlist l.problem) (take l.entry-index l.stuck))

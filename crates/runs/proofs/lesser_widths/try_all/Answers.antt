@@ -1,7 +1,5 @@
 use Rattle.std.proofs.Common.{◌-◌, arith}
-use Rattle.std.proofs.lemmas.Result.{err_from_is_err_and}
-use Rattle.width_search.specs.Reports.{Negotiates}
-use Rattle.run_inputs.specs.Inputs.{placed_problem}
+use Rattle.runs.specs.kept.Negotiated.{Negotiated}
 use Rattle.runs.specs.kept.Told.{TellsTo}
 use Rattle.runs.proofs.Telling.{tells_none, tells_then}
 use Rattle.runs.proofs.Trying.{step_within, steps_ended, trying_begun, trying_ended, trying_failed, trying_more}
@@ -10,7 +8,7 @@ use Rattle.runs.proofs.lesser_widths.try_all.Goals as goal
 
 pub loop-step-init : goal.loop-step-init
 loop-step-init g c =
-    let comes_to = Negotiates (placed_problem c.args.widths.now.mode c.args.widths.now.placed.now) c.args.widths.now.settings.now c.args.widths.now.workers (g.G.Gate.accepted c.args.gate.now) in
+    let comes_to = Negotiated g.G.Gate.accepted c.args.widths.now in
     (omega arith, grind arith, (λ start v. v), trying_begun comes_to c.args.width c.args.report.now _ (tells_none _))
 
 pub overflow_sub-lesser : goal.overflow_sub-lesser
@@ -23,27 +21,25 @@ try_lesser-requires-clause-tracks g c κs within =
     let in_range = step_within c.args.width c.args.count c.loop-step.step c.min-step-end.result c.saturating_add.result c.min-step-end.ensures c.saturating_add.ensures c.loop-step-test.true in
     (omega (arith, in_range.1), omega (arith, c.requires.tracks.1))
 
-pub returns-in_err-is_routed-clause-tries : goal.returns-in_err-is_routed-clause-tries
-returns-in_err-is_routed-clause-tries g c =
-    let comes_to = Negotiates (placed_problem c.args.widths.now.mode c.args.widths.now.placed.now) c.args.widths.now.settings.now c.args.widths.now.workers (g.G.Gate.accepted c.args.gate.now) in
+pub returns-in-Err-clause-tries : goal.returns-in-Err-clause-tries
+returns-in-Err-clause-tries g c =
+    let comes_to = Negotiated g.G.Gate.accepted c.args.widths.now in
     let sink = g.W.ByteSink in
     let in_range = step_within c.args.width c.args.count c.loop-step.step c.min-step-end.result c.saturating_add.result c.min-step-end.ensures c.saturating_add.ensures c.loop-step-test.true in
-    let p = err_from_is_err_and c.from_residual.result c.from_residual.ensures.1 in
-    rw (p.1, p.2)
-    (trying_failed comes_to c.args.width c.args.report.now (TellsTo sink.taken sink.failed c.args.words.now c.loop-step.words c.args.is_broken.now c.loop-step.is_broken)
+    trying_failed comes_to c.args.width c.args.report.now (TellsTo sink.taken sink.failed c.args.words.now c.loop-step.words c.args.is_broken.now c.loop-step.is_broken)
     (TellsTo sink.taken sink.failed c.loop-step.words c.try_lesser.new.words c.loop-step.is_broken c.try_lesser.new.is_broken)
     (TellsTo sink.taken sink.failed c.args.words.now c.try_lesser.new.words c.args.is_broken.now c.try_lesser.new.is_broken)
     (λ x y p q. tells_then p q) c.loop-step.report c.try_lesser.new.report c.loop-step.past c.loop-step.step c.args.count c.loop-step.routed c.loop-step.invariant.3
-    in_range.0 in_range.1 (c.args.width - c.loop-step.step) c.in_err-is_routed.field-0.0 c.in_err-is_routed.ensures)
+    in_range.0 in_range.1 (c.args.width - c.loop-step.step) c.in-Err.fault c.in-Err.ensures
 
-pub returns-in_err-is_routed-clause-verified : goal.returns-in_err-is_routed-clause-verified
-returns-in_err-is_routed-clause-verified g c =
-    let comes_to = Negotiates (placed_problem c.args.widths.now.mode c.args.widths.now.placed.now) c.args.widths.now.settings.now c.args.widths.now.workers (g.G.Gate.accepted c.args.gate.now) in
-    λ start v. lesser_step_failed comes_to start c.args.count c.args.width c.loop-step.step c.loop-step.report c.try_lesser.new.report c.in_err-is_routed.ensures.1 (c.loop-step.invariant.2 start v)
+pub returns-in-Err-clause-verified : goal.returns-in-Err-clause-verified
+returns-in-Err-clause-verified g c =
+    let comes_to = Negotiated g.G.Gate.accepted c.args.widths.now in
+    λ start v. lesser_step_failed comes_to start c.args.count c.args.width c.loop-step.step c.loop-step.report c.try_lesser.new.report c.in-Err.ensures.1 (c.loop-step.invariant.2 start v)
 
 pub loop-step-preserved : goal.loop-step-preserved
 loop-step-preserved g c =
-    let comes_to = Negotiates (placed_problem c.args.widths.now.mode c.args.widths.now.placed.now) c.args.widths.now.settings.now c.args.widths.now.workers (g.G.Gate.accepted c.args.gate.now) in
+    let comes_to = Negotiated g.G.Gate.accepted c.args.widths.now in
     let sink = g.W.ByteSink in
     let in_range = step_within c.args.width c.args.count c.loop-step.step c.min-step-end.result c.saturating_add.result c.min-step-end.ensures c.saturating_add.ensures c.loop-step-test.true in
     let w = c.args.width - c.loop-step.step in (
@@ -51,18 +47,18 @@ loop-step-preserved g c =
       grind (arith, c.loop-step-test.true),
       λ start v.
           lesser_step comes_to start c.args.count c.args.width c.loop-step.step w c.loop-step.report c.try_lesser.new.report
-          (TellsTo sink.taken sink.failed c.loop-step.words c.try_lesser.new.words c.loop-step.is_broken c.try_lesser.new.is_broken) c.in_ok-is_routed.is_routed
-          c.loop-step.invariant.0 in_range.0 (omega (arith, in_range.1)) c.in_ok-is_routed.ensures (c.loop-step.invariant.2 start v),
+          (TellsTo sink.taken sink.failed c.loop-step.words c.try_lesser.new.words c.loop-step.is_broken c.try_lesser.new.is_broken) c.in-Ok.is_routed
+          c.loop-step.invariant.0 in_range.0 (omega (arith, in_range.1)) c.in-Ok.ensures (c.loop-step.invariant.2 start v),
       trying_more comes_to c.args.width c.args.report.now (TellsTo sink.taken sink.failed c.args.words.now c.loop-step.words c.args.is_broken.now c.loop-step.is_broken)
           (TellsTo sink.taken sink.failed c.loop-step.words c.try_lesser.new.words c.loop-step.is_broken c.try_lesser.new.is_broken)
           (TellsTo sink.taken sink.failed c.args.words.now c.try_lesser.new.words c.args.is_broken.now c.try_lesser.new.is_broken)
           (λ x y p q. tells_then p q) c.loop-step.report c.try_lesser.new.report c.loop-step.past c.loop-step.step c.loop-step.routed c.loop-step.invariant.3
-          w c.in_ok-is_routed.is_routed (omega (arith, in_range.1)) c.in_ok-is_routed.ensures c.least_with-routed.result c.least_with-routed.ensures,
+          w c.in-Ok.is_routed (omega (arith, in_range.1)) c.in-Ok.ensures c.least_with-routed.result c.least_with-routed.ensures,
     )
 
 pub returns-clause-tries : goal.returns-clause-tries
 returns-clause-tries g c =
-    let comes_to = Negotiates (placed_problem c.args.widths.now.mode c.args.widths.now.placed.now) c.args.widths.now.settings.now c.args.widths.now.workers (g.G.Gate.accepted c.args.gate.now) in
+    let comes_to = Negotiated g.G.Gate.accepted c.args.widths.now in
     let sink = g.W.ByteSink in
     let end =
     steps_ended c.args.width c.args.count c.loop-step.step c.min-step-end.result c.saturating_add.result c.min-step-end.ensures c.saturating_add.ensures

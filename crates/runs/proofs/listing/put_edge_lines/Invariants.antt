@@ -1,6 +1,6 @@
 use Rattle.std.proofs.Common.{take}
 use Rattle.std.specs.List.{flat_map}
-use Rattle.vpr_text.specs.Output.{Sends, stream}
+use Rattle.text_output.specs.Printing.{PrintsTo}
 use Rattle.runs.specs.Texts.{edge_line}
 use Rattle.runs.proofs.listing.put_edge_lines.Given as goal
 
@@ -8,4 +8,4 @@ use Rattle.runs.proofs.listing.put_edge_lines.Given as goal
 abbrev pub invariant-loop-to : goal.invariant-loop-to
 invariant-loop-to g l =
     let sink = g.W.ByteSink in
-    Sends (stream (sink.taken l.initial.sink) (sink.failed l.initial.sink) l.initial.out) (stream (sink.taken l.sink) (sink.failed l.sink) l.out) (flat_map (edge_line l.is_typed l.device l.from) (take l.to-index l.list))
+    PrintsTo sink l.initial.out l.out (flat_map (edge_line l.is_typed l.device l.from) (take l.to-index l.list))

@@ -1,24 +1,24 @@
 use Rattle.std.proofs.Common.{◌+◌, subst, arith, sym, ◌∙◌}
-use Rattle.vpr_text.specs.Output.{Sends, stream}
-use Rattle.vpr_text.proofs.Printing.{sends_then}
+use Rattle.text_output.specs.Printing.{PrintsTo}
+use Rattle.text_output.proofs.Printing.{prints_then}
 use Rattle.rr_graph.specs.Nodes.{node_count_of}
 use Rattle.runs.specs.Listing.{line_at}
 use Rattle.run_inputs.proofs.Lines.{lines_more}
-use Rattle.runs.proofs.Lines.{sends_broken_lines}
+use Rattle.runs.proofs.Lines.{prints_broken_lines}
 use Rattle.runs.proofs.listing.put_lines.Goals as goal
 
 pub loop-id-preserved : goal.loop-id-preserved
 loop-id-preserved g c =
     let sink = g.W.ByteSink in
-    let s = stream (sink.taken c.args.sink.now) (sink.failed c.args.sink.now) c.args.out.now in
-    let t = stream (sink.taken c.put_line.new.sink) (sink.failed c.put_line.new.sink) c.put_line.new.out in
-    subst (Sends s t) (lines_more (line_at c.args.is_typed c.args.device.now) c.loop-id.id) (sends_then c.loop-id.invariant c.put_line.ensures)
+    let s = c.args.out.now in
+    let t = c.put_line.new.out in
+    subst (PrintsTo sink s t) (lines_more (line_at c.args.is_typed c.args.device.now) c.loop-id.id) (prints_then c.loop-id.invariant c.put_line.ensures)
 
 pub returns-then-is_broken : goal.returns-then-is_broken
 returns-then-is_broken g c =
     let sink = g.W.ByteSink in
-    let s = stream (sink.taken c.args.sink.now) (sink.failed c.args.sink.now) c.args.out.now in
-    let t = stream (sink.taken c.put_line.new.sink) (sink.failed c.put_line.new.sink) c.put_line.new.out in
-    sends_broken_lines (line_at c.args.is_typed c.args.device.now) (c.loop-id.id + 1) (node_count_of c.args.device.now) (omega (arith, c.node_count-id-end.ensures.count))
-    (subst (Sends s t) (lines_more (line_at c.args.is_typed c.args.device.now) c.loop-id.id) (sends_then c.loop-id.invariant c.put_line.ensures))
+    let s = c.args.out.now in
+    let t = c.put_line.new.out in
+    prints_broken_lines (line_at c.args.is_typed c.args.device.now) (c.loop-id.id + 1) (node_count_of c.args.device.now) (omega (arith, c.node_count-id-end.ensures.count))
+    (subst (PrintsTo sink s t) (lines_more (line_at c.args.is_typed c.args.device.now) c.loop-id.id) (prints_then c.loop-id.invariant c.put_line.ensures))
     (sym c.is_broken.ensures ∙ c.if-is_broken.true)

@@ -1,4 +1,4 @@
-use Rattle.vpr_text.proofs.Printing.{sends_then}
+use Rattle.text_output.proofs.Printing.{prints_then}
 use Rattle.runs.specs.Listing.{listing_of}
 use Rattle.runs.proofs.listing.put_listing.Goals as goal
 
@@ -6,4 +6,4 @@ pub returns : goal.returns
 unfolding listing_of
 returns g c =
     let counts = rw (c.node_count.ensures.count, c.edge_count.ensures) at c.put_counts.ensures in
-    sends_then counts (sends_then c.put_lines.ensures c.put_edges.ensures)
+    prints_then counts (prints_then c.put_lines.ensures c.put_edges.ensures)

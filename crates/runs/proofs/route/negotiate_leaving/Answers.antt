@@ -5,4 +5,4 @@ use Rattle.runs.proofs.route.negotiate_leaving.Goals as goal
 pub returns-clause-run : goal.returns-clause-run
 returns-clause-run g c =
     let is : c.in_ok-problem.problem ≡ c.args.design.now.problem = search rules in
-    subst (λ p. EndsNegotiation p c.args.settings.now c.args.workers (g.G.Gate.accepted c.args.gate.now) c.in_ok-outcome.outcome) is c.in_ok-outcome.ensures.run
+    subst (λ p. EndsNegotiation p c.args.run.now.settings.now c.args.run.now.workers (g.G.Gate.accepted c.args.run.now.gate.now) c.in_ok-outcome.outcome) is c.in_ok-outcome.ensures.run

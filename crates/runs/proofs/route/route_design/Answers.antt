@@ -16,7 +16,7 @@ returns-in_err-outcome-clause-late g c =
     rw (p.1, p.2) (free_late c.in_err-outcome.field-0.0 c.in_err-outcome.ensures.free)
 
 pub write_outcome-requires : goal.write_outcome-requires
-write_outcome-requires g c = routes_problem c.args.design.now.problem c.args.settings.now c.in_ok-outcome.outcome c.in_ok-outcome.ensures.outcome
+write_outcome-requires g c = routes_problem c.args.design.now.problem c.args.run.now.settings.now c.in_ok-outcome.outcome c.in_ok-outcome.ensures.outcome
 
 pub returns-clause-runs : goal.returns-clause-runs
 returns-clause-runs g c = λ _. (c.in_ok-outcome.outcome, c.in_ok-outcome.ensures.outcome, c.in_ok-outcome.ensures.run, c.write_outcome.ensures.writes)

@@ -7,5 +7,5 @@ pub returns-clause-report : goal.returns-clause-report
 returns-clause-report g c =
     let w = c.args.widths.now in
     let seen = placed_with c.arch.result.now c.netlist.result.now c.placement.result.now in
-    report_placed w.mode w.settings.now w.workers (g.G.Gate.accepted c.args.gate.now) (next_width c.args.start) c.in_ok-report.report w.placed.now seen
+    report_placed w.mode w.run.settings.now w.run.workers (g.G.Gate.accepted w.run.gate.now) (next_width c.args.start) c.in_ok-report.report w.placed.now seen
     c.arch.ensures c.netlist.ensures.netlist c.placement.ensures.placement c.in_ok-report.ensures

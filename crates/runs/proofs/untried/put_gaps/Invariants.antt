@@ -1,5 +1,5 @@
 use Rattle.std.specs.List.{flat_map}
-use Rattle.vpr_text.specs.Output.{Sends, stream}
+use Rattle.text_output.specs.Printing.{PrintsTo}
 use Rattle.rr_graph.specs.Fabric.{numbers_below}
 use Rattle.runs.specs.Untried.{gap_text}
 use Rattle.runs.proofs.untried.put_gaps.Given as goal
@@ -8,4 +8,4 @@ use Rattle.runs.proofs.untried.put_gaps.Given as goal
 abbrev pub invariant-loop-width : goal.invariant-loop-width
 invariant-loop-width g l =
     let sink = g.W.ByteSink in
-    Sends (stream (sink.taken l.initial.words) (sink.failed l.initial.words) l.initial.out) (stream (sink.taken l.words) (sink.failed l.words) l.out) (flat_map (gap_text l.trials l.bound l.past l.first) (numbers_below l.width))
+    PrintsTo sink l.initial.out l.out (flat_map (gap_text l.trials l.bound l.past l.first) (numbers_below l.width))

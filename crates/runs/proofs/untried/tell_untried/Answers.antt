@@ -1,5 +1,6 @@
+use Rattle.std.proofs.Common.{rules}
 use Rattle.runs.proofs.Telling.{tells_sent}
 use Rattle.runs.proofs.untried.tell_untried.Goals as goal
 
 pub returns : goal.returns
-returns g c = tells_sent c.finish.result c.new-out.ensures c.put_untried.ensures c.finish.ensures.sends c.finish.ensures.empty c.finish.ensures.broken c.if-is_broken.false c.is_err.ensures.value
+returns g c = tells_sent c.finish.result c.new-printer.ensures c.put_untried.ensures c.finish.ensures.prints (search rules) c.finish.ensures.empty c.finish.ensures.broken c.if-is_broken.false c.is_err.ensures.value

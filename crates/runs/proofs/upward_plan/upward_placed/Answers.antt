@@ -32,7 +32,7 @@ returns-in_err-report-clause-late g c =
 
 pub write_report-requires : goal.write_report-requires
 write_report-requires g c =
-    routes_least c.args.widths.now.mode c.args.widths.now.placed.now c.args.widths.now.settings.now c.args.widths.now.workers (g.G.Gate.accepted c.args.gate.now) c.in_ok-report.report c.in_ok-report.ensures.report.searched.least
+    routes_least c.args.widths.now.mode c.args.widths.now.placed.now c.args.widths.now.run.settings.now c.args.widths.now.run.workers (g.G.Gate.accepted c.args.widths.now.run.gate.now) c.in_ok-report.report c.in_ok-report.ensures.report.searched.least
 
 pub returns-in_err-write_report-clause-runs : goal.returns-in_err-write_report-clause-runs
 returns-in_err-write_report-clause-runs g c =

@@ -1,23 +1,13 @@
-use Rattle.std.proofs.Common.{sym, subst}
-use Rattle.vpr_text.specs.Output.{Buffer, Sends, stream}
-use Rattle.runs.specs.WidthRun.{report_text}
+use Rattle.std.proofs.Common.{rules, sym}
 use Rattle.run_inputs.proofs.Ending.{printed, broken_text}
 use Rattle.runs.proofs.Widths.{report_filled}
 use Rattle.runs.proofs.width_report.print_report.Goals as goal
 
 pub returns-in-Ok : goal.returns-in-Ok
 returns-in-Ok g c =
-    let sink = g.W.ByteSink in
-    let t = stream (sink.taken c.put_report.new.sink) (sink.failed c.put_report.new.sink) c.put_report.new.out in
-    let text = report_text c.args.report.now in
-    let sent = subst (λ (b : Buffer). Sends (stream (sink.taken c.args.out.now) (sink.failed c.args.out.now) b) t text) c.new-buffer.ensures c.put_report.ensures in
-    printed (tt {0}) (sink.taken c.args.out.now) (sink.taken c.finish.new.sink) (sink.failed c.args.out.now) (sink.failed c.finish.new.sink) c.finish.new.self t text sent c.in-Ok.ensures.sends (sym c.in-Ok.ensures.broken) c.in-Ok.ensures.empty
+    printed (tt {0}) c.new-printer.ensures c.put_report.ensures c.in-Ok.ensures.prints (search rules) (sym c.in-Ok.ensures.broken) c.in-Ok.ensures.empty
     (report_filled c.args.report.now)
 
-pub returns-in-Err : goal.returns-in-Err
-returns-in-Err g c =
-    let sink = g.W.ByteSink in
-    let t = stream (sink.taken c.put_report.new.sink) (sink.failed c.put_report.new.sink) c.put_report.new.out in
-    let text = report_text c.args.report.now in
-    let sent = subst (λ (b : Buffer). Sends (stream (sink.taken c.args.out.now) (sink.failed c.args.out.now) b) t text) c.new-buffer.ensures c.put_report.ensures in
-    broken_text (tt {0}) (sink.taken c.args.out.now) (sink.taken c.finish.new.sink) (sink.failed c.args.out.now) (sink.failed c.finish.new.sink) c.finish.new.self t text sent c.in-Err.ensures.sends (sym c.in-Err.ensures.broken)
+pub returns : goal.returns
+returns g c =
+    broken_text (tt {0}) c.new-printer.ensures c.put_report.ensures c.in-Err.ensures.prints (search rules) (sym c.in-Err.ensures.broken)

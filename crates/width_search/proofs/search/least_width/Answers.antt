@@ -18,7 +18,7 @@ pub negotiate_at-requires-clause-tracks : goal.negotiate_at-requires-clause-trac
 negotiate_at-requires-clause-tracks g c κs within =
     let comes_to = Negotiates (problem_with c.args.mode c.args.arch.now c.args.netlist.now c.args.placement.now) c.args.settings.now c.args.workers (g.G.Gate.accepted c.args.gate.now) in
     width_within comes_to c.args.start c.requires.start c.loop-width.report c.in-Some.width c.loop-width.invariant
-    (next g c)
+    (next g (goal.at.negotiate_at-requires-clause-tracks g c).In-Some)
 
 pub loop-width-smaller : goal.loop-width-smaller
 loop-width-smaller g c =
