@@ -1,4 +1,4 @@
--- When two architectures are one: all their entries are.
+-- When two architectures are the same: all their entries are.
 use Rattle.std.specs.Prelude.{Bool, true, false, ◌==◌, ◌&&◌}
 use Rattle.std.proofs.Math.Bool.{beq}
 use Rattle.std.specs.Cmp.Lexicographic.{pointwise}

@@ -1,4 +1,4 @@
--- Two architectures are one exactly where the test says so; the test is an equivalence.
+-- Two architectures are the same exactly where the test says so; the test is an equivalence.
 use Rattle.std.proofs.Common.{◌≡◌, Bool, true, sym, ap, refl, subst}
 use Rattle.std.specs.Bool.{Decides}
 use Rattle.std.specs.Cmp.{IsEquivalence, IsPartialEquivalence, partial_equiv_from_equiv, unsigned_Decides, booleans_Decides}
@@ -20,11 +20,11 @@ use Rattle.arch_file.specs.Lines.{same_direction}
 use Rattle.arch_file.specs.Equality.{same_sides, same_pin, same_fc_type, same_length, same_segment, same_switch, same_fc, is_same_architecture}
 
 module _ {K : Type 0} (E : K → K → Bool) where
-  -- each value passes with itself, and two that pass are one
+  -- each value passes with itself, and two that pass are the same
   pub decides_from_tests : ((a : K) → E a a ≡ true) → ((a b : K) → E a b ≡ true → a ≡ b) → (a b : K) → Decides (E a b) (a ≡ b)
   decides_from_tests same reported a b = (reported a b, λ e. subst (λ c. E a c ≡ true) e (same a))
 
-  -- a test that decides whether two are one is an equivalence
+  -- a test that decides whether two are the same is an equivalence
   pub equivalence_from_decides : ((a b : K) → Decides (E a b) (a ≡ b)) → IsEquivalence E
   equivalence_from_decides decides =
       record {
@@ -107,7 +107,7 @@ module _ (a b : Architecture) where
       (Decides-and _ _ (unsigned_Decides a.fc_output b.fc_output)
       (Decides-and _ _ (unsigned_Decides a.fc_input b.fc_input) (unsigned_Decides a.fc_pad b.fc_pad)))
 
-  -- the test is true exactly where the two are one
+  -- the test is true exactly where the two are the same
   pub same_architecture : Decides (is_same_architecture a b) (a ≡ b)
   unfolding is_same_architecture
   same_architecture =

@@ -25,7 +25,7 @@ first_fault bad_number bad_word unsupported too_many said =
     else (if too_many then Err TooMany
     else Ok said)))
 
--- ---- how a fault is told
+-- ---- how a fault is reported
 
 -- 0 is the end of the file
 abbrev pub arch_line : ArchFault → ℕ

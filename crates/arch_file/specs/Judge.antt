@@ -26,7 +26,7 @@ is_passed words = option_map_or is_unread (slice_get words 0) false
 unfoldable pub has_keyword : List ArchLine → Keyword → Bool
 has_keyword lines keyword = list_any (λ line. same_keyword (keyword_of_line line) keyword) lines
 
--- a keyword that stands once stands on a line before
+-- a keyword that may occur once is on a line before
 abbrev pub is_repeated : List ArchLine → Keyword → Bool
 is_repeated before keyword = stands_once keyword && has_keyword before keyword
 

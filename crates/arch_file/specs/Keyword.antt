@@ -45,11 +45,11 @@ keyword_in (pair ∷ pairs) word = if is_text word pair.0 then Some pair.1 else 
 unfoldable pub keyword_of : List ℕ → Option Keyword
 keyword_of word = keyword_in keywords word
 
--- the two are one keyword
+-- the two are the same keyword
 abbrev pub same_keyword : Keyword → Keyword → Bool
 same_keyword = sameb the_type
 
--- each keyword but those of pins, segments and switches stands on one line
+-- each keyword but those of pins, segments and switches is on one line
 abbrev pub stands_once : Keyword → Bool
 stands_once Inpin = false
 stands_once Outpin = false

@@ -23,7 +23,7 @@ mixes before direction class = list_any (λ pin. (pin.class == class) && not (sa
 unfoldable pub is_bad_class : List ArchLine → Direction → List (List ℕ) → Bool
 is_bad_class before direction words = has words 2 && option_map_or (mixes before direction) (number_in words 2) true
 
--- `global` stands right after the class of an input pin
+-- `global` comes right after the class of an input pin
 unfoldable pub is_global_pin : Direction → List (List ℕ) → Bool
 is_global_pin direction words = same_direction direction Input && is_at words 3 (codes "global")
 
@@ -38,7 +38,7 @@ is_side word = is_text word (codes "top") || is_text word (codes "bottom") || is
 abbrev pub names : List (List ℕ) → List ℕ → Bool
 names words side = list_any (λ word. is_text word side) words
 
--- the sides that the words name; one that is named twice counts once
+-- the sides that the words name; a side that is named twice counts once
 abbrev pub sides_in : List (List ℕ) → Sides
 sides_in words = record { top = names words (codes "top"); bottom = names words (codes "bottom"); left = names words (codes "left"); right = names words (codes "right") }
 
@@ -52,7 +52,7 @@ pin_in direction words =
       sides = sides_in (side_words direction words);
     }
 
--- a word after the class is no side, or none is there where the pin isn't global
+-- a word after the class is no side, or there is none and the pin isn't global
 unfoldable pub lacks_sides : Direction → List (List ℕ) → Bool
 lacks_sides direction words =
     not (list_all is_side (side_words direction words)) || ((length (side_words direction words) == 0) && not (is_global_pin direction words))

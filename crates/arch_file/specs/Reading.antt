@@ -62,7 +62,7 @@ missing_of lines =
     else None))))))))))))
 
 -- the value that a line gives, or x where none does; no two lines give one, since its keyword
--- stands once
+-- occurs once
 abbrev pub value_in : {X : Type 0} → (ArchLine → Option X) → List ArchLine → X → X
 value_in f lines x = fold (λ value line. unwrap_or (f line) value) x lines
 

@@ -31,7 +31,7 @@ wants_number key = is_text key (codes "wire_switch:") || is_text key (codes "opi
 unfoldable pub wants_decimal : List ℕ → Bool
 wants_decimal key = is_text key (codes "Rmetal:") || is_text key (codes "Cmetal:")
 
--- the value isn't the number that the key wants; of an unknown key nothing is wanted
+-- the value isn't the number that the key wants; an unknown key wants nothing
 unfoldable pub is_wrong_value : List ℕ × List ℕ → Bool
 is_wrong_value (key, value) =
     if is_text key (codes "length:") then is_wrong_length value

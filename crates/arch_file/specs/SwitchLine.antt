@@ -23,7 +23,7 @@ has_switch lines number = list_any (λ switch. switch.number == number) (switche
 abbrev pub repeats_switch : List ArchLine → List (List ℕ) → Bool
 repeats_switch before words = option_map_or (has_switch before) (number_in words 1) false
 
--- the value isn't the number that the key wants; of an unknown key nothing is wanted
+-- the value isn't the number that the key wants; an unknown key wants nothing
 unfoldable pub is_wrong_value : List ℕ × List ℕ → Bool
 is_wrong_value (key, value) =
     if is_text key (codes "R:") || is_text key (codes "Cin:") || is_text key (codes "Cout:") || is_text key (codes "Tdel:") then not (is_decimal value) else false
@@ -31,7 +31,8 @@ is_wrong_value (key, value) =
 unfoldable pub has_wrong_value : List (List ℕ) → Bool
 has_wrong_value pairs = list_any is_wrong_value (pairs_of pairs)
 
--- the switch's number is there and is none, or a value isn't the number that is wanted
+-- the word for the switch's number is there and is no number, or a value isn't the number that is
+-- wanted
 unfoldable pub has_bad_number : List (List ℕ) → Bool
 has_bad_number words = (has words 1 && is_none (number_in words 1)) || has_wrong_value (drop 2 words)
 

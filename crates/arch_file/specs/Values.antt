@@ -1,6 +1,6 @@
 -- Lines of one value: what each says, or its first fault (VPR and T-VPack manual 4.30; the limits,
 -- what is not supported and the order of the faults are this project's profile). Words are counted
--- from 0, which is the keyword.
+-- from 0; word 0 is the keyword.
 use Rattle.std.specs.Prelude.{ℕ, Bool, false, not, ◌&&◌, ◌||◌, ◌==◌, nat_lt, if◌then◌else◌, List, length, unwrap_or, is_none, Result, Ok, Err, codes}
 use Rattle.arch_file.specs.declared.fault.LineFault.{LineFault}
 use Rattle.arch_file.specs.declared.fault.LineFault.TheVariants.{BadWord, Unsupported}
@@ -45,7 +45,7 @@ channel_line words line =
 unfoldable pub number_line : List (List ℕ) → ArchLine → Result ArchLine LineFault
 number_line words line = first_fault (has words 1 && is_none (number_in words 1)) (not (length words == 2)) false false line
 
--- the number with decimals that stands behind a keyword, and is all of the line
+-- the number with decimals that follows a keyword and is the rest of the line
 unfoldable pub fixed_value : List (List ℕ) → Result ℕ LineFault
 fixed_value words = first_fault (is_not_fixed words 1) (not (length words == 2)) false false (unwrap_or (fixed_in words 1) 0)
 

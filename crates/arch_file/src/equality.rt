@@ -1,4 +1,4 @@
-//! Whether two architectures are one.
+//! Whether two architectures are the same.
 
 ghost use Rattle.std.specs.Prelude.{◌≡◌, ◌↔◌, true};
 ghost use Rattle.std.specs.Cmp.Lexicographic.{pointwise};

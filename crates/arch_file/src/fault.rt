@@ -39,7 +39,7 @@ pub enum ArchFault {
     /// No line begins with this word.
     #[error("line {0} begins with an unknown keyword")]
     UnknownKeyword(u32),
-    /// The keyword, or the number of the switch, stands on an earlier line.
+    /// The keyword, or the number of the switch, is on an earlier line.
     #[error("line {0} repeats an entry")]
     Repeated(u32),
     /// A word isn't the number that is wanted there, or a pin mixes inputs and outputs in one

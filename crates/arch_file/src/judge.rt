@@ -34,7 +34,7 @@ pub(crate) fn has_keyword(lines: &[ArchLine], keyword: Keyword) -> bool
     lines.iter().any(|line| line.keyword() == keyword)
 }
 
-/// Whether a keyword that stands once stands on a line before.
+/// Whether a keyword that may occur once is on a line before.
 fn is_repeated(before: &[ArchLine], keyword: Keyword) -> bool
     ensures { result ≡ is_repeated before.now keyword }
 {

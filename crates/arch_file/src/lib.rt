@@ -1,5 +1,5 @@
-//! The architecture file of VPR 4.30: what it says of a device's blocks, pins, channels, segments
-//! and switches.
+//! The architecture file of VPR 4.30: what it says about a device's blocks, pins, channels,
+//! segments and switches.
 #![tactic(auto)]
 
 mod arch;

@@ -36,7 +36,7 @@ fn mixes(before: &[ArchLine], direction: Direction, class: u32) -> bool
         .any(|pin| pin.class == class && pin.direction != direction)
 }
 
-/// Whether the word that stands for a class is no number, or the class mixes inputs and outputs.
+/// Whether the word for a class is no number, or the class mixes inputs and outputs.
 fn is_wrong_class(before: &[ArchLine], direction: Direction, class: Option<u32>) -> bool
     ensures { result ≡ option_map_or (mixes before.now direction) class true }
 {
@@ -102,7 +102,7 @@ fn sides_in(words: &Words) -> Sides
     }
 }
 
-/// The pin that the line describes, whose class is given.
+/// The pin that the line describes; its class is given.
 #[tactic(auto, unfolding(crate::specs::PinLine::pin_in))]
 fn pin_in(direction: Direction, class: u32, words: &Words) -> Pin
     requires { class ≡ unwrap_or (number_in words.now 2) 0 }

@@ -230,11 +230,11 @@ fn arch_in(alloc: Global, source: &[u8]) -> Result<Arch, ArchFault>
 /// blocks or longlines, and switches 0 to 255.
 ///
 /// A fault of the text comes first, then that of the first faulty line, then the first entry that
-/// is missing. Of the faults of one line it is the first in the order of `ArchFault`.
+/// is missing. If a line has several faults, the first in the order of `ArchFault` is reported.
 pub fn parse(alloc: Global, source: &[u8]) -> Result<Arch, ArchFault>
     // What is read is the architecture of the text.
     ensures found { IfOk result (λ a. ReadsBytes source.now a) }
-    // A text has no other architecture, and one that has an architecture is read, unless memory
+    // A text has no other architecture, and a text that has an architecture is read, unless memory
     // runs out.
     ensures only { (a : Architecture) → ReadsBytes source.now a
         → Gives Memory (λ b. b) result (Ok a) }

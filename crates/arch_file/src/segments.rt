@@ -55,7 +55,7 @@ fn wants_decimal(key: &[u8]) -> bool
     is_text(key, "Rmetal:") || is_text(key, "Cmetal:")
 }
 
-/// Whether the value isn't the number that the key wants. Of an unknown key nothing is wanted.
+/// Whether the value isn't the number that the key wants. An unknown key wants nothing.
 #[tactic(auto, unfolding(crate::specs::SegmentLine::is_wrong_value))]
 fn is_wrong_value(key: &[u8], value: &[u8]) -> bool
     ensures { result ≡ is_wrong_value (key.now, value.now) }
@@ -79,7 +79,7 @@ fn has_wrong_value(pairs: &Words) -> bool
     pairs_in(pairs).any(|pair| is_wrong_value(pair.0, pair.1))
 }
 
-/// Whether the keys that say which wires there are stand among the pairs.
+/// Whether the pairs have the keys that say which wires there are.
 #[tactic(auto, unfolding(crate::specs::SegmentLine::has_wire_keys))]
 fn has_wire_keys(pairs: &Words) -> bool
     ensures { result ≡ has_wire_keys pairs.now }
@@ -90,8 +90,7 @@ fn has_wire_keys(pairs: &Words) -> bool
         && has_key(pairs, "opin_switch:")
 }
 
-/// Whether the keys that say what a wire connects to, and of what it is made, stand among the
-/// pairs.
+/// Whether the pairs have the keys that say what a wire connects to, and what it is made of.
 #[tactic(auto, unfolding(crate::specs::SegmentLine::has_other_keys))]
 fn has_other_keys(pairs: &Words) -> bool
     ensures { result ≡ has_other_keys pairs.now }

@@ -92,7 +92,7 @@ pub(crate) fn number_line(words: &Words, line: ArchLine) -> Result<ArchLine, Lin
     Ok(line)
 }
 
-/// The number with decimals that stands behind a keyword, and is all of the line.
+/// The number with decimals that follows a keyword and is the rest of the line.
 #[tactic(auto, unfolding(crate::specs::Values::fixed_value))]
 pub(crate) fn fixed_value(words: &Words) -> Result<u64, LineFault>
     ensures { result ≡ fixed_value words.now }

@@ -8,8 +8,8 @@ use Rattle.run_inputs.specs.Runs.{StopsOrGoesOn, PrintsText, TakesAll, TakesFron
 use Rattle.bound_run.specs.Bounds.{IsTrueOf, bound_lines, figures_of}
 use Rattle.bound_run.specs.CutTexts.{cut_text}
 
--- The lines are printed to `out`, and then, where it is wanted, the text is written to `cut`;
--- Unwritten is answered where either failed, and where that was `out`, `cut` took nothing.
+-- The lines are printed to `out`, and then the text is written to `cut`, if it is wanted. Unwritten
+-- is answered if either failed; if `out` failed, `cut` took nothing.
 abbrev pub WritesBound : (is_wanted : Bool) → (cut out : Writing) → (lines text : List ℕ) → Result (Unit {0}) AppFault → Type 0
 WritesBound true cut out lines text result =
     MatchBool out.failed
@@ -17,14 +17,14 @@ WritesBound true cut out lines text result =
     (TakesAll out lines × PrintsText cut text tt result)
 WritesBound false cut out lines text result = PrintsText out lines tt result × TakesNothing cut
 
--- the lines of some cut of a placed netlist are printed, and they are true
+-- the lines of some cut of a placed netlist are printed, and what they say is true
 abbrev pub PrintsBound : (is_wanted : Bool) → (cut out : Writing) → PlacedNetlist → Result (Unit {0}) AppFault → Type 0
 PrintsBound is_wanted cut out p result =
     (found : Cut)
     × WritesBound is_wanted cut out (bound_lines (figures_of p found)) (cut_text p found) result
     × IsTrueOf p (figures_of p found)
 
--- A run of `bound`, memory aside: with a fault of its files neither sink takes anything; where they
+-- A run of `bound`, memory aside: if its files have a fault, neither sink takes anything; if they
 -- say a placed netlist, a bound is printed.
 abbrev pub RunsBound : (is_wanted : Bool) → (cut out : Writing) → Result PlacedNetlist AppFault → Result (Unit {0}) AppFault → Type 0
 RunsBound is_wanted cut out = StopsOrGoesOn (TakesNothing cut × TakesNothing out) (PrintsBound is_wanted cut out)

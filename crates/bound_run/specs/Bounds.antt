@@ -1,4 +1,4 @@
--- What a cut shows of a placed netlist, and the lines that are printed (ours).
+-- What a cut shows about a placed netlist, and the lines that are printed (ours).
 use Rattle.std.specs.Prelude.{◌≡◌, ℕ, ◌≤◌, ◌==◌, nat_lt, max, Bool, true, ◌&&◌, ◌||◌, if◌then◌else◌, List, ◌++◌, codes, decimal, length}
 use Rattle.rr_graph.specs.node.Mode.{Mode}
 use Rattle.rr_graph.specs.Fabric.{most_tracks}
@@ -12,7 +12,7 @@ use Rattle.run_inputs.specs.Inputs.{PlacedNetlist, placed_problem}
 abbrev pub figures_with : (nets pins places : ℕ) → CutFigures
 figures_with nets pins places = record { nets = nets; pins = pins; places = places; width = least_width nets pins places }
 
--- what a cut says of a placed netlist
+-- the figures of a cut of a placed netlist
 abbrev pub figures_of : PlacedNetlist → Cut → CutFigures
 figures_of p cut =
     figures_with (cut_nets_of p.arch p.netlist p.placement cut) (length cut.pins) (border_size p.placement.nx p.placement.ny cut)

@@ -1,4 +1,4 @@
--- The text of a cut: what it says of a placed netlist, and of what it is made (ours).
+-- The text of a cut: its figures, and its region, places and pins (ours).
 use Rattle.std.specs.Prelude.{ℕ, ◌+◌, ◌-◌, ◌==◌, nat_lt, Bool, false, not, ◌&&◌, ◌||◌, if◌then◌else◌, List, [], ◌++◌, codes, decimal, length, find, Option, None, Some, slice_get, slice_index_or}
 use Rattle.std.specs.Option.{option_map_or}
 use Rattle.std.specs.List.{flat_map, list_any}
@@ -17,9 +17,9 @@ use Rattle.width_bound.specs.Cuts.{Cut, has_corner}
 use Rattle.run_inputs.specs.Inputs.{PlacedNetlist}
 use Rattle.bound_run.specs.Bounds.{figures_of, has_no_way, printed_width}
 
--- ---- what the cut says
+-- ---- its figures
 
--- the width below which there is no routing, or `none` where there is none at any
+-- the width below which there is no routing, or `none` if there is no routing at any width
 abbrev pub width_text : CutFigures → List ℕ
 width_text c = if has_no_way c then codes "none" else decimal (printed_width c)
 
@@ -31,7 +31,7 @@ head_text c =
 
 -- ---- its region, row by row, as `corners 5 0-1 4-4`: the runs of columns in row 5
 
--- a run begins at the corner (x, y), as that left of it isn't in the region; one ends there
+-- a run begins at the corner (x, y), as the one left of it isn't in the region; a run ends there
 abbrev pub begins_run : Cut → (x y : ℕ) → Bool
 begins_run cut x y = has_corner cut (x, y) && not (nat_lt 0 x && has_corner cut (x - 1, y))
 
@@ -65,8 +65,8 @@ place_line kind x y = codes "place " ++ (kind_text kind ++ (codes " " ++ (decima
 abbrev pub places_text : Cut → List ℕ
 places_text cut = flat_map (λ p. place_line p.0 p.1 p.2) cut.places
 
--- ---- its pins, each as `pin n65 10`: a block's name, and the number of its pin; that of a pad is
--- its number at its place
+-- ---- its pins, each as `pin n65 10`: a block's name, and the number of its pin; the pin of a pad
+-- has the pad's number at its place
 
 -- a block of this kind, at this site, has the pin
 abbrev pub has_pin : BlockKind → Site → Node → Bool

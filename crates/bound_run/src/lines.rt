@@ -33,7 +33,7 @@ fn put_below<W: ByteSink>(out: &mut Printer<'_, W>, width: usize)
     ]);
 }
 
-/// Prints at which widths there is no routing, as in `no routing below width 4`, or that there is
+/// Prints below which width there is no routing, as in `no routing below width 4`, or that there is
 /// no routing at any width.
 pub fn put_width_line<W: ByteSink>(out: &mut Printer<'_, W>, figures: CutFigures)
     ensures { PrintsTo W.ByteSink out.old out.new (width_line figures) }

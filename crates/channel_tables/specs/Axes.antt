@@ -10,8 +10,7 @@ abbrev pub places_along : Axis → Fabric → ℕ
 places_along Row f = f.nx
 places_along Column f = f.ny
 
--- along what the channels run that cross it; of these there is one behind each place, and one
--- before the first
+-- the axis of the channels that cross it: one after each place, and one before the first
 abbrev pub across : Axis → Axis
 across Row = Column
 across Column = Row

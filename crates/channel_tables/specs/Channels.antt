@@ -1,5 +1,5 @@
--- The wires of a channel: where they begin, in which order they stand, and which one of a track
--- runs through a place.
+-- The wires of a channel: where they begin, their order, and which wire of a track runs through a
+-- place.
 use Rattle.std.specs.Prelude.{ℕ, ◌+◌, ◌-◌, ◌==◌, if◌then◌else◌, List, [], length, map}
 use Rattle.std.specs.List.{position_or_len, range_with_len, flat_map, filter}
 use Rattle.channel_tables.specs.Fabric.{Fabric, numbers_below, is_between}
@@ -11,8 +11,8 @@ use Rattle.channel_tables.specs.declared.channel.Wire.{Wire}
 unfoldable pub first_of : Fabric → (n track place : ℕ) → ℕ
 first_of f n track place = place - position_or_len (λ back. begins f n track (place - back)) (numbers_below place)
 
--- the tracks of which a wire begins at a place of a channel of n places; none where the channel has
--- no such place
+-- the tracks with a wire that begins at a place of a channel of n places; none where the channel
+-- has no such place
 abbrev pub starting_at : Fabric → (n place : ℕ) → List ℕ
 starting_at f n place = if is_between 1 n place then beginnings_at f n place else []
 
@@ -27,7 +27,7 @@ beginning_of place track = record { place = place; track = track }
 unfoldable pub beginnings_of : Fabric → (n : ℕ) → List Beginning
 beginnings_of f n = flat_map (λ place. map (beginning_of place) (starting_at f n place)) (numbers_below (n + 1))
 
--- how many wires of a channel stand before the one that begins at a place in a track
+-- how many wires of a channel come before the one that begins at a place in a track
 unfoldable pub wire_number : Fabric → (n place track : ℕ) → ℕ
 wire_number f n place track = wires_before f n place + length (filter (λ t. begins f n t place) (numbers_below track))
 
@@ -40,8 +40,8 @@ wire_at f n place track =
 abbrev pub tracks_from : Fabric → (n place first : ℕ) → List ℕ
 tracks_from f n place first = filter (λ t. first_of f n t place == first) (numbers_below (tracks_in f.mode f.width))
 
--- the tracks whose wires through a place begin at place first or behind it, in the order of where
--- they do
+-- the tracks whose wires through a place begin at place first or after it, in the order of where
+-- they begin
 unfoldable pub tracks_since : Fabric → (n place first : ℕ) → List ℕ
 tracks_since f n place first = flat_map (tracks_from f n place) (range_with_len first (place + 1 - first))
 

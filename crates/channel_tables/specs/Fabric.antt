@@ -42,10 +42,10 @@ numbers_below n = range_with_len 0 n
 abbrev pub is_between : ℕ → ℕ → ℕ → Bool
 is_between low high n = nat_le low n && nat_le n high
 
--- a logic block stands at (x, y)
+-- a logic block is at (x, y)
 abbrev pub is_block : Fabric → ℕ → ℕ → Bool
 is_block f x y = is_between 1 f.nx x && is_between 1 f.ny y
 
--- pads stand at (x, y): a place of the perimeter that is no corner
+-- pads are at (x, y): a place of the perimeter that is no corner
 abbrev pub is_pad : Fabric → ℕ → ℕ → Bool
 is_pad f x y = ((x == 0 || x == f.nx + 1) && is_between 1 f.ny y) || ((y == 0 || y == f.ny + 1) && is_between 1 f.nx x)

@@ -6,7 +6,7 @@ use Rattle.channel_tables.specs.declared.node.Node.{Node}
 use Rattle.channel_tables.specs.Fabric.{Fabric}
 use Rattle.channel_tables.specs.Wires.{last_of}
 
--- the last place of a node along its channel; of what is no wire its x
+-- the last place of a node along its channel, or its x if it is no wire
 abbrev pub last_by : Kind → Fabric → Node → ℕ
 last_by Source f n = n.x
 last_by Sink f n = n.x

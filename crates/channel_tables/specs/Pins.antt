@@ -74,7 +74,7 @@ abbrev pub channel_of_pad : Fabric → (x y : ℕ) → Place
 channel_of_pad f x y =
     if x == 0 then (Chany, 0, y) else (if x == f.nx + 1 then (Chany, f.nx, y) else (if y == 0 then (Chanx, x, 0) else (Chanx, x, f.ny)))
 
--- the channels' places beside which a node of kind Opin or Ipin stands
+-- the channels' places next to a node of kind Opin or Ipin
 unfoldable pub channels_beside : Fabric → Node → List Place
 channels_beside f pin =
     if is_block f pin.x pin.y then channels_of_pin (slice_get f.architecture.pins pin.number) pin.x pin.y

@@ -12,7 +12,7 @@ use Rattle.channel_tables.specs.declared.node.Kind.TheVariants.{Chanx, Chany}
 use Rattle.channel_tables.specs.declared.node.Node.{Node}
 use Rattle.channel_tables.specs.Fabric.{Fabric, numbers_below}
 
--- tracks in each channel: a global device has one, which stands for all
+-- tracks in each channel: a global device has one, which represents all
 abbrev pub tracks_in : Mode → ℕ → ℕ
 tracks_in Detailed width = width
 tracks_in Global width = 1
@@ -52,8 +52,8 @@ abbrev pub places_of_length : ℕ → SegmentLength → ℕ
 places_of_length n (Places k) = k
 places_of_length n Longline = n
 
--- how many places a wire of this type passes in a channel of n places; 1 for no type, which no
--- track lacks
+-- how many places a wire of this type passes in a channel of n places; 1 for no type, but each
+-- track has one
 abbrev pub places_of_type : ℕ → Option Segment → ℕ
 places_of_type n (Some s) = places_of_length n s.length
 places_of_type n None = 1
@@ -102,6 +102,6 @@ Place = Kind × ℕ × ℕ
 unfoldable pub runs_through : Fabric → Node → Place → Bool
 runs_through f n p = runs_by n.kind p.0 f n p.1 p.2
 
--- the tracks, at a place of a channel, of which a wire begins there
+-- the tracks with a wire that begins at a place of a channel
 abbrev pub beginnings_at : Fabric → (n place : ℕ) → List ℕ
 beginnings_at f n place = filter (λ t. begins f n t place) (numbers_below (tracks_in f.mode f.width))

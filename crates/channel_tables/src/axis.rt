@@ -1,10 +1,10 @@
-//! Along what a channel runs.
+//! The axis of a channel.
 
 ghost use Rattle.std.specs.Prelude.{◌≡◌};
 ghost use Rattle.channel_tables.specs.Axes.{across};
 
-/// Along what a channel runs: above a row, where its places are columns, or right of a column,
-/// where they are rows.
+/// The axis of a channel: above a row, where its places are columns, or right of a column, where
+/// they are rows.
 #[derive(Clone, Copy, Debug)]
 pub enum Axis {
     Row,
@@ -12,7 +12,7 @@ pub enum Axis {
 }
 
 impl Axis {
-    /// Along what the channels run that cross it.
+    /// The axis of the channels that cross it.
     #[inline(always)]
     pub fn across(self) -> Axis
         ensures { result ≡ across self }

@@ -48,7 +48,7 @@ pub struct Wire {
     /// The places where it begins and ends.
     pub first: u8,
     pub last: u8,
-    /// How many wires of the channel stand before it.
+    /// How many wires of the channel come before it.
     pub number: u16,
 }
 
@@ -156,7 +156,7 @@ impl Staggers<'_> {
         count
     }
 
-    /// How many wires begin before each place, from place 0 to the one behind the channel.
+    /// How many wires begin before each place, from place 0 to the one after the channel.
     #[tactic(auto, using(crate::proofs::Ranges::mapped_next, crate::proofs::WireTables::before_none, crate::proofs::WireTables::before_next))]
     fn before(&self, alloc: Global) -> Result<Vec<u32>, AllocError>
         ensures { IfOk result
@@ -246,7 +246,7 @@ impl Staggers<'_> {
         }
     }
 
-    /// The wires through a place, behind those through the places before it.
+    /// The wires through a place, after those through the places before it.
     #[tactic(auto, using(crate::proofs::Ranges::mapped_more, crate::proofs::WireTables::number_next, crate::proofs::WireTables::small_number))]
     fn push_place(&self, wires: &mut Vec<Wire>, place: u32, before: u32) -> Result<(), AllocError>
         requires place { (1 ≤ place) × (place ≤ self.now.places) }

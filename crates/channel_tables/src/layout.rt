@@ -118,7 +118,7 @@ impl Layout {
         self.ny
     }
 
-    /// How many places a channel has that runs along an axis.
+    /// How many places a channel along an axis has.
     #[inline(always)]
     pub fn places(&self, axis: Axis) -> u32
         ensures entry { result ≡ places_along axis self.now }
@@ -153,14 +153,14 @@ impl Layout {
         self.arch.segments()
     }
 
-    /// A logic block stands at (x, y).
+    /// A logic block is at (x, y).
     pub fn is_block(&self, x: u32, y: u32) -> bool
         ensures { result ≡ is_block self.now x y }
     {
         (1 <= x && x <= self.nx) && (1 <= y && y <= self.ny)
     }
 
-    /// Pads stand at (x, y).
+    /// Pads are at (x, y).
     pub fn is_pad(&self, x: u32, y: u32) -> bool
         ensures { result ≡ is_pad self.now x y }
     {

@@ -26,13 +26,13 @@ pub enum Kind {
     Chany,
 }
 
-/// A node. A wire stands at its first place.
+/// A node. A wire is at its first place.
 #[derive(Clone, Copy, Debug, PartialEq, Eq)]
 pub struct Node {
     pub kind: Kind,
     pub x: u32,
     pub y: u32,
-    /// What it counts is said by the node's `Label`.
+    /// The node's `Label` says what it counts.
     pub number: u32,
 }
 

@@ -34,7 +34,7 @@ pub fn has_class(pin: Option<Pin>, class: u32) -> bool
     }
 }
 
-/// How many tracks on from the first track of pin `number` a track lies, where track 0 comes after
+/// How many tracks a track lies after the first track of pin `number`, where track 0 comes after
 /// the last.
 #[tactic(auto, using(crate::proofs::Taps::steps_ahead, crate::proofs::Taps::steps_around))]
 fn steps_on(width: u32, number: u32, track: u32) -> u32

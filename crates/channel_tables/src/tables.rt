@@ -143,8 +143,8 @@ impl ChannelTables {
         self.layout.wires_before(self.channel(axis), place)
     }
 
-    /// How many wires of a channel above a row begin at place `x`: so much greater is the number of
-    /// a wire one row up.
+    /// How many wires of a channel above a row begin at place `x`: the number of a wire one row up
+    /// is greater by as much.
     #[tactic(auto, using(crate::proofs::WireTables::before_next))]
     pub fn above_step(&self, x: u32) -> u32
         requires { x ≤ self.now.nx }
@@ -155,8 +155,8 @@ impl ChannelTables {
         self.wires_before(Axis::Row, x + 1) - before
     }
 
-    /// How many wires a channel right of a column has: so much greater is the number of a wire one
-    /// column on.
+    /// How many wires a channel right of a column has: the number of a wire one column on is
+    /// greater by as much.
     pub fn right_step(&self) -> u32
         ensures step { result ≡ wires_before self.now self.now.ny (self.now.ny + 1) }
         ensures few { result ≤ 25856 }

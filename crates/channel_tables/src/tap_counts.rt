@@ -3,7 +3,7 @@
 ghost use Rattle.std.specs.Prelude.{◌≤◌};
 ghost use Rattle.channel_tables.specs.Fabric.{most_tracks};
 
-/// How many tracks of each channel a pin taps that has no dedicated network.
+/// How many tracks of each channel a pin without a dedicated network taps.
 #[derive(Clone, Copy, Debug)]
 pub struct TapCounts {
     /// An output pin of a block.

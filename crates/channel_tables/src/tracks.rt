@@ -110,7 +110,7 @@ impl ChannelTables {
         self.layout.tracks_through(self.channel(axis), place)
     }
 
-    /// How many of the tracks stand before the first one whose wire through a column does not begin
+    /// How many of the tracks come before the first one whose wire through a column does not begin
     /// at place `first`.
     #[tactic(auto, using(std::proofs::lemmas::List::Sums::prefix_len_is))]
     fn count_begun(&self, tracks: &[u8], column: u32, first: u32) -> usize
@@ -128,7 +128,7 @@ impl ChannelTables {
         tracks.len()
     }
 
-    /// Of the tracks whose wires through a column begin at place `first` or behind it, those at
+    /// The tracks whose wires through a column begin at place `first` or after it: those at
     /// `first`, and the others.
     #[tactic(auto, using(crate::proofs::TrackOrder::begun_front, crate::proofs::TrackOrder::begun_rest, crate::proofs::TrackOrder::since_small))]
     pub fn split_tracks<'a>(

@@ -1,4 +1,4 @@
--- What was given on a command line, and what the words of each command are of it.
+-- What was given on a command line, as the words of each command have it.
 use Rattle.std.specs.Prelude.{◌≡◌, ◌≢◌, ℕ, Bool, List, Option, Some, option_map, codes, MatchBool, IsSomeAnd}
 use Rattle.std.specs.Borrow.{Bor}
 use Rattle.std.specs.Str.Parse.{IsNumeral, digits_value, without_leading_plus}
@@ -22,11 +22,11 @@ text_given m name = first_value (found_of m) name
 abbrev pub IsTextGiven : ArgMatches → List ℕ → Bor (List ℕ) → Type 0
 IsTextGiven m name t = text_given m name ≡ Some t.now
 
--- this is what was given under a name that need not be given
+-- this is what was given under an optional name
 abbrev pub IsTextIfGiven : ArgMatches → List ℕ → Option (Bor (List ℕ)) → Type 0
 IsTextIfGiven m name t = text_given m name ≡ option_map (λ s. s.now) t
 
--- a text is a number: decimal digits, where a plus may come first
+-- a text is a number: decimal digits, possibly after a plus
 abbrev pub IsDecimal : List ℕ → ℕ → Type 0
 IsDecimal text n =
     IsNumeral 10 (without_leading_plus text) × (digits_value 10 (without_leading_plus text) ≡ n)
@@ -50,7 +50,7 @@ pub record AreSettingsGiven (m : ArgMatches) (o : RouterOptions) : Type 0 where
   pub iterations : IsNumberGiven m (codes "iterations") o.iterations
   pub steady : IsFlagGiven m (codes "steady") o.steady
 
--- what was given to `route` and to `width` alike
+-- what was given to `route` or `width`, of the values that they share
 pub record IsRunGiven (m : ArgMatches) (r : RunWords) : Type 0 where
   pub net : IsTextGiven m (codes "NET") r.net
   pub arch : IsTextGiven m (codes "ARCH") r.arch

@@ -170,7 +170,7 @@ pub fn command<'a>(alloc: Global) -> Result<Command<'a>, AllocError> {
         .subcommand(nets_command(alloc)?)
 }
 
-/// The values that are given to `route` and to `width` alike.
+/// The values that `route` and `width` share.
 #[derive(Clone, Copy)]
 pub struct RunWords<'a> {
     pub net: &'a str,
@@ -272,7 +272,7 @@ pub struct NetsWords<'a> {
     pub explain: bool,
 }
 
-/// Returns what `route` and `width` are given alike, or `None` if a value is out of its range.
+/// Returns the values that `route` and `width` share, or `None` if one is out of its range.
 pub fn run_words<'a>(matches: &ArgMatches<'a>) -> Option<RunWords<'a>>
     ensures workers { IfSome result (λ r. (1 ≤ r.workers) × (r.workers ≤ most_workers)) }
     ensures given { IfSome result (λ w. IsRunGiven matches.now w) }

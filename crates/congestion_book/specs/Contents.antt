@@ -18,18 +18,18 @@ pub record Content : Type 0 where
   pub acc : ℕ
   -- the recorded tree of each net as its pairs, or none
   pub lists : Lists
-  -- of each node its occupancy: how many nets use it
+  -- the occupancy of each node: how many nets use it
   pub occupancies : List ℕ
-  -- of each closed iteration the overused nodes
+  -- the overused nodes of each closed iteration
   pub rows : List (List Amount)
-  -- of each node its history
+  -- the history of each node
   pub histories : List ℕ
-  -- of the open iteration: how many nets were drawn, the worker that holds each net, and the turns
+  -- in the open iteration, how many nets were drawn, the worker that holds each net, and the turns
   -- made
   pub drawn : ℕ
   pub holders : List (Option ℕ)
   pub turns : List Turn
-  -- of each closed iteration the turns made
+  -- the turns made in each closed iteration
   pub earlier : List (List Turn)
 
 abbrev pub net_count : Content → ℕ
@@ -81,7 +81,7 @@ opening p acc = record {
   earlier = [];
 }
 
--- What net i sees of the others: of each node how many other nets use it, and its history.
+-- What net i sees of the others: how many other nets use each node, and the node's history.
 unfoldable pub view_of : Content → ℕ → NetView
 view_of c i = map (λ a. (use_by_others c.problem.nets c.lists i a, history_of c.acc c.rows a)) (numbers_below (node_total c))
 

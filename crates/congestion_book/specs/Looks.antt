@@ -22,7 +22,7 @@ abbrev pub LooksAtAll : Content → NetView → Result (Unit {0}) DrawFault → 
 LooksAtAll c seen (Ok done) sees = (length seen ≡ node_total c) × ShowsAll c sees
 LooksAtAll c seen (Err ViewSize) sees = (length seen ≢ node_total c) × (sees ≡ seen)
 
--- so many other nets are as many as the node has room for, or more
+-- this many other nets are as many as the node has room for, or more
 abbrev pub fills : RoutingProblem → ℕ → (others : ℕ) → Bool
 fills p a others = nat_le (room_of p.device (node_at p.device a)) others
 

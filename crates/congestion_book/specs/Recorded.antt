@@ -1,4 +1,4 @@
--- What the recorded lists come to: how many nets use each node, how many nodes are overused and by
+-- Counts over the recorded lists: how many nets use each node, how many nodes are overused and by
 -- how much, how many nets have no list, and how long all nets are.
 use Rattle.std.specs.Prelude.{◌≡◌, ℕ, nat_lt, List, map, sum, Option, Some, None, is_none, count_by}
 use Rattle.std.specs.List.{sum_by}
@@ -14,7 +14,7 @@ use Rattle.route_report.specs.Wirelength.{wirelengths_of}
 abbrev pub AreRoutes : RoutingProblem → Lists → Type 0
 AreRoutes p lists = (i : ℕ) (pairs : List Pair) → list_in lists i ≡ Some pairs → IsRoute p i pairs
 
--- the list routes its net, where there is one
+-- the list routes its net, if there is one
 abbrev pub RoutesOrNone : RoutingProblem → (net : ℕ) → Option (List Pair) → Type 0
 RoutesOrNone p i (Some pairs) = IsRoute p i pairs
 RoutesOrNone p i None = Unit {0}
@@ -31,7 +31,7 @@ unrouted_in lists = count_by is_none lists
 unfoldable pub overused_in : RoutingProblem → Lists → ℕ
 overused_in p lists = count_by (λ a. nat_lt 0 (overuse_of p lists a)) (numbers_below (node_count_of p.device))
 
--- by how many nets more than they have room for all nodes are used together
+-- the overuse of all nodes together: by how many nets more than they have room for they are used
 unfoldable pub excess_in : RoutingProblem → Lists → ℕ
 excess_in p lists = sum_by (overuse_of p lists) (numbers_below (node_count_of p.device))
 

@@ -38,8 +38,8 @@ TakesMemory c (Commit worker net tree) = Unit {0}
 TakesMemory c (Pass worker net) = ⊥
 TakesMemory c Close = IsFirstWaiting c.turns (net_count c) None × (length c.rows < most_iterations)
 
--- Memory ran out at an event: those before it happened, and no other. It is the first one, where
--- there was none for the replies, or one that takes memory.
+-- Memory ran out at an event: those before it happened, and no other. It is the first one, if there
+-- was none for the replies, or one that takes memory.
 abbrev pub StopsAfter : Content → NetView → List Event → RunFault → Content → NetView → Type 0
 StopsAfter old seen events (Memory n) new sees =
     (n < length events) × ((n ≡ 0) ⊎ TakesMemory new (get_or events n Close)) × ((replies : List Reply) × Runs old seen (take n events) replies new sees)

@@ -45,7 +45,7 @@ after_close c =
       earlier = c.earlier ++ c.turns ∷ [];
     }
 
--- A draw gives the least net that was not drawn, and its view; none where all were drawn. A view of
+-- A draw gives the least net that was not drawn, and its view; none if all were drawn. A view of
 -- another size is refused first.
 abbrev pub Draws : Content → NetView → (worker : ℕ) → Result (Option ℕ) DrawFault → Content → NetView → Type 0
 Draws old seen worker (Err ViewSize) new sees = (length seen ≢ node_total old) × (new ≡ old) × (sees ≡ seen)

@@ -1,4 +1,4 @@
--- What a view shows where no net is left out, and what a turn changes in it.
+-- What a view shows if no net is left out, and what a turn changes in it.
 use Rattle.std.specs.Prelude.{◌≡◌, ℕ, ◌<◌, List, length, set, Option}
 use Rattle.routing_problem.specs.Problems.{IsProblem}
 use Rattle.route_tree.specs.declared.tree.Row.{Row}
@@ -10,8 +10,8 @@ use Rattle.congestion_book.specs.Histories.{history_of}
 use Rattle.congestion_book.specs.Recorded.{AreRoutes, RoutesOrNone}
 use Rattle.congestion_book.specs.Contents.{Content, net_count, node_total, view_of}
 
--- The view shows of each node how many nets use it by the lists of the book, which route their
--- nets, and its history.
+-- The view shows how many nets use each node by the lists of the book, which route their nets, and
+-- the node's history.
 pub record ShowsAll (c : Content) (view : NetView) : Type 0 where
   pub problem : IsProblem c.problem
   pub one_each : length c.lists ≡ net_count c

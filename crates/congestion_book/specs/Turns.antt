@@ -13,7 +13,7 @@ turns_at turns i = count_by (λ t. t.net == i) turns
 abbrev pub one_if : Bool → ℕ
 one_if b = if b then 1 else 0
 
--- Of the open iteration: how many nets were drawn, the worker that holds each net, and the turns
+-- How many nets were drawn in the open iteration, the worker that holds each net, and the turns
 -- made; and those of the closed ones.
 pub record TurnTable : Type 0 where
   pub drawn : ℕ

@@ -58,7 +58,7 @@ pub(crate) struct NextIteration {
 }
 
 impl Book {
-    /// A book without trees and rows, in whose first iteration nothing was drawn.
+    /// A book without trees and rows, with nothing drawn in its first iteration.
     pub fn new(alloc: Global, problem: Problem, acc: u16) -> Result<Book, AllocError>
         ensures { IfOk result (λ b. b ≡ opening problem acc) }
     {
@@ -77,8 +77,8 @@ impl Book {
     }
 
     /// Gives the worker the least net that was not drawn in the open iteration, with its view. None
-    /// where all were drawn. The worker holds the net until it commits or passes it. A view of
-    /// another size is refused; it stays as it was where no net is given.
+    /// if all were drawn. The worker holds the net until it commits or passes it. A view of another
+    /// size is refused; it stays as it was if no net is given.
     pub fn draw(&mut self, worker: u32, view: &mut View) -> Result<Option<u32>, DrawFault>
         ensures step { Draws self.old view.old worker result self.new view.new }
         ensures sound { IsSound self.new }
@@ -121,8 +121,7 @@ impl Book {
         Ok(())
     }
 
-    /// Records a tree of which it is known that it routes the net, as `commit` does: it isn't
-    /// looked at again.
+    /// Records a tree that is known to route the net, as `commit` does: it isn't looked at again.
     pub fn commit_routed(
         &mut self,
         worker: u32,
@@ -155,9 +154,9 @@ impl Book {
         Ok(())
     }
 
-    /// Ends the turn at a net that the worker holds: the net gives its recorded tree, or none, for
-    /// this one, of which it is known that it routes the net, or for none. Another worker than the
-    /// net's holder is refused, and nothing changes.
+    /// Ends the turn at a net that the worker holds. The net exchanges its recorded tree, or none,
+    /// for this one, which is known to route the net, or for none. Another worker than the net's
+    /// holder is refused, and nothing changes.
     pub fn exchange_routed(
         &mut self,
         worker: u32,
@@ -189,8 +188,8 @@ impl Book {
         self.exchange(worker, net, &mut tree);
     }
 
-    /// Ends the turn at a net that the worker holds. The net gives its recorded tree, or none, for
-    /// this one, or none.
+    /// Ends the turn at a net that the worker holds. The net exchanges its recorded tree, or none,
+    /// for this one, or none.
     fn exchange(&mut self, worker: u32, net: u32, tree: &mut Option<Tree>)
         requires held { holder_in self.old.holders net ≡ Some worker }
         requires routes { RoutesOrNone self.old.problem net (list_of_tree tree.old) }
@@ -205,7 +204,7 @@ impl Book {
 
     /// Closes the open iteration, in which each net had its turn: its row is appended, the
     /// histories grow, and the next iteration opens with nothing drawn. Everything that the next
-    /// iteration needs is made first, and where memory is refused nothing changes.
+    /// iteration needs is made first, and if memory is refused nothing changes.
     pub fn close(&mut self, alloc: Global) -> Result<(), CloseFault>
         ensures step { Closes self.old result self.new }
         ensures sound { IsSound self.new }
@@ -233,7 +232,7 @@ impl Book {
         }
     }
 
-    /// Full where there are as many rows as there may be.
+    /// Full if there are as many rows as there may be.
     fn full(&self) -> Option<CloseFault>
         ensures { result ≡
             (if nat_le most_iterations (length self.now.rows) then Some CloseFault.Full else None) }

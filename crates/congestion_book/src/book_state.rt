@@ -1,4 +1,4 @@
-//! What a congestion book answers.
+//! The queries on a congestion book.
 
 ghost use Rattle.std.specs.Prelude.{◌≡◌, ◌↔◌, ◌+◌, ◌^◌, ◌<◌, ◌≤◌, true, length, get_or, Some, None, MatchOption};
 ghost use Rattle.route_tree.specs.Rows.{pairs_of};
@@ -28,8 +28,8 @@ impl Book {
         &self.problem
     }
 
-    /// The recorded tree of a net, which routes it. None where it has none, or where there is no
-    /// such net.
+    /// The recorded tree of a net, which routes it. None if it has none, or if there is no such
+    /// net.
     pub fn tree(&self, net: u32) -> Option<&Tree>
         ensures exact { MatchOption result (list_in self.now.lists net ≡ None)
             (λ t. list_in self.now.lists net ≡ Some (pairs_of t.now)) }
@@ -61,8 +61,8 @@ impl Book {
         self.history.histories().get(id)
     }
 
-    /// The rows of the closed iterations, the earliest first: of each its overused nodes,
-    /// ascending, with by how many nets.
+    /// The rows of the closed iterations, the earliest first. Each has the overused nodes,
+    /// ascending, and by how many nets each of them is overused.
     pub fn rows(&self) -> &[OveruseRow]
         ensures exact { result.now ≡ self.now.rows }
         ensures few { length self.now.rows ≤ most_iterations }
@@ -100,8 +100,8 @@ impl Book {
         self.routes.unrouted
     }
 
-    /// By how many nets more than they have room for all nodes are used together. It looks at every
-    /// node.
+    /// The overuse of all nodes together: by how many nets more than they have room for they are
+    /// used. It looks at every node.
     pub fn excess(&self) -> u64
         ensures { result ≡ excess_in self.now.problem self.now.lists }
     {

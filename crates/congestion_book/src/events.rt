@@ -26,7 +26,7 @@ pub enum Event {
     Close,
 }
 
-/// The answer to an event; of a refused commit without the tree.
+/// The answer to an event; that to a refused commit is without the tree.
 #[derive(Clone, Copy, Debug, PartialEq, Eq)]
 pub enum Reply {
     Drawn(Result<Option<u32>, DrawFault>),
@@ -38,8 +38,8 @@ pub enum Reply {
 /// Why a list of events was not run to its end.
 #[derive(Clone, Copy, Debug, PartialEq, Eq, Error)]
 pub enum RunFault {
-    /// Memory ran out at an event that takes some, or ahead of them all. So many events, the first
-    /// ones, stand, and no other.
+    /// Memory ran out at an event that takes some, or before all events. This many events, the
+    /// first ones, happened, and no other.
     #[error("memory ran out after {0} events")]
     Memory(usize),
 }
@@ -98,7 +98,7 @@ impl Book {
         }
     }
 
-    /// Commits a tree, which is let go where it is refused.
+    /// Commits a tree, which is dropped if it is refused.
     fn commit_alone(&mut self, worker: u32, net: u32, tree: Tree) -> Result<(), CommitFault>
         ensures step { Commits self.old worker net (pairs_of tree) result self.new }
         ensures sound { IsSound self.new }

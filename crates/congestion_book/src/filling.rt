@@ -12,7 +12,7 @@ use node_cost::{Counts, View};
 use route_tree::Row;
 use routing_problem::Device;
 
-/// Whether a node stands in this row of a tree.
+/// Whether a node is in this row of a tree.
 #[tactic(auto, using(crate::proofs::Filled::stands_there))]
 fn stands_at(own: &[Row], row: usize, id: u32) -> bool
     ensures { result ≡ true → stands_in own.now id ≡ true }
@@ -20,15 +20,14 @@ fn stands_at(own: &[Row], row: usize, id: u32) -> bool
     row < own.len() && own[row].node == id
 }
 
-/// Whether a node stands in a row of a tree.
+/// Whether a node is in a row of a tree.
 fn stands_in(own: &[Row], id: u32) -> bool
     ensures { result ≡ stands_in own.now id }
 {
     own.iter().any(|row| row.node == id)
 }
 
-/// What a net whose tree has these rows adds to the use of a node, which stands in this one of them
-/// more often than not.
+/// What a net whose tree has these rows adds to the use of a node, which is usually in this row.
 fn own_use(own: &[Row], row: usize, id: u32) -> u32
     ensures { result ≡ one_if (stands_in own.now id) }
 {
@@ -36,7 +35,7 @@ fn own_use(own: &[Row], row: usize, id: u32) -> u32
 }
 
 /// Whether no more other nets use a node than the view shows, as far as that is seen without going
-/// over the tree, in which the node may stand in this row.
+/// over the tree, where the node may be in this row.
 fn none_came(view: &View, own: &[Row], counts: &Counts, row: usize, id: u32) -> bool
     requires seen { id < length view.now }
     requires there { id < length counts.now }
@@ -48,8 +47,8 @@ fn none_came(view: &View, own: &[Row], counts: &Counts, row: usize, id: u32) -> 
 }
 
 /// Whether a node with so much room is full by these counts without the net's own, and was not by
-/// the view. The tree, in which it may stand in this row, is gone over only where the counts with
-/// the net's own fill the node.
+/// the view. The tree, where it may be in this row, is gone over only if the counts with the net's
+/// own fill the node.
 #[tactic(auto, using(crate::proofs::Filled::few_there, crate::proofs::Filled::was_filled, crate::proofs::Filled::filled_now))]
 fn fills_room(view: &View, own: &[Row], counts: &Counts, row: usize, id: u32, room: u32) -> bool
     requires seen { id < length view.now }
@@ -68,8 +67,8 @@ fn fills_room(view: &View, own: &[Row], counts: &Counts, row: usize, id: u32, ro
     room <= count - own_use(own, row, id)
 }
 
-/// Whether a node is full by these counts without the net's own, and was not by the view. It may
-/// stand in this row of the tree.
+/// Whether a node is full by these counts without the net's own, and was not by the view. It may be
+/// in this row of the tree.
 #[tactic(auto, using(crate::proofs::Filled::not_filled, crate::proofs::Filled::outside, crate::proofs::Filled::none_came, crate::proofs::Filled::by_room))]
 fn is_filled(
     view: &View,
@@ -97,7 +96,8 @@ fn is_filled(
 }
 
 /// Whether some node of these rows is full by these counts without the net's own, and was not by
-/// the view. The net's own tree, of which most rows stand where they do here, has the other rows.
+/// the view. The other rows are those of the net's own tree, most of them in the same places as
+/// here.
 pub(crate) fn any_filled(
     view: &View,
     device: &Device,

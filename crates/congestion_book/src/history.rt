@@ -11,8 +11,8 @@ use std::alloc::{AllocError, Global};
 use std::marker::Model;
 use std::sync::Arc;
 
-/// The nodes that were overused when an iteration was closed, ascending, each with by how many
-/// nets. Contracts see the list.
+/// The nodes that were overused when an iteration was closed, ascending, each with its overuse.
+/// Contracts see the list.
 #[derive(Debug, Drop)]
 pub struct OveruseRow {
     pub amounts: Vec<(u32, u32)>,
@@ -85,7 +85,7 @@ impl History {
         })
     }
 
-    /// What the histories are with one more row.
+    /// The histories with one more row.
     pub(crate) fn with_row(
         &self,
         alloc: Global,
@@ -103,7 +103,7 @@ impl History {
         Ok(Arc::new(alloc, histories)?)
     }
 
-    /// Has one more row, and the histories that follow.
+    /// Adds one more row, and the histories that follow.
     pub(crate) fn append(&mut self, row: OveruseRow, histories: Arc<Histories, Global>)
         requires few { length self.old.rows < most_iterations }
         requires bounded { (a : ℕ) → amount_in row a ≤ 65535 }

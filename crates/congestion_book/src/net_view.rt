@@ -13,7 +13,7 @@ use route_tree::Row;
 use std::alloc::Global;
 use std::sync::Arc;
 
-/// One net less uses a node.
+/// One fewer net uses a node.
 #[tactic(auto, using(crate::proofs::Seeing::leaves_one))]
 fn leave_node(view: &mut View, id: u32)
     requires there { id < length view.old }
@@ -23,7 +23,7 @@ fn leave_node(view: &mut View, id: u32)
     view.leave_out(id);
 }
 
-/// One net less uses each node of a tree.
+/// One fewer net uses each node of a tree.
 pub(crate) fn leave_rows(view: &mut View, rows: &[Row])
     requires there { All (λ r. r.node < length view.old) rows.now }
     requires used { (a : ℕ) → times_in (nodes_of rows.now) a ≤ others_in view.old a }
@@ -34,7 +34,8 @@ pub(crate) fn leave_rows(view: &mut View, rows: &[Row])
     }
 }
 
-/// The view becomes that by these counts and histories without the net whose tree has these rows.
+/// The view becomes the one by these counts and histories without the net whose tree has these
+/// rows.
 #[tactic(auto, using(node_cost::proofs::Views::length_seen, node_cost::proofs::Views::others_at))]
 pub(crate) fn show(
     view: &mut View,

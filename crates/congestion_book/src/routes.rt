@@ -1,4 +1,4 @@
-//! The recorded trees, and what is counted of them.
+//! The recorded trees, and what is counted over them.
 
 ghost use Rattle.std.specs.Prelude.{◌≡◌, ◌<◌, ◌≤◌, ◌+◌, ℕ, true, All, length, set, replicate, Some, None, is_none, IfOk};
 ghost use Rattle.std.specs.Arc.{arc_value};
@@ -35,7 +35,7 @@ pub(crate) struct Routes {
     pub(crate) usage: Usage,
 }
 
-/// The rows of a tree; none where there is no tree.
+/// The rows of a tree; none if there is no tree.
 pub(crate) fn rows_of(tree: &Option<Tree>) -> &[Row]
     ensures rows { result.now ≡ rows_of tree.now }
     ensures tree { IsTreeOrNone tree.now }
@@ -57,7 +57,7 @@ pub(crate) fn are_same(one: &Option<Tree>, other: &Option<Tree>) -> bool
     }
 }
 
-/// 1 where there is no tree, else 0.
+/// 1 if there is no tree, else 0.
 fn count_none(tree: &Option<Tree>) -> u32
     ensures { result ≡ one_if (is_none tree.now) }
 {
@@ -82,7 +82,7 @@ impl Routes {
         })
     }
 
-    /// Gives the recorded tree of a net, or none, for this one, or none. Where both are the same
+    /// Replaces the recorded tree of a net, or none, by this one, or none. If both are the same
     /// nothing changes.
     pub(crate) fn exchange(&mut self, problem: &Problem, net: u32, tree: &mut Option<Tree>)
         requires there { net < length problem.now.nets }
@@ -110,7 +110,7 @@ impl Routes {
 }
 
 impl Routes {
-    /// The view becomes that by what is counted and by these histories, with no net left out.
+    /// The view becomes the one by what is counted and by these histories, with no net left out.
     pub(crate) fn show_all(&self, view: &mut View, histories: &Arc<Histories, Global>)
         requires size { length view.old ≡ length self.now.usage.counts }
         requires histories { length (arc_value histories.now) ≡ length self.now.usage.counts }
@@ -165,7 +165,7 @@ impl Routes {
     }
 }
 
-/// No tree for any of so many nets.
+/// No tree for any of this many nets.
 fn no_trees(alloc: Global, nets: u32) -> Result<Vec<Option<Tree>>, AllocError>
     ensures { IfOk result (λ ts. ts.items ≡ replicate nets None) }
 {

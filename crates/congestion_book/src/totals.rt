@@ -14,7 +14,7 @@ use crate::routes::{are_same, rows_of};
 use node_cost::View;
 use route_tree::{Row, Tree};
 
-/// One net more uses a node.
+/// One more net uses a node.
 #[tactic(auto, using(crate::proofs::Seeing::leaves_back))]
 fn return_node(view: &mut View, id: u32)
     requires there { id < length view.old }
@@ -24,7 +24,7 @@ fn return_node(view: &mut View, id: u32)
     view.take_back(id);
 }
 
-/// One net more uses each node of a tree.
+/// One more net uses each node of a tree.
 fn return_rows(view: &mut View, rows: &[Row])
     requires there { All (λ r. r.node < length view.old) rows.now }
     requires room { (a : ℕ) → others_in view.old a + times_in (nodes_of rows.now) a ≤ 65535 }

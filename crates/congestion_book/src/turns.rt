@@ -56,7 +56,7 @@ fn free_all(holders: &mut Vec<Option<u32>>)
 }
 
 impl Turns {
-    /// No turns at so many nets.
+    /// No turns at this many nets.
     pub(crate) fn new(alloc: Global, nets: u32) -> Result<Turns, AllocError>
         requires { nets ≤ 65535 }
         ensures { IfOk result (λ t. t ≡ first_table nets) }
@@ -127,7 +127,7 @@ impl Turns {
         None
     }
 
-    /// Opens the next iteration, where each net had its turn in this one.
+    /// Opens the next iteration. Each net had its turn in this one.
     pub(crate) fn open_next(&mut self, made: Vec<Turn>)
         requires done { IsFirstWaiting self.old.turns (length self.old.holders) None }
         requires few { length self.old.earlier < most_iterations }

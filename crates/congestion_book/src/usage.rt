@@ -21,7 +21,7 @@ pub(crate) struct Usage {
     pub(crate) overused: u32,
 }
 
-/// Whether so many nets are just as many as a node has room for: one at least.
+/// Whether a node has room for exactly this many nets. It has room for one at least.
 #[tactic(auto, using(crate::proofs::Counting::some_room, route_report::proofs::Overusing::room_is, route_report::proofs::Overusing::no_room))]
 fn fills(device: &Device, id: u32, count: u32) -> bool
     requires limits { IsFabric device.now }
@@ -37,7 +37,7 @@ fn fills(device: &Device, id: u32, count: u32) -> bool
     }
 }
 
-/// 1 where the test holds, else 0.
+/// 1 if the test holds, else 0.
 pub(crate) fn one_if(test: bool) -> u32
     ensures { result ≡ one_if test }
 {
@@ -57,7 +57,7 @@ impl Usage {
         })
     }
 
-    /// One net more uses a node.
+    /// One more net uses a node.
     #[tactic(auto, using(crate::proofs::Counting::adds_over, crate::proofs::Counting::overused_few))]
     fn add_node(&mut self, device: &Device, id: u32)
         requires limits { IsFabric device.now }
@@ -74,7 +74,7 @@ impl Usage {
         self.counts.add_one(id);
     }
 
-    /// One net less uses a node.
+    /// One fewer net uses a node.
     #[tactic(auto, using(crate::proofs::Counting::takes_over, crate::proofs::Counting::takes_within))]
     fn take_node(&mut self, device: &Device, id: u32)
         requires limits { IsFabric device.now }
@@ -91,7 +91,7 @@ impl Usage {
         self.counts.take_one(id);
     }
 
-    /// One net more uses each node of a tree.
+    /// One more net uses each node of a tree.
     pub(crate) fn add_each(&mut self, device: &Device, rows: &[Row])
         requires limits { IsFabric device.now }
         requires each { length self.old.counts ≡ node_count_of device.now }
@@ -107,7 +107,7 @@ impl Usage {
         }
     }
 
-    /// One net less uses each node of a tree.
+    /// One fewer net uses each node of a tree.
     pub(crate) fn take_each(&mut self, device: &Device, rows: &[Row])
         requires limits { IsFabric device.now }
         requires each { length self.old.counts ≡ node_count_of device.now }
@@ -141,7 +141,8 @@ impl Usage {
         self.add_each(device, after);
     }
 
-    /// By how many nets more than it has room for a node is used: a node has room for one at least.
+    /// The overuse of a node: by how many nets more than it has room for it is used. A node has
+    /// room for one at least.
     #[tactic(auto, using(crate::proofs::Counting::some_room, route_report::proofs::Overusing::room_is, route_report::proofs::Overusing::no_room))]
     fn excess(&self, device: &Device, id: u32) -> u32
         requires limits { IsFabric device.now }
@@ -159,7 +160,8 @@ impl Usage {
         }
     }
 
-    /// By how many nets more than they have room for all nodes are used together.
+    /// The overuse of all nodes together: by how many nets more than they have room for they are
+    /// used.
     #[tactic(auto, using(crate::proofs::Counting::sum_next), unfolding(crate::specs::kept::Usage::excess_by))]
     pub(crate) fn total_excess(&self, device: &Device) -> u64
         requires limits { IsFabric device.now }
@@ -173,7 +175,7 @@ impl Usage {
         total
     }
 
-    /// The overused nodes, ascending, each with by how many nets.
+    /// The overused nodes, ascending, each with its overuse.
     #[tactic(auto, using(crate::proofs::Rows::row_next))]
     pub(crate) fn row(&self, alloc: Global, device: &Device) -> Result<Vec<(u32, u32)>, AllocError>
         requires limits { IsFabric device.now }

@@ -2,10 +2,10 @@
 
 use crate::draft::Draft;
 
-/// How often all corners are tried, at most. Three or four times are mostly enough.
+/// How often all corners are tried, at most. Three or four times are usually enough.
 const MOST_PASSES: u32 = 64;
 
-/// Flips a corner, and back where that isn't worth more. Whether it stays flipped.
+/// Flips a corner, and flips it back if that isn't worth more. Returns whether it stays flipped.
 fn try_corner(draft: &mut Draft, x: u32, y: u32) -> bool {
     let before = draft.worth();
     draft.flip(x, y);
@@ -16,7 +16,7 @@ fn try_corner(draft: &mut Draft, x: u32, y: u32) -> bool {
     is_better
 }
 
-/// Tries both ends of a place, while it is of the border. Whether one stays flipped.
+/// Tries both ends of a place, while it is of the border. Returns whether one stays flipped.
 fn try_place(draft: &mut Draft, low: (u32, u32), high: (u32, u32)) -> bool {
     let is_low = draft.region.parts(low, high) && try_corner(draft, low.0, low.1);
     let is_high = draft.region.parts(low, high) && try_corner(draft, high.0, high.1);

@@ -7,7 +7,7 @@ use crate::worth::Worth;
 use arch_file::Pin;
 use std::alloc::{AllocError, Global};
 
-/// What a draft keeps of a terminal.
+/// What a draft keeps for a terminal.
 #[derive(Clone, Copy, Debug)]
 pub(crate) struct Seen {
     /// The sides that the pins left to a sink reach.
@@ -51,7 +51,7 @@ pub(crate) struct Draft<'a> {
     nets: u32,
 }
 
-/// How many lack something, after one of them came to lack it or no longer lacks it.
+/// How many lack something, after one of them began or ceased to lack it.
 fn counted(count: u32, lacked: bool, lacks: bool) -> u32 {
     match (lacked, lacks) {
         (true, false) => count.saturating_sub(1),
@@ -69,7 +69,7 @@ fn lacks_after(lacks: Lacks, before: u8, after: u8) -> Lacks {
     }
 }
 
-/// The exits with those of one net more.
+/// The exits with those of one more net.
 fn with_net(mut exits: Exits, lacks: Lacks) -> Exits {
     match (lacks.inner == 0, lacks.outer == 0, lacks.any == 0) {
         (true, true, _) => exits.either = exits.either.saturating_add(1),
@@ -82,9 +82,9 @@ fn with_net(mut exits: Exits, lacks: Lacks) -> Exits {
 }
 
 /// How many nets of a source are cut, less the pins that are given up for it, at best. A net that
-/// isn't cut leaves by a pin of its own, on a side that all its sinks have. Of nets that share too
-/// few such pins the others are cut; or the pins are given up, and all of them are: less the pins
-/// that comes to the same.
+/// isn't cut leaves by a pin of its own, on a side that all its sinks have. If nets share too few
+/// such pins, the others are cut; or the pins are given up, and all of the nets are cut: less the
+/// pins, that is the same number.
 fn share_of(outlets: Outlets, exits: Exits) -> u32 {
     let inner = outlets.inner.saturating_add(outlets.both);
     let outer = outlets.outer.saturating_add(outlets.both);

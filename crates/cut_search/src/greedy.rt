@@ -91,8 +91,8 @@ fn pins_given(draft: &Draft) -> u32 {
     count
 }
 
-/// By how many nets more than pins it pays to give up the pins of a terminal on these sides, where
-/// so many of its nets are cut before.
+/// By how many nets more than pins it pays to give up the pins of a terminal on these sides, if
+/// this many of its nets are cut before.
 fn gain(draft: &mut Draft, at: usize, terminal: Terminal, before: u32, sides: u8) -> u32 {
     draft.give(at, sides);
     let after = cut_at(draft, terminal);
@@ -102,7 +102,7 @@ fn gain(draft: &mut Draft, at: usize, terminal: Terminal, before: u32, sides: u8
         .saturating_sub(pins_on(draft, terminal, sides))
 }
 
-/// The best of three, each by its sides; none where all are 0.
+/// The best of three, each by its sides; none if all are 0.
 fn best_of(inner: u32, outer: u32, both: u32) -> u8 {
     if inner == 0 && outer == 0 && both == 0 {
         0
@@ -146,8 +146,8 @@ fn give_all(draft: &mut Draft, is_source: bool) {
     }
 }
 
-/// Gives up the pins that are worth it, first those of sources and then those of sinks. The nets
-/// that are cut then, less these pins, for the places.
+/// Gives up the pins that are worth it, first those of sources and then those of sinks. Returns the
+/// nets that are cut then, less these pins, for the places.
 pub(crate) fn give_worthy(draft: &mut Draft) -> Worth {
     give_all(draft, true);
     give_all(draft, false);

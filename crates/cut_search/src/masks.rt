@@ -27,7 +27,7 @@ pub(crate) struct Outlets {
     pub(crate) both: u32,
 }
 
-/// The mask where the test holds, else none.
+/// The mask if the test holds, else none.
 fn when(test: bool, mask: u8) -> u8 {
     if test { mask } else { 0 }
 }

@@ -83,7 +83,7 @@ pub(crate) fn lines(alloc: Global, extent: Extent) -> Result<Vec<Rectangle>, All
     Ok(all)
 }
 
-/// Where a part of so many columns or rows begins.
+/// Where a part of this many columns or rows begins.
 fn part(number: u32, count: u32) -> u32 {
     number.saturating_mul(count) / PARTS
 }
@@ -109,7 +109,7 @@ fn spans(alloc: Global, count: u32) -> Result<Vec<(u32, u32)>, AllocError> {
     Ok(spans)
 }
 
-/// Adds the rectangles of some columns with each span of rows, but lines.
+/// Adds the rectangles of some columns with each span of rows, except lines.
 fn push_rectangles(
     all: &mut Vec<Rectangle>,
     columns: (u32, u32),
@@ -126,7 +126,7 @@ fn push_rectangles(
     Ok(())
 }
 
-/// Adds the rectangles that begin and end where parts do, but lines.
+/// Adds the rectangles that begin and end where parts do, except lines.
 fn add_rectangles(
     alloc: Global,
     all: &mut Vec<Rectangle>,
@@ -140,8 +140,8 @@ fn add_rectangles(
     Ok(())
 }
 
-/// The indices of rectangles by what these are worth as regions, the most first; of equal ones the
-/// first. What is sorted with each is less the more it is worth.
+/// The indices of rectangles by what these are worth as regions, the most first; among equal ones
+/// the first. What is sorted with each is less the more it is worth.
 fn best_first(
     alloc: Global,
     draft: &mut Draft,
@@ -161,7 +161,7 @@ fn best_first(
 #[derive(Drop)]
 pub(crate) struct Starts {
     all: Vec<Rectangle>,
-    /// So many of them are lines, which come first.
+    /// This many of them are lines, which come first.
     lines: usize,
     order: Vec<(u64, usize)>,
 }

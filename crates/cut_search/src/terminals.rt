@@ -86,7 +86,7 @@ impl Terminals {
         Ok(terminals)
     }
 
-    /// No terminals yet of a problem.
+    /// A problem's terminals, none of them added yet.
     fn none(alloc: Global, problem: &Problem) -> Result<Terminals, AllocError> {
         let nx = problem.device().nx();
         let ny = problem.device().ny();
@@ -149,7 +149,7 @@ impl Terminals {
         Ok(())
     }
 
-    /// Adds an ending, where all before it in order were added.
+    /// Adds an ending, after all before it in order.
     fn add(&mut self, ending: Ending) -> Result<(), AllocError> {
         if !self.ends_with(ending) {
             self.begin(ending)?;

@@ -14,7 +14,7 @@ impl Worth {
             > u64::from(other.nets) * u64::from(self.places)
     }
 
-    /// The nets for each place, in millionths; 0 where there is no place.
+    /// The nets for each place, in millionths; 0 if there is no place.
     pub(crate) fn millionths(self) -> u64 {
         if self.places == 0 {
             return 0;

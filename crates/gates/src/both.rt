@@ -7,9 +7,9 @@ use congestion_book::Book;
 use route_tree::Routing;
 use routing_problem::Problem;
 
-/// Two gates as one: each call comes to the first, and then to the second. The schedule is the
-/// first's, where it has one. Turns are accepted where both accept them; contracts see what the
-/// first accepts.
+/// Two gates as one: each call goes to the first, and then to the second. The schedule is the
+/// first's, if it has one. Turns are accepted if both accept them; contracts see what the first
+/// accepts.
 #[derive(Clone, Copy, Debug)]
 pub struct BothGates<'a, A, B> {
     pub first: &'a A,

@@ -1,5 +1,5 @@
-//! What workers, the driver of a negotiation and a search of widths tell an onlooker, and what they
-//! ask it.
+//! What workers, the driver of a negotiation and a search of widths report to an onlooker, and what
+//! they ask it.
 
 ghost use Rattle.std.specs.Prelude.{IsTrue};
 
@@ -14,16 +14,16 @@ pub trait Gate {
     ghost use Rattle.std.specs.Prelude.{ℕ, List};
     ghost use Rattle.gates.specs.declared.schedule.ScheduledTurn.{ScheduledTurn};
 
-    /// The turns that it accepts of an iteration, which is counted from 1.
+    /// The turns that it accepts in an iteration, which is counted from 1.
     ghost accepted: { Self → ℕ → List ScheduledTurn → Type 0 };
 
     /// Before the first iteration of a negotiation of this problem.
     fn begins(&self, _problem: &Problem) {}
 
-    /// Before the first draw of an iteration, in which each of so many nets has its turn.
+    /// Before the first draw of an iteration, in which each of this many nets has its turn.
     fn opened(&self, _iteration: u32, _nets: u32) {}
 
-    /// The turns that the workers have to make in an iteration; none where they are free to.
+    /// The turns that the workers have to make in an iteration; none if they are free to.
     fn schedule(&self, _iteration: u32) -> Option<Schedule<'_>> {
         None
     }
@@ -35,11 +35,11 @@ pub trait Gate {
     /// are not reached.
     fn stuck(&self, _net: u32, _sink: u32) {}
 
-    /// After a worker found, when it came to make its turn at a net, that the others had filled a
-    /// node of its tree, and before it searches again.
+    /// After a worker found, when it was about to make its turn at a net, that the others had
+    /// filled a node of its tree, and before it searches again.
     fn looked(&self, _worker: u32, _net: u32) {}
 
-    /// After the first search for a net, before the worker comes to make its turn.
+    /// After the first search for a net, before the worker makes its turn.
     fn searched(&self, worker: u32, net: u32);
 
     /// After the last turn of an iteration, before it is closed: its turns in order. Whether the
@@ -47,8 +47,8 @@ pub trait Gate {
     fn accepts(&self, iteration: u32, turns: &[ScheduledTurn]) -> bool
         ensures { IsTrue result → accepted self.now iteration turns.now };
 
-    /// After an iteration was closed, with the book that it left: what is asked of it is looked up
-    /// then, and nothing where nothing is asked.
+    /// After an iteration was closed, with the book that it left. What is asked of the book is
+    /// looked up then, and nothing if nothing is asked.
     fn closed(&self, _iteration: u32, _book: &Book) {}
 
     /// After a negotiation that found this routing of the problem.

@@ -1,4 +1,4 @@
-//! An onlooker that there may be.
+//! An optional onlooker.
 
 use crate::gate::Gate;
 use crate::schedule::{Schedule, ScheduledTurn};
@@ -7,7 +7,7 @@ use congestion_book::Book;
 use route_tree::Routing;
 use routing_problem::Problem;
 
-/// Each call comes to the gate, where there is one.
+/// Each call goes to the gate, if there is one.
 impl<G: Gate> Gate for Option<G> {
     ghost use Rattle.std.specs.Prelude.{IfSome};
 

@@ -1,13 +1,13 @@
-//! What a search of widths tells of a trial.
+//! What a search of widths reports about a trial.
 
-/// What the trial of a width came to.
+/// The result of the trial of a width.
 #[derive(Clone, Copy, Debug, PartialEq, Eq)]
 pub enum TrialEnd {
-    /// A routing, after so many iterations.
+    /// A routing, after this many iterations.
     Routed {
         iterations: u32,
     },
-    /// After so many iterations, so many nets have no tree, or so many nodes are overused.
+    /// After this many iterations, this many nets have no tree, or this many nodes are overused.
     NotRouted {
         unrouted: u32,
         overused: u32,

@@ -1,5 +1,5 @@
-//! What the tree that a net had before costs now. It is a way to each sink, so no sink that is left
-//! costs more, and ways that do are not looked for.
+//! The present cost of the tree that a net had before. The tree has a way to each sink, so no sink
+//! that is left costs more, and the search looks for no way that does.
 
 ghost use Rattle.std.specs.Prelude.{◌≡◌, Some, true};
 ghost use Rattle.routing_problem.specs.Nodes.{is_wire_at, kind_of_node};
@@ -42,8 +42,8 @@ fn total(ground: &Ground<'_>, rows: &[Row], enters_output: bool) -> u128 {
     sum
 }
 
-/// The ceiling by a tree that the net had before. None where it had no tree, or one that is too
-/// dear to tell.
+/// The ceiling by a tree that the net had before. None if it had no tree, or one whose cost doesn't
+/// fit.
 pub(crate) fn ceiling_of<K: Key>(ground: &Ground<'_>, rows: &[Row], enters_output: bool) -> K {
     if rows.is_empty() {
         return K::greatest();
@@ -52,7 +52,7 @@ pub(crate) fn ceiling_of<K: Key>(ground: &Ground<'_>, rows: &[Row], enters_outpu
 }
 
 /// The ceiling after the first way from the source: none, if the way leaves it over another output
-/// pin than the tree did that the net had before.
+/// pin than the tree that the net had before.
 pub(crate) fn ceiling_after<K: Key>(ceiling: K, way: &[u32], rows: &[Row]) -> K {
     match (way.first(), rows.get(1)) {
         (Some(pin), Some(row)) if *pin == row.node => ceiling,

@@ -9,8 +9,8 @@ use std::alloc::{AllocError, Global};
 use std::marker::Model;
 use wave_queue::Key;
 
-/// The cost of a way to a node, which is the greatest that there is where none was found, and the
-/// node before it on that way. At a start the cost is 0, and it is itself that node.
+/// The cost of a way to a node, and the node before it on that way. The cost is the greatest that
+/// there is if no way was found. At a start the cost is 0, and the node is its own predecessor.
 #[derive(Clone, Copy, Drop)]
 pub(crate) struct LabelRow<K> {
     pub(crate) cost: K,
@@ -29,7 +29,7 @@ fn blank<K: Key>() -> LabelRow<K>
     }
 }
 
-/// So many rows of nodes that are not reached.
+/// This many rows of nodes that are not reached.
 fn blank_rows<K: Key>(alloc: Global, nodes: usize) -> Result<Vec<LabelRow<K>>, AllocError>
     ensures count { IfOk result (λ rows. length rows.items ≡ nodes) }
     ensures blank { IfOk result (λ rows.
@@ -43,7 +43,7 @@ fn blank_rows<K: Key>(alloc: Global, nodes: usize) -> Result<Vec<LabelRow<K>>, A
     Ok(rows)
 }
 
-/// Takes the labels of these nodes off.
+/// Removes the labels of these nodes.
 fn take_off<K: Key>(rows: &mut Vec<LabelRow<K>>, nodes: &[u32])
     requires within { All (λ node. node < length rows.old.items) nodes.now }
     requires fits { All (λ row. K.value row.cost ≤ K.greatest) rows.old.items }
@@ -93,7 +93,7 @@ impl<K: Key> Model for Labels<K> {
 }
 
 impl<K: Key> Labels<K> {
-    /// None of so many nodes is reached.
+    /// Labels for this many nodes, none of them reached.
     pub(crate) fn new(alloc: Global, nodes: usize) -> Result<Labels<K>, AllocError>
         ensures { IfOk result (λ l. l ≡ replicate nodes unreached) }
     {
@@ -151,7 +151,7 @@ impl<K: Key> Labels<K> {
         };
     }
 
-    /// Takes all labels off.
+    /// Removes all labels.
     pub(crate) fn clear(&mut self)
         ensures { self.new ≡ replicate (length self.old) unreached }
     {

@@ -40,17 +40,17 @@ impl<'a> OldTree<'a> {
     }
 }
 
-/// A tree from a net's source to all of its sinks inside its box, each way added to it one of least
-/// cost. A way costs what its nodes cost to enter, of equal ones the least-numbered nodes are taken
-/// first, and a node is entered from the least-numbered that leads there.
+/// A tree from a net's source to all of its sinks inside its box. Each way added to it is one of
+/// least cost. A way costs what its nodes cost to enter. Among equal ones the least-numbered nodes
+/// are taken first, and a node is entered from the least-numbered node that leads there.
 ///
-/// The search is faster by the tree that the net had before. What it finds depends on it only if
-/// the net keeps to it: of equal ways, a node is then entered from the node before it on that tree,
-/// if one of them is over that.
+/// The tree that the net had before makes the search faster. What the search finds depends on that
+/// tree only if the net keeps to it: among equal ways, a node is then entered from the node before
+/// it on that tree, if one of them is over that node.
 ///
 /// # Errors
 ///
-/// ViewSize exactly where the view's length is not the node count; Memory.
+/// ViewSize exactly if the view's length is not the node count; Memory.
 pub fn route_net(
     alloc: Global,
     prepared: &PreparedProblem,
@@ -84,9 +84,10 @@ pub fn route_net(
     Ok(found)
 }
 
-/// The tree of a net in the narrow keys: by the tree that it had before, if it had one; and again
-/// without that, where it isn't known then whether there is a tree. None where it still isn't. Both
-/// keep to the tree `kept` where other ways cost the same.
+/// The tree of a net in the narrow keys. The search uses the tree that the net had before, if it
+/// had one. If it isn't known then whether there is a tree, the net is searched for again without
+/// that one. None if it still isn't known. Both searches keep to the tree `kept` where other ways
+/// cost the same.
 fn grow_narrow<K: Key>(
     alloc: Global,
     ground: &Ground<'_>,
@@ -124,7 +125,7 @@ fn grow_wide(
     Ok(found.unwrap())
 }
 
-/// The tree of a net in a scratch, which is made to fit. None where it isn't known whether there is
+/// The tree of a net in a scratch, which is made to fit. None if it isn't known whether there is
 /// one.
 fn grow_in<K: Key>(
     alloc: Global,
@@ -142,7 +143,7 @@ fn grow_in<K: Key>(
     grow_tree(alloc, ground, scratch, before)
 }
 
-/// A tree from the source to all of the sinks, each way added to it one of least cost. None where
+/// A tree from the source to all of the sinks. Each way added to it is one of least cost. None if
 /// it isn't known whether there is one, since a way may have been left out.
 pub(crate) fn grow_tree<K: Key>(
     alloc: Global,
@@ -179,9 +180,9 @@ fn first_sink(ground: &Ground<'_>) -> u32
     sinks[0]
 }
 
-/// Lets the wave start at the source. Where that leads to one output pin alone, adds the first way
-/// already: all ways lead over the pin, and the wave starts there, so that it needn't begin anew
-/// after the first way. False where there is no way.
+/// Lets the wave start at the source. If the source leads to one output pin only, adds the first
+/// way already: all ways lead over the pin, and the wave starts there, so that it needn't begin
+/// anew after the first way. False if there is no way.
 fn begin<K: Key>(
     ground: &Ground<'_>,
     scratch: &mut WaveScratch<K>,
@@ -216,7 +217,7 @@ fn only_of(list: &[u32]) -> Option<u32>
     if list.len() == 1 { Some(list[0]) } else { None }
 }
 
-/// The output pin to which the source leads, if it leads to no other, and that is inside the box.
+/// The output pin to which the source leads, if it leads to no other and the pin is inside the box.
 fn only_output(ground: &Ground<'_>, next: &mut SmallVec<u32, 8>) -> Result<Option<u32>, AllocError>
     ensures { IfOk result (λ found. IfSome found (IsOnlyOutput ground.now)) }
 {
@@ -260,8 +261,8 @@ fn add_first_way<K: Key>(
     Ok(true)
 }
 
-/// Attaches the way to a sink that was taken to the source: the node from which the wave came to
-/// it, and the nodes on the way.
+/// Attaches the way to a taken sink at the source: the node from which the wave reached the sink,
+/// and the nodes on the way.
 fn attach_first<K: Key>(
     ground: &Ground<'_>,
     scratch: &mut WaveScratch<K>,
@@ -326,9 +327,9 @@ fn add_way<K: Key>(
     Ok(true)
 }
 
-/// After the first way the source is no start any more, and the wave begins anew where it started
-/// there. If that way leaves the source over another pin than the tree before, what that tree costs
-/// is no ceiling any more.
+/// After the first way the source is no longer a start, and a wave that started there begins anew.
+/// If that way leaves the source over another pin than the earlier tree, the cost of that tree is
+/// no longer a ceiling.
 fn leave_source<K: Key>(
     ground: &Ground<'_>,
     wave: &mut Wave<K>,

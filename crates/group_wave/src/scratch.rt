@@ -23,7 +23,7 @@ pub(crate) struct WaveScratch<K: Key> {
 }
 
 impl<K: Key> WaveScratch<K> {
-    /// For so many nodes and groups.
+    /// A scratch for this many nodes and groups.
     pub(crate) fn new(
         alloc: Global,
         nodes: usize,
@@ -40,7 +40,7 @@ impl<K: Key> WaveScratch<K> {
     }
 }
 
-/// Makes it one for so many nodes and groups, where it is for others.
+/// Makes it fit this many nodes and groups, if it is for others.
 pub(crate) fn make_fit<K: Key>(
     alloc: Global,
     scratch: &mut WaveScratch<K>,
@@ -75,11 +75,11 @@ impl Model for Scratch {
 }
 
 impl Scratch {
-    /// For the nets of a problem.
+    /// A scratch for the nets of a problem.
     ///
     /// # Errors
     ///
-    /// Where memory runs out.
+    /// If memory runs out.
     pub fn new(alloc: Global, prepared: &PreparedProblem) -> Result<Scratch, AllocError>
         ensures { IfOk result (λ scratch. scratch ≡ node_count_of prepared.now.device) }
     {

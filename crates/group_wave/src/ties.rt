@@ -1,5 +1,5 @@
 //! Which of several ways of equal cost a net keeps: that of the tree to which it keeps, or else the
-//! one over the least node. Each of them is right, so contracts say little of it.
+//! one over the least node. Each of them is right, so contracts say little about it.
 
 ghost use Rattle.std.specs.Prelude.{◌≡◌, ◌<◌, IfSome};
 ghost use Rattle.std.specs.Int.{bit_at};
@@ -83,7 +83,7 @@ impl Ties {
         Ok(())
     }
 
-    /// From now on a net of so many nodes keeps to this tree, or to none if it has no rows.
+    /// From now on a net of this many nodes keeps to this tree, or to none if it has no rows.
     pub(crate) fn keep_to(&mut self, rows: &[Row], nodes: usize) -> Result<(), AllocError> {
         self.forget();
         if rows.is_empty() {
@@ -122,7 +122,8 @@ impl Ties {
         }
     }
 
-    /// From which of these tracks of a group a pin is entered: that of the tree, or else the least.
+    /// The one of these tracks of a group from which a pin is entered: that of the tree, or else
+    /// the least.
     #[tactic(auto, using(crate::proofs::Tapped::first_one))]
     pub(crate) fn track(&self, group: &Group, pin: u32, tracks: u64) -> u32
         requires { 0 < tracks }

@@ -32,7 +32,7 @@ pub(crate) struct Wave<K: Key> {
     ceiling: K,
     /// Whether a way may have been left out, since its cost doesn't fit or is above the ceiling.
     left_out: bool,
-    /// Which of ways of equal cost is kept.
+    /// Which of several ways of equal cost is kept.
     ties: Ties,
 }
 
@@ -48,7 +48,7 @@ impl<K: Key> Model for Wave<K> {
     ghost invariant = { IsWaveInside K.value K.greatest };
 }
 
-/// A cost as a ceiling. Where all costs fit there is none.
+/// A cost as a ceiling. There is none if all costs fit.
 fn as_ceiling<K: Key>(cost: K) -> K
     ensures { FAR ≤ K.greatest → K.greatest ≤ K.value result }
 {
@@ -59,7 +59,7 @@ fn as_ceiling<K: Key>(cost: K) -> K
     }
 }
 
-/// What a way on costs at least, over so many wires and an input pin.
+/// A lower bound on the cost of the rest of a way, over this many wires and an input pin.
 fn bound_over<K: Key>(wires: u32) -> K
     ensures { K.value result ≤ left_over wires }
 {
@@ -111,8 +111,8 @@ impl<K: Key> Wave<K> {
         self.labels.set_parent(node, parent);
     }
 
-    /// Of ways that cost the same keeps the one that the ties prefer, where none costs less than
-    /// the one that is offered; and notes that it is left out where it doesn't fit.
+    /// Keeps the way that the ties prefer among those that cost the same, if none costs less than
+    /// the offered one. If the offered one doesn't fit, notes that it is left out.
     fn keep_least(&mut self, node: u32, parent: u32, row: LabelRow<K>, cost: K)
         requires there { node < length self.old.labels }
         requires row { label_of K.value K.greatest row ≡ label_at self.old node }
@@ -145,7 +145,7 @@ impl<K: Key> Wave<K> {
         self.left_out = true;
     }
 
-    /// How many wires lead on from one of a group to the nearest sink, at least.
+    /// A lower bound on how many wires lead on from one of a group to the nearest sink.
     #[inline(always)]
     fn wires_left(&mut self, ground: &Ground<'_>, group: u32) -> u32
         requires wave { IsWave ground.now self.old }

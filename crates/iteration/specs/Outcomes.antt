@@ -1,4 +1,4 @@
--- What a negotiation comes to.
+-- The outcome of a negotiation.
 use Rattle.std.specs.Prelude.{◌≡◌, ℕ, ◌+◌, ◌-◌, ◌<◌, ◌≤◌, ◌++◌, ◌∷◌, [], false, length, None}
 use Rattle.routing_problem.specs.Problems.{RoutingProblem}
 use Rattle.node_cost.specs.Options.{RouterOptions, present_of}
@@ -13,9 +13,9 @@ use Rattle.iteration.specs.declared.outcome.Outcome.{Outcome}
 use Rattle.iteration.specs.declared.outcome.Outcome.TheVariants.{Success, NotRouted}
 use Rattle.iteration.specs.Progress.{IsReached, goes_on, unrouted_of, overused_of}
 
--- The outcome tells what a book holds: its trees, where each net has one and no node is overused;
--- else how many nets have none and how many nodes are overused. It tells of as many iterations as
--- the book has rows.
+-- The outcome says what a book holds: its trees, if each net has one and no node is overused; else
+-- how many nets have none and how many nodes are overused. It has as many iterations as the book
+-- has rows.
 abbrev pub IsOutcomeOf : Content → Outcome → Type 0
 IsOutcomeOf c (Success lists iterations) = (lists ≡ c.lists) × (iterations ≡ length c.rows) × (unrouted_of c ≡ 0) × (overused_of c ≡ 0)
 IsOutcomeOf c (NotRouted unrouted overused iterations) =
@@ -29,22 +29,22 @@ pub record EndsNegotiation (p : RoutingProblem) (o : RouterOptions) (workers : �
   pub ended : goes_on o last ≡ false
   pub reported : IsOutcomeOf last outcome
 
--- a book of this problem, with these options, after so many iterations
+-- a book of this problem, with these options, after this many iterations
 pub record IsBookAfter (p : RoutingProblem) (o : RouterOptions) (iterations : ℕ) (c : Content) : Type 0 where
   pub problem : c.problem ≡ p
   pub acc : c.acc ≡ o.acc
   pub rows : length c.rows ≡ iterations
 
--- What is left where a negotiation doesn't succeed within its limit: after so many iterations, some
+-- What is left if a negotiation doesn't succeed within its limit: after this many iterations, some
 -- nets have no tree, each of which is stuck in what it saw in the last iteration, after some of its
--- turns, or some nodes are overused. Before the limit it ends only where a net has no tree.
+-- turns, or some nodes are overused. Before the limit it ends only if a net has no tree.
 pub record IsLeft (p : RoutingProblem) (o : RouterOptions) (unrouted overused iterations : ℕ) : Type 0 where
   pub some : 1 ≤ unrouted + overused
   pub least : 1 ≤ iterations
   pub most : iterations ≤ o.iterations
   pub early : iterations < o.iterations → 1 ≤ unrouted
   -- the book before the last iteration, the one at its end, before it was closed, and the one that
-  -- it leaves: the first and the last are sound, and the last has the iteration's row besides
+  -- it leaves: the first and the last are sound, and the last also has the iteration's row
   pub before : Content
   pub between : Content
   pub book : Content
@@ -58,8 +58,8 @@ pub record IsLeft (p : RoutingProblem) (o : RouterOptions) (unrouted overused it
   pub over : overused_of book ≡ overused
   pub stuck : (i : ℕ) → i < length p.nets → list_in book.lists i ≡ None → IsStuckNet before between (present_of o iterations) o.bb i
 
--- A success is a routing of the problem: one legal list for each net, and no node overused. What
--- else is left is reported.
+-- A success is a routing of the problem: one legal list for each net, and no node overused.
+-- Otherwise what is left is reported.
 abbrev pub IsOutcome : RoutingProblem → RouterOptions → Outcome → Type 0
 IsOutcome p o (Success lists iterations) = IsRouted p lists × (1 ≤ iterations) × (iterations ≤ o.iterations)
 IsOutcome p o (NotRouted unrouted overused iterations) = IsLeft p o unrouted overused iterations

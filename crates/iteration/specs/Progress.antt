@@ -17,7 +17,7 @@ unrouted_of c = unrouted_in c.lists
 abbrev pub overused_of : Content → ℕ
 overused_of c = overused_in c.problem c.lists
 
--- One iteration, by so many workers: their reports agree with the book that they leave, its turns
+-- One iteration, by this many workers: their reports agree with the book that they leave, its turns
 -- are such as the rule allows, and it is then closed.
 pub record IsIteration (o : RouterOptions) (workers : ℕ) (allows : TurnRule) (old new : Content) : Type 0 where
   pub between : Content
@@ -32,8 +32,8 @@ pub record IsIteration (o : RouterOptions) (workers : ℕ) (allows : TurnRule) (
 abbrev pub goes_on : RouterOptions → Content → Bool
 goes_on o c = length c.rows == 0 || ((unrouted_of c == 0) && nat_lt 0 (overused_of c) && nat_lt (length c.rows) o.iterations)
 
--- where the negotiation of a problem may stand: at its beginning, or after one iteration more, by
--- all workers, where it goes on
+-- how far the negotiation of a problem may be: at its beginning, or after one more iteration, by
+-- all workers, if it goes on
 pub data IsReached (p : RoutingProblem) (o : RouterOptions) (workers : ℕ) (allows : TurnRule) : Content → Type 0 where
   begun : IsReached p o workers allows (opening p o.acc)
   followed : (old new : Content) → IsReached p o workers allows old → goes_on o old ≡ true → IsIteration o workers allows old new → IsReached p o workers allows new

@@ -1,4 +1,4 @@
-//! The answer to the last call, and the lines that a script expects of it.
+//! The answer to the last call, and the lines that a script expects in it.
 
 use crate::help::Written;
 use crate::shown::Shown;

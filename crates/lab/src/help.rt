@@ -37,7 +37,7 @@ fn put_names(out: &mut String) -> Result<(), Unanswered> {
     added(writeln!(out, "\n\n{END}"))
 }
 
-/// Adds a name after so many columns of a line, or on the next line if there is no room.
+/// Adds a name after this many columns of a line, or on the next line if there is no room.
 /// Returns the column after it.
 fn put_name(out: &mut String, column: usize, name: &str) -> Result<usize, Unanswered> {
     let next = column.saturating_add(1).saturating_add(name.len());

@@ -1,4 +1,4 @@
-//! The line after each answer, by which a program that drives `lab` knows where the answer ends.
+//! The line after each answer, which shows a program that drives `lab` where the answer ends.
 
 use lab_session::unanswered::Unanswered;
 use std::alloc::Global;

@@ -23,7 +23,7 @@ const ROOM: usize = 65_536;
 /// The line that ends a text below a call.
 const END_OF_TEXT: &[u8] = b">>";
 
-/// The line that makes calls that lack memory or a thread be made again. It must come before all
+/// The line after which calls that lack memory or a thread are made again. It must come before all
 /// calls.
 const AGAIN: &str = "again";
 
@@ -38,9 +38,9 @@ const TEXT_PROMPT: &str = "  >> ";
 /// Which of the streams are terminals.
 #[derive(Clone, Copy)]
 pub struct Watched {
-    /// Standard input, whose script gets a prompt for each line.
+    /// Standard input; its script gets a prompt for each line.
     pub input: bool,
-    /// Standard output, where control characters are replaced.
+    /// Standard output; control characters are replaced there.
     pub output: bool,
 }
 
@@ -51,7 +51,7 @@ struct Script<'a, I> {
     input: I,
     /// The number of the line that was read last, counted from 1.
     line: u64,
-    /// Whether somebody types the lines, who gets prompts.
+    /// Whether somebody types the lines and gets prompts.
     is_typed: bool,
 }
 
@@ -235,8 +235,8 @@ impl<R: Runtime + Threads + Wait + Sync + AllocGlobal, I: BufRead> ScriptRun<'_,
         print!(self.rt; "{start}{mark}\n")
     }
 
-    /// Makes calls that lack memory or a thread be made again from now on. Refuses that after
-    /// another call.
+    /// Has calls that lack memory or a thread made again from now on. Refuses that after another
+    /// call.
     fn begin_again(&mut self, is_first: bool) -> IoResult<()> {
         if !is_first {
             return self.refuse(&LATE_AGAIN, AGAIN);

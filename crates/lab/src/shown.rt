@@ -28,7 +28,7 @@ impl Shown<'_> {
         }
     }
 
-    /// Returns the character that is shown for one of the text.
+    /// Returns the character that is shown for a character of the text.
     fn shown_as(&self, letter: char) -> char {
         if !letter.is_control() || (self.has_lines && letter == '\n') {
             letter

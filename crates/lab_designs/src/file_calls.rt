@@ -81,8 +81,8 @@ fn dump(files: &RunFiles, out: &mut String) -> Result<(), Unanswered> {
     put_room("words sink", files.words_room, out)
 }
 
-/// Adds the number of bytes of a file, and after how many its source fails, or `none` if there is
-/// no file.
+/// Adds the number of bytes of a file and the number after which its source fails, or `none` if
+/// there is no file.
 fn put_file(name: &str, file: &Option<RunText>, out: &mut String) -> Result<(), Unanswered> {
     match file {
         Some(text) => {
@@ -93,7 +93,7 @@ fn put_file(name: &str, file: &Option<RunText>, out: &mut String) -> Result<(), 
     }
 }
 
-/// Adds after how many bytes a source or sink fails, or that it doesn't.
+/// Adds the number of bytes after which a source or sink fails, or that it doesn't fail.
 fn put_room(name: &str, room: Option<usize>, out: &mut String) -> Result<(), Unanswered> {
     match room {
         Some(count) => writeln!(out, "{name} failing {count}")?,
@@ -102,7 +102,7 @@ fn put_room(name: &str, room: Option<usize>, out: &mut String) -> Result<(), Una
     Ok(())
 }
 
-/// Reads the number of bytes after which a sink is to fail, if it is, and adds `ok`.
+/// Reads the number of bytes after which a sink fails, if it is to fail, and adds `ok`.
 fn room(given: &[&str], out: &mut String) -> Result<Option<usize>, Unanswered> {
     let room = match given {
         [word] if *word == "whole" => None,

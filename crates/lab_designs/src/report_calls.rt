@@ -158,7 +158,7 @@ fn put_whole(figures: Figures, out: &mut String) -> Result<(), Unanswered> {
     put_maybe(out, figures.longest)
 }
 
-/// Adds a line each for the bends, wires and places of the nets.
+/// Adds a line for each of the bends, wires and places of the nets.
 fn put_net_figures(
     alloc: Global,
     problem: &Problem,

@@ -44,7 +44,7 @@ pub fn call(
     }
 }
 
-/// Adds what a word asks of a report.
+/// Adds what a word asks for in a report.
 fn with_word(form: ReportForm, word: &str) -> Result<ReportForm, Unanswered> {
     match word {
         "full" => Ok(ReportForm { full: true, ..form }),

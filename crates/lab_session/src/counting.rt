@@ -10,7 +10,7 @@ use std::sync::Wait;
 use std::sync::atomic::{AtomicU32, Ordering};
 
 /// Counts the nets that were drawn and those that were searched for. Records which workers did so,
-/// and the calls that the driver made.
+/// and the driver's calls.
 #[derive(Drop)]
 pub struct Counting<'a, R: Wait> {
     drawn: AtomicU32,

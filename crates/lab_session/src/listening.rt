@@ -1,4 +1,4 @@
-//! Gates that keep each call, one after the other.
+//! Gates that keep each call, in order.
 
 use crate::answer::added;
 use crate::unanswered::Unanswered;

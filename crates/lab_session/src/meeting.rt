@@ -59,8 +59,8 @@ impl Meeting {
         before != self.all() && before | flag(net) == self.all()
     }
 
-    /// Adds in how many iterations the nets met, how often a worker looked again in these, if one
-    /// did, and whether a worker gave up waiting.
+    /// Adds the number of iterations in which the nets met, how often a worker looked again in
+    /// these, if one did, and whether a worker gave up waiting.
     pub fn put(&self, out: &mut String) -> Result<(), Unanswered> {
         write!(out, "gate: met {} times", self.met.load(Ordering::SeqCst))?;
         let looked = self.looked.load(Ordering::SeqCst);

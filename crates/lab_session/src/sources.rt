@@ -96,7 +96,7 @@ fn named_file<'a>(given: &[&'a str]) -> Result<NamedFile<'a>, Unanswered> {
 }
 
 /// Returns the bytes of the file that a call names, or of the text below it. If the last words of
-/// the call give a number of bytes, the source fails after so many.
+/// the call give a number of bytes, the source fails after that many.
 pub fn source(rt: &(impl Runtime + AllocGlobal), call: Call<'_>) -> Result<Vec<u8>, Unanswered> {
     let NamedFile { name, left } = named_file(call.given)?;
     named_source(rt, name, call.text, left)

@@ -1,4 +1,4 @@
-//! The call that shows what the halves of a pair of gates hear.
+//! The call that shows which calls the two gates of a pair get.
 
 use congestion_book::Book;
 use lab_session::listening::{Heard, Listener};
@@ -71,8 +71,8 @@ pub fn call(
     }
 }
 
-/// Makes the calls that a text lists of a pair of gates, and adds what the two heard. The first one
-/// is no gate unless `has_first`.
+/// Makes the calls that a text lists of a pair of gates, and adds the calls that the two got. The
+/// first one is no gate unless `has_first`.
 fn show(
     rt: &(impl Wait + AllocGlobal),
     passed: Passed<'_>,
@@ -85,7 +85,7 @@ fn show(
     heard.put(out)
 }
 
-/// Makes the calls that a text lists of a pair of gates that keep what they hear.
+/// Makes the calls that a text lists of a pair of gates that keep their calls.
 fn listen<R: Wait>(
     alloc: Global,
     heard: &Heard<'_, R>,

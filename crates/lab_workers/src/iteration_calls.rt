@@ -20,7 +20,7 @@ use std::sync::Wait;
 use std::thread::Threads;
 use std::time::Clock;
 
-/// The refusal of a book in whose open iteration a net was drawn.
+/// The refusal of a book with a net drawn in its open iteration.
 const BEGUN: Unanswered = Unanswered::Refused("the open iteration is begun");
 
 /// Makes a call, and adds its answer.

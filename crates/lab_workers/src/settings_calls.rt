@@ -408,7 +408,7 @@ fn set_history(
     put(out, value)
 }
 
-/// Copies the counts into the other counts, which must be of as many nodes.
+/// Copies the counts into the other counts, which must have as many nodes.
 fn copy_counts(
     counts: &Option<Counts>,
     other: &mut Option<Counts>,

@@ -61,7 +61,7 @@ connection_at pins line b block p =
 unfoldable pub connections_of : List Pin → ℕ → ℕ → Block → List Connection
 connections_of pins line b block = filter_map (connection_at pins line b block) (numbers_below (length block.nets))
 
--- what stands past the last block
+-- what is past the last block
 abbrev pub no_block : Block
 no_block = record { kind = InputPad; name = []; nets = [] }
 

@@ -20,8 +20,8 @@ pub record IsTerminal (blocks : List Block) (t : Terminal) : Type 0 where
   pub there : t.block < length blocks
   pub class : is_some t.class ≡ is_logic_block (slice_index_or blocks t.block no_block).kind
 
--- a netlist keeps the limits, names are words and no two are one, and pins and terminals refer to
--- nets and blocks that are there
+-- a netlist keeps the limits, names are words and no two are the same, and pins and terminals refer
+-- to nets and blocks that are there
 pub record IsNetlist (n : Netlist) : Type 0 where
   pub few_blocks : length n.blocks ≤ 20000
   pub few_nets : length n.nets ≤ 65535

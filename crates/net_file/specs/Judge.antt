@@ -21,23 +21,23 @@ is_logic_block InputPad = false
 is_logic_block OutputPad = false
 is_logic_block LogicBlock = true
 
--- a line that stands by itself: an element with a name, names of global nets, or a subblock of a
--- logic block
+-- a valid line other than a pinlist: an element with a name, names of global nets, or a subblock of
+-- a logic block
 abbrev pub stands : Option BlockKind → List (List ℕ) → Bool
 stands block words =
     (is_element words && length words == 2)
     || (is_global words && nat_le 2 (length words))
     || (is_subblock words && option_map_or is_logic_block block false)
 
--- the line can't stand after those before it: after an element its pinlist stands, and nothing else
+-- the line can't follow those before it: the line after an element is its pinlist
 unfoldable pub is_bad_line : Option BlockKind → Option BlockKind → List (List ℕ) → Bool
 is_bad_line element block words = if is_some element then not (is_pinlist words) else not (stands block words)
 
--- the pinlist of an element has another number of names than the block has pins
+-- the pinlist of an element has more or fewer names than the block has pins
 unfoldable pub is_bad_count : ℕ → Option BlockKind → List (List ℕ) → Bool
 is_bad_count pins element words = option_map_or (λ kind. not (length words == pin_count pins kind + 1)) element false
 
--- the element has the name of a block before
+-- the element has the name of an earlier block
 unfoldable pub is_double : List (List ℕ) → List (List ℕ) → Bool
 is_double names words = is_element words && is_among names (name_in words)
 

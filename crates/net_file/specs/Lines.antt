@@ -7,7 +7,7 @@ use Rattle.net_file.specs.declared.terminal.BlockKind.{BlockKind}
 use Rattle.net_file.specs.declared.terminal.BlockKind.TheVariants.{InputPad, OutputPad, LogicBlock}
 use Rattle.net_file.specs.Names.{distinct}
 
--- the kind of block that an element's first word tells
+-- the kind of block that an element's first word gives
 unfoldable pub kind_of : List ℕ → Option BlockKind
 kind_of word =
     if is_text word (codes ".input") then Some InputPad

@@ -1,10 +1,10 @@
--- Names in order: a name is the list of its bytes, and two names are one only where all their bytes
--- are.
+-- Names in order: a name is the list of its bytes, and two names are the same only where all their
+-- bytes are.
 use Rattle.std.specs.Prelude.{◌≡◌, ℕ, ◌<◌, Bool, if◌then◌else◌, List, [], ◌∷◌, ◌++◌, length, Option, Some, fold, slice_index_or}
 use Rattle.std.specs.Str.{bytes_eq}
 use Rattle.std.specs.List.{list_any, position_from}
 
--- two names are one
+-- two names are the same
 abbrev pub same_name : List ℕ → List ℕ → Bool
 same_name a b = bytes_eq a b
 
@@ -28,6 +28,6 @@ with_names names new = fold with_name names new
 abbrev pub distinct : List (List ℕ) → List (List ℕ)
 distinct names = with_names [] names
 
--- no two of the names are one: each is found at its own place
+-- no two of the names are the same: each is found at its own place
 abbrev pub AreDifferent : List (List ℕ) → Type 0
 AreDifferent names = (n : ℕ) → n < length names → number_among names (slice_index_or names n []) ≡ Some n

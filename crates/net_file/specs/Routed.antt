@@ -3,7 +3,7 @@ use Rattle.std.specs.Prelude.{ℕ, Bool, false, not, ◌&&◌, nat_lt, List, [],
 use Rattle.net_file.specs.Blocks.{numbers_below}
 use Rattle.net_file.specs.Netlist.{Netlist, Net}
 
--- what stands past the last net
+-- what is past the last net
 abbrev pub no_net : Net
 no_net = record { name = []; global = false; driver = record { block = 0; class = None }; sinks = [] }
 

@@ -1,4 +1,4 @@
--- What the lines of a netlist have to fulfil together, net by net (VPR and T-VPack manual 4.30; the
+-- What the lines of a netlist must satisfy together, net by net (VPR and T-VPack manual 4.30; the
 -- order of the faults is this project's profile).
 use Rattle.std.specs.Prelude.{ℕ, Bool, not, ◌&&◌, ◌==◌, nat_lt, if◌then◌else◌, List, [], length, Option, None, Some, fold, slice_get, slice_index_or}
 use Rattle.std.specs.Option.{option_map_or, option_or}

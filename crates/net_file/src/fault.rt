@@ -17,13 +17,13 @@ pub enum NetFault {
     /// The text has no lines.
     #[error("{0}")]
     Text(TextFault),
-    /// The line is none that can stand there; at line 0, an element has no pinlist.
+    /// The line is not allowed there; at line 0, an element has no pinlist.
     #[error("line {0} can't stand there")]
     BadLine(u32),
-    /// A pinlist has another number of names than its block has pins.
+    /// A pinlist has more or fewer names than its block has pins.
     #[error("line {0} has another number of nets than the block has pins")]
     PinCount(u32),
-    /// A block before has the same name.
+    /// An earlier block has the same name.
     #[error("line {0} names a block that is there")]
     DoubleName(u32),
     /// Nothing drives the net.

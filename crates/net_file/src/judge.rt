@@ -50,8 +50,8 @@ fn has_subblocks(block: Option<BlockKind>) -> bool
     }
 }
 
-/// Whether the line stands by itself: an element with a name, names of global nets, or a subblock
-/// of a logic block.
+/// Whether the line is valid and no pinlist: an element with a name, names of global nets, or a
+/// subblock of a logic block.
 fn stands(block: Option<BlockKind>, words: &Words) -> bool
     ensures { result ≡ stands block words.now }
 {
@@ -60,7 +60,7 @@ fn stands(block: Option<BlockKind>, words: &Words) -> bool
         || (is_subblock(words) && has_subblocks(block))
 }
 
-/// Whether the line can't stand after those before it.
+/// Whether the line can't follow those before it.
 #[tactic(auto, unfolding(crate::specs::Judge::is_bad_line))]
 fn is_bad_line(element: Option<BlockKind>, block: Option<BlockKind>, words: &Words) -> bool
     ensures { result ≡ is_bad_line element block words.now }
@@ -72,7 +72,7 @@ fn is_bad_line(element: Option<BlockKind>, block: Option<BlockKind>, words: &Wor
     }
 }
 
-/// Whether the pinlist of an element has another number of names than the block has pins.
+/// Whether the pinlist of an element has more or fewer names than the block has pins.
 #[tactic(auto, unfolding(crate::specs::Judge::is_bad_count))]
 fn is_bad_count(pins: usize, element: Option<BlockKind>, words: &Words) -> bool
     ensures { result ≡ is_bad_count pins element words.now }
@@ -83,7 +83,7 @@ fn is_bad_count(pins: usize, element: Option<BlockKind>, words: &Words) -> bool
     }
 }
 
-/// Whether the element has the name of a block before.
+/// Whether the element has the name of an earlier block.
 #[tactic(auto, unfolding(crate::specs::Judge::is_double))]
 fn is_double<'a>(names: &Names<'a>, words: &Words<'_, 'a>) -> bool
     ensures { result ≡ is_double names.now words.now }
@@ -99,7 +99,7 @@ fn are_too_many(blocks: &Names, nets: &Names) -> bool
     blocks.len() > MOST_BLOCKS || nets.len() > MOST_NETS
 }
 
-/// The first fault of the line, the limits aside.
+/// The first fault of the line, apart from the limits.
 fn fault_of<'a>(seen: &Seen<'a>, pins: usize, words: &Words<'_, 'a>) -> Option<LineFault>
     ensures { result ≡ first_fault (is_bad_line seen.now.opened seen.now.latest words.now)
         (is_bad_count pins seen.now.opened words.now)

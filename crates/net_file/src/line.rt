@@ -6,14 +6,14 @@ ghost use Rattle.net_file.specs.Lines.{kind_of, kind_at, is_element, is_pinlist,
 use crate::terminal::BlockKind;
 use vpr_text::{Words, is_text};
 
-/// Whether the word stands for a pin that is connected to no net.
+/// Whether the word means a pin that is connected to no net.
 pub(crate) fn is_open(word: &[u8]) -> bool
     ensures { result ≡ is_open word.now }
 {
     is_text(word, "open")
 }
 
-/// The kind of block that an element's first word tells.
+/// The kind of block that an element's first word gives.
 #[tactic(auto, unfolding(crate::specs::Lines::kind_of))]
 fn kind_of(word: &[u8]) -> Option<BlockKind>
     ensures { result ≡ kind_of word.now }

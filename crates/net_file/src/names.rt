@@ -7,7 +7,7 @@ use std::alloc::{AllocError, Global};
 use std::collections::BTreeMap;
 use std::marker::Model;
 
-/// Names, each once; a name's number is its place among them. A name is found in a number of
+/// Names, each once; a name's number is its place among them. Finding a name takes a number of
 /// comparisons that grows with the logarithm of how many names there are.
 #[derive(Drop)]
 pub(crate) struct Names<'a> {
@@ -44,7 +44,7 @@ impl<'a> Names<'a> {
         self.list.len()
     }
 
-    /// Name number `n`; one of no bytes past the last name.
+    /// Name number `n`; past the last name, a name without bytes.
     pub(crate) fn name(&self, n: usize) -> &'a [u8]
         ensures { result.now ≡ slice_index_or self.now n [] }
     {

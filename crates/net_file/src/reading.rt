@@ -128,11 +128,12 @@ fn netlist_in<'a>(alloc: Global, source: &'a [u8], pins: &[Pin]) -> Result<Netli
 /// logic block has the pins of `arch`.
 ///
 /// A fault of the text comes first, then that of the first faulty line, then that of the least
-/// faulty net. Of the faults of one line or net it is the first in the order of `NetFault`.
+/// faulty net. If a line or net has several faults, the first in the order of `NetFault` is
+/// reported.
 pub fn parse<'a>(alloc: Global, source: &'a [u8], arch: &Arch) -> Result<Netlist<'a>, NetFault>
     // What is read is the netlist of the text.
     ensures found { IfOk result (λ n. ReadsBytes arch.now.pins source.now n) }
-    // A text has no other netlist, and one that has a netlist is read, unless memory runs out.
+    // A text has no other netlist, and a text that has a netlist is read, unless memory runs out.
     ensures only { (n : netlist.Netlist)
         → ReadsBytes arch.now.pins source.now n → Gives Memory (λ m. m) result (Ok n) }
     // Which fault it is.

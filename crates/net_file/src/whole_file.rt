@@ -1,4 +1,4 @@
-//! What the lines of a netlist have to fulfil together, net by net.
+//! What the lines of a netlist must satisfy together, net by net.
 
 ghost use Rattle.std.specs.Prelude.{◌≡◌};
 ghost use Rattle.std.specs.List.{list_any};

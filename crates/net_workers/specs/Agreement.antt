@@ -14,7 +14,7 @@ use Rattle.net_workers.specs.Searches.{AreFound}
 abbrev pub reported_turn : (worker : ℕ) → ReportEntry → Turn
 reported_turn worker e = turn_of worker e.net (is_none e.tree)
 
--- the book records the pairs of the entry's tree, or none where it has none
+-- the book records the pairs of the entry's tree, or none if it has none
 abbrev pub IsRecorded : Content → ReportEntry → Type 0
 IsRecorded c e = list_in c.lists e.net ≡ list_of_tree e.tree
 
@@ -23,7 +23,7 @@ pub record IsReportOf (c : Content) (worker : ℕ) (entries : List ReportEntry) 
   pub turns : filter (λ t. t.worker == worker) c.turns ≡ map (reported_turn worker) entries
   pub recorded : All (IsRecorded c) entries
 
--- The new book is the old one after an iteration of so many workers, with this present-congestion
+-- The new book is the old one after an iteration of this many workers, with this present-congestion
 -- factor and this margin of the boxes, and these are their reports.
 pub record Agrees (old new : Content) (present bb workers : ℕ) (reports : List (List ReportEntry)) : Type 0 where
   -- all but the open iteration is as it was
@@ -31,7 +31,7 @@ pub record Agrees (old new : Content) (present bb workers : ℕ) (reports : List
   -- each net had one turn, and none is held
   pub once : NameEachOnce (net_count new) new.turns
   pub free : (i : ℕ) → holder_in new.holders i ≡ None
-  -- there is one report for each worker, which tells of its turns
+  -- there is one report for each worker, which has its turns
   pub count : length reports ≡ workers
   pub known : All (λ t. t.worker < workers) new.turns
   pub reported : (w : ℕ) → w < workers → IsReportOf new w (get_or reports w [])

@@ -1,4 +1,4 @@
--- When a worker that comes to commit a tree looks and searches again (ours): where the others have
+-- When a worker that is about to commit a tree looks and searches again (ours): if the others have
 -- filled a node of the tree since it looked.
 use Rattle.std.specs.Prelude.{◌≡◌, ℕ, ◌==◌, nat_lt, Bool, true, false, ◌&&◌, List, length, Result, Ok, Err}
 use Rattle.route_tree.specs.declared.tree.Row.{Row}
@@ -17,7 +17,7 @@ use Rattle.net_workers.specs.Searches.{IsSeenIn}
 abbrev pub looks_again : Content → (net : ℕ) → NetView → List Row → Bool
 looks_again c net seen rows = nat_lt net (net_count c) && (length seen == node_total c) && have_filled c net seen rows
 
--- One hold of the lock: where the others have filled a node of the tree the worker looks again, and
+-- One hold of the lock: if the others have filled a node of the tree the worker looks again, and
 -- the book is as it was; else it commits.
 abbrev pub CommitsOrLooks : Content → NetView → (worker net : ℕ) → List Row → Result TurnOrLook CommitFault → Content → NetView → Type 0
 CommitsOrLooks old seen worker net rows (Ok Look) new sees = (looks_again old net seen rows ≡ true) × (new ≡ old) × (sees ≡ view_of old net)

@@ -26,7 +26,7 @@ ShowsNet c (Ok (Some net)) view = (net < net_count c) × IsSeenIn c net view
 ShowsNet c (Ok None) view = Unit {0}
 ShowsNet c (Err fault) view = Unit {0}
 
--- a tree that a search may find there, or none where the net is stuck
+-- a tree that a search may find there, or none if the net is stuck
 abbrev pub IsFoundIn : Space → Option (List Row) → Type 0
 IsFoundIn s (Some rows) = IsWhole s rows
 IsFoundIn s None = (sink : ℕ) × IsStuck s sink

@@ -56,7 +56,7 @@ pub(crate) fn open_turns(book: &Book) -> &[Turn]
 }
 
 impl<L: Round> Desk<L> {
-    /// Returns the desk of a book in whose open iteration nothing was drawn, and a share for each
+    /// Returns the desk of a book with nothing drawn in its open iteration, and a share for each
     /// worker.
     pub fn new(
         alloc: Global,

@@ -277,13 +277,13 @@ fn iterate_as<L: Logged + Send + Sync, R: Threads + Wait + Sync, G: Gate + Sync>
     Ok(book_and_reports(alloc, desk, row, options, gate)?)
 }
 
-/// Makes an iteration of a negotiation. This many workers draw the nets of the book, in whose open
-/// iteration nothing was drawn yet, search for their trees, and make a turn for each. If the gate
-/// has a schedule for the iteration, they make its turns. After the first iteration, a worker that
-/// is about to commit a tree looks and searches again if the others have filled a node of the tree,
-/// up to four times; and if there is little to do, only some of the workers work, at least four.
-/// The workers wait for one another at the book's lock, and the call waits for all of them. The
-/// book comes back sound, with the iteration still open, and with a report of each worker. The
+/// Makes an iteration of a negotiation. Nothing was drawn yet in the book's open iteration. This
+/// many workers draw the nets of the book, search for their trees, and make a turn for each. If the
+/// gate has a schedule for the iteration, they make its turns. After the first iteration, a worker
+/// that is about to commit a tree looks and searches again if the others have filled a node of the
+/// tree, up to four times; and if there is little to do, only some of the workers work, at least
+/// four. The workers wait for one another at the book's lock, and the call waits for all of them.
+/// The book comes back sound, with the iteration still open, and with a report of each worker. The
 /// turns and trees of the reports are those of the book.
 ///
 /// The workers search in the workspace, which is of the book's problem. They leave there what they

@@ -9,8 +9,8 @@ const MOST_NETS: u32 = 64;
 /// The number of draws in a worker's even share of the work.
 const DRAWS: u64 = 4;
 
-/// The work that is worth a thread. To search for so many rows takes several times as long as to
-/// start one.
+/// The work that is worth a thread. Searching for this many rows takes several times as long as
+/// starting one.
 const WORK_OF_THREAD: u64 = 400;
 
 /// The number of workers that get a thread however little work there is.

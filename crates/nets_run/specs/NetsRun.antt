@@ -10,7 +10,7 @@ abbrev pub PrintsLines : (out : Writing) → (text : List ℕ) → Result (Unit 
 PrintsLines out [] result = (result ≡ Ok tt) × TakesNothing out
 PrintsLines out (byte ∷ bytes) result = PrintsText out (byte ∷ bytes) tt result
 
--- A run of `nets`, memory aside: where its files say a placed design, the lines of its nets are
+-- A run of `nets`, memory aside: if its files say a placed design, the lines of its nets are
 -- printed.
 abbrev pub RunsNets : (out : Writing) → Result PlacedDesign AppFault → Result (Unit {0}) AppFault → Type 0
 RunsNets out = StopsOrGoesOn (TakesNothing out) (λ d. PrintsLines out (nets_text d.netlist d.problem))

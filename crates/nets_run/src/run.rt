@@ -15,7 +15,7 @@ use std::alloc::Global;
 use text_output::{ByteSink, Printer};
 use vpr_text::ByteSource;
 
-/// Prints the lines of the nets of a problem. There is one at least.
+/// Prints the lines of the nets of a problem. It has at least one.
 fn print_lines<W: ByteSink>(
     netlist: &Netlist<'_>,
     problem: &Problem,
@@ -50,7 +50,7 @@ fn print_nets<W: ByteSink>(design: &Design<'_>, out: &mut W) -> Result<(), AppFa
 
 /// Reads an architecture, a netlist and its placement in this order, each only if those before it
 /// have no fault. Prints a line for each net that is to be routed, with the numbers of its source
-/// and of its sinks on the device of the placement's array. Without such a net nothing is printed.
+/// and of its sinks on the device of the placement's array. Prints nothing if there is no such net.
 ///
 /// # Errors
 /// Each fault exactly when it comes first; only `Memory` is unspecified. The faults of the files

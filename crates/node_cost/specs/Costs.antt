@@ -2,7 +2,7 @@
 use Rattle.std.specs.Prelude.{ℕ, ◌+◌, ◌-◌, ◌*◌}
 use Rattle.node_cost.specs.declared.entry_cost.TheConstants.{UNIT_FACTOR}
 
--- what stands for a factor of 1: factors are in sixteenths
+-- the number that means a factor of 1: factors are in sixteenths
 abbrev pub unit_factor : ℕ
 unit_factor = UNIT_FACTOR
 

@@ -1,5 +1,5 @@
--- What a net sees of the others when it is routed: of each node how many other nets use it, and its
--- history.
+-- What a net sees of the others when it is routed: for each node how many other nets use it, and
+-- its history.
 use Rattle.std.specs.Prelude.{ℕ, List, get_or}
 
 -- how many other nets use the node, and its history

@@ -14,7 +14,7 @@ pub struct Counts {
     words: Vec<u64>,
     /// A table of all nodes, for numbers above 6.
     wide: Vec<u16>,
-    /// The blocks of 1,024 nodes of which one had its number in the table.
+    /// The blocks of 1,024 nodes in which a node had its number in the table.
     marks: Vec<bool>,
 }
 

@@ -3,7 +3,7 @@
 ghost use Rattle.std.specs.Prelude.{◌≡◌, ◌≤◌, ◌<◌, ◌+◌, ◌-◌, ◌*◌, ◌^◌};
 ghost use Rattle.node_cost.specs.Costs.{cost_of};
 
-/// What stands for a factor of 1: factors are in sixteenths.
+/// The number that means a factor of 1: factors are in sixteenths.
 pub const UNIT_FACTOR: u32 = 16;
 
 /// The greatest base cost of a node.

@@ -83,11 +83,11 @@ rank_of_kind Ipin = 3
 rank_of_kind Chanx = 4
 rank_of_kind Chany = 5
 
--- the two are one node
+-- the two are the same node
 unfoldable pub is_same : Node → Node → Bool
 is_same a b = (rank_of_kind a.kind == rank_of_kind b.kind && a.x == b.x) && (a.y == b.y && a.number == b.number)
 
--- the number of a node: how many nodes stand before it; none for what is no node
+-- the number of a node: how many nodes come before it; none if it is no node
 abbrev pub number_of : Fabric → Node → Option ℕ
 number_of f n = position (λ m. is_same m n) (nodes_of f)
 
@@ -107,7 +107,7 @@ label_of f n = label_by n.kind (is_block f n.x n.y)
 abbrev pub terminal_capacity : Fabric → Node → ℕ
 terminal_capacity f n = if is_block f n.x n.y then class_size f.architecture n.number else 1
 
--- a track is used by one net; the one node of a global channel's place stands for all its tracks
+-- a track is used by one net; the one node of a global channel's place represents all its tracks
 abbrev pub wire_capacity : Mode → ℕ → ℕ
 wire_capacity Detailed width = 1
 wire_capacity Global width = width

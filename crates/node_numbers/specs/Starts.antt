@@ -1,4 +1,4 @@
--- How many nodes stand before those of a kind, of a column and of a place.
+-- How many nodes come before those of a kind, of a column and of a place.
 use Rattle.std.specs.Prelude.{ℕ, ◌+◌, length}
 use Rattle.std.specs.List.{flat_map}
 use Rattle.channel_tables.specs.declared.node.Kind.{Kind}
@@ -9,7 +9,7 @@ use Rattle.node_numbers.specs.Nodes.{nodes_at, nodes_of_column, nodes_of_kind}
 abbrev pub kind_length : Fabric → Kind → ℕ
 kind_length f k = length (nodes_of_kind f k)
 
--- how many nodes stand before those of a kind
+-- how many nodes come before those of a kind
 unfoldable pub kind_start : Fabric → Kind → ℕ
 kind_start f Source = 0
 kind_start f Sink = kind_length f Source

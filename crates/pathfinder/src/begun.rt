@@ -110,8 +110,8 @@ pub fn begin_run(
     })
 }
 
-/// Tests, before an input is opened, that at most one is standard input, and that there is one
-/// then: an opened file would take the descriptor of a standard input that was closed.
+/// Tests, before an input is opened, that at most one is standard input, and that standard input
+/// exists then: an opened file would take the descriptor of a standard input that was closed.
 ///
 /// # Errors
 /// The exit status of the fault, which is printed.
@@ -132,7 +132,7 @@ pub fn refused_name(rt: &HostRuntime, fault: NameFault) -> u8 {
     BAD_WORDS
 }
 
-/// Returns the files of a run with what was read of them.
+/// Returns the files of a run with what was read from them.
 pub fn read_of<'a>(
     names: &'a ShownNames,
     design: &'a OpenedDesign,

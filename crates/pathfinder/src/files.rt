@@ -1,4 +1,4 @@
-//! Standard output, and ROUTE and the other files that a run writes, each of which appears as a
+//! Standard output, and ROUTE and the other files that a run writes. Each of these appears as a
 //! whole or not at all wherever a file can be made in its folder.
 
 ghost use Rattle.std.specs.Prelude.{◌≡◌, None};
@@ -310,7 +310,7 @@ impl<'a> RunFile<'a> {
 }
 
 impl ByteSink for RunFile<'_> {
-    // The toolchain doesn't tell what the system's files hold.
+    // The toolchain doesn't say what the system's files hold.
     ghost taken = { λ _. None };
 
     ghost failed = { λ file. file.sink.has_failed };

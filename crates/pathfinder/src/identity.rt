@@ -69,7 +69,7 @@ fn real_name(rt: &(impl Runtime + AllocGlobal), name: &str) -> Result<String> {
     Ok(fs::canonicalize(rt, name)?.into_string())
 }
 
-/// Returns where a name leads whose file doesn't exist: the name at the end of its symbolic links.
+/// Returns where the name of a missing file leads: the name at the end of its symbolic links.
 #[inline(never)]
 fn end_of_links(rt: &(impl Runtime + AllocGlobal), name: &str) -> Result<String> {
     let mut path = Path::new(name).to_path_buf(rt.alloc())?;
@@ -101,8 +101,8 @@ pub fn end_of(rt: &(impl Runtime + AllocGlobal), name: &str) -> Result<Option<St
     }
 }
 
-/// Returns whether two names are those of the same new file: of the same name in the same folder.
-/// The first one leads to no file.
+/// Returns whether two names are those of the same new file: the same name in the same folder. The
+/// first one leads to no file.
 #[inline(never)]
 fn is_same_new_file(rt: &(impl Runtime + AllocGlobal), name: &str, other: &str) -> Result<bool> {
     if rt.metadata(other).is_ok() {

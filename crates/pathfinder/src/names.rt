@@ -65,8 +65,8 @@ impl ShownNames {
         })
     }
 
-    /// Returns the names that the head of the run's log has. That of the schedule that is written
-    /// is among them only if the run is recorded.
+    /// Returns the names that the head of the run's log has. The name of the schedule that the run
+    /// writes is among them only if the run is recorded.
     pub fn files(&self, is_recorded: bool) -> RunFiles<'_> {
         let schedule = if is_recorded {
             named(self.schedule.as_str())
@@ -91,7 +91,7 @@ impl ShownNames {
         self.log.as_str()
     }
 
-    /// Returns the files with what was read of them.
+    /// Returns the files with what was read from them.
     pub fn with_bytes<'a>(
         &'a self,
         net: &'a [u8],
@@ -119,7 +119,7 @@ impl ShownNames {
         }
     }
 
-    /// Returns the files with nothing read of them.
+    /// Returns the files with nothing read from them.
     pub fn without_bytes(&self) -> FilesRead<'_> {
         self.with_bytes(&[], &[], &[], &[])
     }

@@ -1,4 +1,4 @@
-//! The opened files that a run reads. What is read of them is kept if faults are to be explained.
+//! The opened files that a run reads. What is read from them is kept if faults are to be explained.
 
 ghost use Rattle.std.specs.Prelude.{◌≡◌};
 
@@ -84,13 +84,13 @@ pub struct OpenedDesign {
     pub place: Input,
 }
 
-/// Returns standard input as an input file. What is read of it is kept if that is wanted.
+/// Returns standard input as an input file. What is read from it is kept if that is wanted.
 pub fn standard_input(rt: &HostRuntime, is_kept: bool) -> Input {
     Adapted::new(Kept::new(rt.alloc(), Source::Standard(rt.stdin()), is_kept))
 }
 
-/// Opens an input file, or standard input if the name is `-`. What is read of it is kept if that is
-/// wanted.
+/// Opens an input file, or standard input if the name is `-`. What is read from it is kept if that
+/// is wanted.
 pub fn open(
     rt: &HostRuntime,
     name: &str,

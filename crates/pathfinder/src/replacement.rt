@@ -80,8 +80,8 @@ pub fn replacement_of(
     Ok(Some(Replacement { end, begun }))
 }
 
-/// Creates the file that takes the place of the one that was found, or of none, under a name that
-/// nothing has. It gets the mode of the one that was found, and its owner if that is allowed.
+/// Creates the file that takes the place of the one that was found, or of none, under an unused
+/// name. It gets the mode of the one that was found, and its owner if that is allowed.
 #[inline(never)]
 pub fn begin_replacement<R: Files>(
     rt: &R,

@@ -5,9 +5,9 @@ use net_workers::{Gate, Schedule, ScheduledTurn, TrialEnd};
 use route_tree::Routing;
 use rr_graph::Problem;
 
-/// The gates of a run as one: each call comes to all of them in this order. The schedule is the
+/// The gates of a run as one: all of them get each call, in this order. The schedule is the
 /// follower's. Turns are accepted if all accept them; contracts see what the follower accepts. Each
-/// gate has a lifetime of its own, because they are made of values that live for different times.
+/// gate has its own lifetime, because they are made of values that live for different times.
 #[derive(Clone, Copy)]
 pub struct RunGates<'f, 'r, 'p, 'l, F, R, P, L> {
     pub follower: &'f F,

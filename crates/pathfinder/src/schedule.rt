@@ -34,7 +34,7 @@ const UNREAD: u8 = 5;
 pub enum RunFault {
     /// A fault of the run itself.
     Run(AppFault),
-    /// The schedule that it follows has this fault; never that of memory.
+    /// The schedule that it follows has this fault, which is never lack of memory.
     Schedule(ScheduleFault),
 }
 
@@ -81,7 +81,7 @@ pub fn read_followed(rt: &HostRuntime, name: Option<&str>) -> Result<Option<Vec<
     }
 }
 
-/// Returns the schedule that the bytes of its file are, if the run follows one, for a run by this
+/// Returns the schedule that the bytes of its file give, if the run follows one, for a run by this
 /// many workers.
 ///
 /// # Errors
@@ -134,8 +134,7 @@ impl InputSums {
         }
     }
 
-    /// Returns what a run with these inputs is known by. The command is told with the options of
-    /// its own.
+    /// Returns what identifies a run with these inputs. The command includes its own options.
     pub fn description<'a>(
         &'a self,
         command: &'a str,
@@ -162,12 +161,12 @@ fn mode_text(mode: Mode) -> &'static str {
     }
 }
 
-/// Returns what a command says of nets that keep to the trees that they have.
+/// Returns the end of a command if nets keep to the trees that they have, or an empty text.
 fn steady_text(is_steady: bool) -> &'static str {
     if is_steady { ", steady" } else { "" }
 }
 
-/// Returns the command `route` with the options of its own.
+/// Returns the command `route` with its own options.
 pub fn route_text(
     alloc: Global,
     width: u32,
@@ -179,7 +178,7 @@ pub fn route_text(
     text.map_err(|_| RunFault::Run(AppFault::Memory))
 }
 
-/// Returns the command `width` with the options of its own.
+/// Returns the command `width` with its own options.
 pub fn width_text(
     alloc: Global,
     given: &WidthWords<'_>,
@@ -196,7 +195,7 @@ pub fn width_text(
     text.map_err(|_| RunFault::Run(AppFault::Memory))
 }
 
-/// What follows the schedule of a run, and what records it, if it does either.
+/// The gates that follow and record the schedule of a run, each if the run does so.
 #[derive(Drop)]
 pub struct ScheduleGates<'a, R> {
     pub follower: Option<Follower<'a, R>>,
@@ -204,8 +203,8 @@ pub struct ScheduleGates<'a, R> {
 }
 
 impl<'a, R: Wait> ScheduleGates<'a, R> {
-    /// Those of a run that follows the schedule, if there is one, with this many workers given, and
-    /// is recorded if that has a name.
+    /// Returns the gates of a run that follows the schedule, if there is one, with this many
+    /// workers given. The run is recorded if the name `recorded` is given.
     pub fn new(
         rt: &'a R,
         alloc: Global,
@@ -246,7 +245,8 @@ impl<'a, R: Wait> ScheduleGates<'a, R> {
         }
     }
 
-    /// Writes what was recorded, and warns if more than the run was scheduled.
+    /// Writes what was recorded, and warns if the schedule that was followed has more turns than
+    /// the run.
     pub fn end<'f>(
         &self,
         rt: &'f HostRuntime,
@@ -273,7 +273,7 @@ fn warn_unspent<R: Wait>(rt: &HostRuntime, name: &str, follower: &Follower<'_, R
     }
 }
 
-/// Writes the schedule of a run to the file of this name. A warning says if it can't be written.
+/// Writes the schedule of a run to the file of this name. Warns if it can't be written.
 #[inline(never)]
 fn write_recorded<'f, R: Wait>(
     rt: &'f HostRuntime,

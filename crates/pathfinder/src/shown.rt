@@ -1,4 +1,4 @@
-//! Texts for people: names and lines without control characters, so that no hostile one reaches a
+//! Texts for people: names and lines without control characters, so that no hostile text reaches a
 //! terminal.
 
 ghost use Rattle.std.specs.Prelude.{◌≤◌, length};

@@ -21,7 +21,7 @@ pub enum Doubt<'a> {
     Folder,
     /// The folder that it would be in doesn't exist.
     NoFolder(&'a str),
-    /// It would be created in this folder, in which the process may create no file.
+    /// It would be created in this folder, where the process may create no file.
     ClosedFolder(&'a str),
     /// It exists, and the process may not write it.
     Closed,
@@ -61,7 +61,7 @@ pub fn hindrance_of<'a, R: Files>(rt: &R, name: &'a str) -> Option<Doubt<'a>> {
     }
 }
 
-/// Returns whether an existing file can be opened for writing, which leaves it as it is.
+/// Returns whether an existing file can be opened for writing. This leaves the file as it is.
 #[inline(never)]
 fn may_be_written<R: Files>(rt: &R, name: &str) -> bool {
     OpenOptions::new().write(true).open(rt, name).is_ok()

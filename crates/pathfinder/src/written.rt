@@ -14,7 +14,7 @@ pub fn paths_of<'a>(net: &'a str, arch: &'a str, place: &'a str, written: &'a st
     [path_of(net), path_of(arch), path_of(place), written]
 }
 
-/// Returns which input the name ROUTE also leads to, if it leads to one.
+/// Returns the input that the name ROUTE also leads to, if there is one.
 #[inline(never)]
 fn input_at(
     rt: &HostRuntime,

@@ -16,7 +16,7 @@ use Rattle.place_file.specs.Sites.{sites_in, site_at, is_occupied}
 abbrev pub is_size : Array → Bool
 is_size a = is_inside longest_side a.nx && is_inside longest_side a.ny
 
--- the fault of the two lines that a placement begins with; io_rat pads stand at a place
+-- the fault of the two lines that a placement begins with; there are io_rat pads at a place
 unfoldable pub header_fault : ℕ → List Line → Option PlaceFault
 header_fault io_rat lines =
     if nat_lt 0 (length lines) && not (is_title (words_at lines 0)) then Some (BadLine (number_at lines 0))
@@ -35,7 +35,7 @@ first_fault n bad unknown twice off occupied =
     else (if occupied then Some (Occupied n)
     else None))))
 
--- the fault of a row; the blocks stand on these sites before it
+-- the fault of a row; the blocks are on these sites before it
 unfoldable pub row_fault : Array → List Block → List (Option Site) → ℕ → List (List ℕ) → Option PlaceFault
 row_fault array blocks sites n words =
     first_fault n (not (is_row words))

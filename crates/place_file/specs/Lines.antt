@@ -18,11 +18,11 @@ is_title words =
     && is_at words 3 (codes "Architecture")
     && is_at words 4 (codes "file:")
 
--- the second line tells the size of the array
+-- the second line gives the size of the array
 unfoldable pub is_size_line : List (List ℕ) → Bool
 is_size_line words = begins_size_line words && is_at words 6 (codes "blocks")
 
--- the array whose size the second line tells
+-- the array whose size the second line gives
 abbrev pub array_on : ℕ → List Line → Array
 array_on io_rat lines = record { io_rat = io_rat; nx = number_or_0 (words_at lines 1) 2; ny = number_or_0 (words_at lines 1) 4 }
 
@@ -30,7 +30,7 @@ array_on io_rat lines = record { io_rat = io_rat; nx = number_or_0 (words_at lin
 unfoldable pub is_row : List (List ℕ) → Bool
 is_row words = length words == 4 && is_number words 1 && is_number words 2 && is_number words 3
 
--- the site that a row tells
+-- the site that a row gives
 abbrev pub site_on : List (List ℕ) → Site
 site_on words = record { x = number_or_0 words 1; y = number_or_0 words 2; subblk = number_or_0 words 3 }
 
@@ -38,7 +38,7 @@ site_on words = record { x = number_or_0 words 1; y = number_or_0 words 2; subbl
 abbrev pub block_named : List Block → List (List ℕ) → Option ℕ
 block_named blocks words = number_among (names_of_blocks blocks) (word_at words 0)
 
--- the number of the block named; 0 where there is none, which a row without a fault doesn't have
+-- the number of the block named; 0 where there is none, and then the row has a fault
 abbrev pub block_on : List Block → List (List ℕ) → ℕ
 block_on blocks words = unwrap_or (block_named blocks words) 0
 

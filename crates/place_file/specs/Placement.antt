@@ -48,7 +48,7 @@ kind_at blocks b = (slice_index_or blocks b no_block).kind
 abbrev pub array_of : ℕ → Placement → Array
 array_of io_rat p = record { io_rat = io_rat; nx = p.nx; ny = p.ny }
 
--- all blocks stand on sites of their kind, and different blocks on different sites
+-- all blocks are on sites of their kind, and different blocks on different sites
 pub record IsPlaced (io_rat : ℕ) (blocks : List Block) (p : Placement) : Type 0 where
   pub all : length p.sites ≡ length blocks
   pub fitting : (b : ℕ) (s : Site) → slice_get p.sites b ≡ Some s → is_site (array_of io_rat p) (kind_at blocks b) s ≡ true

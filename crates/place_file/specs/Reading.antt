@@ -29,7 +29,7 @@ completed array sites =
 unfoldable pub placing : Array → List Block → List Line → Result Placement PlaceFault
 placing array blocks rows = unless_faulty (rows_fault_from array blocks [] rows) (completed array (sites_in blocks rows))
 
--- lines as a placement of these blocks, where io_rat pads stand at a place
+-- lines as a placement of these blocks, with io_rat pads at a place
 unfoldable pub reading : ℕ → List Block → List Line → Result Placement PlaceFault
 reading io_rat blocks lines = unless_faulty (header_fault io_rat lines) (placing (array_on io_rat lines) blocks (rows_of lines))
 

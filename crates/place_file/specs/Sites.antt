@@ -11,7 +11,7 @@ use Rattle.place_file.specs.Lines.{block_on, site_on}
 abbrev pub is_row_of : List Block → ℕ → Line → Bool
 is_row_of blocks b row = block_on blocks row.words == b
 
--- the site of block b by these rows, if one of them tells it
+-- the site of block b by these rows, if one of them gives it
 unfoldable pub site_in : List Block → List Line → ℕ → Option Site
 site_in blocks rows b = option_map (λ row. site_on row.words) (find (is_row_of blocks b) rows)
 
@@ -25,7 +25,7 @@ same_site s t = s.x == t.x && s.y == t.y && s.subblk == t.subblk
 abbrev pub is_on : Site → Option Site → Bool
 is_on s site = option_map_or (same_site s) site false
 
--- a block stands on the site
+-- a block is on the site
 unfoldable pub is_occupied : List (Option Site) → Site → Bool
 is_occupied sites s = list_any (is_on s) sites
 

@@ -15,7 +15,7 @@ pub enum PlaceFault {
     /// The text has no lines.
     #[error("{0}")]
     Text(TextFault),
-    /// The line is none that can stand there; at line 0, one of the first two lines isn't there.
+    /// The line is not allowed there; at line 0, one of the first two lines isn't there.
     #[error("line {0} can't stand there")]
     BadLine(u32),
     /// The array has less than 1 or more than 100 columns or rows.
@@ -27,10 +27,10 @@ pub enum PlaceFault {
     /// A line before places the same block.
     #[error("line {0} places a block again")]
     PlacedTwice(u32),
-    /// The block can't stand there.
+    /// The block can't be there.
     #[error("line {0} has no site for this block")]
     OffSite(u32),
-    /// Another block stands there.
+    /// Another block is there.
     #[error("line {0} has a site that is taken")]
     Occupied(u32),
     /// No line places the block, the least one that is left.

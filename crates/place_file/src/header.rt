@@ -20,7 +20,7 @@ fn is_title(words: &Words) -> bool
         && words.is(4, "file:")
 }
 
-/// Whether the line tells the size of the array.
+/// Whether the line gives the size of the array.
 #[tactic(auto, unfolding(crate::specs::Lines::is_size_line))]
 fn is_size_line(words: &Words) -> bool
     ensures { result ≡ is_size_line words.now }
@@ -28,7 +28,7 @@ fn is_size_line(words: &Words) -> bool
     begins_size_line(words) && words.is(6, "blocks")
 }
 
-/// The array whose size the second line tells, with `io_rat` pads at a place.
+/// The array whose size the second line gives, with `io_rat` pads at a place.
 pub(crate) fn array_on(io_rat: u32, lines: &Lines) -> Array
     requires { 2 ≤ length lines.now }
     ensures { result ≡ array_on io_rat lines.now }

@@ -1,4 +1,4 @@
-//! A row, given the sites that the rows before it tell.
+//! A row, given the sites that the rows before it give.
 
 ghost use Rattle.std.specs.Prelude.{◌≡◌, None, Some, IfSome, is_some, length, slice_set};
 ghost use Rattle.place_file.specs.Judge.{row_fault};
@@ -12,7 +12,7 @@ use crate::sites::Sites;
 use net_file::{BlockKind, Netlist};
 use vpr_text::Words;
 
-/// The site that a row tells: the line is a name and three numbers.
+/// The site that a row gives: the line is a name and three numbers.
 #[tactic(auto, unfolding(crate::specs::Lines::is_row))]
 fn site_on(words: &Words) -> Option<Site>
     ensures row { is_some result ≡ is_row words.now }
@@ -36,7 +36,8 @@ fn kind_at(netlist: &Netlist, block: usize) -> BlockKind
     }
 }
 
-/// The first fault of row `words` on line `line`; a block whose row has none is put on its site.
+/// The first fault of row `words` on line `line`; if there is none, the row's block is put on its
+/// site.
 #[tactic(auto, using(crate::proofs::Placing::site_in_table, crate::proofs::Placing::block_within), unfolding(crate::specs::Judge::row_fault))]
 pub(crate) fn judge(
     array: Array,

@@ -18,7 +18,7 @@ use net_file::Netlist;
 use std::alloc::Global;
 use vpr_text::{Lines, TextFault, lines};
 
-/// Lines as a placement, where `io_rat` pads stand at a place.
+/// Lines as a placement, with `io_rat` pads at a place.
 #[tactic(auto, using(crate::proofs::Steps::header_fit, crate::proofs::Steps::header_long), unfolding(crate::specs::Reading::reading))]
 fn read(
     alloc: Global,
@@ -58,7 +58,8 @@ fn placement_in(
 /// and rows of logic blocks.
 ///
 /// A fault of the text comes first, then that of the first faulty line, then the least block that
-/// no line places. Of the faults of one line it is the first in the order of `PlaceFault`.
+/// no line places. If a line has several faults, the first in the order of `PlaceFault` is
+/// reported.
 #[tactic(auto, using(crate::proofs::Placed::placed_given, crate::proofs::Related::found, crate::proofs::Related::only))]
 pub fn parse(
     alloc: Global,
@@ -68,14 +69,15 @@ pub fn parse(
 ) -> Result<Placement, PlaceFault>
     // What is read is the placement of the text.
     ensures found { IfOk result (λ p. ReadsBytes arch.now.io_rat netlist.now.blocks source.now p) }
-    // A text has no other placement, and one that has a placement is read, unless memory runs out.
+    // A text has no other placement, and a text that has a placement is read, unless memory runs
+    // out.
     ensures only { (p : placement.Placement)
         → ReadsBytes arch.now.io_rat netlist.now.blocks source.now p
         → Gives Memory (λ q. q) result (Ok p) }
     // Which fault it is.
     ensures exact { Gives Memory (λ p. p) result
         (placement_of arch.now.io_rat netlist.now.blocks source.now) }
-    // All blocks stand on sites of their kind, and different blocks on different sites.
+    // All blocks are on sites of their kind, and different blocks on different sites.
     ensures placed { IfOk result (λ p. IsPlaced arch.now.io_rat netlist.now.blocks p) }
 {
     placement_in(alloc, source, arch.io_rat(), netlist)

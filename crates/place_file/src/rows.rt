@@ -18,7 +18,7 @@ use net_file::Netlist;
 use std::alloc::Global;
 use vpr_text::{Lines, Words};
 
-/// The sites that the rows tell, judged row by row.
+/// The sites that the rows give, judged row by row.
 fn sites_in(
     alloc: Global,
     array: Array,

@@ -1,4 +1,4 @@
-//! Where blocks can stand.
+//! Where blocks can be.
 
 ghost use Rattle.std.specs.Prelude.{◌≡◌};
 ghost use Rattle.place_file.specs.Judge.{is_size};
@@ -39,7 +39,7 @@ fn is_beside(n: u32, v: u32) -> bool
     v == 0 || v - 1 == n
 }
 
-/// Whether the array has at least one and at most so many columns and rows as it may have.
+/// Whether the array has at least one column and row, and at most as many as it may have.
 pub(crate) fn is_size(array: Array) -> bool
     ensures { result ≡ is_size array }
 {
@@ -61,7 +61,7 @@ fn is_on_perimeter(array: Array, site: Site) -> bool
         || (is_inside(array.nx, site.x) && is_beside(array.ny, site.y))
 }
 
-/// Whether a block of this kind can stand there.
+/// Whether a block of this kind can be there.
 #[tactic(auto, unfolding(crate::specs::Placement::is_site))]
 pub(crate) fn is_site(array: Array, kind: BlockKind, site: Site) -> bool
     ensures { result ≡ is_site array kind site }

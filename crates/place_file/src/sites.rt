@@ -81,7 +81,7 @@ impl Sites {
         }
     }
 
-    /// Whether a block stands on the site.
+    /// Whether a block is on the site.
     #[tactic(auto, using(crate::proofs::Placing::entry_parts, crate::proofs::Placing::entry_within))]
     pub(crate) fn is_occupied(&self, site: Site) -> bool
         requires { is_in_table self.now.array site ≡ true }

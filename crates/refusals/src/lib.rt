@@ -1,5 +1,5 @@
-//! Advice on what is refused, in addition to its fault: of a file the line, the word, and what to
-//! do; of VPR's options what takes their places. Also which names of files are refused.
+//! Advice on what is refused, in addition to its fault: for a file the line, the word, and what to
+//! do; for VPR's options what takes their places. Also which names of files are refused.
 #![tactic(auto)]
 
 mod advice;

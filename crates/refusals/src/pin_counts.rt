@@ -4,15 +4,15 @@ use std::alloc::Global;
 use std::fmt;
 use vpr_text::Lines;
 
-/// The block that a pinlist is of.
+/// The block of a pinlist.
 #[derive(Clone, Copy, Debug, PartialEq, Eq)]
 enum Kind {
     Pad,
-    /// A logic block with so many pins.
+    /// A logic block with this many pins.
     Block(usize),
 }
 
-/// The number of names of a pinlist, and the block that it is of.
+/// The number of names of a pinlist, and its block.
 #[derive(Clone, Copy, Debug, PartialEq, Eq)]
 pub(crate) struct PinCounts {
     names: usize,

@@ -12,7 +12,7 @@ use vpr_text::{Lines, lines};
 /// The greatest number of physical lines shown of a continued line.
 const MOST_LINES: u32 = 8;
 
-/// A file of a run: its name as it is shown, and the bytes that were read of it, or no bytes if
+/// A file of a run: its name as it is shown, and the bytes that were read from it, or no bytes if
 /// they were not kept.
 #[derive(Clone, Copy)]
 pub struct FileRead<'a> {
@@ -161,8 +161,7 @@ fn tell_word(rt: &(impl Eprint + AllocGlobal), advice: &Advice, file: FileRead<'
     }
 }
 
-/// Returns the advice on a file, which is another one if it looks like one of a later version of
-/// VPR.
+/// Returns the advice on a file, or other advice if it looks like one of a later version of VPR.
 fn text_on(advice: &Advice, bytes: &[u8]) -> &'static str {
     foreign_format(advice.file, bytes).unwrap_or(advice.text)
 }

@@ -1,4 +1,4 @@
--- The lines on the device, that on the bound, and those on the whole routing (ours).
+-- The lines on the device, on the bound, and on the whole routing (ours).
 use Rattle.std.specs.Prelude.{ℕ, List, [], ◌++◌, codes, decimal, filter, length, count_by, Option, None, Some}
 use Rattle.std.specs.List.{sum_by}
 use Rattle.net_file.specs.Netlist.{Netlist}
@@ -28,20 +28,20 @@ device_lines f =
     codes "array " ++ (decimal f.nx ++ (codes " x " ++ (decimal f.ny
     ++ (codes "\nwidth " ++ (decimal f.width ++ codes "\n")))))
 
--- as `bound 4`, the width below which there is no routing, or `bound none`, where there is none at
--- any width
+-- as `bound 4`, the width below which there is no routing, or `bound none`, if there is none at any
+-- width
 unfoldable pub bound_line : CutFigures → List ℕ
 bound_line b = codes "bound " ++ (width_text b ++ codes "\n")
 
--- as `nets 120`, `global 1` and `trees 117 of 119`: of the nets that are to be routed, how many
--- have a list
+-- as `nets 120`, `global 1` and `trees 117 of 119`: how many of the nets that are to be routed have
+-- a list
 unfoldable pub net_count_lines : Netlist → Figures → List ℕ
 net_count_lines netlist c =
     codes "nets " ++ (decimal (length netlist.nets)
     ++ (codes "\nglobal " ++ (decimal (global_nets netlist)
     ++ (codes "\ntrees " ++ (share_text c.listed c.nets ++ codes "\n")))))
 
--- as `wires 345 of 2640` and `places 345 of 2640`: what nets cover, of what there is
+-- as `wires 345 of 2640` and `places 345 of 2640`: how many the nets cover, of all
 unfoldable pub use_lines : Fabric → Figures → List ℕ
 use_lines f c =
     codes "wires " ++ (share_text c.wires (wires_in f)

@@ -22,7 +22,7 @@ greatest_second a = if a == 237 then 159 else (if a == 244 then 143 else 191)
 abbrev pub is_second : (first b : ℕ) → Bool
 is_second a b = is_within (least_second a) (greatest_second a) b
 
--- how many bytes the character has that begins with these; 0 where none of two or more begins
+-- how many bytes the character has that begins with these; 0 if none of two or more begins
 abbrev pub size_by : (a b c d : ℕ) → ℕ
 size_by a b c d =
     if is_within 194 223 a && is_second a b then 2
@@ -36,7 +36,7 @@ unfoldable pub character_size : List ℕ → ℕ → ℕ
 character_size bytes i =
     size_by (byte_at bytes i) (byte_at bytes (i + 1)) (byte_at bytes (i + 2)) (byte_at bytes (i + 3))
 
--- the character that begins so many bytes before byte i has it
+-- the character that begins this many bytes before byte i has it
 abbrev pub is_reached : List ℕ → (i back : ℕ) → Bool
 is_reached bytes i back = nat_lt back (character_size bytes (i - back))
 

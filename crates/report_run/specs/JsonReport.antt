@@ -24,11 +24,11 @@ use Rattle.report_run.specs.Json.{array, member, object, string_text}
 use Rattle.report_run.specs.Named.{overused_on}
 use Rattle.report_run.specs.Texts.{mean_text, name_of}
 
--- how many of what there is
+-- a part and the whole
 unfoldable pub share_json : (part whole : ℕ) → List ℕ
 share_json part whole = object (member (codes "count") (decimal part) ∷ member (codes "of") (decimal whole) ∷ [])
 
--- the width below which there is no routing; null where there is none at any width
+-- the width below which there is no routing; null if there is none at any width
 unfoldable pub bound_json : CutFigures → List ℕ
 bound_json b = if has_no_way b then codes "null" else decimal (printed_width b)
 
@@ -93,7 +93,7 @@ abbrev pub list_members : Fabric → List WireTypeUse → List Channel → List 
 list_members f types channels =
     member (codes "types") (types_json types) ∷ member (codes "channels") (channels_json f channels) ∷ []
 
--- ---- the map: of each channel how much is occupied at each place, and so of overused wires
+-- ---- the map: for each place of a channel how much is occupied, and how many wires are overused
 
 unfoldable pub numbers_json : List ℕ → List ℕ
 numbers_json ns = array decimal ns
@@ -133,7 +133,7 @@ naming_json line node = object (member (codes "line") (decimal line) ∷ member 
 abbrev pub comma_if : (is_next : Bool) → List ℕ
 comma_if is_next = if is_next then codes "," else []
 
--- a line that names a node, after a comma if a line before it does, too
+-- a line that names a node, after a comma if an earlier line does too
 abbrev pub named_json : (is_next : Bool) → (line : ℕ) → Option ℕ → List ℕ
 named_json is_next line None = []
 named_json is_next line (Some a) = comma_if is_next ++ naming_json line a

@@ -32,7 +32,7 @@ occupied_at channels i m = get_or (get_or channels i no_channel).occupied m 0
 abbrev pub right_of : Fabric → (column : ℕ) → ℕ
 right_of f column = f.ny + 1 + column
 
--- the byte for a place: a digit or a letter for what is occupied, or `!` where a wire is overused
+-- the byte for a place: a digit or a letter for what is occupied, or `!` if a wire is overused
 abbrev pub place_code : (occupied over : ℕ) → ℕ
 place_code n over = if nat_lt 0 over then 33 else digit_code n
 
@@ -72,7 +72,7 @@ unfoldable pub row_lines : Fabric → (all over : List Channel) → (k : ℕ) �
 row_lines f all over k =
     blocks_line f all over (f.ny - 1 - k) ++ crossing_line f all over (f.ny - 1 - k)
 
--- a digit of the number of column k, from 0 on, or a blank where the number has no such digit
+-- a digit of the number of column k, from 0 on, or a blank if the number has no such digit
 abbrev pub column_code : (unit k : ℕ) → ℕ
 column_code unit k = if nat_le unit (k + 1) then digit_code ((k + 1) / unit % 10) else 32
 
@@ -83,7 +83,7 @@ column_digit unit k = 32 ∷ column_code unit k ∷ []
 unfoldable pub digit_line : (columns unit : ℕ) → List ℕ
 digit_line columns unit = codes "    " ++ (flat_map (column_digit unit) (numbers_below columns) ++ codes "\n")
 
--- it, if there is a column that has it
+-- its line, if there is a column that has it
 abbrev pub axis_line : (columns unit : ℕ) → List ℕ
 axis_line columns unit = if nat_le unit columns then digit_line columns unit else []
 
@@ -91,11 +91,11 @@ axis_line columns unit = if nat_le unit columns then digit_line columns unit els
 unfoldable pub axis_lines : (columns : ℕ) → List ℕ
 axis_lines columns = axis_line columns 100 ++ (axis_line columns 10 ++ axis_line columns 1)
 
--- how many columns an array has at most, for a map that is at most 80 characters wide
+-- the most columns of an array whose map is at most 80 characters wide
 abbrev pub most_mapped : ℕ
 most_mapped = 35
 
--- `map`, or as `map, 81 characters wide`, where that is more than 80
+-- `map`, or as `map, 81 characters wide`, if that is more than 80
 unfoldable pub map_head : (columns : ℕ) → List ℕ
 map_head columns =
     if nat_le columns most_mapped then codes "map\n"

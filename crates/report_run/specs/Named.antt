@@ -1,4 +1,4 @@
--- The lines on the lines of the routing file that name what is overused (ours).
+-- The lines on the lines of the routing file that name overused nodes (ours).
 use Rattle.std.specs.Prelude.{ℕ, if◌then◌else◌, List, [], ◌++◌, codes, decimal, length, Option, None, Some}
 use Rattle.std.specs.List.{flat_map}
 use Rattle.vpr_text.specs.Words.{Line, number_at, words_at}
@@ -24,7 +24,7 @@ abbrev pub named_text : (line : ℕ) → Option ℕ → List ℕ
 named_text line None = []
 named_text line (Some a) = naming_line line a
 
--- what is said of line i of the file
+-- the text about line i of the file
 unfoldable pub named_at : Fabric → (uses : List ℕ) → List Line → ℕ → List ℕ
 named_at f uses lines i = named_text (number_at lines i) (overused_on f uses lines i)
 

@@ -7,8 +7,8 @@ use Rattle.route_report.specs.declared.each_net.NetTotals.{NetTotals}
 use Rattle.report_run.specs.Figures.{longest_text}
 use Rattle.report_run.specs.Texts.{mean_text}
 
--- as ` 321 mean 2.81 most 30 n_17`: the sum, the mean over the nets that have a list, so many, and
--- the greatest, with the first net that has it
+-- as ` 321 mean 2.81 most 30 n_17`: the sum, the mean over this many nets that have a list, and the
+-- greatest, with the first net that has it
 unfoldable pub totals_text : Netlist → RoutingProblem → (listed : ℕ) → NetTotals → List ℕ
 totals_text netlist p listed t =
     codes " " ++ (decimal t.total ++ (codes " mean " ++ (mean_text t.total listed

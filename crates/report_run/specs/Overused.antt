@@ -1,4 +1,4 @@
--- The lines on the nodes that are overused (ours).
+-- The lines on overused nodes (ours).
 use Rattle.std.specs.Prelude.{ℕ, List, ◌++◌, codes, decimal, length}
 use Rattle.std.specs.List.{flat_map}
 use Rattle.net_file.specs.Netlist.{Netlist}

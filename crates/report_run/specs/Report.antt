@@ -1,4 +1,4 @@
--- What a report says of a routing, legal or not, and its text (ours).
+-- The report of a routing, legal or not, and its text (ours).
 use Rattle.std.specs.Prelude.{if◌then◌else◌, ℕ, List, [], ◌++◌, codes}
 use Rattle.vpr_text.specs.Words.{Line}
 use Rattle.net_file.specs.Netlist.{Netlist}
@@ -48,7 +48,7 @@ route_report_on p lists = record {
   overused = overused_nodes p lists;
 }
 
--- the lines on the whole routing, and that on the bound, of the figures of a cut
+-- the lines on the whole routing, and the line on the bound that the figures of a cut give
 unfoldable pub figure_lines : Netlist → RoutingProblem → CutFigures → Figures → List ℕ
 figure_lines netlist p b c =
     device_lines p.device
@@ -60,15 +60,15 @@ counted_lines netlist p b r =
     figure_lines netlist p b r.figures
     ++ (type_lines r.types ++ (channel_lines p.device r.channels ++ overuse_lines netlist p r.overused))
 
--- the lines on the bends, wires and places of the nets, where they are asked for
+-- the lines on the bends, wires and places of the nets, if they are asked for
 abbrev pub net_lines_if : ReportForm → Netlist → RoutingProblem → RouteReport → List ℕ
 net_lines_if form netlist p r = if form.full then net_lines netlist p r.figures.listed r.nets else []
 
 abbrev pub map_if : ReportForm → Fabric → RouteReport → List ℕ
 map_if form f r = if form.map then map_text f r.channels r.over else []
 
--- the lines of a report, those on the lines of the file, and what is asked for of those on the nets
--- and the map
+-- the lines of a report, those on the lines of the file, and those on the nets and on the map that
+-- are asked for
 unfoldable pub route_report_text : (form : ReportForm) → Netlist → RoutingProblem → CutFigures → List Line → RouteReport → List ℕ
 route_report_text form netlist p b lines r =
     counted_lines netlist p b r
@@ -92,7 +92,7 @@ report_members form netlist p b lines r =
 unfoldable pub report_json : ReportForm → Netlist → RoutingProblem → CutFigures → List Line → RouteReport → List ℕ
 report_json form netlist p b lines r = object (report_members form netlist p b lines r) ++ codes "\n"
 
--- the report as text, or as an object of JSON where that is asked for
+-- the report as text, or as an object of JSON if that is asked for
 abbrev pub report_text : ReportForm → Netlist → RoutingProblem → CutFigures → List Line → RouteReport → List ℕ
 report_text form netlist p b lines r =
     if form.json then report_json form netlist p b lines r else route_report_text form netlist p b lines r

@@ -54,13 +54,13 @@ PrintsReport form out placed r =
     let p = r.design.problem in
     PrintsBounded form out placed p r.lines (route_report_on p r.routing)
 
--- A run over a placed netlist, memory aside: where the routing file says a routing, its report is
+-- A run over a placed netlist, memory aside: if the routing file says a routing, its report is
 -- printed.
 abbrev pub RunsPlaced : (form : ReportForm) → (out : Writing) → PlacedNetlist → Result Reported AppFault → Result (Unit {0}) AppFault → Type 0
 RunsPlaced form out placed = StopsOrGoesOn (TakesNothing out) (PrintsReport form out placed)
 
--- A run of `report`, memory aside: where its files say a placed netlist, and then a routing of it
--- on the device of this width and mode, the report of the routing is printed.
+-- A run of `report`, memory aside: if its files say a placed netlist, and then a routing of it on
+-- the device of this width and mode, the report of the routing is printed.
 abbrev pub RunsReport : (form : ReportForm) → (out : Writing) → (width : ℕ) → Mode → (route : Input) → Result PlacedNetlist AppFault → Result (Unit {0}) AppFault → Type 0
 RunsReport form out width mode route =
     StopsOrGoesOn (TakesNothing out) (λ placed. RunsPlaced form out placed (reported_on (design_on width mode placed) route))

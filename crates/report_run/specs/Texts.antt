@@ -8,11 +8,11 @@ use Rattle.rr_graph.specs.Problems.{RoutingProblem, net_in}
 abbrev pub digit_code : ℕ → ℕ
 digit_code n = if nat_lt n 10 then 48 + n else (if nat_lt n 36 then 87 + n else 42)
 
--- how many of what there is, as `345 of 2640`
+-- a part and the whole, as `345 of 2640`
 unfoldable pub share_text : (part whole : ℕ) → List ℕ
 share_text part whole = decimal part ++ (codes " of " ++ decimal whole)
 
--- what is left of a number after a division, in hundredths of the divisor, rounded down
+-- the remainder of a division, in hundredths of the divisor, rounded down
 abbrev pub hundredths_left : (n by : ℕ) → ℕ
 hundredths_left n by = n % by * 100 / by
 
@@ -22,7 +22,7 @@ quotient_text n by =
     decimal (n / by)
     ++ (codes "." ++ (decimal (hundredths_left n by / 10) ++ decimal (hundredths_left n by % 10)))
 
--- the mean of so many numbers with this sum; that of none is `0.00`
+-- the mean of this many numbers with this sum; the mean of none is `0.00`
 abbrev pub mean_text : (sum count : ℕ) → List ℕ
 mean_text sum count = quotient_text sum (max count 1)
 

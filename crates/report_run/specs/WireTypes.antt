@@ -12,7 +12,7 @@ type_line s t =
     ++ (codes " wires " ++ (share_text t.wires_used t.wires
     ++ (codes " places " ++ (share_text t.places_used t.places ++ codes "\n")))))))
 
--- what stands past the last type
+-- the entry past the last type
 abbrev pub no_type : WireTypeUse
 no_type = record { tracks = 0; wires = 0; places = 0; wires_used = 0; places_used = 0 }
 

@@ -46,7 +46,7 @@ fn put_more_types<W: ByteSink>(out: &mut Printer<'_, W>, types: &[WireTypeUse])
     }
 }
 
-/// Prints types of wire, of which there is one at least.
+/// Prints one or more types of wire.
 fn put_filled_types<W: ByteSink>(
     out: &mut Printer<'_, W>,
     first: &WireTypeUse,
@@ -120,7 +120,7 @@ fn put_more_channels<W: ByteSink>(
     }
 }
 
-/// Prints channels, of which there is one at least.
+/// Prints one or more channels.
 fn put_filled_channels<W: ByteSink>(
     out: &mut Printer<'_, W>,
     device: &Device,

@@ -74,7 +74,7 @@ pub(crate) fn put_longest_member<W: ByteSink>(
     out.push(b",");
 }
 
-/// Prints what a number for each net comes to, of which so many have a list.
+/// Prints the totals of a number for each net. This many nets have a list.
 fn put_totals<W: ByteSink>(
     out: &mut Printer<'_, W>,
     netlist: &Netlist<'_>,
@@ -96,7 +96,7 @@ fn put_totals<W: ByteSink>(
     out.push(b"}");
 }
 
-/// Prints the members on the bends, wires and places of the nets, of which so many have a list.
+/// Prints the members on the bends, wires and places of the nets. This many nets have a list.
 pub(crate) fn put_net_members<W: ByteSink>(
     out: &mut Printer<'_, W>,
     netlist: &Netlist<'_>,

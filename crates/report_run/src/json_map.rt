@@ -29,7 +29,7 @@ fn put_more_numbers<W: ByteSink>(out: &mut Printer<'_, W>, numbers: &[u64])
     }
 }
 
-/// Prints numbers, of which there is one at least.
+/// Prints one or more numbers.
 fn put_filled_numbers<W: ByteSink>(out: &mut Printer<'_, W>, first: u64, rest: &[u64])
     ensures { PrintsTo W.ByteSink out.old out.new
         (filled decimal first rest.now) }
@@ -78,7 +78,7 @@ fn put_more_occupied<W: ByteSink>(out: &mut Printer<'_, W>, channels: &[ChannelU
     }
 }
 
-/// Prints the occupancies of channels, of which there is one at least.
+/// Prints the occupancies of one or more channels.
 fn put_filled_occupancies<W: ByteSink>(
     out: &mut Printer<'_, W>,
     first: &ChannelUse,

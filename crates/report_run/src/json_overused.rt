@@ -54,7 +54,7 @@ fn put_more_names<W: ByteSink>(
     }
 }
 
-/// Prints names of nets, of which there is one at least.
+/// Prints the names of one or more nets.
 fn put_filled_names<W: ByteSink>(
     out: &mut Printer<'_, W>,
     netlist: &Netlist<'_>,
@@ -137,7 +137,7 @@ fn put_more_overuses<W: ByteSink>(
     }
 }
 
-/// Prints overused nodes, of which there is one at least.
+/// Prints one or more overused nodes.
 fn put_filled_overuses<W: ByteSink>(
     out: &mut Printer<'_, W>,
     netlist: &Netlist<'_>,
@@ -191,7 +191,7 @@ fn comma_if(is_next: bool) -> &'static [u8]
     if is_next { b"," } else { b"" }
 }
 
-/// Prints that a line names a node, after one that does or not.
+/// Prints that a line names a node, after a comma if an earlier line does too.
 fn put_next_naming<W: ByteSink>(out: &mut Printer<'_, W>, is_next: bool, line: u32, node: u32)
     ensures { PrintsTo W.ByteSink out.old out.new
         (comma_if is_next ++ naming_json line node) }
@@ -217,8 +217,8 @@ fn either(first: bool, second: bool) -> bool
     first || second
 }
 
-/// Prints that a line of the file names an overused node, if it does, after those before it, of
-/// which one does or not. Returns whether one of all these does.
+/// Prints that a line of the file names an overused node, if it does, after a comma if an earlier
+/// line does too. Returns whether this line or an earlier one does.
 #[tactic(auto, using(crate::proofs::Marking::any_next))]
 fn put_named_at<W: ByteSink>(
     out: &mut Printer<'_, W>,

@@ -17,18 +17,18 @@ use width_bound::CutFigures;
 /// A part of a text of JSON.
 #[derive(Clone, Copy, Drop)]
 pub(crate) enum Part<'a> {
-    /// Bytes as they stand.
+    /// Bytes as they are.
     Text(&'a [u8]),
     Number(u64),
-    /// How many, of how many.
+    /// A part and the whole.
     Share(u64, u64),
-    /// The mean of numbers with this sum, so many.
+    /// The mean of numbers, by their sum and their count.
     Mean(u64, u32),
     /// The bound of the width.
     Bound(CutFigures),
 }
 
-/// Prints how many, of how many.
+/// Prints a part and the whole.
 #[tactic(auto, unfolding(crate::specs::JsonReport::share_json))]
 pub(crate) fn put_share<W: ByteSink>(out: &mut Printer<'_, W>, part: u64, whole: u64)
     ensures { PrintsTo W.ByteSink out.old out.new (share_json part whole) }

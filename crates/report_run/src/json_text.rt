@@ -97,7 +97,7 @@ fn character_size(bytes: &[u8], index: usize) -> usize
     )
 }
 
-/// Returns whether the character that begins so many bytes before one has it.
+/// Returns whether the character that begins this many bytes before a byte has it.
 fn is_reached(bytes: &[u8], index: usize, back: usize) -> bool
     requires { index < length bytes.now }
     ensures { result ≡ is_reached bytes.now index back }

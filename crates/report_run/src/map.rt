@@ -11,7 +11,7 @@ use route_report::ChannelUse;
 use rr_graph::Device;
 use text_output::{ByteSink, Piece, Printer};
 
-/// How many columns an array has at most, for a map that is at most 80 characters wide.
+/// The most columns of an array whose map is at most 80 characters wide.
 const MOST_MAPPED: u32 = 35;
 
 /// Returns the number at an index, or 0 past the last one.
@@ -42,7 +42,7 @@ fn right_of(device: &Device, column: u32) -> u32
     device.ny() + 1 + column
 }
 
-/// Returns the byte for a place where this much is occupied, and so much of it overused.
+/// Returns the byte for a place where this much is occupied, and this much of it overused.
 fn place_code(occupied: u64, over: u64) -> u8
     ensures { result ≡ place_code occupied over }
 {

@@ -11,7 +11,7 @@ use route_report::{NetFigures, NetTotals};
 use rr_graph::Problem;
 use text_output::{ByteSink, Printer};
 
-/// Prints what a number for each net comes to: the sum, the mean over so many nets, and the
+/// Prints the totals of a number for each net: the sum, the mean over this many nets, and the
 /// greatest, with the first net that has it.
 fn put_totals<W: ByteSink>(
     out: &mut Printer<'_, W>,
@@ -33,7 +33,7 @@ fn put_totals<W: ByteSink>(
     out.push(b"\n");
 }
 
-/// Prints the lines on the bends, wires and places of the nets, of which so many have a list.
+/// Prints the lines on the bends, wires and places of the nets. This many nets have a list.
 pub(crate) fn put_net_lines<W: ByteSink>(
     out: &mut Printer<'_, W>,
     netlist: &Netlist<'_>,

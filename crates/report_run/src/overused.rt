@@ -1,4 +1,4 @@
-//! The lines on the nodes that are overused.
+//! The lines on overused nodes.
 
 ghost use Rattle.std.specs.Prelude.{◌≡◌};
 ghost use Rattle.std.specs.List.{flat_map};

@@ -1,5 +1,4 @@
--- What is wrong with a routing: each fault as a condition of its own, and which of them is the
--- first.
+-- What is wrong with a routing: each fault as a condition of its own, and which fault is the first.
 use Rattle.std.specs.Prelude.{◌≡◌, ◌≢◌, ℕ, ◌<◌, ◌≤◌, ◌⊎◌, List, length, Some, None}
 use Rattle.routing_problem.specs.Problems.{RoutingProblem}
 use Rattle.route_tree.specs.declared.fault.TreeFault.{TreeFault}

@@ -12,7 +12,7 @@ pub record IsNetFault (p : RoutingProblem) (lists : Lists) (i : ℕ) (fault : Ro
   pub stage : stage_of fault ≡ 2
   pub place : place_of fault ≡ i
 
--- the answer for net i: none where it is routed, else its fault
+-- the answer for net i: none if it is routed, else its fault
 abbrev pub JudgesNet : RoutingProblem → Lists → ℕ → Option RouteFault → Type 0
 JudgesNet p lists i None = IsNetRouted p lists i
 JudgesNet p lists i (Some fault) = IsNetFault p lists i fault

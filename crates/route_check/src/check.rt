@@ -16,7 +16,8 @@ use routing_problem::Problem;
 use std::alloc::{AllocError, Global};
 use std::thread::Threads;
 
-/// For how many nets a thread is worth its start, which takes as long as to judge some hundred.
+/// The number of nets for which a thread is worth its start, which takes as long as judging some
+/// hundred.
 const NETS_A_THREAD: usize = 128;
 
 /// What is wrong with each net of a routing that has an entry for each: its first fault, or none.
@@ -75,12 +76,12 @@ fn lists_fault(
     }
 }
 
-/// Whether a routing routes a problem: none where it does, else its first fault in the order of
+/// Whether a routing routes a problem: none if it does, else its first fault in the order of
 /// `RouteFault`. It judges the lists of pairs alone, which need not be those of trees. The nets are
 /// judged side by side, in as many threads as the runtime gives; the answer is that of one thread.
-/// A growth that is refused for any net is answered ahead of every fault but `Length`.
+/// A growth that is refused for any net is reported before every fault but `Length`.
 ///
-/// It takes time of the order of n log n for a net of n pairs, and memory of the order of the
+/// The time is of the order of n log n for a net of n pairs, and the memory of the order of the
 /// nodes.
 pub fn check_routing(
     rt: &(impl Threads + Sync),

@@ -3,9 +3,9 @@
 use route_tree::TreeFault;
 use thiserror::Error;
 
-/// Why a routing does not route a problem, in the order in which faults are looked for: where a
-/// routing has several, the first is named, of several nets that of the first net, and of several
-/// nodes that of the least.
+/// Why a routing does not route a problem, in the order in which faults are looked for. If a
+/// routing has several, the first is reported: among several nets that of the first net, and among
+/// several nodes that of the least.
 #[derive(Clone, Copy, Debug, PartialEq, Eq, Error)]
 pub enum RouteFault {
     #[error("the routing has not one entry for each net")]

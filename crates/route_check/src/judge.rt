@@ -11,7 +11,7 @@ use route_tree::{Pairs, TreeFault};
 use routing_problem::Problem;
 use std::alloc::{AllocError, Global};
 
-/// The first fault of a list of pairs for a net that there is.
+/// The first fault of a list of pairs for a net that exists.
 fn tree_fault(
     alloc: Global,
     problem: &Problem,

@@ -50,7 +50,7 @@ fn leaves_twice(source: u32, pairs: &[(u32, u32)]) -> bool
     count_leaving(source, pairs) > 1
 }
 
-/// Whether a node is one of the sinks, among which it mostly stands at this place.
+/// Whether a node is one of the sinks. Among them it is usually at this place.
 fn is_one_of(sinks: &[u32], place: usize, node: u32) -> bool
     requires { IsStrictlyIncreasing sinks.now }
     ensures { result ≡ is_among sinks.now node }
@@ -71,8 +71,8 @@ fn is_foreign(device: &Device, sinks: &[u32], ends: &[End], place: usize) -> boo
     device.is_sink(node) && !is_one_of(sinks, place, node)
 }
 
-/// Whether a pair ends in a sink of the device that is none of these. By node sinks stand before
-/// wires and input pins.
+/// Whether a pair ends in a sink of the device that is none of these. In order of node, sinks come
+/// before wires and input pins.
 fn has_foreign_end(device: &Device, sinks: &[u32], ends: &[End]) -> bool
     requires { IsStrictlyIncreasing sinks.now }
     ensures { result ≡ list_any (is_foreign device.now sinks.now) ends.now }
@@ -85,7 +85,7 @@ fn has_foreign_end(device: &Device, sinks: &[u32], ends: &[End]) -> bool
     false
 }
 
-/// Whether among the nodes in which pairs end there is a sink of the device that is none of these.
+/// Whether the nodes in which pairs end include a sink of the device that is none of these.
 fn has_foreign_sink(device: &Device, sinks: &[u32], listing: &Listing<'_>) -> bool
     requires { IsStrictlyIncreasing sinks.now }
     ensures { result ≡ has_foreign_sink device.now sinks.now listing.now }
@@ -104,7 +104,7 @@ fn is_missed(sinks: &[u32], listing: &Listing<'_>, place: usize) -> bool
     }
 }
 
-/// Whether at one of the sinks no pair ends.
+/// Whether the sinks include one in which no pair ends.
 fn misses_sink(sinks: &[u32], listing: &Listing<'_>) -> bool
     ensures { result ≡ misses_sink sinks.now listing.now }
 {

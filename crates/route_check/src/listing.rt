@@ -46,7 +46,7 @@ fn place_of(ends: &[End], node: u32) -> usize
     ends.partition_point(|end| end.node < node)
 }
 
-/// Whether two ends that stand beside each other are one node.
+/// Whether two adjacent ends are one node.
 fn is_repeated(ends: &[End]) -> bool
     ensures { result ≡ is_repeated ends.now }
 {
@@ -135,7 +135,7 @@ impl<'a> Listing<'a> {
         None
     }
 
-    /// A pair that ends in the node, which mostly stands at this place of the ends.
+    /// A pair that ends in the node, which is usually at this place of the ends.
     pub(crate) fn row_at(&self, place: usize, node: u32) -> Option<usize>
         ensures { IsRowOf self.now node result }
     {
@@ -146,7 +146,7 @@ impl<'a> Listing<'a> {
         self.row_of(node)
     }
 
-    /// A pair that ends where this one begins: mostly the one before.
+    /// A pair that ends where this one begins: usually the one before.
     pub(crate) fn parent_of(&self, row: usize) -> Option<usize>
         requires { row < length self.now }
         ensures { IsRowOf self.now (begin_in self.now row) result }

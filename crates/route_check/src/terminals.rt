@@ -1,4 +1,4 @@
-//! What a list is to join.
+//! What a list has to join.
 
 /// The source and the sinks of a net, these in ascending order.
 #[derive(Drop)]

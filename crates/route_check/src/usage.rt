@@ -108,7 +108,7 @@ fn least_overused(device: &Device, counts: &[u16]) -> Option<RouteFault>
     None
 }
 
-/// The least node of which a routing whose nets are all routed uses more than there is.
+/// The least node that a routing whose nets are all routed uses beyond its capacity.
 pub(crate) fn overuse(
     alloc: Global,
     problem: &Problem,

@@ -16,8 +16,8 @@ use routing_problem::Device;
 use std::alloc::{AllocError, Global};
 
 /// Walks from a pair up to the source, or to what an earlier walk met, and writes the walk's number
-/// to each pair that it meets. Whether it comes there: else it goes in a circle, or ends at a node
-/// that is not the source.
+/// to each pair that it meets. Returns whether it gets there: if not, it goes in a circle, or ends
+/// at a node that is not the source.
 fn climb(
     net: &BorrowedTerminals<'_>,
     listing: &Listing<'_>,
@@ -45,7 +45,7 @@ fn climb(
     walks[row] != walk
 }
 
-/// Walks from a sink, where a pair ends there.
+/// Walks from a sink, if a pair ends there.
 fn climb_from(
     net: &BorrowedTerminals<'_>,
     listing: &Listing<'_>,
@@ -115,8 +115,7 @@ fn is_unmet(
 }
 
 /// Whether a pair is on no way from the source to a sink, where it is known whether the pairs are
-/// in order. Of those that are, each is on a way where the last one ends in a sink: no walk is
-/// needed then.
+/// in order. If they are and the last one ends in a sink, each is on a way: no walk is needed then.
 pub(crate) fn dangles(
     alloc: Global,
     listed: bool,

@@ -10,8 +10,8 @@ use Rattle.report_run.specs.ReportRun.{Reported}
 use Rattle.route_explain.specs.declared.explained.Explained.{Explained}
 use Rattle.route_explain.specs.Explanation.{PrintsExplanation, PrintsLine}
 
--- what comes of explaining a routing: its explanation is printed, or, where memory runs out, the
--- line of that fault
+-- the outcome of explaining a routing: its explanation is printed, or, if memory runs out, the line
+-- of that fault
 pub record IsTold (words : Writing) (path : List ℕ) (r : Reported) (told : Result (Unit {0}) AppFault) : Type 0 where
   pub prints : told ≢ Err Memory → PrintsExplanation words path r.design.netlist r.design.problem r.lines r.routing told
   pub memory : told ≡ Err Memory → PrintsLine words (fault_text Memory)
@@ -37,7 +37,7 @@ PrintsBoth out words path r result = PrintsVerdict out (judged_of r) (verdict_in
 abbrev pub TakeNothing : (out words : Writing) → Type 0
 TakeNothing out words = TakesNothing out × TakesNothing words
 
--- A run, memory aside: where its files say a routing of a problem, the verdict on it is printed,
--- and explained.
+-- A run, memory aside: if its files say a routing of a problem, the verdict on it is printed and
+-- explained.
 abbrev pub RunsExplain : (out words : Writing) → (path : List ℕ) → Result Reported AppFault → Result Explained AppFault → Type 0
 RunsExplain out words path = StopsOrGoesOn (TakeNothing out words) (PrintsBoth out words path)

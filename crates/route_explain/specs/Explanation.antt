@@ -22,12 +22,12 @@ use Rattle.route_explain.specs.Reasons.{reason_text}
 use Rattle.route_explain.specs.Spots.{fault_spot}
 use Rattle.route_explain.specs.Uses.{use_lines}
 
--- a fault's name and what it means, of these pairs for a net
+-- the name of a fault of these pairs for a net, and what it means
 unfoldable pub tree_fault_words : Fabric → Net → List Pair → TreeFault → List ℕ
 tree_fault_words f n pairs fault =
     tree_fault_text fault ++ (codes ": " ++ reason_text f n.source n.sinks pairs fault)
 
--- the pairs of a list; none where there is no list
+-- the pairs of a list; none if there is no list
 abbrev pub pairs_in : Option (List Pair) → List Pair
 pairs_in (Some pairs) = pairs
 pairs_in None = []
@@ -42,7 +42,7 @@ abbrev pub fault_words : Fabric → Net → List Pair → Option TreeFault → L
 fault_words f n pairs None = codes "Unrouted: it has no list"
 fault_words f n pairs (Some fault) = tree_fault_words f n pairs fault
 
--- the line of the file that the fault of net i is about; 0 where there is none
+-- the line of the file that the fault of net i is about; 0 if there is none
 unfoldable pub fault_line_number : Netlist → RoutingProblem → List Line → Lists → ℕ → RouteFault → ℕ
 fault_line_number netlist p lines lists i fault =
     let n = net_in p.nets i in
@@ -55,7 +55,7 @@ fault_text netlist p lists i fault =
     codes "net" ++ (name_text netlist p i
     ++ (codes ": " ++ (fault_words p.device (net_in p.nets i) (pairs_in (list_in lists i)) (tree_fault_in fault) ++ codes "\n")))
 
--- the same, behind the line of the file, as `a.route:123: net n_7: ..`
+-- the same, after the line of the file, as `a.route:123: net n_7: ..`
 unfoldable pub fault_line : (path : List ℕ) → Netlist → RoutingProblem → List Line → Lists → ℕ → RouteFault → List ℕ
 fault_line path netlist p lines lists i fault =
     where_text path (fault_line_number netlist p lines lists i fault) ++ fault_text netlist p lists i fault
@@ -65,7 +65,7 @@ abbrev pub net_text : (path : List ℕ) → Netlist → RoutingProblem → List 
 net_text path netlist p lines lists i None = []
 net_text path netlist p lines lists i (Some fault) = fault_line path netlist p lines lists i fault
 
--- what is said of net i, where these are the nets' faults
+-- the text about net i, if these are the nets' faults
 unfoldable pub net_text_at : (path : List ℕ) → Netlist → RoutingProblem → List Line → Lists → List (Option RouteFault) → ℕ → List ℕ
 net_text_at path netlist p lines lists faults i = net_text path netlist p lines lists i (get_or faults i None)
 
@@ -88,7 +88,7 @@ explanation_text path netlist p lines lists faults =
     net_lines path netlist p lines lists faults
     ++ (overuse_lines netlist p (overused_nodes p lists) ++ use_lines path netlist p lists lines)
 
--- the explanation is printed of what is wrong with each net
+-- the explanation of what is wrong with each net is printed
 abbrev pub PrintsExplanation : (out : Writing) → (path : List ℕ) → Netlist → RoutingProblem → List Line → Lists → Result (Unit {0}) AppFault → Type 0
 PrintsExplanation out path netlist p lines lists result =
     (faults : List (Option RouteFault))

@@ -31,7 +31,7 @@ pub record IsLineOf (f : Fabric) (ls : List Line) (number a : ℕ) : Type 0 wher
 abbrev pub is_at_step : List Pair → ℕ → Bool
 is_at_step pairs a = begins_at pairs a || ends_at pairs a
 
--- of some line of the file an explanation says that net i of the problem uses the node
+-- an explanation says for some line of the file that net i of the problem uses the node
 pub record HasUseLine (netlist : Netlist) (p : RoutingProblem) (lines : List Line) (lists : Lists) (i a : ℕ) : Type 0 where
   pub place : ℕ
   pub within : place < length lines

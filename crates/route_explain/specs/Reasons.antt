@@ -28,7 +28,7 @@ abbrev pub end_text : Fabric → List Pair → (row : Option ℕ) → List ℕ
 end_text f pairs None = []
 end_text f pairs (Some k) = node_text f (pair_at pairs k).1
 
--- at which node a list begins, and at which it should
+-- the node at which a list begins, and the one at which it should begin
 unfoldable pub other_beginning_text : Fabric → (source : ℕ) → (node : ℕ) → List ℕ
 other_beginning_text f source node =
     codes "the first step leaves " ++ (node_text f node ++ (codes " and not " ++ node_text f source))
@@ -53,7 +53,7 @@ unfoldable pub met_again_text : Fabric → (source : ℕ) → List Pair → List
 met_again_text f source pairs =
     codes "the steps come again to " ++ end_text f pairs (row_that_ends_again source pairs)
 
--- a step of those that leave the source
+-- a step, if it leaves the source
 abbrev pub leaving_text : Fabric → (source : ℕ) → Pair → List ℕ
 leaving_text f source p = if p.0 == source then codes "; to " ++ node_text f p.1 else []
 
@@ -65,7 +65,7 @@ unfoldable pub foreign_sink_text : Fabric → (sinks : List ℕ) → List Pair �
 foreign_sink_text f sinks pairs =
     codes "no sink of the net is " ++ end_text f pairs (row_to_foreign_sink f sinks pairs)
 
--- where no step ends at a dead end: one that begins at a node to which none leads, else a circle
+-- if no step ends at a dead end: one that begins at a node that none leads to, else a circle
 abbrev pub apart_text : Fabric → List Pair → (row : Option ℕ) → List ℕ
 apart_text f pairs None = codes "steps go round in a circle"
 apart_text f pairs (Some k) = codes "no step leads to " ++ node_text f (pair_at pairs k).0
@@ -88,7 +88,7 @@ missing_sinks_text f sinks pairs =
 unfoldable pub out_of_order_text : Fabric → (source : ℕ) → List Pair → List ℕ
 out_of_order_text f source pairs = codes "out of order is " ++ step_text f pairs (row_out_of_order f source pairs)
 
--- what a fault means, of these pairs for a net of this source and these sinks
+-- what a fault of these pairs means, for a net of this source and these sinks
 abbrev pub reason_text : Fabric → (source : ℕ) → (sinks : List ℕ) → List Pair → TreeFault → List ℕ
 reason_text f source sinks pairs NoNet = codes "there is no such net"
 reason_text f source sinks pairs WrongSource = beginning_text f source pairs

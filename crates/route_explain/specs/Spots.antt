@@ -1,4 +1,4 @@
--- Where in its section of the file a fault of a net's list shows (ours).
+-- Where a fault of a net's list shows in the net's section of the file (ours).
 use Rattle.std.specs.Prelude.{ℕ, List, Option, None, Some}
 use Rattle.rr_graph.specs.Fabric.{Fabric}
 use Rattle.rr_graph.specs.Problems.{Net}
@@ -19,7 +19,7 @@ abbrev pub loose_spot : (dead_end cut_off : Option ℕ) → Spot
 loose_spot None cut_off = at_row cut_off
 loose_spot (Some k) cut_off = StepEnd k
 
--- of a fault of these pairs for a net of this source and these sinks
+-- where a fault of these pairs shows, for a net of this source and these sinks
 abbrev pub spot_of : Fabric → (source : ℕ) → (sinks : List ℕ) → List Pair → TreeFault → Spot
 spot_of f source sinks pairs NoNet = Heading
 spot_of f source sinks pairs WrongSource = FirstNode
@@ -31,7 +31,7 @@ spot_of f source sinks pairs Dangling = loose_spot (row_to_dead_end sinks pairs)
 spot_of f source sinks pairs MissingSink = Heading
 spot_of f source sinks pairs Order = at_row (row_out_of_order f source pairs)
 
--- of a net without a list its section as a whole
+-- where the fault of a net shows: for a net without a list, its section as a whole
 abbrev pub fault_spot : Fabric → Net → List Pair → Option TreeFault → Spot
 fault_spot f n pairs None = Heading
 fault_spot f n pairs (Some fault) = spot_of f n.source n.sinks pairs fault

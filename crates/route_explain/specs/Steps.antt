@@ -6,7 +6,7 @@ use Rattle.rr_graph.specs.Problems.{is_sink}
 use Rattle.route_tree.specs.Paths.{Pair, ends_of}
 use Rattle.route_tree.specs.Legality.{is_among}
 
--- the step at row k; past the last one that of no use
+-- the step at row k, or (0, 0) past the last one
 abbrev pub pair_at : List Pair → (k : ℕ) → Pair
 pair_at pairs k = get_or pairs k (0, 0)
 
@@ -18,7 +18,7 @@ first_row test pairs = find test (numbers_below (length pairs))
 abbrev pub begins_of : List Pair → List ℕ
 begins_of pairs = map (λ q. q.0) pairs
 
--- a step begins at the node; one ends there; one of the first k does
+-- a step begins at the node; a step ends there; one of the first k ends there
 abbrev pub begins_at : List Pair → ℕ → Bool
 begins_at pairs a = is_among (begins_of pairs) a
 
@@ -52,13 +52,13 @@ is_dead_end sinks pairs p = not (is_among sinks p.1) && not (begins_at pairs p.1
 abbrev pub is_cut_off : (source : ℕ) → List Pair → Pair → Bool
 is_cut_off source pairs p = not (p.0 == source) && not (ends_at pairs p.0)
 
--- the step at row k may begin where it does, after one that ends at a node: there; or, where that
--- is a sink, at the source or where an earlier one ends
+-- the step at row k may begin where it does, after one that ends at a node: there; or, if that is a
+-- sink, at the source or where an earlier one ends
 abbrev pub may_follow : Fabric → (source : ℕ) → List Pair → (k last : ℕ) → Bool
 may_follow f source pairs k last =
     let a = (pair_at pairs k).0 in last == a || (is_sink f last && (source == a || ends_before pairs k a))
 
--- the step at row k may stand there: the first one begins at the source
+-- the step at row k is in order: the first one begins at the source
 abbrev pub is_in_order : Fabric → (source : ℕ) → List Pair → (k : ℕ) → Bool
 is_in_order f source pairs k =
     if k == 0 then (pair_at pairs k).0 == source else may_follow f source pairs k (pair_at pairs (k - 1)).1

@@ -7,13 +7,13 @@ use Rattle.rr_graph.specs.Fabric.{Fabric}
 use Rattle.rr_graph.specs.Nodes.{node_at}
 use Rattle.route_tree.specs.Paths.{Pair}
 
--- of two wires
+-- why two wires are not joined
 abbrev pub wires_reason : (is_one_track : Bool) → List ℕ
 wires_reason true = codes "they touch no common corner"
 wires_reason false = codes "they are of two tracks"
 
--- of nodes of these kinds: the tests by which they would be joined (is_edge of rr_graph), else that
--- such nodes are never joined
+-- why nodes of these kinds are not joined: the tests by which they would be joined (is_edge of
+-- rr_graph), else that such nodes are never joined
 abbrev pub reason_by : Kind → Kind → (is_one_track : Bool) → List ℕ
 reason_by Source Opin t = codes "the pin does not belong to it"
 reason_by Ipin Sink t = codes "the pin does not belong to it"
@@ -31,7 +31,7 @@ abbrev pub reason_between : Option Node → Option Node → List ℕ
 reason_between (Some a) (Some b) = reason_by a.kind b.kind (a.number == b.number)
 reason_between _ _ = []
 
--- of the nodes of a step
+-- why no switch leads from the first node of a step to the second
 abbrev pub switch_reason : Fabric → Pair → List ℕ
 switch_reason f p =
     if p.0 == p.1 then codes "it is the same node" else reason_between (node_at f p.0) (node_at f p.1)

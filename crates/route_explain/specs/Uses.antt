@@ -1,4 +1,4 @@
--- The lines on the lines of the file that name what is overused (ours).
+-- The lines on the lines of the file that name overused nodes (ours).
 use Rattle.std.specs.Prelude.{ℕ, ◌==◌, Bool, true, false, List, [], ◌++◌, codes, decimal, length, take, slice_index_or, Option, None, Some}
 use Rattle.std.specs.List.{flat_map, list_any}
 use Rattle.vpr_text.specs.Words.{Line, number_at}
@@ -28,7 +28,7 @@ abbrev pub is_user : RoutingProblem → Lists → (net : Option ℕ) → ℕ →
 is_user p lists None a = false
 is_user p lists (Some n) a = covers_as p lists n a
 
--- what a net does with a node that its section names, where it covers the node and where not
+-- what a net does with a node that its section names, if it covers the node and if not
 abbrev pub use_word : (covers : Bool) → List ℕ
 use_word true = codes " uses node "
 use_word false = codes " names node "
@@ -44,7 +44,7 @@ abbrev pub use_text : (path : List ℕ) → Netlist → RoutingProblem → Lists
 use_text path netlist p lists line net None = []
 use_text path netlist p lists line net (Some a) = use_line path netlist p.device line net (is_user p lists net a) a
 
--- what is said of line i of the file, which stands in the section of the last net before it
+-- the text about line i of the file, which is in the section of the last net before it
 unfoldable pub use_text_at : (path : List ℕ) → Netlist → RoutingProblem → Lists → List Line → ℕ → List ℕ
 use_text_at path netlist p lists lines i =
     use_text path netlist p lists (number_at lines i) (latest netlist (take i lines)) (overused_on p.device (uses_of p lists) lines i)

@@ -1,4 +1,4 @@
-//! What comes of a run that explains its verdict.
+//! The result of a run that explains its verdict.
 
 ghost use Rattle.std.specs.Prelude.{◌≡◌, Err};
 ghost use Rattle.run_inputs.specs.Faults.{fault_text};
@@ -9,7 +9,7 @@ use route_check::RouteFault;
 use run_inputs::{AppFault, print_fault};
 use vpr_text::ByteSink;
 
-/// A verdict that was printed, and what became of its explanation.
+/// A verdict that was printed, and the outcome of its explanation.
 #[derive(Debug, Drop)]
 pub struct Explained {
     /// The verdict, `None` if the routing is legal.

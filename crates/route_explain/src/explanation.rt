@@ -57,9 +57,8 @@ fn print_explanation<W: ByteSink>(
 
 /// Prints what is wrong with a routing that was read from a file. Each net that has a fault gets a
 /// line: the first fault in words, with the nodes that it is about, after the line number of the
-/// file. Then comes the number of overused nodes and
-/// a line for each, and then a line for each line of the file that names one. It waits for threads
-/// that judge the nets.
+/// file. Then comes the number of overused nodes and a line for each, and then a line for each line
+/// of the file that names one. It waits for threads that judge the nets.
 ///
 /// # Errors
 /// `Memory`, and then the line of that fault was printed in place of the explanation. Otherwise

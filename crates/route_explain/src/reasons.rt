@@ -17,7 +17,7 @@ use route_tree::TreeFault;
 use rr_graph::Device;
 use text_output::{ByteSink, Piece, Printer};
 
-/// Prints at which node a list begins, and at which it should.
+/// Prints the node at which a list begins, and the one at which it should begin.
 #[tactic(auto, unfolding(crate::specs::Reasons::other_beginning_text))]
 fn put_other_beginning<W: ByteSink>(
     out: &mut Printer<'_, W>,

@@ -144,9 +144,9 @@ fn explain_design<R: ByteSource, W: ByteSink, X: ByteSink>(
 }
 
 /// Reads the files of a design and its routing, and prints the verdict on the routing as
-/// `check_run` does. Then explains the verdict to a second sink, in which the routing's file has
-/// the name `path`. Returns the verdict and what became of the explanation: that it couldn't be
-/// printed doesn't change the verdict.
+/// `check_run` does. Then explains the verdict to a second sink, where the routing's file has the
+/// name `path`. Returns the verdict and the outcome of the explanation: that it couldn't be printed
+/// doesn't change the verdict.
 ///
 /// # Errors
 /// Each fault exactly when it comes first; only `Memory` is unspecified. The faults of the files

@@ -26,7 +26,7 @@ use Rattle.route_file.specs.Sections.{had_line, latest, nodes_in}
 abbrev pub ends_well : List (List ℕ) → Bool
 ends_well words = is_at words 6 (codes "blocks.") || is_at words 6 (codes "blocks")
 
--- the first line tells the size of the array, with or without a period
+-- the first line gives the size of the array, with or without a period
 unfoldable pub is_size_line : List (List ℕ) → Bool
 is_size_line words = begins_size_line words && ends_well words
 
@@ -48,7 +48,7 @@ header_fault f lines =
 
 -- ---- the lines after them: each is an entry, or its first fault
 
--- the line of a net; `had` tells whether a line before is that of net n
+-- the line of a net; `had` says whether an earlier line is that of net n
 abbrev pub named_entry : (had : ℕ → Bool) → (line : ℕ) → Option ℕ → Result FileEntry RouteFileFault
 named_entry had line None = Err (UnknownNet line)
 named_entry had line (Some n) = if had n then Err (NetTwice line) else Ok (NetLine n)
@@ -61,7 +61,7 @@ net_entry netlist had line words =
 abbrev pub block_entry : (line : ℕ) → List (List ℕ) → Result FileEntry RouteFileFault
 block_entry line words = if is_at words 0 (codes "Block") then Ok BlockLine else Err (BadLine line)
 
--- a line after that of a routed net; `detached` tells of which nodes it may not be
+-- a line after that of a routed net; `detached` says which nodes it may not be of
 abbrev pub placed_entry : (detached : ℕ → Bool) → (line : ℕ) → Option ℕ → Result FileEntry RouteFileFault
 placed_entry detached line None = Err (NoNode line)
 placed_entry detached line (Some a) = if detached a then Err (Detached line) else Ok (NodeLine a)
@@ -73,14 +73,14 @@ reported_entry f detached line (Some text) = placed_entry detached line (node_re
 unfoldable pub node_entry : Fabric → (detached : ℕ → Bool) → (line : ℕ) → List (List ℕ) → Result FileEntry RouteFileFault
 node_entry f detached line words = reported_entry f detached line (text_of (node_words words))
 
--- a line of a net's section: of a net that is neither global nor has sinks there is none
+-- a line of a net's section: a net that is neither global nor has sinks has none
 abbrev pub section_entry : Netlist → Fabric → (detached : ℕ → ℕ → Bool) → (line : ℕ) → List (List ℕ) → (net : Option ℕ) → Result FileEntry RouteFileFault
 section_entry netlist f detached line words None = Err (BadLine line)
 section_entry netlist f detached line words (Some n) =
     if is_global_at netlist n then block_entry line words
     else (if is_routed_at netlist n then node_entry f (detached n) line words else Err (BadLine line))
 
--- after a sink stands a node that stood in the section before; node a may not stand after these
+-- the node after a sink was in the section before; node a may not come after these
 unfoldable pub is_detached : Fabric → (nodes : List ℕ) → ℕ → Bool
 is_detached f nodes a = option_map_or (is_sink f) (last_or None nodes) false && not (is_among nodes a)
 

@@ -18,12 +18,12 @@ is_net_words words = is_at words 0 (codes "Net")
 abbrev pub is_net_line : Line → Bool
 is_net_line l = is_net_words l.words
 
--- what stands before this ending of a text, if it ends so
+-- what comes before this ending of a text, if it ends so
 unfoldable pub before_ending : (ending text : List ℕ) → Option (List ℕ)
 before_ending ending text =
     if is_text (drop (length text - length ending) text) ending then Some (take (length text - length ending) text) else None
 
--- what stands between the `(` that a word begins with and this ending of the word
+-- what is between the `(` that a word begins with and this ending of the word
 unfoldable pub enclosed : (ending word : List ℕ) → Option (List ℕ)
 enclosed ending [] = None
 enclosed ending (b ∷ rest) = if b == 40 then before_ending ending rest else None
@@ -42,18 +42,18 @@ is_global_form words =
     && is_at words 4 (codes "net")
     && is_at words 5 (codes "connecting:")
 
--- the name that the line of a net tells
+-- the name that the line of a net gives
 unfoldable pub name_on : List (List ℕ) → List ℕ
 name_on words = unwrap_or (enclosed (if is_global_form words then codes "):" else codes ")") (word_at words 2)) []
 
 abbrev pub is_global_at : Netlist → ℕ → Bool
 is_global_at netlist n = (slice_index_or netlist.nets n no_net).global
 
--- the net, if it is global exactly where this is said
+-- the net, if it is global exactly if this is said
 abbrev pub if_global : Netlist → Bool → ℕ → Option ℕ
 if_global netlist global n = if same_answer (is_global_at netlist n) global then Some n else None
 
--- the number of the net that a net's line names: of a global net in the form of global nets, else
--- of another one
+-- the number of the net that a net's line names: a global net in the form of global nets, else
+-- another one
 unfoldable pub net_on : Netlist → List (List ℕ) → Option ℕ
 net_on netlist words = option_and_then (if_global netlist (is_global_form words)) (number_among (names_of_nets netlist.nets) (name_on words))

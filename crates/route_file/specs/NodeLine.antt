@@ -15,7 +15,7 @@ use Rattle.rr_graph.specs.Nodes.{nodes_of, rank_of_kind, label_by, label_of, spa
 use Rattle.route_file.specs.declared.node_line.NodeText.{NodeText}
 use Rattle.route_file.specs.NodeWords.{node_words}
 
--- the kind of node that a line's first word tells
+-- the kind of node that a line's first word gives
 unfoldable pub kind_of : List ℕ → Option Kind
 kind_of word =
     if is_text word (codes "SOURCE") then Some Source
@@ -85,8 +85,8 @@ is_span_line words =
     && takes_both (kind_on words) (label_on words 6)
     && is_number words 7
 
--- the ends, the label and the number that a line of the node's kind tells; of five words both ends
--- are the one place
+-- the ends, the label and the number that a line of the node's kind gives; with five words both
+-- ends are the one place
 unfoldable pub place_text : List (List ℕ) → NodeText
 place_text words =
     record {

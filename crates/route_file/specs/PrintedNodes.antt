@@ -10,7 +10,7 @@ abbrev pub goes_on : Fabric → (before : Option ℕ) → Pair → Bool
 goes_on f None p = false
 goes_on f (Some a) p = p.0 == a && not (is_sink f a)
 
--- the nodes that are named for a pair: where it goes on from the pair before it its second alone,
+-- the nodes that are named for a pair: if it goes on from the pair before it, its second alone,
 -- else both
 abbrev pub nodes_for : Fabric → (before : Option ℕ) → Pair → List ℕ
 nodes_for f before p = if goes_on f before p then p.1 ∷ [] else (p.0 ∷ p.1 ∷ [])

@@ -15,6 +15,6 @@ abbrev pub tells_whole : Fabric → Net → Option (List Pair) → Bool
 tells_whole f n (Some pairs) = is_reported_whole f n pairs
 tells_whole f n None = true
 
--- the text tells each list whole
+-- the text gives each list whole
 abbrev pub TellsWhole : RoutingProblem → List (Option (List Pair)) → Type 0
 TellsWhole p lists = (i : ℕ) → i < length p.nets → tells_whole p.device (net_in p.nets i) (slice_index_or lists i None) ≡ true

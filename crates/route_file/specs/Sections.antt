@@ -1,5 +1,5 @@
--- The sections of a routing's lines, one for each net, and the nodes that stand in them (VPR and
--- T-VPack manual 4.30, "Routing File Format").
+-- The sections of a routing's lines, one for each net, and the nodes in them (VPR and T-VPack
+-- manual 4.30, "Routing File Format").
 use Rattle.std.specs.Prelude.{ℕ, ◌==◌, Bool, false, not, if◌then◌else◌, List, [], ◌∷◌, filter, fold, Option, Some, None}
 use Rattle.std.specs.List.{list_any, filter_map}
 use Rattle.std.specs.Option.{option_map_or}
@@ -55,7 +55,7 @@ neighbours [] = []
 neighbours (a ∷ []) = []
 neighbours (a ∷ b ∷ nodes) = (a, b) ∷ neighbours (b ∷ nodes)
 
--- the pairs of nodes that stand in this order: neighbours whose first is no sink
+-- the pairs of nodes that are in this order: neighbours whose first is no sink
 unfoldable pub pairs_along : Fabric → List ℕ → List Pair
 pairs_along f nodes = filter (λ p. not (is_sink f p.0)) (neighbours nodes)
 
@@ -64,6 +64,6 @@ abbrev pub list_along : Fabric → List ℕ → Option (List Pair)
 list_along f [] = None
 list_along f (a ∷ nodes) = Some (pairs_along f (a ∷ nodes))
 
--- the list of pairs that the lines tell of net n
+-- the list of pairs that the lines give for net n
 unfoldable pub list_of_net : Netlist → Fabric → List Line → ℕ → Option (List Pair)
 list_of_net netlist f lines n = list_along f (nodes_in netlist f lines n)

@@ -30,7 +30,7 @@ unfoldable pub routed_net_lines : Fabric → (number : ℕ) → (name : List ℕ
 routed_net_lines f number name None = []
 routed_net_lines f number name (Some pairs) = Blank ∷ RoutedNet number name ∷ Blank ∷ flat_map (node_lines f) (printed_nodes f pairs)
 
--- what stands past the last site
+-- what is past the last site
 abbrev pub no_site : Site
 no_site = record { x = 0; y = 0; subblk = 0 }
 
@@ -45,7 +45,7 @@ unfoldable pub global_net_lines : Netlist → Placement → (number : ℕ) → N
 global_net_lines netlist placement number n =
     Blank ∷ GlobalNet number n.name ∷ Blank ∷ map (block_line netlist placement) (n.driver ∷ n.sinks)
 
--- how many routed nets stand before net n
+-- how many routed nets come before net n
 unfoldable pub routed_before : Netlist → ℕ → ℕ
 routed_before netlist n = length (filter (is_routed_at netlist) (numbers_below n))
 

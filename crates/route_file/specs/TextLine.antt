@@ -11,7 +11,7 @@ pub data TextLine : Type 0 where
   -- the size of the array
   Size : (nx : ℕ) → (ny : ℕ) → TextLine
   Blank : TextLine
-  -- after it stand the nets
+  -- the nets come after it
   Heading : TextLine
   -- a net that is routed
   RoutedNet : (number : ℕ) → (name : List ℕ) → TextLine
@@ -22,7 +22,7 @@ pub data TextLine : Type 0 where
   -- a node that a net is routed over
   NodeLine : Kind → Span → Label → (number : ℕ) → TextLine
 
--- a node's kind, at the right of six places
+-- a node's kind, right-aligned in six places
 abbrev pub kind_field : Kind → List ℕ
 kind_field Source = codes "SOURCE"
 kind_field Sink = codes "  SINK"
@@ -36,11 +36,11 @@ abbrev pub class_text : Option ℕ → List ℕ
 class_text (Some class) = decimal class
 class_text None = codes "-1"
 
--- what begins a net: its number and its name, and what stands behind that
+-- what begins a net: its number and its name, and what comes after that
 abbrev pub net_heading : (number : ℕ) → (name rest : List ℕ) → List ℕ
 net_heading number name rest = codes "Net " ++ (decimal number ++ (codes " (" ++ (name ++ rest)))
 
--- what stands on a line
+-- what is on a line
 unfoldable pub bytes_on : TextLine → List ℕ
 bytes_on (Size nx ny) = codes "Array size: " ++ (decimal nx ++ (codes " x " ++ (decimal ny ++ codes " logic blocks.")))
 bytes_on Blank = codes ""

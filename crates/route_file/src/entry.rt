@@ -1,6 +1,6 @@
 //! What a line without a fault is.
 
-/// What a line after the first two is, where it has no fault.
+/// What a line after the first two is, if it has no fault.
 #[derive(Clone, Copy, Debug)]
 pub(crate) enum FileEntry {
     /// The line of a net, by its number in the netlist.

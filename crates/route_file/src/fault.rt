@@ -15,7 +15,7 @@ pub enum RouteFileFault {
     /// The text has no lines.
     #[error("{0}")]
     Text(TextFault),
-    /// The line is none that can stand there; at line 0, one of the first two lines isn't there.
+    /// The line is none that can be there; at line 0, one of the first two lines isn't there.
     #[error("line {0} can't stand there")]
     BadLine(u32),
     /// The array has another size than the device.
@@ -24,13 +24,13 @@ pub enum RouteFileFault {
     /// The netlist has no net of that name, or none that is written in this form.
     #[error("line {0} names no net")]
     UnknownNet(u32),
-    /// A line before begins the section of the same net.
+    /// An earlier line begins the section of the same net.
     #[error("line {0} names a net again")]
     NetTwice(u32),
     /// The device has no such node.
     #[error("line {0} names no node")]
     NoNode(u32),
-    /// After a sink stands a node that didn't stand in the net's section before.
+    /// The node after a sink wasn't in the net's section before.
     #[error("line {0} begins off the tree")]
     Detached(u32),
     /// Memory ran out.
@@ -55,7 +55,7 @@ impl<T: Drop> From<AllocFailed<T>> for RouteFileFault {
 }
 
 impl RouteFileFault {
-    /// The line of the fault; 0 where it has none.
+    /// The line of the fault; 0 if it has none.
     pub fn line(self) -> u32
         ensures { result ≡ route_line self }
     {

@@ -14,7 +14,7 @@ fn ends_well(words: &Words) -> bool
     words.is(6, "blocks.") || words.is(6, "blocks")
 }
 
-/// Whether the line tells the size of the array.
+/// Whether the line gives the size of the array.
 #[tactic(auto, unfolding(crate::specs::Judge::is_size_line))]
 fn is_size_line(words: &Words) -> bool
     ensures { result ≡ is_size_line words.now }

@@ -1,4 +1,4 @@
-//! A line, given what is kept of those before it.
+//! A line, given what is kept from those before it.
 
 ghost use Rattle.std.specs.Prelude.{◌≡◌};
 ghost use Rattle.route_file.specs.Judge.{net_entry, block_entry, node_entry, section_entry};

@@ -30,9 +30,8 @@ pub fn one_reading(
     ensures { one.now ≡ other.now }
 {}
 
-/// What `write` writes is read back: where each list of a routing has pairs, in the order in which
-/// routings are written, none of which begins at a sink, and where the text isn't too long for a
-/// file.
+/// What `write` writes is read back if each list of a routing has pairs, in the order in which
+/// routings are written, none of them begins at a sink, and the text isn't too long for a file.
 #[tactic(auto, using(crate::proofs::ReadBack::read_back))]
 pub fn read_back(netlist: &Netlist, placement: &Placement, problem: &Problem, routing: &Routing)
     requires netlist { IsNetlist netlist.now }

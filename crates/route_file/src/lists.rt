@@ -16,7 +16,7 @@ pub(crate) fn no_lists(alloc: Global, count: usize) -> Result<Vec<Option<Pairs>>
     (0..count).map(|_| None).collect(alloc)
 }
 
-/// Takes the pairs of a list, none where there is no list.
+/// Takes the pairs of a list, or none if there is no list.
 fn take_pairs(alloc: Global, list: &mut Option<Pairs>) -> Pairs
     ensures { result ≡ unwrap_or list.old [] }
 {

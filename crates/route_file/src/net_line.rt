@@ -10,7 +10,7 @@ ghost use Rattle.route_file.specs.NetLine.{enclosed, before_ending, is_plain_for
 use net_file::Netlist;
 use vpr_text::{Words, is_text};
 
-/// What stands before this ending of a text, if it ends so.
+/// What comes before this ending of a text, if it ends so.
 #[tactic(auto, unfolding(crate::specs::NetLine::before_ending))]
 fn before_ending<'a>(text: &'a [u8], ending: &str) -> Option<&'a [u8]>
     ensures { option_copied result ≡ before_ending ending.now text.now }
@@ -23,7 +23,7 @@ fn before_ending<'a>(text: &'a [u8], ending: &str) -> Option<&'a [u8]>
     }
 }
 
-/// What stands between the `(` that a word begins with and this ending of the word.
+/// What is between the `(` that a word begins with and this ending of the word.
 #[tactic(auto, unfolding(crate::specs::NetLine::enclosed))]
 fn enclosed<'a>(word: &'a [u8], ending: &str) -> Option<&'a [u8]>
     ensures { option_copied result ≡ enclosed ending.now word.now }
@@ -34,7 +34,7 @@ fn enclosed<'a>(word: &'a [u8], ending: &str) -> Option<&'a [u8]>
     }
 }
 
-/// What the line of a net tells: which form it has, and the name.
+/// What the line of a net gives: which form it has, and the name.
 #[derive(Clone, Copy)]
 pub(crate) struct NetHeading<'a> {
     pub(crate) is_plain: bool,
@@ -63,7 +63,7 @@ fn is_global_form(words: &Words) -> bool
         && words.is(5, "connecting:")
 }
 
-/// What the line of a net tells.
+/// What the line of a net gives.
 #[tactic(auto, unfolding(crate::specs::NetLine::name_on))]
 pub(crate) fn heading_on<'a>(words: &Words<'_, 'a>) -> NetHeading<'a>
     ensures plain { result.is_plain ≡ is_plain_form words.now }
@@ -103,8 +103,8 @@ pub(crate) fn is_routed_at(netlist: &Netlist, n: usize) -> bool
     }
 }
 
-/// The number of the net whose line this is: of a global net in the form of global nets, else of
-/// another one.
+/// The number of the net whose line this is: that of a global net in the form of global nets, else
+/// that of another one.
 #[tactic(auto, using(crate::proofs::Named::within))]
 pub(crate) fn net_on(netlist: &Netlist, heading: &NetHeading) -> Option<u32>
     ensures { result ≡ option_and_then (if_global netlist.now heading.now.is_global)

@@ -11,7 +11,7 @@ use crate::node_words::NodeWords;
 use rr_graph::{Device, Kind, Label, Node, Span};
 use vpr_text::{Words, is_text};
 
-/// What a node's line tells: its kind, its two ends, which may be one place, and what its number
+/// What a node's line gives: its kind, its two ends, which may be one place, and what its number
 /// counts.
 #[derive(Clone, Copy, Debug)]
 pub(crate) struct NodeText {
@@ -24,7 +24,7 @@ pub(crate) struct NodeText {
     pub(crate) number: u32,
 }
 
-/// The kind of node that a line's first word tells.
+/// The kind of node that a line's first word gives.
 #[tactic(auto, unfolding(crate::specs::NodeLine::kind_of))]
 fn kind_of(word: &[u8]) -> Option<Kind>
     ensures { result ≡ kind_of word.now }
@@ -113,8 +113,8 @@ fn takes(kind: Kind, label: Label) -> bool
     same_label(label, label_by(kind, true)) || same_label(label, label_by(kind, false))
 }
 
-/// The kind of node that a line tells, and what word `j` says that its number counts, where nodes
-/// of the kind have that label.
+/// The kind of node that a line gives, and what word `j` says that its number counts, if nodes of
+/// the kind have that label.
 fn kind_and_label(words: &NodeWords, j: usize) -> Option<(Kind, Label)>
     ensures both { is_some result ≡ takes_both (kind_on words.now) (label_on words.now j) }
     ensures kind { IfSome result (λ p. kind_on words.now ≡ Some p.0) }
@@ -148,7 +148,7 @@ fn begins_wire(words: &NodeWords) -> bool
     }
 }
 
-/// What a line tells that names a node by one place.
+/// The content of a line that names a node by one place.
 #[tactic(auto, unfolding(crate::specs::NodeLine::is_place_line, crate::specs::NodeLine::place_text))]
 fn place_text(words: &NodeWords) -> Option<NodeText>
     ensures line { is_some result ≡ is_place_line words.now }
@@ -171,7 +171,7 @@ fn place_text(words: &NodeWords) -> Option<NodeText>
     })
 }
 
-/// What a line tells that names a wire by its two ends.
+/// The content of a line that names a wire by its two ends.
 #[tactic(auto, unfolding(crate::specs::NodeLine::is_span_line, crate::specs::NodeLine::span_text))]
 fn span_text(words: &NodeWords) -> Option<NodeText>
     ensures line { is_some result ≡ is_span_line words.now }
@@ -198,7 +198,7 @@ fn span_text(words: &NodeWords) -> Option<NodeText>
     })
 }
 
-/// What the words of a node's line tell.
+/// What the words of a node's line give.
 #[tactic(auto, unfolding(crate::specs::NodeLine::text_of))]
 fn text_in(words: &NodeWords) -> Option<NodeText>
     ensures { result ≡ text_of words.now }
@@ -209,7 +209,7 @@ fn text_in(words: &NodeWords) -> Option<NodeText>
     span_text(words)
 }
 
-/// What a line tells, if it is a node's line.
+/// What a line gives, if it is a node's line.
 #[tactic(auto, using(crate::proofs::Reported::too_long))]
 pub(crate) fn text_of(words: &Words) -> Option<NodeText>
     ensures { result ≡ text_of (node_words words.now) }

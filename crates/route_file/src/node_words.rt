@@ -1,4 +1,4 @@
-//! The words of a node's line, in which `(`, `,` and `)` separate words too.
+//! The words of a node's line, where `(`, `,` and `)` separate words too.
 
 ghost use Rattle.std.specs.Prelude.{◌≡◌, ◌<◌, ◌≤◌, ◌∷◌, ◌++◌, [], not, length, slice_get, MatchOption};
 ghost use Rattle.std.specs.Option.{option_copied};
@@ -20,21 +20,21 @@ fn is_mark(byte: u8) -> bool
     byte == b'(' || byte == b')' || byte == b','
 }
 
-/// Where the first byte that is no separator stands.
+/// The place of the first byte that is no separator.
 fn piece_at(word: &[u8]) -> Option<usize>
     ensures { result ≡ position (λ b. not (is_mark b)) word.now }
 {
     word.iter().position(|b| !is_mark(*b))
 }
 
-/// Where the first separator stands.
+/// The place of the first separator.
 fn first_mark(word: &[u8]) -> Option<usize>
     ensures { result ≡ position is_mark word.now }
 {
     word.iter().position(|b| is_mark(*b))
 }
 
-/// Where the first separator stands, or the end.
+/// The place of the first separator, or the end.
 #[tactic(auto, using(crate::proofs::Pieces::no_mark))]
 fn mark_at(word: &[u8]) -> usize
     ensures place { result ≡ position_or_len is_mark word.now }
@@ -46,7 +46,7 @@ fn mark_at(word: &[u8]) -> usize
     }
 }
 
-/// The first piece of a word, and what stands after it.
+/// The first piece of a word, and what comes after it.
 #[tactic(auto, using(crate::proofs::Pieces::no_piece, crate::proofs::Pieces::one_piece))]
 fn first_piece(word: &[u8]) -> Option<(&[u8], &[u8])>
     ensures { CutsPiece word.now result }
@@ -56,7 +56,7 @@ fn first_piece(word: &[u8]) -> Option<(&[u8], &[u8])>
     Some(rest.split_at(mark_at(rest)))
 }
 
-/// The words of a node's line, of which there are at most eight.
+/// The words of a node's line, at most eight.
 #[derive(Drop)]
 pub(crate) struct NodeWords<'a> {
     words: [&'a [u8]; 8],
@@ -101,7 +101,7 @@ impl<'a> NodeWords<'a> {
         self.count += 1;
     }
 
-    /// Adds the pieces of a word, and says whether there was room for all of them.
+    /// Adds the pieces of a word, and returns whether there was room for all of them.
     #[tactic(auto, using(crate::proofs::Pieces::piece_kept, crate::proofs::Pieces::piece_more, crate::proofs::Pieces::pieces_done))]
     fn push_pieces(&mut self, word: &'a [u8]) -> bool
         ensures { CutsWords self.old self.new (pieces_of word.now) result }

@@ -31,7 +31,7 @@ fn put_node<W: ByteSink>(
     out.push(b"\n");
 }
 
-/// Prints the line of the node of a number; nothing for what is no node.
+/// Prints the line of the node with a number; nothing for what is no node.
 fn put_node_at<W: ByteSink>(out: &mut Printer<'_, W>, device: &Device, id: u32)
     ensures { PrintsTo W.ByteSink out.old out.new
         (flat_map line_text (node_lines device.now id)) }

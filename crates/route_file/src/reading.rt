@@ -21,7 +21,7 @@ use rr_graph::{Device, Problem};
 use std::alloc::Global;
 use vpr_text::{Lines, TextFault, Words, line_number, lines};
 
-/// The lists that the lines after the first two tell, by the numbers of their nets.
+/// The lists that the lines after the first two give, by the numbers of their nets.
 fn lists_by_net(
     alloc: Global,
     netlist: &Netlist,

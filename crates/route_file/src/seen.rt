@@ -1,4 +1,4 @@
-//! What is kept of the lines so far.
+//! What is kept from the lines so far.
 
 ghost use Rattle.std.specs.Prelude.{◌≡◌, [], true, false, IfOk, OnOk, slice_index_or, slice_set};
 ghost use Rattle.std.specs.Option.{option_map_or};
@@ -12,22 +12,22 @@ use route_tree::Pairs;
 use rr_graph::Device;
 use std::alloc::{AllocError, Global};
 
-/// What the lines so far say, as far as later lines depend on it, and the lists that they tell.
+/// What the lines so far say, as far as later lines depend on it, and the lists that they give.
 #[derive(Drop)]
 pub(crate) struct Seen {
-    /// The net in whose section the next line is.
+    /// The net whose section has the next line.
     pub(crate) net: Option<u32>,
     /// The last node of that section.
     pub(crate) last: Option<u32>,
     /// For each net, whether one of the lines is its own.
     pub(crate) had: Vec<bool>,
-    /// For each node, the net in whose section it stood last; `NO_OWNER` if it stood in none.
+    /// For each node, the net whose section had it last; `NO_OWNER` if none had it.
     pub(crate) owners: Vec<u32>,
-    /// For each net, the list that the lines tell of it.
+    /// For each net, the list that the lines give for it.
     pub(crate) lists: Vec<Option<Pairs>>,
 }
 
-/// The owner of a node that stood in no section.
+/// The owner of a node that was in no section.
 const NO_OWNER: u32 = u32::MAX;
 
 /// Marks number `n`, if it is one of them.
@@ -92,7 +92,7 @@ impl Seen {
         }
     }
 
-    /// Whether the last node is a sink, and this one doesn't stand in the section of net `n`.
+    /// Whether the last node is a sink, and this one isn't in the section of net `n`.
     pub(crate) fn is_off(&self, device: &Device, n: u32, node: u32) -> bool
         ensures { result ≡ is_off device.now self.now n node }
     {
@@ -109,7 +109,7 @@ impl Seen {
         }
     }
 
-    /// The net in whose section a node stood last.
+    /// The net whose section had a node last.
     fn owner(&self, node: u32) -> u32
         ensures { result ≡ slice_index_or self.now.owners.items node no_owner }
     {
@@ -158,7 +158,7 @@ impl Seen {
         Ok(())
     }
 
-    /// The lists that the lines tell, by the numbers of their nets.
+    /// The lists that the lines give, by the numbers of their nets.
     pub(crate) fn into_lists(self) -> Vec<Option<Pairs>>
         ensures { result.items ≡ self.lists.items }
     {

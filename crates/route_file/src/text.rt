@@ -8,7 +8,7 @@ ghost use Rattle.route_file.specs.TextLine.{Blank, line_text, class_text, kind_f
 use rr_graph::Kind;
 use text_output::{ByteSink, Piece, Printer};
 
-/// A node's kind, at the right of six places.
+/// A node's kind, right-aligned in six places.
 pub(crate) fn kind_field(kind: Kind) -> &'static [u8]
     ensures { result.now ≡ kind_field kind }
 {
@@ -31,7 +31,7 @@ pub(crate) fn put_line<W: ByteSink>(out: &mut Printer<'_, W>, pieces: &[Piece<'_
     out.push(b"\n");
 }
 
-/// Prints the line that begins a net: its number, its name, and what stands behind that.
+/// Prints the line that begins a net: its number, its name, and what comes after that.
 pub(crate) fn put_heading<'a, W: ByteSink>(
     out: &mut Printer<'_, W>,
     number: usize,

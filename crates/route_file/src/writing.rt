@@ -72,7 +72,7 @@ fn put_listed_net<W: ByteSink>(
     put_pairs(out, device, pairs);
 }
 
-/// Prints the lines of a routed net; none where it has no list.
+/// Prints the lines of a routed net; none if it has no list.
 fn put_list<W: ByteSink>(
     out: &mut Printer<'_, W>,
     device: &Device,
@@ -89,7 +89,7 @@ fn put_list<W: ByteSink>(
     }
 }
 
-/// Prints the lines of a routed net, whose list stands at a place of the routing.
+/// Prints the lines of a routed net, whose list is at a place of the routing.
 fn put_routed_net<W: ByteSink>(
     out: &mut Printer<'_, W>,
     device: &Device,
@@ -201,7 +201,7 @@ fn put_text<W: ByteSink>(
 /// Writes the routing of a placed design, in one pass over its nets and without memory.
 ///
 /// # Errors
-/// Failed exactly where the sink broke: it took a front of the text.
+/// Failed exactly if the sink broke: it took a front of the text.
 pub fn write<W: ByteSink>(
     netlist: &Netlist<'_>,
     placement: &Placement,

@@ -25,7 +25,7 @@ is_bend f pair = turns (kind_of_node f pair.0) (kind_of_node f pair.1)
 abbrev pub nodes_ended : Fabric → List Pair → List ℕ
 nodes_ended f pairs = filter (is_among (ends_of pairs)) (numbers_below (node_count_of f))
 
--- the pairs of a net; none where it has no list
+-- the pairs of a net; none if it has no list
 abbrev pub pairs_in : Option (List Pair) → List Pair
 pairs_in (Some pairs) = pairs
 pairs_in None = []

@@ -11,7 +11,7 @@ use Rattle.routing_problem.specs.Wires.{Place, runs_through}
 use Rattle.routing_problem.specs.Nodes.{node_at, node_count_of}
 use Rattle.route_report.specs.Wirelength.{greatest_in}
 
--- how many tracks a wire that so many nets cover occupies: its own, for one or more; in a global
+-- how many tracks a wire occupies if this many nets cover it: its own, for one or more; in a global
 -- channel one for each
 abbrev pub occupied_by : Mode → ℕ → ℕ
 occupied_by Detailed nets = min nets 1

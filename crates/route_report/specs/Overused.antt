@@ -31,7 +31,7 @@ overuse_at p lists a = record {
 abbrev pub is_overused : RoutingProblem → Lists → ℕ → Bool
 is_overused p lists a = nat_lt 0 (overuse_of p lists a)
 
--- of any uses: that of the node is above its capacity
+-- by any given uses: that of the node is above its capacity
 abbrev pub is_over : Fabric → (uses : List ℕ) → ℕ → Bool
 is_over f uses a = nat_lt (room_of f (node_at f a)) (get_or uses a 0)
 

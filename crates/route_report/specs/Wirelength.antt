@@ -17,7 +17,7 @@ abbrev pub places_of_wire : Option (Kind × Span × ℕ) → ℕ
 places_of_wire (Some w) = places_along w.1
 places_of_wire None = 0
 
--- how many places a node's wire passes; none where the node is no wire
+-- how many places a node's wire passes; none if the node is no wire
 unfoldable pub places_at : Fabric → ℕ → ℕ
 places_at f a = places_of_wire (wire_in f (node_at f a))
 
@@ -33,6 +33,6 @@ abbrev pub greatest_in : List ℕ → ℕ
 greatest_in [] = 0
 greatest_in (n ∷ ns) = max n (greatest_in ns)
 
--- the first place at which the greatest number stands; none in a list without numbers
+-- the first place that has the greatest number; none in a list without numbers
 unfoldable pub first_greatest : List ℕ → Option ℕ
 first_greatest ns = find (λ i. get_or ns i 0 == greatest_in ns) (numbers_below (length ns))

@@ -46,7 +46,7 @@ fn bent_pairs(
         .collect(alloc)
 }
 
-/// The nodes, of so many, at which pairs end, ascending.
+/// The nodes, out of this many, at which pairs end, ascending.
 fn ends_in_order(alloc: Global, count: u32, pairs: &[(u32, u32)]) -> Result<Vec<u32>, AllocError>
     ensures { IfOk result
         (λ v. v.items ≡ filter (is_among (ends_of pairs.now)) (numbers_below count)) }
@@ -67,7 +67,7 @@ fn bends_among(alloc: Global, device: &Device, pairs: &[(u32, u32)]) -> Result<u
     Ok(ends.len() as u64)
 }
 
-/// The pairs of a net; none where it has no list.
+/// The pairs of a net; none if it has no list.
 fn pairs_of(lists: &[Option<Pairs>], net: u32) -> &[(u32, u32)]
     ensures { result.now ≡ pairs_in (list_in lists.now net) }
 {

@@ -72,7 +72,7 @@ fn channel_at(
     channel_with(alloc, kind, number, channels[number as usize].occupied())
 }
 
-/// Pushes the channels of a kind, so many, by number.
+/// Pushes this many channels of a kind, by number.
 #[tactic(auto, using(crate::proofs::Occupying::none_numbered, crate::proofs::Occupying::numbered_more))]
 fn push_channels(
     alloc: Global,

@@ -39,7 +39,7 @@ fn push_below(nodes: &mut Vec<u32>, count: u32, node: u32) -> Result<(), AllocEr
     Ok(())
 }
 
-/// The nodes, of so many, that a source and pairs cover, ascending.
+/// The nodes, out of this many, that a source and pairs cover, ascending.
 #[tactic(auto, using(crate::proofs::Covering::covered_in_order))]
 fn covered_by(
     alloc: Global,

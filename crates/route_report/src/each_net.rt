@@ -15,14 +15,14 @@ use route_tree::{Pairs, Routing};
 use routing_problem::{Device, Problem};
 use std::alloc::{AllocError, Global};
 
-/// What a number for each net comes to.
+/// The figures of a number that each net has.
 #[derive(Clone, Copy, Debug, PartialEq, Eq)]
 pub struct NetTotals {
     /// The sum over all nets.
     pub total: u64,
     /// The greatest of a net.
     pub most: u64,
-    /// The first net that has it; none where there are no nets.
+    /// The first net that has it; none if there are no nets.
     pub first: Option<u32>,
 }
 
@@ -78,7 +78,7 @@ fn wires_of_nets(
     Ok(wires)
 }
 
-/// What these numbers come to, one for each of so many nets.
+/// The figures of these numbers, one for each of this many nets.
 fn totals_of(numbers: &[u64], nets: u32) -> NetTotals
     requires nets { length numbers.now ≡ nets }
     requires few { length numbers.now ≤ 65535 }
@@ -92,7 +92,7 @@ fn totals_of(numbers: &[u64], nets: u32) -> NetTotals
     }
 }
 
-/// What the bends of the nets come to.
+/// The figures of the nets' bends.
 #[tactic(auto, using(crate::proofs::NetSums::bends_few, crate::proofs::NetSums::bends_small))]
 fn bend_totals(alloc: Global, problem: &Problem, routing: &Routing) -> Result<NetTotals, AllocError>
     ensures { IfOk result (λ t. t ≡ totals_of (bends_of_nets problem.now routing.now)) }
@@ -102,7 +102,7 @@ fn bend_totals(alloc: Global, problem: &Problem, routing: &Routing) -> Result<Ne
     Ok(totals_of(&bends, problem.nets()))
 }
 
-/// What the wires of the nets come to.
+/// The figures of the nets' wires.
 #[tactic(auto, using(crate::proofs::NetSums::wires_few, crate::proofs::NetSums::wires_small))]
 fn wire_totals(alloc: Global, problem: &Problem, routing: &Routing) -> Result<NetTotals, AllocError>
     ensures { IfOk result (λ t. t ≡ totals_of (wires_of_nets problem.now routing.now)) }
@@ -112,7 +112,7 @@ fn wire_totals(alloc: Global, problem: &Problem, routing: &Routing) -> Result<Ne
     Ok(totals_of(&wires, problem.nets()))
 }
 
-/// What the wirelengths of the nets come to.
+/// The figures of the nets' wirelengths.
 #[tactic(auto, using(crate::proofs::Sums::lengths_few, crate::proofs::Sums::lengths_short))]
 fn place_totals(
     alloc: Global,

@@ -29,11 +29,11 @@ pub struct Figures {
     pub wirelength: u64,
     /// The greatest wirelength of a net.
     pub greatest: u64,
-    /// The first net that has it; none where there are no nets.
+    /// The first net that has it; none if there are no nets.
     pub longest: Option<u32>,
 }
 
-/// 1 where the test holds, else 0.
+/// 1 if the test holds, else 0.
 pub(crate) fn one_if(test: bool) -> u32
     ensures { result ≡ (if test then 1 else 0) }
 {
@@ -98,7 +98,7 @@ fn wires_used(device: &Device, uses: &[u16]) -> u32
     count
 }
 
-/// The places of a node's wire, where some net covers it.
+/// The places of a node's wire, if some net covers it.
 fn places_if_used(device: &Device, uses: &[u16], node: u32) -> u64
     ensures places { result ≡ (if is_used uses.now node then places_at device.now node else 0) }
     ensures few { result ≤ 128 }

@@ -15,16 +15,16 @@ ghost use Rattle.route_report.specs.Wirelength.{wirelengths_of};
 use route_tree::Routing;
 use routing_problem::{Device, Problem};
 
-/// The wirelength of all nets together is what the places of all wires come to, those of each wire
-/// as often as nets cover it.
+/// The wirelength of all nets together is the number of places of all wires, those of each wire
+/// counted as often as nets cover it.
 #[tactic(auto, using(crate::proofs::Totals::wirelength_by_wires))]
 pub fn wirelength_by_wires(problem: &Problem, routing: &Routing)
     ensures { sum (wirelengths_of problem.now routing.now) ≡
         places_covered problem.now routing.now }
 {}
 
-/// Where no node of a detailed device is overused, the places that are used are the wirelength of
-/// all nets together.
+/// If no node of a detailed device is overused, the places that are used are the wirelength of all
+/// nets together.
 #[tactic(auto, using(crate::proofs::Totals::places_once))]
 pub fn places_once(problem: &Problem, routing: &Routing)
     requires detailed { problem.now.device.mode ≡ Detailed }
@@ -33,7 +33,7 @@ pub fn places_once(problem: &Problem, routing: &Routing)
         sum (wirelengths_of problem.now routing.now) }
 {}
 
-/// What is occupied in all channels of a detailed device is the places that are used.
+/// The occupancy of all channels of a detailed device is the places that are used.
 #[tactic(auto, using(crate::proofs::ChannelTotals::occupied_places))]
 pub fn occupied_places(device: &Device, uses: &[u16])
     requires { device.now.mode ≡ Detailed }
@@ -41,7 +41,7 @@ pub fn occupied_places(device: &Device, uses: &[u16])
         places_used device.now uses.now }
 {}
 
-/// What is occupied in all channels of a global device is the wirelength of all nets together.
+/// The occupancy of all channels of a global device is the wirelength of all nets together.
 #[tactic(auto, using(crate::proofs::ChannelTotals::global_occupancy))]
 pub fn global_occupancy(problem: &Problem, routing: &Routing)
     requires { problem.now.device.mode ≡ Global }
@@ -50,7 +50,7 @@ pub fn global_occupancy(problem: &Problem, routing: &Routing)
         sum (wirelengths_of problem.now routing.now) }
 {}
 
-/// The wires that are used of all types together are those that are used, and so are their places.
+/// The used wires of all types together are all the used wires, and so are their places.
 #[tactic(auto, using(crate::proofs::TypeTotals::wires_together, crate::proofs::TypeTotals::places_together))]
 pub fn types_together(device: &Device, uses: &[u16])
     requires { IsFabric device.now }

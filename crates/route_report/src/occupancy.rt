@@ -52,7 +52,7 @@ fn stretch_of(device: &Device, kind: Kind, node: u32) -> Option<Stretch>
     }
 }
 
-/// How many tracks a wire that so many nets cover occupies.
+/// How many tracks a wire occupies if this many nets cover it.
 fn occupied_by(mode: Mode, nets: u32) -> u64
     requires { nets ≤ 65535 }
     ensures occupied { result ≡ occupied_by mode nets }
@@ -64,7 +64,7 @@ fn occupied_by(mode: Mode, nets: u32) -> u64
     }
 }
 
-/// More tracks are occupied at one place, if there is such a place.
+/// Adds occupied tracks at one place, if there is such a place.
 #[tactic(auto, using(crate::proofs::Occupying::adds_one, crate::proofs::Occupying::adds_none))]
 fn occupy_place(places: &mut [u64], place: u32, by: u64)
     requires { get_or places.old place 0 + by < 2 ^ 63 }
@@ -75,7 +75,7 @@ fn occupy_place(places: &mut [u64], place: u32, by: u64)
     }
 }
 
-/// More tracks are occupied along a stretch.
+/// Adds occupied tracks along a stretch.
 #[tactic(auto, using(crate::proofs::Occupying::adds_begin, crate::proofs::Occupying::adds_next, crate::proofs::Occupying::adds_end))]
 fn occupy_along(places: &mut [u64], stretch: Stretch, by: u64)
     requires { (m : ℕ) → get_or places.old m 0 + by < 2 ^ 63 }
@@ -87,7 +87,7 @@ fn occupy_along(places: &mut [u64], stretch: Stretch, by: u64)
 }
 
 impl Places {
-    /// So many places, none of which has an occupied track.
+    /// This many places, without an occupied track.
     fn new(alloc: Global, count: u32) -> Result<Places, AllocError>
         ensures { IfOk result (λ p. p ≡ replicate count 0) }
     {
@@ -103,7 +103,7 @@ impl Places {
         self.occupied.as_slice()
     }
 
-    /// More tracks are occupied along a stretch.
+    /// Adds occupied tracks along a stretch.
     fn occupy(&mut self, stretch: Stretch, by: u64)
         requires { (m : ℕ) → get_or self.old m 0 + by < 2 ^ 63 }
         ensures { Adds self.old (along stretch by) self.new }
@@ -124,7 +124,7 @@ fn free_channels(alloc: Global, count: u32, places: u32) -> Result<Vec<Places>, 
     Ok(channels)
 }
 
-/// More tracks are occupied along a stretch of its channel.
+/// Adds occupied tracks along a stretch of its channel.
 fn occupy_channel(channels: &mut [Places], stretch: Stretch, by: u64)
     requires { (c : ℕ) → (m : ℕ) → get_or (get_or channels.old c []) m 0 + by < 2 ^ 63 }
     ensures { AddsAll channels.old (across (Some stretch) by) channels.new }
@@ -134,7 +134,7 @@ fn occupy_channel(channels: &mut [Places], stretch: Stretch, by: u64)
     }
 }
 
-/// More tracks are occupied along a stretch, if there is one.
+/// Adds occupied tracks along a stretch, if there is one.
 fn occupy_stretch(channels: &mut [Places], stretch: Option<Stretch>, by: u64)
     requires { (c : ℕ) → (m : ℕ) → get_or (get_or channels.old c []) m 0 + by < 2 ^ 63 }
     ensures { AddsAll channels.old (across stretch by) channels.new }
@@ -144,7 +144,7 @@ fn occupy_stretch(channels: &mut [Places], stretch: Option<Stretch>, by: u64)
     }
 }
 
-/// The tracks that one node more occupies.
+/// Adds the tracks that one more node occupies.
 fn occupy_node(device: &Device, uses: &[u16], kind: Kind, channels: &mut [Places], node: u32)
     requires there { node < node_count_of device.now }
     requires room { (c : ℕ) → (m : ℕ) → get_or (get_or channels.old c []) m 0 ≤ 2 ^ 40 }
@@ -156,8 +156,8 @@ fn occupy_node(device: &Device, uses: &[u16], kind: Kind, channels: &mut [Places
     occupy_stretch(channels, stretch, by);
 }
 
-/// How many tracks are occupied at each place of the channels of a kind: so many channels, each of
-/// so many places.
+/// How many tracks are occupied at each place of the channels of a kind: this many channels, each
+/// of this many places.
 #[tactic(auto, using(crate::proofs::Occupying::none_occupied, crate::proofs::Occupying::node_occupied, crate::proofs::Occupying::all_occupied))]
 pub(crate) fn occupancies(
     alloc: Global,

@@ -42,7 +42,7 @@ impl Model for OverusedNode {
 }
 
 impl OverusedNode {
-    /// One net more covers the node.
+    /// One more net covers the node.
     fn add(&mut self, net: u32) -> Result<(), AllocError>
         ensures { OnOk result (self.new ≡ with_net (λ _. true) net self.old) }
     {
@@ -62,7 +62,7 @@ fn room(device: &Device, node: u32) -> u32
     }
 }
 
-/// Whether more nets cover a node than it has room for, of any uses.
+/// Whether more nets cover a node than it has room for, by any given uses.
 pub fn is_over(device: &Device, uses: &[u16], node: u32) -> bool
     ensures { result ≡ is_over device.now uses.now node }
 {
@@ -79,7 +79,7 @@ fn nodes_over(alloc: Global, device: &Device, uses: &[u16]) -> Result<Vec<u32>, 
         .collect(alloc)
 }
 
-/// What is known of these nodes before any net was looked at.
+/// What is known about these nodes before any net was looked at.
 fn bare_entries(
     alloc: Global,
     device: &Device,

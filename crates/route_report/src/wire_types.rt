@@ -17,7 +17,7 @@ use std::alloc::{AllocError, Global};
 /// What there is of a type of wire, and what nets cover of it.
 #[derive(Clone, Copy, Debug, PartialEq, Eq)]
 pub struct WireTypeUse {
-    /// Its tracks in a channel; a global device has one track, which stands for all.
+    /// Its tracks in a channel; a global device has one track, which represents all.
     pub tracks: u32,
     pub wires: u32,
     /// The places of these wires.
@@ -58,7 +58,7 @@ fn and_used(test: bool, uses: &[u16], node: u32) -> bool
     test && is_used(uses, node)
 }
 
-/// The places of a node's wire, where the test holds.
+/// The places of a node's wire, if the test holds.
 fn places_if(test: bool, device: &Device, node: u32) -> u64
     ensures places { result ≡ (if test then places_at device.now node else 0) }
     ensures few { result ≤ 128 }

@@ -30,7 +30,7 @@ fn places_of_wire(device: &Device, node: u32) -> u64
     }
 }
 
-/// How many places a node's wire passes; none where the node is no wire.
+/// How many places a node's wire passes; none if the node is no wire.
 #[tactic(auto, using(crate::proofs::Lengths::places_few))]
 pub fn places_at(device: &Device, node: u32) -> u64
     ensures places { result ≡ places_at device.now node }
@@ -84,7 +84,7 @@ fn lengths_of(
 }
 
 /// The wirelength of each net of a routing: the places of all wires that it covers, each wire once;
-/// 0 where it has no list.
+/// 0 if it has no list.
 pub fn wirelengths(
     alloc: Global,
     problem: &Problem,
@@ -108,7 +108,7 @@ pub(crate) fn total(lengths: &[u64]) -> u64
     total
 }
 
-/// The greatest of these numbers; 0 where there are none.
+/// The greatest of these numbers; 0 if there are none.
 #[tactic(auto, using(crate::proofs::Lengths::greatest_next, crate::proofs::Lengths::greatest_all))]
 pub(crate) fn greatest(numbers: &[u64]) -> u64
     ensures { result ≡ greatest_in numbers.now }
@@ -130,14 +130,14 @@ fn number_at(numbers: &[u64], index: u32) -> u64
     }
 }
 
-/// The first index below the count, at which this number stands.
+/// The first index below the count that has this number.
 fn first_at(numbers: &[u64], count: u32, wanted: u64) -> Option<u32>
     ensures { result ≡ find (λ i. get_or numbers.now i 0 == wanted) (numbers_below count) }
 {
     (0..count).find(|index| number_at(numbers, *index) == wanted)
 }
 
-/// The first of so many nets that has the greatest wirelength; none where there are no nets.
+/// The first of this many nets that has the greatest wirelength; none if there are no nets.
 #[tactic(auto, unfolding(crate::specs::Wirelength::first_greatest))]
 pub(crate) fn longest(lengths: &[u64], nets: u32) -> Option<u32>
     requires { length lengths.now ≡ nets }

@@ -1,4 +1,4 @@
--- When two trees are one: their rows are, each with its node and its parent.
+-- When two trees are the same: their rows are, each with its node and its parent.
 use Rattle.std.specs.Prelude.{◌==◌, Bool, ◌&&◌, List}
 use Rattle.std.specs.Cmp.Lexicographic.{pointwise}
 use Rattle.route_tree.specs.declared.tree.Row.{Row}

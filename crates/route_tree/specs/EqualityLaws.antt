@@ -1,4 +1,4 @@
--- Two trees are one exactly where the test says so, and the test is an equivalence.
+-- Two trees are the same exactly where the test says so, and the test is an equivalence.
 use Rattle.std.proofs.Common.{◌≡◌, List, ap}
 use Rattle.std.specs.Bool.{Decides}
 use Rattle.std.specs.Cmp.{IsEquivalence, IsPartialEquivalence, partial_equiv_from_equiv, unsigned_Decides}
@@ -13,7 +13,7 @@ row_decides a b =
     Decides-like (same_row a b) (λ h. λ i. record { node = h.0 i; parent = h.1 i }) (λ e. (ap (λ r. r.node) e, ap (λ r. r.parent) e))
     (Decides-and _ _ (unsigned_Decides a.node b.node) (unsigned_Decides a.parent b.parent))
 
--- the test is true exactly where the two are one
+-- the test is true exactly where the two are the same
 pub same_tree : (a b : List Row) → Decides (is_same_tree a b) (a ≡ b)
 unfolding is_same_tree
 same_tree a b = pointwise_decides row_decides a b

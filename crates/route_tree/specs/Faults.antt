@@ -30,7 +30,7 @@ leaves_twice source pairs = nat_lt 1 (count_by (λ p. p.0 == source) pairs)
 abbrev pub has_foreign_sink : Fabric → (sinks : List ℕ) → List Pair → Bool
 has_foreign_sink f sinks pairs = list_any (λ b. is_sink f b && not (is_among sinks b)) (ends_of pairs)
 
--- at a sink of the net no pair ends
+-- there is a sink of the net at which no pair ends
 abbrev pub misses_sink : (sinks : List ℕ) → List Pair → Bool
 misses_sink sinks pairs = list_any (λ s. not (is_among (ends_of pairs) s)) sinks
 

@@ -1,4 +1,4 @@
--- A routing that can be meant for a problem: it has an entry for each net, and names nodes only.
+-- A routing that can be for a problem: it has an entry for each net, and names only nodes.
 use Rattle.std.specs.Prelude.{ℕ, ◌==◌, Bool, true, ◌&&◌, nat_lt, List, length, Option, Some, None}
 use Rattle.std.specs.List.{list_all}
 use Rattle.routing_problem.specs.Fabric.{Fabric}

@@ -11,7 +11,7 @@ use Rattle.route_tree.specs.Paths.{Pair, ends_of, Path}
 abbrev pub is_among : List ℕ → ℕ → Bool
 is_among xs a = list_any (λ x. x == a) xs
 
--- a number stands in the list twice
+-- a number is in the list twice
 abbrev pub has_twice : List ℕ → Bool
 has_twice [] = false
 has_twice (x ∷ xs) = is_among xs x || has_twice xs

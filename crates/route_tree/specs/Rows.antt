@@ -27,7 +27,7 @@ abbrev pub pairs_along : ℕ → List ℕ → List Pair
 pairs_along a [] = []
 pairs_along a (b ∷ bs) = (a, b) ∷ pairs_along b bs
 
--- what every tree keeps: it has a row, and each row's parent stands before it; the first row is its
+-- what every tree keeps: it has a row, and each row's parent comes before it; the first row is its
 -- own
 pub record IsTree (rows : List Row) : Type 0 where
   pub some : 1 ≤ length rows

@@ -1,4 +1,4 @@
--- The lists of pairs that trees are.
+-- The lists of pairs of trees.
 use Rattle.std.specs.Prelude.{List, map, Option, Some, None}
 use Rattle.route_tree.specs.declared.tree.Row.{Row}
 use Rattle.route_tree.specs.Paths.{Pair}

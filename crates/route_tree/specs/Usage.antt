@@ -38,7 +38,7 @@ use_of (n ∷ ns) (l ∷ ls) a = use_by n l a + use_of ns ls a
 abbrev pub use_by_others : List Net → Lists → (i : ℕ) → ℕ → ℕ
 use_by_others nets lists i a = use_of nets (set lists i None) a
 
--- how many nets a node has room for; none for what is no node
+-- how many nets a node has room for; none if it is no node
 abbrev pub room_of : Fabric → Option Node → ℕ
 room_of f (Some n) = capacity_of f n
 room_of f None = 0

@@ -18,8 +18,8 @@ use crate::stamps::Stamps;
 use crate::tree::{Row, Tree};
 use routing_problem::{Device, Problem};
 
-/// The first fault, of those for which the sinks are marked. Whether a sink is missed was found
-/// before.
+/// The first fault among those for which the sinks are marked. The caller has found whether a sink
+/// is missed.
 fn sink_fault(
     device: &Device,
     sinks: &[u32],
@@ -76,7 +76,7 @@ fn marked_fault(
     sink_fault(device, sinks, rows, misses, stamps)
 }
 
-/// The first fault of pairs for a net that there is.
+/// The first fault of pairs for a net that exists.
 #[tactic(auto, using(crate::proofs::Bounds::rows_below))]
 fn net_fault(
     device: &Device,
@@ -129,8 +129,8 @@ fn or_ok(fault: Option<TreeFault>) -> Result<(), TreeFault>
 }
 
 /// Whether a tree routes a net: it joins the net's source to exactly its sinks, through switches of
-/// the device, and its pairs are in the order in which routings are written. Where not, the first
-/// fault is reported, in the order of `TreeFault`. It takes time of the order of the tree's rows.
+/// the device, and its pairs are in the order in which routings are written. If not, the first
+/// fault in the order of `TreeFault` is reported. It takes time of the order of the tree's rows.
 /// The marks fit afterwards, whatever the answer.
 pub fn check_tree(
     problem: &Problem,

@@ -1,4 +1,4 @@
-//! Whether two trees are one.
+//! Whether two trees are the same.
 
 ghost use Rattle.std.specs.Prelude.{◌≡◌, ◌↔◌, true};
 ghost use Rattle.route_tree.specs.Equality.{is_same_tree};

@@ -39,8 +39,8 @@ pub(crate) fn lacks_switch(device: &Device, rows: &[Row]) -> bool
     false
 }
 
-/// Whether two rows have one node. All marks are taken off first; where no two rows do, their nodes
-/// are marked then.
+/// Whether two rows have the same node. All marks are taken off first; if no two rows do, their
+/// nodes are marked then.
 #[tactic(auto, using(crate::proofs::RowTests::met_twice, crate::proofs::RowTests::met_once))]
 pub(crate) fn has_node_twice(rows: &[Row], stamps: &mut Stamps) -> bool
     requires { All (λ r. r.node < length stamps.old) rows.now }

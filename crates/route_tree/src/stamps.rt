@@ -1,5 +1,4 @@
-//! Marks on numbers that are all taken off at once: a number is marked where it has the stamp of
-//! now.
+//! Marks on numbers that are all taken off at once: a number is marked if it has the current stamp.
 
 ghost use Rattle.std.specs.Prelude.{◌≡◌, ◌<◌, ◌≤◌, All, false, true, length, replicate, get_or, set, IfOk};
 ghost use Rattle.route_tree.specs.kept.Marked.{IsMarked};
@@ -26,7 +25,7 @@ impl Model for Stamps {
     ghost invariant = { λ s. All (λ m. m ≤ s.stamp) s.marks.items };
 }
 
-/// A stamp above all marks: the next one, until there is none; then all marks are taken back to 0.
+/// A stamp above all marks: the next one, until there is none; then all marks are set back to 0.
 fn next_stamp(marks: &mut Vec<u32>, stamp: u32) -> u32
     requires { All (λ m. m ≤ stamp) marks.old.items }
     ensures length { length marks.new.items ≡ length marks.old.items }
@@ -57,7 +56,7 @@ impl Stamps {
         self.marks.len()
     }
 
-    /// Takes all marks off: what is marked has the stamp of now, so another stamp will do, until
+    /// Takes all marks off: what is marked has the current stamp, so another stamp will do, until
     /// there is no other.
     #[tactic(auto, using(crate::proofs::Marking::cleared, crate::proofs::Marking::all_below))]
     pub(crate) fn clear(&mut self)
@@ -74,7 +73,7 @@ impl Stamps {
         self.marks[number as usize] = self.stamp;
     }
 
-    /// Whether a number is marked; one that is not below the count is not.
+    /// Whether a number is marked; a number not below the count is not.
     pub(crate) fn is_marked(&self, number: u32) -> bool
         ensures { result ≡ get_or self.now number false }
     {

@@ -8,7 +8,7 @@ ghost use Rattle.route_tree.specs.Usage.{covers};
 use std::alloc::{AllocError, Global};
 use std::marker::Model;
 
-/// For how many rows a tree has room at first: most nets of small designs have fewer.
+/// How many rows a tree has room for at first: most nets of small designs have fewer.
 const FIRST_ROOM: usize = 16;
 
 /// A node of a tree, and the row of the node before it.
@@ -77,7 +77,7 @@ impl Tree {
         self.rows[row].node
     }
 
-    /// Its rows, for a caller that goes over them: each parent stands before its row.
+    /// Its rows, for a caller that goes over them: each parent comes before its row.
     pub fn as_slice(&self) -> &[Row]
         ensures rows { result.now ≡ self.now }
         ensures tree { IsTree self.now }
@@ -93,7 +93,7 @@ impl Tree {
         count_pairs(&self.rows)
     }
 
-    /// A pair: the node from which it leads and the one to which.
+    /// A pair: the node that it leads from and the node that it leads to.
     pub fn pair(&self, index: usize) -> (u32, u32)
         requires { index < length (pairs_of self.now) }
         ensures { result ≡ get_or (pairs_of self.now) index (0, 0) }
@@ -124,7 +124,7 @@ impl Tree {
     }
 }
 
-/// How many pairs rows are.
+/// How many pairs the rows make.
 #[tactic(auto, using(crate::proofs::Trees::length_pairs))]
 pub(crate) fn count_pairs(rows: &[Row]) -> usize
     requires { IsTree rows.now }
@@ -172,7 +172,7 @@ fn covers_node(rows: &[Row], id: u32) -> bool
     has_node(rows, id)
 }
 
-/// Pushes a chain of nodes of which the first hangs on a row; there is room for it.
+/// Pushes a chain of nodes; the first hangs on a row. There is room for the chain.
 fn push_chain(rows: &mut Vec<Row>, row: usize, nodes: &[u32])
     requires room { vec_len rows.old + length nodes.now ≤ vec_capacity rows.old }
     ensures { rows.new.items ≡ rows.old.items ++ chain (length rows.old.items) row nodes.now }

@@ -1,5 +1,5 @@
--- When two devices are one: their architectures, arrays, widths and modes are. When two problems
--- are: their devices and their nets are.
+-- When two devices are the same: their architectures, arrays, widths and modes are. When two
+-- problems are the same: their devices and their nets are.
 use Rattle.std.specs.Prelude.{ℕ, Bool, true, false, ◌==◌, ◌&&◌}
 use Rattle.std.specs.Cmp.Lexicographic.{pointwise}
 use Rattle.arch_file.specs.Equality.{is_same_architecture}

@@ -1,4 +1,4 @@
--- Two devices, nets or problems are one exactly where the test says so, and the test is an
+-- Two devices, nets or problems are the same exactly where the test says so, and the test is an
 -- equivalence.
 use Rattle.std.proofs.Common.{◌≡◌, true, refl, ap}
 use Rattle.std.specs.Bool.{Decides}
@@ -27,7 +27,7 @@ mode_decides = decides_from_tests same_mode same reported
     reported Global Detailed e = absurd (false≢true e)
     reported Global Global e = refl
 
--- the test is true exactly where the two are one
+-- the test is true exactly where the two are the same
 pub same_device : (a b : Fabric) → Decides (is_same_device a b) (a ≡ b)
 unfolding is_same_device
 same_device a b =

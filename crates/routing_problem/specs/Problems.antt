@@ -20,7 +20,7 @@ pub record RoutingProblem : Type 0 where
   -- the routed nets, by number
   pub nets : List Net
 
--- what stands at k + 1 is above what stands at k
+-- the number at k + 1 is above the number at k
 abbrev pub rises_at : List ℕ → ℕ → Bool
 rises_at xs k = nat_lt (slice_index xs k) (slice_index xs (k + 1))
 
@@ -31,7 +31,7 @@ ascends xs = list_all (rises_at xs) (numbers_below (length xs - 1))
 abbrev pub no_net : Net
 no_net = record { number = 0; source = 0; sinks = [] }
 
--- net i; where there is none, one that joins nothing
+-- net i; where there is none, a net that joins nothing
 abbrev pub net_in : List Net → ℕ → Net
 net_in nets i = get_or nets i no_net
 

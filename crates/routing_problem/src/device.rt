@@ -33,7 +33,7 @@ impl Model for Device {
     ghost view = { λ d. d.graph };
 }
 
-/// `Width` for a width that no device has: those from 1 to 256 are.
+/// `Width` for a width that no device has; devices have widths from 1 to 256.
 fn check_width(width: u32) -> Result<(), DeviceFault>
     ensures width { (result ≡ Err DeviceFault.Width)
         ↔ ((width ≡ 0) ⊎ (most_tracks < width)) }
@@ -46,8 +46,8 @@ fn check_width(width: u32) -> Result<(), DeviceFault>
 }
 
 impl Device {
-    /// A device in which each track has wires of its own. `Width` is answered for a width outside 1
-    /// to 256.
+    /// A device in which each track has wires of its own. The result for a width outside 1 to 256
+    /// is `Width`.
     pub fn new(
         alloc: Global,
         arch: &Arch,
@@ -65,8 +65,8 @@ impl Device {
         Ok(device)
     }
 
-    /// A device in which each place of a channel is one node, as wide as the channel.
-    /// `Width` is answered for a width outside 1 to 256.
+    /// A device in which each place of a channel is one node, as wide as the channel. The result
+    /// for a width outside 1 to 256 is `Width`.
     pub fn global(
         alloc: Global,
         arch: &Arch,
@@ -141,7 +141,7 @@ impl Device {
         self.graph.layout().mode()
     }
 
-    /// How many wires run through a place of a channel: a global device's is one, which stands for
+    /// How many wires run through a place of a channel: a global device has one, which represents
     /// all tracks.
     pub fn tracks(&self) -> u32
         ensures tracks { result ≡ tracks_in self.now.mode self.now.width }
@@ -233,7 +233,7 @@ impl Device {
         self.graph.nodes().label(id)
     }
 
-    /// The number of a node: how many nodes stand before it. None for what is no node.
+    /// The number of a node: how many nodes come before it. None if it is no node.
     pub fn id(&self, node: Node) -> Option<u32>
         ensures number { result ≡ number_of self.now node }
         ensures inverse { IfSome result (λ i. node_at self.now i ≡ Some node) }
@@ -241,7 +241,7 @@ impl Device {
         self.graph.nodes().id(node)
     }
 
-    /// How many nets may use a node. The node is looked for only where it is a source or a sink.
+    /// How many nets may use a node. The node is looked up only where it is a source or a sink.
     pub fn capacity(&self, id: u32) -> Option<u32>
         ensures { result ≡ option_map (capacity_of self.now) (node_at self.now id) }
     {
@@ -266,7 +266,7 @@ impl Device {
     }
 
     /// The kind of a wire, the places that it passes, and how many the wires of its track pass at
-    /// most, from one look-up; None for what is no wire.
+    /// most, from one look-up; None if it is no wire.
     pub fn wire(&self, id: u32) -> Option<(Kind, Span, u32)>
         ensures wire { result ≡ wire_in self.now (node_at self.now id) }
         ensures limits { IsFabric self.now }
@@ -281,7 +281,7 @@ impl Device {
         self.graph.edge(from, to)
     }
 
-    /// The sink to which an input pin leads, and to nothing else; None for what is no input pin.
+    /// The sink to which an input pin leads, and to nothing else; None if it is no input pin.
     pub fn sink_of(&self, id: u32) -> Option<u32>
         ensures sink { IfSome result (λ sink. successors_of self.now id ≡ sink ∷ []) }
         ensures pin { IsSome result ↔ (kind_of_node self.now id ≡ Some Kind.Ipin) }
@@ -296,7 +296,7 @@ impl Device {
         self.graph.edge_count()
     }
 
-    /// The most edges that lead from a node: for so many numbers a list of successors needs room.
+    /// The most edges that lead from a node: a list of successors needs room for as many numbers.
     pub fn most_successors(&self) -> usize
         ensures most { (i : ℕ) → length (successors_of self.now i) ≤ result }
         ensures reached { (i : ℕ) × (length (successors_of self.now i) ≡ result) }
@@ -305,8 +305,8 @@ impl Device {
         self.graph.most_successors()
     }
 
-    /// The numbers of the nodes to which an edge leads from node `id`, ascending; none for what is
-    /// no node. The list is cleared first; where memory is refused it is left empty.
+    /// The numbers of the nodes to which an edge leads from node `id`, ascending; none if it is no
+    /// node. The list is cleared first; where memory is refused it is left empty.
     pub fn successors(&self, id: u32, list: &mut SmallVec<u32, 8>) -> Result<(), AllocError>
         ensures listed { OnOk result (list.new.items ≡ successors_of self.now id) }
         ensures all { OnOk result

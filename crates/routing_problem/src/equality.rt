@@ -1,4 +1,4 @@
-//! Whether two devices, nets or problems are one.
+//! Whether two devices, nets or problems are the same.
 
 ghost use Rattle.std.specs.Prelude.{◌≡◌, ◌↔◌, true};
 ghost use Rattle.std.specs.Cmp.Lexicographic.{pointwise};
@@ -17,7 +17,7 @@ fn are_same_modes(a: Mode, b: Mode) -> bool
 }
 
 impl Device {
-    /// Whether this device is made of what another one is made of.
+    /// Whether this device is made of the same parts as another one.
     #[tactic(auto, unfolding(crate::specs::Equality::is_same_device))]
     fn has_fabric_of(&self, other: &Device) -> bool
         ensures { result ≡ is_same_device self.now other.now }

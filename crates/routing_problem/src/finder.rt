@@ -1,4 +1,4 @@
-//! Edges, pair by pair, with the node kept in which the latest edge ended.
+//! Edges, pair by pair. The node at which the latest edge ended is kept.
 
 ghost use Rattle.std.specs.Prelude.{◌≡◌, not};
 ghost use Rattle.std.specs.List.{list_any};
@@ -9,8 +9,8 @@ use rr_edges::FoundNode;
 use std::marker::Model;
 
 impl Device {
-    /// Whether one of the pairs is no edge. It is quicker than `edge` for each where pairs begin in
-    /// the node in which the one before ended.
+    /// Whether one of the pairs is no edge. It is quicker than `edge` for each where pairs begin at
+    /// the node at which the one before ended.
     pub fn lacks_edge(&self, pairs: &[(u32, u32)]) -> bool
         ensures { result ≡ list_any (λ p. not (edge_between self.now p.0 p.1)) pairs.now }
     {
@@ -24,8 +24,8 @@ impl Device {
     }
 }
 
-/// Tells of one pair of nodes after the other whether an edge of a device leads from the first to
-/// the second. It keeps the node in which the latest edge ended, and is quicker than `Device::edge`
+/// Says for one pair of nodes after the other whether an edge of a device leads from the first to
+/// the second. It keeps the node at which the latest edge ended, and is quicker than `Device::edge`
 /// where the next pair begins there. Contracts see the device.
 #[derive(Drop)]
 pub struct EdgeFinder<'a> {

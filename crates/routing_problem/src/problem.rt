@@ -34,7 +34,7 @@ impl Model for Problem {
     ghost invariant = { λ p. IsProblem (problem_inside p) };
 }
 
-/// Whether what stands behind an index is above what stands there.
+/// Whether the number after an index is above the number there.
 fn rises_at(numbers: &[u32], index: usize) -> bool
     requires { index + 1 < length numbers.now }
     ensures { result ≡ rises_at numbers.now index }
@@ -125,7 +125,7 @@ fn parts_fault(device: &Device, nets: &[Terminals]) -> Option<PartsFault>
 
 impl Problem {
     /// The problem of a device and of the nets that are to be routed on it. Where they are no
-    /// problem, the fault named is that of the first faulty net, and the first of its faults.
+    /// problem, the fault named is the first one of the first faulty net.
     #[tactic(auto, using(crate::proofs::Problems::faultless))]
     pub fn from_parts(device: Device, nets: Vec<Terminals>) -> Result<Problem, PartsFault>
         ensures { result ≡ problem_of device nets.items }

@@ -16,7 +16,7 @@ abbrev pub MayBeFound : Fabric → Option FoundNode → Type 0
 MayBeFound f (Some n) = IsFound f n
 MayBeFound f None = Unit {0}
 
--- the node in which the pair ends, where it is an edge; none where it is not
+-- the node at which the pair ends, if it is an edge; else none
 abbrev pub TellsEdge : Fabric → ℕ × ℕ → Option FoundNode → Type 0
 TellsEdge f pair (Some n) = (n.id ≡ pair.1) × IsFound f n × (edge_between f pair.0 pair.1 ≡ true)
 TellsEdge f pair None = edge_between f pair.0 pair.1 ≡ false

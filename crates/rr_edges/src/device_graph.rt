@@ -155,7 +155,7 @@ impl DeviceGraph {
         }
     }
 
-    /// The sink to which an input pin leads, and to nothing else; None for what is no input pin.
+    /// The sink to which an input pin leads, and to nothing else; None if it is no input pin.
     pub fn sink_of(&self, id: u32) -> Option<u32>
         ensures sink { IfSome result (λ sink. successors_of self.now id ≡ sink ∷ []) }
         ensures pin { IsSome result ↔ (kind_of_node self.now id ≡ Some Kind.Ipin) }
@@ -193,7 +193,7 @@ impl DeviceGraph {
         count
     }
 
-    /// The most edges that lead from a node: for so many numbers a list of successors needs room.
+    /// The most edges that lead from a node: a list of successors needs room for as many numbers.
     pub fn most_successors(&self) -> usize
         ensures most { (i : ℕ) → length (successors_of self.now i) ≤ result }
         ensures reached { (i : ℕ) × (length (successors_of self.now i) ≡ result) }
@@ -206,8 +206,8 @@ impl DeviceGraph {
         most as usize
     }
 
-    /// The numbers of the nodes to which an edge leads from node `id`, ascending; none for what is
-    /// no node. The list is cleared first; where memory is refused it is left empty.
+    /// The numbers of the nodes to which an edge leads from node `id`, ascending; none if it is no
+    /// node. The list is cleared first; where memory is refused it is left empty.
     #[tactic(auto, using(crate::proofs::NodeSuccessors::no_successors, crate::proofs::NodeSuccessors::node_listed, crate::proofs::NodeSuccessors::node_placed, crate::proofs::Graph::successors_contain, crate::proofs::Graph::successors_ascend))]
     pub fn successors(&self, id: u32, list: &mut SmallVec<u32, 8>) -> Result<(), AllocError>
         ensures listed { OnOk result (list.new.items ≡ successors_of self.now id) }

@@ -54,7 +54,7 @@ fn columns_join(a: Node, a_last: u32, b: Node, b_last: u32) -> bool
     b.number == a.number && (b.x == a.x && is_next_to(a.y, a_last, b.y, b_last))
 }
 
-/// Whether an edge leads from a to b, whose last places are given, and how many tracks pins tap.
+/// Whether an edge leads from a to b, given their last places and how many tracks pins tap.
 #[inline(always)]
 #[tactic(auto, using(crate::proofs::JoinTests::rows_join, crate::proofs::JoinTests::row_and_column_join, crate::proofs::JoinTests::column_and_row_join, crate::proofs::JoinTests::columns_join), unfolding(crate::specs::Edges::is_edge))]
 pub(crate) fn is_edge(

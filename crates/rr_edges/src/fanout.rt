@@ -47,7 +47,7 @@ pub(crate) struct Taps<'a> {
 /// What a wire leads to.
 #[derive(Clone, Copy)]
 pub(crate) struct Fanout<'a> {
-    /// Along what the wire runs: it decides in which order the nodes stand.
+    /// The axis of the wire: it decides the order of the nodes.
     pub(crate) axis: Axis,
     /// The pins under it or left of it, and those over it or right of it.
     pub(crate) low: Taps<'a>,

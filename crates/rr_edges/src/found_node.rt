@@ -1,6 +1,6 @@
-//! Nodes that were found by their numbers: of pairs that go on from each other each node is found
-//! once. What is called once a pair is inlined, since a node passes through memory at a call, and
-//! is waited for there.
+//! Nodes that were found by their numbers: where each pair begins at the end of the one before,
+//! each node is found once. What is called once a pair is inlined, since a call passes a node
+//! through memory and waits for it there.
 
 ghost use Rattle.std.specs.Prelude.{◌≡◌};
 ghost use Rattle.rr_edges.specs.Edges.{edge_between};
@@ -16,7 +16,7 @@ use channel_tables::Node;
 pub struct FoundNode {
     pub id: u32,
     pub node: Node,
-    /// Its last place along its channel; of no wire its x.
+    /// Its last place along its channel; its x if it is no wire.
     pub last: u32,
 }
 
@@ -36,7 +36,7 @@ impl DeviceGraph {
         }
     }
 
-    /// The node of a number, where it may be the one that was found before.
+    /// The node of a number, which may be the node that was found before.
     #[inline(always)]
     fn find_again(&self, before: Option<FoundNode>, id: u32) -> Option<FoundNode>
         requires { MayBeFound self.now before }
@@ -69,7 +69,7 @@ impl DeviceGraph {
         )
     }
 
-    /// The node in which the pair ends, where it is an edge.
+    /// The node at which the pair ends, if it is an edge.
     #[inline(always)]
     #[tactic(auto, unfolding(crate::specs::Edges::edge_between))]
     pub fn follow(&self, before: Option<FoundNode>, pair: (u32, u32)) -> Option<FoundNode>

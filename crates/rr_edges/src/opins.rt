@@ -15,7 +15,7 @@ use arch_file::{Pin, Sides};
 use channel_tables::{Axis, Layout, Mode, Node};
 use smallvec::SmallVec;
 
-/// How a pin taps tracks: by Fc, so many of them.
+/// How a pin taps tracks: by Fc, and how many of them.
 #[derive(Clone, Copy, Debug)]
 pub(crate) struct Tapper {
     pub(crate) fc: u64,

@@ -43,7 +43,7 @@ impl DeviceGraph {
         }
     }
 
-    /// The wires of a track through place `y` right of column `x` and the columns behind it.
+    /// The wires of a track through place `y` right of column `x` and the columns after it.
     #[inline(always)]
     #[tactic(auto, using(crate::proofs::WireFanouts::right_number))]
     fn run_right(&self, track: u32, x: u32, y: u32) -> NumberRun
@@ -62,7 +62,7 @@ impl DeviceGraph {
         }
     }
 
-    /// The wires of a track through a place of a channel along an axis and of those behind it.
+    /// The wires of a track through a place of a channel along an axis and of those after it.
     #[inline(always)]
     pub(crate) fn run(&self, axis: Axis, track: u32, place: u32, channel: u32) -> NumberRun
         requires place { (1 ≤ place) × (place ≤ places_along axis self.now) }
@@ -79,7 +79,7 @@ impl DeviceGraph {
     }
 
     /// Those that touch a corner, where a channel across lies: one before the first place, and one
-    /// behind each.
+    /// after each.
     #[inline(always)]
     #[tactic(auto, unfolding(crate::specs::kept::Channels::meeting_of))]
     fn meeting(&self, axis: Axis, track: u32, corner: u32, channel: u32) -> Meeting
@@ -112,7 +112,7 @@ impl DeviceGraph {
     }
 
     /// The wire that ends just before the wire of a track that passes the places from `first` to
-    /// `last`, and the one that begins just behind.
+    /// `last`, and the one that begins just after it.
     #[inline(always)]
     #[tactic(auto, using(crate::proofs::WireFanouts::behind_first), unfolding(crate::specs::kept::Channels::beside_of))]
     fn beside(&self, axis: Axis, track: u32, first: u32, last: u32, channel: u32) -> Pair
@@ -138,7 +138,7 @@ impl DeviceGraph {
         }
     }
 
-    /// Where the wire of a track ends that begins at a place of the channels along an axis.
+    /// Where a track's wire that begins at a place of the channels along an axis ends.
     #[inline(always)]
     #[tactic(auto, using(crate::proofs::WireFanouts::wire_end, crate::proofs::WireFanouts::end_within))]
     fn end(&self, axis: Axis, track: u32, place: u32) -> u32
@@ -152,7 +152,7 @@ impl DeviceGraph {
         u32::from(self.tables().wire_at(axis, track, place).last)
     }
 
-    /// How many input pins stand in a column of blocks.
+    /// How many input pins are in a column of blocks.
     #[inline(always)]
     fn column_pins(&self) -> u32
         ensures count { result ≡ pins_of_column self.now }
@@ -201,7 +201,7 @@ impl DeviceGraph {
         self.column_start(x) + (y - 1) * self.layout().architecture().io_rat()
     }
 
-    /// Those of a row's input pins that stand at `places`, from the one of number `start` on.
+    /// Those of a row's input pins that are at `places`, from the one of number `start` on.
     #[inline(always)]
     fn taps_in_row<'a>(&self, places: &'a [u8], start: u32) -> Taps<'a>
         requires few { length places.now ≤ most_pins }
@@ -218,7 +218,7 @@ impl DeviceGraph {
         }
     }
 
-    /// Those of the input pins of a column of blocks that stand at `places`, from the one of number
+    /// Those of the input pins of a column of blocks that are at `places`, from the one of number
     /// `start` on.
     #[inline(always)]
     fn taps_in_column<'a>(&self, places: &'a [u8], start: u32) -> Taps<'a>
@@ -236,8 +236,8 @@ impl DeviceGraph {
         }
     }
 
-    /// Those of the input pads of a column beside the blocks that stand at `places`, from the one
-    /// of number `start` on.
+    /// Those of the input pads of a column beside the blocks that are at `places`, from the one of
+    /// number `start` on.
     #[inline(always)]
     fn taps_beside<'a>(&self, places: &'a [u8], start: u32) -> Taps<'a>
         requires few { length places.now ≤ most_pins }
@@ -330,7 +330,7 @@ impl DeviceGraph {
         self.taps_in_column(self.tables().tapping(Side::Left, track), start)
     }
 
-    /// What the wire of a track leads to that begins at place `x` above row `y`.
+    /// What a track's wire that begins at place `x` above row `y` leads to.
     #[inline(always)]
     pub(crate) fn row_fanout(&self, track: u32, x: u32, y: u32) -> Fanout<'_>
         requires wire { (1 ≤ x) × (x ≤ self.now.nx) × (begins self.now self.now.nx track x ≡ true) }
@@ -350,7 +350,7 @@ impl DeviceGraph {
         }
     }
 
-    /// What the wire of a track leads to that begins at place `y` right of column `x`.
+    /// What a track's wire that begins at place `y` right of column `x` leads to.
     #[inline(always)]
     pub(crate) fn column_fanout(&self, track: u32, x: u32, y: u32) -> Fanout<'_>
         requires wire { (1 ≤ y) × (y ≤ self.now.ny) × (begins self.now self.now.ny track y ≡ true) }

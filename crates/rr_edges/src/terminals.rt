@@ -15,7 +15,7 @@ use arch_file::Pin;
 use channel_tables::{Kind, Layout, Node, has_class};
 use smallvec::SmallVec;
 
-/// Those of the pins, of which the first has number `start`, that are of a class.
+/// Those of the pins that are of a class; the first of the pins has number `start`.
 #[tactic(auto, using(crate::proofs::Pushes::pushed_next, crate::proofs::Pushes::room_next))]
 fn push_class(layout: &Layout, list: &mut SmallVec<u32, 8>, pins: &[u32], class: u32, start: u32)
     requires room { HasRoomFor list.old (length
@@ -47,7 +47,7 @@ fn count_class(layout: &Layout, pins: &[u32], class: u32) -> u32
     count
 }
 
-/// Those of the classes, of which the first has number `start`, that are this one.
+/// Those of the classes that are this one; the first of the classes has number `start`.
 #[tactic(auto, using(crate::proofs::Pushes::pushed_next, crate::proofs::Pushes::room_next))]
 fn push_equal(list: &mut SmallVec<u32, 8>, classes: &[u32], class: u32, start: u32)
     requires room { HasRoomFor list.old (length (picks (λ c. c == class) start classes.now)) }

@@ -29,8 +29,8 @@ abbrev pub node_on : Fabric → Kind → Option ℕ → Site → Option ℕ
 node_on f kind class site =
     option_and_then (λ number. number_of f (node_of kind site.x site.y number)) (label_on (is_block f site.x site.y) class site)
 
--- the node of a terminal, on the site of its block: of kind Source for one that drives a net, Sink
--- for one that takes its signal
+-- the node of a terminal, on the site of its block: of kind Source if the terminal drives a net,
+-- Sink if it takes its signal
 unfoldable pub terminal_node : Fabric → Kind → Placement → Terminal → Option ℕ
 terminal_node f kind placement terminal = option_and_then (node_on f kind terminal.class) (slice_get placement.sites terminal.block)
 
@@ -38,7 +38,7 @@ terminal_node f kind placement terminal = option_and_then (node_on f kind termin
 abbrev pub has_node : Fabric → Kind → Placement → Terminal → Bool
 has_node f kind placement terminal = is_some (terminal_node f kind placement terminal)
 
--- what drives the net has a node, and so has all that takes its signal
+-- what drives the net has a node, and all that takes its signal has one
 abbrev pub has_nodes : Fabric → Placement → netlist.Net → Bool
 has_nodes f placement net = has_node f Source placement net.driver && list_all (has_node f Sink placement) net.sinks
 
@@ -57,11 +57,11 @@ suits_design f netlist placement =
     has_size_of f placement
     && (are_on_sites placement (length netlist.blocks) && list_all (λ net. not (is_routed_net net) || has_nodes f placement net) netlist.nets)
 
--- the terminal stands at node i
+-- the terminal is at node i
 abbrev pub stands_at : Fabric → Kind → Placement → ℕ → Terminal → Bool
 stands_at f kind placement i terminal = option_eq nat_eq (Some i) (terminal_node f kind placement terminal)
 
--- the nodes at which some of the sinks stand, ascending
+-- the nodes of some of the sinks, ascending
 unfoldable pub nodes_of_sinks : Fabric → Placement → List Terminal → List ℕ
 nodes_of_sinks f placement sinks = filter (λ i. list_any (stands_at f Sink placement i) sinks) (numbers_below (node_count_of f))
 

@@ -37,7 +37,7 @@ fn has_size_of(device: &Device, placement: &Placement) -> bool
     device.nx() == placement.nx() && device.ny() == placement.ny()
 }
 
-/// Whether a logic block stands at (x, y).
+/// Whether a logic block is at (x, y).
 fn is_block(device: &Device, x: u32, y: u32) -> bool
     ensures { result ≡ is_block device.now x y }
 {
@@ -70,7 +70,7 @@ fn node_on(device: &Device, kind: Kind, class: Option<u32>, site: Site) -> Optio
 }
 
 /// The node of a terminal on the site of its block: a source for what drives a net, a sink for what
-/// takes its signal. None where its block has no site, or no such node stands there.
+/// takes its signal. None where its block has no site, or there is no such node.
 #[tactic(auto, unfolding(crate::specs::Designs::terminal_node))]
 fn node_of_terminal(
     device: &Device,
@@ -91,7 +91,7 @@ fn have_nodes(device: &Device, kind: Kind, placement: &Placement, terminals: &[T
     terminals.iter().all(|terminal| node_of_terminal(device, kind, placement, *terminal).is_some())
 }
 
-/// Whether what drives the net has a node, and all that takes its signal.
+/// Whether what drives the net and all that takes its signal have nodes.
 fn has_nodes(device: &Device, placement: &Placement, net: &Net) -> bool
     ensures { result ≡ has_nodes device.now placement.now net.now }
 {
@@ -141,7 +141,7 @@ fn sinks_found(
         .collect(alloc)
 }
 
-/// The nodes at which sinks stand, ascending.
+/// The nodes of sinks, ascending.
 #[tactic(auto, using(crate::proofs::Designs::sinks_in_order))]
 fn nodes_of_sinks(
     alloc: Global,
@@ -199,7 +199,7 @@ pub(crate) fn nets_of_design(
     Ok(list)
 }
 
-/// What is asked of devices about placed designs.
+/// What devices are asked about placed designs.
 pub trait SuitsDesigns {
     /// Whether the placed design fits the device: the arrays agree in size, all blocks have sites,
     /// and all terminals of routed nets have nodes.

@@ -15,7 +15,7 @@ use Rattle.place_file.specs.Faults.{place_line, place_name, is_place_memory}
 use Rattle.route_file.specs.declared.fault.RouteFileFault.{RouteFileFault}
 use Rattle.route_file.specs.Faults.{route_line, route_name, is_route_memory}
 
--- 4 for bad input, 5 for reading or writing that failed, 6 for the free faults
+-- 4 for bad input, 5 if reading or writing failed, 6 for the free faults
 abbrev pub status_of : AppFault → ℕ
 status_of (Arch f) = 4
 status_of (Net f) = 4
@@ -53,7 +53,7 @@ fault_text Memory = codes "error: memory\n"
 fault_text NoThread = codes "error: no thread\n"
 fault_text Astray = codes "error: astray\n"
 
--- the fault of a run of which one of the files has this one: that of memory is the run's own
+-- the fault of a run with this fault in one of its files: lack of memory is the run's own fault
 abbrev pub fault_of_arch : ArchFault → AppFault
 fault_of_arch f = if is_arch_memory f then Memory else Arch f
 
@@ -72,7 +72,7 @@ fault_of_work work.NoThread = NoThread
 fault_of_work work.Memory = Memory
 fault_of_work work.Astray = Astray
 
--- the faults that no clause rules out: want of memory, a thread that can't be started, and a worker
+-- the faults that no clause rules out: lack of memory, a thread that can't be started, and a worker
 -- that went astray
 abbrev pub is_free : AppFault → Bool
 is_free (Arch f) = false

@@ -1,5 +1,5 @@
 -- What the input files of a run say, each read after the one before it: a value, or the first fault
--- by the order of reading (ours).
+-- in reading order (ours).
 use Rattle.std.specs.Prelude.{ℕ, Bool, false, nat_lt, List, Option, None, Some, Result, Ok, Err}
 use Rattle.std.specs.Option.{option_map_or}
 use Rattle.arch_file.specs.Architecture.{Architecture}
@@ -81,13 +81,13 @@ design_on width mode p = record { netlist = p.netlist; placement = p.placement; 
 unfoldable pub design_in : (width : ℕ) → Mode → DesignFiles → Result PlacedDesign AppFault
 design_in width mode files = placed_in files >>= λ p. Ok (design_on width mode p)
 
--- what these files say, and then what a routing file says for their design, which `said` tells
+-- what these files say, and then what a routing file says for their design, which `said` gives
 unfoldable pub after_design : {X : Type 0} → (said : PlacedDesign → Input → Result X AppFault) → (width : ℕ) → Mode → DesignFiles → (route : Input) → Result X AppFault
 after_design said width mode files route = design_in width mode files >>= λ d. said d route
 
 -- ---- which file a run ended at
 
--- the place of a file in the order of reading
+-- the place of a file in reading order
 abbrev pub turn_of : InputFile → ℕ
 turn_of file.Arch = 0
 turn_of file.Net = 1

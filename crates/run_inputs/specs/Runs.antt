@@ -1,4 +1,4 @@
--- What a run reads of its input files, and what comes of printing a text (ours).
+-- What a run reads from its input files, and the outcome of printing a text (ours).
 use Rattle.std.specs.Prelude.{◌≡◌, ℕ, ◌+◌, ◌^◌, Bool, if◌then◌else◌, List, ◌++◌, take, Option, None, Some, Result, Ok, Err, MatchBool}
 use Rattle.std.specs.Io.KnownBytes.{Appends, Keeps}
 use Rattle.run_inputs.specs.declared.fault.InputFile.{InputFile}
@@ -7,8 +7,7 @@ use Rattle.run_inputs.specs.declared.fault.AppFault.TheVariants.{Unread, Unwritt
 
 -- ---- what is read
 
--- the reading of a source: the bytes that it had before, where they are known, and whether it
--- failed
+-- the reading of a source: the bytes that it had before, if they are known, and whether it failed
 pub record Reading : Type 0 where
   pub had : Option (List ℕ)
   pub failed : Bool
@@ -16,12 +15,12 @@ pub record Reading : Type 0 where
 abbrev pub reading : Option (List ℕ) → Bool → Reading
 reading had failed = record { had = had; failed = failed }
 
--- an input file as a run met it: whether its source failed, and the bytes that were read of it
+-- an input file as a run met it: whether its source failed, and the bytes that were read from it
 pub record Input : Type 0 where
   pub failed : Bool
   pub bytes : List ℕ
 
--- the bytes that are read of a source: all that it has, up to one more than a file may have
+-- the bytes that are read from a source: all that it has, up to one more than a file may have
 abbrev pub AreRead : Option (List ℕ) → List ℕ → Type 0
 AreRead None bytes = Unit {0}
 AreRead (Some all) bytes = bytes ≡ take (2 ^ 24 + 1) all
@@ -31,7 +30,7 @@ pub record IsMet (r : Reading) (input : Input) : Type 0 where
   pub fails : input.failed ≡ r.failed
   pub read : AreRead r.had input.bytes
 
--- a source was met as an input of which P is true
+-- a source was met as an input for which P holds
 abbrev pub Meets : Reading → (P : Input → Type 0) → Type 0
 Meets r P = (input : Input) × IsMet r input × P input
 
@@ -41,7 +40,7 @@ pub record DesignFiles : Type 0 where
   pub net : Input
   pub place : Input
 
--- the sources of a placed design were met as files of which P is true
+-- the sources of a placed design were met as files for which P holds
 abbrev pub MeetsDesign : (arch net place : Reading) → (P : DesignFiles → Type 0) → Type 0
 MeetsDesign arch net place P =
     (files : DesignFiles) × IsMet arch files.arch × IsMet net files.net × IsMet place files.place × P files
@@ -52,8 +51,8 @@ bytes_in file input = if input.failed then Err (Unread file) else Ok input.bytes
 
 -- ---- what is printed
 
--- the writing of a sink: the bytes that it had taken before, and those that it has taken after,
--- where they are known, and whether it has failed
+-- the writing of a sink: the bytes that it had taken before, and those that it has taken after, if
+-- they are known, and whether it has failed
 pub record Writing : Type 0 where
   pub before : Option (List ℕ)
   pub after : Option (List ℕ)
@@ -62,7 +61,7 @@ pub record Writing : Type 0 where
 abbrev pub writing : Option (List ℕ) → Option (List ℕ) → Bool → Writing
 writing before after failed = record { before = before; after = after; failed = failed }
 
--- the writing of a sink of which these tell what it took and whether it has failed
+-- the writing of a sink; these functions give what it took and whether it has failed
 abbrev pub writing_to : {S : Type 0} → (taken : S → Option (List ℕ)) → (failed : S → Bool) → (sink new_sink : S) → Writing
 writing_to taken failed sink new_sink = writing (taken sink) (taken new_sink) (failed new_sink)
 
@@ -78,8 +77,8 @@ TakesAll w text = Appends w.before w.after text
 abbrev pub TakesFront : Writing → List ℕ → Type 0
 TakesFront w text = (front : List ℕ) × (rest : List ℕ) × (text ≡ front ++ rest) × Appends w.before w.after front
 
--- What comes of printing a text, and then answering a value: Unwritten exactly where the sink
--- failed, which then took a front of the text; else all of it was taken.
+-- The outcome of printing a text and then answering a value: Unwritten exactly if the sink failed,
+-- and then it took a front of the text; else it took all of it.
 abbrev pub PrintsText : {R : Type 0} → Writing → List ℕ → R → Result R AppFault → Type 0
 PrintsText w text value result =
     MatchBool w.failed ((result ≡ Err Unwritten) × TakesFront w text) ((result ≡ Ok value) × TakesAll w text)

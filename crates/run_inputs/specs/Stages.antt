@@ -1,5 +1,5 @@
--- The stages in which a design is read: the architecture and the text of the netlist; then, from
--- these, the netlist and its placement; and then what is on a device (ours).
+-- The stages of reading a design: first the architecture and the text of the netlist, then the
+-- netlist and its placement from these, and then what is on a device (ours).
 use Rattle.std.specs.Prelude.{ℕ, List, Result, Ok}
 use Rattle.arch_file.specs.Architecture.{Architecture}
 use Rattle.rr_graph.specs.node.Mode.{Mode}

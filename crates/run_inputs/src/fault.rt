@@ -126,7 +126,7 @@ impl From<WorkFault> for AppFault {
     }
 }
 
-/// Returns the exit status of a fault: 4 for bad input, 5 for reading or writing that failed, 6 for
+/// Returns the exit status of a fault: 4 for bad input, 5 if reading or writing failed, 6 for
 /// memory, a thread, or a worker that went astray.
 pub fn status(fault: &AppFault) -> u8
     ensures { result ≡ status_of fault.now }

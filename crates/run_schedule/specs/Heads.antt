@@ -27,7 +27,7 @@ IsTitle t = IsInLine t.0 × IsInLine t.1
 abbrev pub title_text : List ℕ × List ℕ → List ℕ
 title_text t = entry_text (codes "pathfinder") t.0 ++ entry_text (codes "schedule of") t.1
 
--- the lines of a head, of a run with so many workers and nets
+-- the lines of the head of a run with this many workers and nets
 pub record IsHead (workers nets : ℕ) (bytes : List ℕ) : Type 0 where
   pub title : List ℕ × List ℕ
   pub rest : List ℕ

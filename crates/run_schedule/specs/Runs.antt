@@ -4,7 +4,7 @@ use Rattle.run_schedule.specs.Heads.{IsHead}
 use Rattle.run_schedule.specs.Schedules.{AreTrials, TrialTurns}
 use Rattle.run_schedule.specs.ScheduleTexts.{schedule_text}
 
--- the lines of its head, how many workers and nets these tell, and the trials
+-- the lines of its head, the numbers of workers and nets on them, and the trials
 pub record RunTurns : Type 0 where
   pub head : List ℕ
   pub workers : ℕ

@@ -1,5 +1,5 @@
--- The text of a schedule (ours): lines with `#` tell of the run, and behind titles each turn has a
--- line, under those of its trial and of its iteration.
+-- The text of a schedule (ours): lines with `#` describe the run. After the titles, each turn has a
+-- line, below the lines of its trial and its iteration.
 use Rattle.std.specs.Prelude.{ℕ, ◌+◌, List, [], ◌∷◌, ◌++◌, codes, decimal}
 use Rattle.std.specs.List.{flat_map}
 use Rattle.gates.specs.declared.schedule.ScheduledTurn.{ScheduledTurn}
@@ -21,7 +21,7 @@ head_text h =
     run_text h.program.now h.command.now h.net.now h.arch.now h.place.now
     ++ (amount_text (codes "workers") h.workers [] ++ (options_text h.settings ++ amount_text (codes "nets") h.nets []))
 
--- what stands above the columns
+-- the titles of the columns
 abbrev pub titles_text : List ℕ
 titles_text = codes "net worker seen\n"
 
@@ -42,7 +42,7 @@ numbered_text word number = word ++ (codes " " ++ (decimal number ++ codes "\n")
 unfoldable pub iteration_text : (number : ℕ) → List ScheduledTurn → List ℕ
 iteration_text number turns = numbered_text (codes "iteration") number ++ turns_text turns
 
--- iterations, of which the first has this number
+-- iterations; the first has this number
 abbrev pub iterations_text : (number : ℕ) → List (List ScheduledTurn) → List ℕ
 iterations_text number [] = []
 iterations_text number (turns ∷ later) = iteration_text number turns ++ iterations_text (number + 1) later

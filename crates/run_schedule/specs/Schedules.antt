@@ -8,7 +8,7 @@ use Rattle.routing_problem.specs.Fabric.{most_tracks}
 
 -- ---- an iteration
 
--- turns of an iteration of so many nets by so many workers, in the order in which they were made
+-- turns of an iteration of this many nets by this many workers, in the order they were made
 pub record AreTurns (nets workers : ℕ) (turns : List ScheduledTurn) : Type 0 where
   pub of_nets : All (λ t. t.net < nets) turns
   -- no net has two
@@ -16,7 +16,7 @@ pub record AreTurns (nets workers : ℕ) (turns : List ScheduledTurn) : Type 0 w
   pub by_workers : All (λ t. t.worker < workers) turns
   -- its worker had seen no more turns than were made before
   pub seen : (i : ℕ) (d : ScheduledTurn) → i < length turns → (slice_index_or turns i d).seen ≤ i
-  -- nor fewer than at its turns before
+  -- nor fewer than at its earlier turns
   pub grows : AllPairs (λ s t. s.worker ≡ t.worker → s.seen ≤ t.seen) turns
 
 -- all turns of an iteration: each net has one
@@ -26,7 +26,7 @@ pub record IsIteration (nets workers : ℕ) (turns : List ScheduledTurn) : Type 
 
 -- ---- trials
 
--- a trial: a negotiation on a device with so many tracks, by the turns of its iterations
+-- a trial: a negotiation on a device with this many tracks, by the turns of its iterations
 pub record TrialTurns : Type 0 where
   pub width : ℕ
   pub iterations : List (List ScheduledTurn)

@@ -1,12 +1,12 @@
-//! What a run is known by, before the number of its nets is known.
+//! What identifies a run, before the number of its nets is known.
 
 use crate::file_sum::FileSum;
 use crate::head::Head;
 use node_cost::Settings;
 use std::sync::Wait;
 
-/// What a run is known by: the version of the program, the command with the options of its own, the
-/// sums of its files, the number of workers, and the options of each negotiation.
+/// What identifies a run: the version of the program, the command with its own options, the sums of
+/// its files, the number of workers, and the options of each negotiation.
 #[derive(Clone, Copy)]
 pub struct RunDescription<'a> {
     pub program: &'a str,

@@ -7,8 +7,8 @@ ghost use Rattle.run_schedule.specs.declared.fault.FaultKind.TheVariants.{Memory
 use std::alloc::{AllocError, AllocFailed};
 use thiserror::Error;
 
-/// What is wrong with a line of a schedule. `Other` are those of a schedule that is one of another
-/// run, `More` those of one that ends before the run does.
+/// What is wrong with a line of a schedule. `Other` are faults of a schedule of another run, `More`
+/// those of a schedule that ends before the run does.
 #[derive(Clone, Copy, Debug, PartialEq, Eq, Error)]
 pub enum FaultKind {
     /// The text doesn't begin as that of a schedule.
@@ -29,7 +29,7 @@ pub enum FaultKind {
     /// The run has no worker of that number.
     #[error("names no worker")]
     UnknownWorker,
-    /// The worker had seen more turns than were made, or fewer than at its turn before.
+    /// The worker had seen more turns than were made, or fewer than at its previous turn.
     #[error("has a number of turns that the worker can't have seen")]
     BadSeen,
     /// A net has had no turn in the iteration that ends before the line.

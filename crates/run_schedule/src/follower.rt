@@ -24,8 +24,8 @@ pub struct Follower<'a, R> {
 }
 
 impl<'a, R: Wait> Follower<'a, R> {
-    /// Returns a gate that has followed nothing yet. If the run is by one thread (`is_alone`), it
-    /// counts as one by as many workers as the schedule has.
+    /// Returns a gate that has followed nothing yet. A run by one thread (`is_alone`) counts as one
+    /// by as many workers as the schedule has.
     pub fn new(
         rt: &'a R,
         alloc: Global,

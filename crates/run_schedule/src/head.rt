@@ -11,12 +11,12 @@ use std::alloc::Global;
 use text_output::{ByteSink, Printer};
 use vpr_text::{Adapted, Broken};
 
-/// What the head of a schedule says of the run.
+/// What the head of a schedule says about the run.
 #[derive(Clone, Copy, Debug)]
 pub struct Head<'a> {
     /// The version of the program.
     pub program: &'a [u8],
-    /// The command of the run, with the options of its own.
+    /// The command of the run, with its own options.
     pub command: &'a [u8],
     /// The sum of the netlist's bytes, in hexadecimal digits.
     pub net: &'a [u8],

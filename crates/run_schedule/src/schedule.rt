@@ -134,7 +134,7 @@ fn read_run<'a>(alloc: Global, text: &mut Text<'a>) -> Result<RunSchedule<'a>, F
     })
 }
 
-/// Returns the schedule that these bytes are.
+/// Returns the schedule with these bytes as its text.
 ///
 /// The first fault, with its line; of several faults of a line, the one that comes first in
 /// `FaultKind`. If the last line after the titles breaks off, that is `BadEnd`.

@@ -28,7 +28,7 @@ PrintsVerdict out j result =
     × IsVerdict j.design.problem j.routing verdict
     × PrintsText out (verdict_text j.design.netlist j.design.problem verdict) verdict result
 
--- A run of `check`, memory aside: where its files say a routing of a problem, there is a verdict on
--- it, whose line is printed.
+-- A run of `check`, memory aside: if its files say a routing of a problem, there is a verdict on
+-- it, and the line of the verdict is printed.
 abbrev pub RunsCheck : (out : Writing) → Result Judged AppFault → Result (Option RouteFault) AppFault → Type 0
 RunsCheck out = StopsOrGoesOn (TakesNothing out) (PrintsVerdict out)

@@ -1,4 +1,4 @@
--- The line on the least width after each one from a first on was tried (ours).
+-- The line on the least width, after each width from a first one on was tried (ours).
 use Rattle.std.specs.Prelude.{ℕ, ◌+◌, ◌-◌, ◌==◌, nat_lt, min, max, if◌then◌else◌, List, [], ◌++◌, codes, decimal, Option, None, Some}
 use Rattle.rr_graph.specs.Fabric.{most_tracks}
 use Rattle.width_bound.specs.declared.figures.CutFigures.{CutFigures}
@@ -7,11 +7,11 @@ use Rattle.width_search.specs.declared.report.LeastWidth.{LeastWidth}
 
 -- ---- the first width
 
--- the least width that isn't ruled out; one more than the greatest there is, where all are
+-- the least width that isn't ruled out, or one more than the greatest width if all are ruled out
 abbrev pub first_possible : CutFigures → ℕ
 first_possible c = if has_no_way c then most_tracks + 1 else min (printed_width c) (most_tracks + 1)
 
--- from which width on each is tried
+-- the first width to try
 abbrev pub first_width : (start : ℕ) → CutFigures → ℕ
 first_width start c = max start (first_possible c)
 
@@ -41,7 +41,7 @@ too_text first last = codes ", " ++ (were_text first last ++ codes " not tried")
 
 -- ---- what is known
 
--- widths below the first that was tried, and that may be possible
+-- widths that may be possible, below the first that was tried
 abbrev pub also_untried : (bound first : ℕ) → List ℕ
 also_untried bound first = if nat_lt bound first then too_text bound (first - 1) else []
 
@@ -73,6 +73,6 @@ abbrev pub known_line : (bound first : ℕ) → (least : Option LeastWidth) → 
 known_line bound first (Some least) = routed_line bound first least.width
 known_line bound first None = gap_line bound first (most_tracks + 1)
 
--- nothing is added where all widths are ruled out
+-- nothing is added if all widths are ruled out
 abbrev pub known_from : (start bound : ℕ) → (least : Option LeastWidth) → List ℕ
 known_from start bound least = if nat_lt most_tracks bound then [] else known_line bound (max start bound) least

@@ -1,5 +1,5 @@
--- Widths below the least that a search found: which are tried, what is printed of each, and what
--- becomes of the report (ours).
+-- Widths below the least that a search found: which are tried, what is printed for each, and how
+-- the report changes (ours).
 use Rattle.std.specs.Prelude.{◌≡◌, ℕ, ◌+◌, ◌-◌, ◌<◌, ◌==◌, ◌⊎◌, min, true, if◌then◌else◌, List, [], ◌++◌, length, slice_get, codes, decimal, Option, None, Some, MatchBool}
 use Rattle.std.specs.List.{All, flat_map, fold}
 use Rattle.rr_graph.specs.Fabric.{most_tracks}
@@ -47,7 +47,7 @@ IsNegotiated comes_to t = comes_to t.width t.outcome
 abbrev pub with_last : (before : Option ℕ) → LesserTrial → Option ℕ
 with_last before t = if is_success t.outcome then Some t.width else before
 
--- the last width that was routed, if one was: of widths that go down it is the least
+-- the last width that was routed, if one was; if the widths go down, it is the least
 unfoldable pub last_routed : List LesserTrial → Option ℕ
 last_routed = fold with_last None
 
@@ -55,14 +55,14 @@ last_routed = fold with_last None
 abbrev pub with_lesser : Report → LesserTrial → Report
 with_lesser r t = if is_success t.outcome then with_trial r t.width t.outcome else r
 
--- the report with all that were routed
+-- the report with all lesser widths that were routed
 unfoldable pub with_all_lesser : Report → List LesserTrial → Report
 with_all_lesser = fold with_lesser
 
--- ---- what comes of trying them
+-- ---- the outcome of trying them
 
--- The last line has the least that was routed, where all were tried; else a free fault came before,
--- and it is that fault's.
+-- If all were tried, the last line has the least that was routed; else a free fault came before,
+-- and the line is that fault's.
 abbrev pub EndsLesser : (most : ℕ) → List LesserTrial → (last : List ℕ) → Type 0
 EndsLesser most tried last =
     ((length tried ≡ most) × (last ≡ lesser_end (last_routed tried)))
@@ -85,7 +85,7 @@ pub record TriesLesser (comes_to : ℕ → Outcome → Type 0) (found below : �
 abbrev pub TriesNone : (least : ℕ) → (old new : Report) → (past : ℕ) → (text : List ℕ) → Type 0
 TriesNone least old new past text = (new ≡ old) × (past ≡ least) × (text ≡ [])
 
--- Lesser widths are tried where the search found a width, and some are wanted.
+-- Lesser widths are tried if the search found a width and some are wanted.
 abbrev pub TriesBelow : (comes_to : ℕ → Outcome → Type 0) → (below : ℕ) → (old new : Report) → (past : ℕ) → (text : List ℕ) → (least : Option LeastWidth) → Type 0
 TriesBelow comes_to below old new past text (Some least) =
     MatchBool (below == 0) (TriesNone least.width old new past text) (TriesLesser comes_to least.width below old new past text)

@@ -35,8 +35,8 @@ status_of_outcome (NotRouted unrouted overused iterations) = 3
 
 -- ---- what is written
 
--- What comes of a success: its text is written to `route`, and Unwritten is answered where that
--- failed, `out` having taken nothing; else the line is printed to `out`.
+-- A success is written: its text goes to `route`. If that failed, Unwritten is answered and `out`
+-- took nothing; else the line is printed to `out`.
 abbrev pub WritesSuccess : (route out : Writing) → PlacedDesign → Lists → (iterations : ℕ) → Result Outcome AppFault → Type 0
 WritesSuccess route out d lists iterations result =
     let text = text_of d.netlist d.placement d.problem lists in
@@ -44,7 +44,7 @@ WritesSuccess route out d lists iterations result =
     ((result ≡ Err Unwritten) × TakesFront route text × TakesNothing out)
     (TakesAll route text × PrintsText out (routed_text iterations) (Success lists iterations) result)
 
--- What comes of an outcome: that of a success, else its line is printed to `out`, and `route` took
+-- An outcome is written: a success as above; else its line is printed to `out`, and `route` took
 -- nothing.
 abbrev pub WritesOutcome : (route out : Writing) → PlacedDesign → Outcome → Result Outcome AppFault → Type 0
 WritesOutcome route out d (Success lists iterations) result = WritesSuccess route out d lists iterations result
@@ -56,8 +56,8 @@ abbrev pub PlacesOutcome : (is_placed : Bool) → Outcome → Type 0
 PlacesOutcome is_placed (Success lists iterations) = is_placed ≡ true
 PlacesOutcome is_placed (NotRouted unrouted overused iterations) = Unit {0}
 
--- A design's problem is negotiated: the outcome is one of the negotiation by these rules, and a
--- success is a routing of the problem; and it is written.
+-- A design's problem is negotiated: the outcome is one of the negotiation by these rules, a success
+-- is a routing of the problem, and the outcome is written.
 abbrev pub RoutesDesign : RouterOptions → (workers : ℕ) → TurnRule → (route out : Writing) → PlacedDesign → Result Outcome AppFault → Type 0
 RoutesDesign o workers allows route out d result =
     (outcome : Outcome)
@@ -65,7 +65,7 @@ RoutesDesign o workers allows route out d result =
     × negotiation.EndsNegotiation d.problem o workers allows outcome
     × WritesOutcome route out d outcome result
 
--- A run of `route`, free faults aside: with a fault of its files neither sink takes anything; where
+-- A run of `route`, free faults aside: if its files have a fault, neither sink takes anything; if
 -- they say a design, its problem is negotiated, and the outcome is written.
 abbrev pub RunsRoute : RouterOptions → (workers : ℕ) → TurnRule → (route out : Writing) → Result PlacedDesign AppFault → Result Outcome AppFault → Type 0
 RunsRoute o workers allows route out = StopsOrGoesOn (TakesNothing route × TakesNothing out) (RoutesDesign o workers allows route out)

@@ -14,11 +14,11 @@ is_untried trials bound past width = (not (nat_lt width bound) && nat_lt width p
 
 -- ---- runs of such widths, as `4 to 11, 13 to 23`
 
--- a run begins at the width, as the one below it is none of them; one ends there
+-- a run begins at the width, as the one below it is none of them
 abbrev pub begins_gap : List Trial → (bound past width : ℕ) → Bool
 begins_gap trials bound past width = is_untried trials bound past width && not (nat_lt 0 width && is_untried trials bound past (width - 1))
 
--- a run of several widths ends there
+-- a run of several widths ends at the width
 abbrev pub ends_gap : List Trial → (bound past width : ℕ) → Bool
 ends_gap trials bound past width =
     (is_untried trials bound past width && not (begins_gap trials bound past width)) && not (is_untried trials bound past (width + 1))
@@ -57,7 +57,7 @@ untried_from trials bound past first several =
     untried_word several
     ++ (flat_map (gap_text trials bound past first) (numbers_below past) ++ (untried_were several ++ upward_advice bound))
 
--- nothing where all of them were tried
+-- nothing if all of them were tried
 abbrev pub untried_by : List Trial → (bound past : ℕ) → (first : Option ℕ) → List ℕ
 untried_by trials bound past (Some first) = untried_from trials bound past first (are_several trials bound past first)
 untried_by trials bound past None = []

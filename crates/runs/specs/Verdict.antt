@@ -1,4 +1,4 @@
--- What `check` finds of a routing, and the line that it prints of it (ours).
+-- The verdict of `check` on a routing, and the line that it prints (ours).
 use Rattle.std.specs.Prelude.{◌≡◌, ◌≢◌, ◌↔◌, ℕ, List, ◌++◌, slice_index_or, Option, None, Some, codes, decimal}
 use Rattle.net_file.specs.Netlist.{Netlist}
 use Rattle.net_file.specs.Routed.{no_net}
@@ -14,8 +14,8 @@ use Rattle.route_check.specs.Routed.{IsRouted}
 use Rattle.route_check.specs.Faults.{IsFirstRouteFault}
 use Rattle.text_output.specs.NodeTexts.{text_of_node}
 
--- the verdict on a routing: none exactly where it routes the problem, a fault exactly where that is
--- its first; a routing that was read has an entry for each net
+-- the verdict on a routing: none exactly if it routes the problem, a fault exactly if that is its
+-- first; a routing that was read has an entry for each net
 pub record IsVerdict (problem : RoutingProblem) (routing : List (Option (List Pair))) (verdict : Option RouteFault) : Type 0 where
   pub legal : (verdict ≡ None) ↔ IsRouted problem routing
   pub first : (f : RouteFault) → (verdict ≡ Some f) ↔ IsFirstRouteFault problem routing f

@@ -46,7 +46,7 @@ least_line None = codes "no routed width\n"
 abbrev pub report_text : Report → List ℕ
 report_text r = flat_map trial_line r.trials ++ least_line r.least
 
--- the exit status of a search: 0 where a width was routed, 3 where none was
+-- the exit status of a search: 0 if a width was routed, 3 if none was
 abbrev pub status_of_least : Option LeastWidth → ℕ
 status_of_least (Some least) = 0
 status_of_least None = 3
@@ -56,27 +56,27 @@ status_of_report r = status_of_least r.least
 
 -- ---- what is written
 
--- The lines are printed to `out`, and then the text is written to `route`; Unwritten is answered
--- where either failed, and where that was `out`, `route` took nothing.
+-- The lines are printed to `out`, and then the text is written to `route`. Unwritten is answered if
+-- either failed; if `out` failed, `route` took nothing.
 abbrev pub WritesFound : {R : Type 0} → (route out : Writing) → (lines text : List ℕ) → R → Result R AppFault → Type 0
 WritesFound route out lines text value result =
     MatchBool out.failed
     ((result ≡ Err Unwritten) × TakesFront out lines × TakesNothing route)
     (TakesAll out lines × PrintsText route text value result)
 
--- What comes of the least width: its routing's text is written after the lines; where there is
--- none, `route` took nothing.
+-- The text of the routing of the least width is written after the lines; if there is none, `route`
+-- took nothing.
 abbrev pub WritesLeast : {R : Type 0} → (route out : Writing) → Mode → PlacedNetlist → (lines : List ℕ) → Option LeastWidth → R → Result R AppFault → Type 0
 WritesLeast route out mode p lines (Some least) value result =
     WritesFound route out lines (text_of p.netlist p.placement (placed_problem mode p least.width) least.routing) value result
 WritesLeast route out mode p lines None value result = PrintsText out lines value result × TakesNothing route
 
--- What comes of a report: its lines are printed to `out`, and then the routing of the least width
--- is written to `route`.
+-- The lines of a report are printed to `out`, and then the routing of the least width is written to
+-- `route`.
 abbrev pub WritesReport : {R : Type 0} → (route out : Writing) → Mode → PlacedNetlist → Report → R → Result R AppFault → Type 0
 WritesReport route out mode p r value result = WritesLeast route out mode p (report_text r) r.least value result
 
--- the routing of the least width, where there is one, is in its place
+-- the routing of the least width, if there is one, is in its place
 abbrev pub PlacesLeast : (is_placed : Bool) → Option LeastWidth → Type 0
 PlacesLeast is_placed (Some least) = is_placed ≡ true
 PlacesLeast is_placed None = Unit {0}
@@ -95,7 +95,7 @@ HasNoRouting p low high =
     (mode : Mode) (width : ℕ) (lists : Lists) → low ≤ width → width < high → width ≤ most_tracks
     → ¬ IsRouted (placed_problem mode p width) lists
 
--- each width was tried upward, and each from the start on that was left out has no routing
+-- the widths were tried upward, and no width from the start on that was left out has a routing
 pub record IsUpwardReport (comes_to : ℕ → Outcome → Type 0) (p : PlacedNetlist) (start : ℕ) (r : Report) : Type 0 where
   pub first : ℕ
   pub after_start : start ≤ first
@@ -105,7 +105,7 @@ pub record IsUpwardReport (comes_to : ℕ → Outcome → Type 0) (p : PlacedNet
   pub searched : IsWidthReport comes_to (next_upward first) r
   -- trial i is of the width first + i, and each trial but the last was not routed
   pub upward : GoesUpward first r.trials
-  -- the routing is that of the last trial; there is none where no width is left
+  -- the routing is that of the last trial; there is none if no width is left
   pub ends : EndsUpward first r.trials r.least
 
 -- the report is that of the plan
@@ -119,7 +119,7 @@ IsPlanned o workers allows mode p (Upward start) r = IsUpwardReport (Negotiates 
 abbrev pub TakesText : Writing → (text : List ℕ) → Type 0
 TakesText w text = MatchBool w.failed (TakesFront w text) (TakesAll w text)
 
--- the lesser widths after a search, and what is printed of them
+-- the lesser widths after a search, and what is printed for them
 pub record TriesAfter (comes_to : ℕ → Outcome → Type 0) (start below : ℕ) (r : Report) (past : ℕ) (text : List ℕ) : Type 0 where
   -- the report before them is that of the search
   pub search : Report
@@ -131,7 +131,7 @@ pub record TriesAfter (comes_to : ℕ → Outcome → Type 0) (start below : ℕ
 abbrev pub bound_text : List Trial → (past : ℕ) → CutFigures → List ℕ
 bound_text trials past c = width_line c ++ untried_line trials (first_possible c) past
 
--- A bound that holds of the placed netlist is printed, if that is wanted; or nothing, if memory
+-- A bound that holds for the placed netlist is printed, if that is wanted; or nothing, if memory
 -- runs out.
 abbrev pub PrintsBoundOf : (is_wanted : Bool) → PlacedNetlist → List Trial → (past : ℕ) → (text : List ℕ) → Type 0
 PrintsBoundOf is_wanted p trials past text =
@@ -150,7 +150,7 @@ pub record SaysSearch (comes_to : ℕ → Outcome → Type 0) (p : PlacedNetlist
 abbrev pub known_after : (is_written : Bool) → (start bound : ℕ) → Option LeastWidth → List ℕ
 known_after is_written start bound least = if is_written then known_from start bound least else []
 
--- the words of a search upward: a bound that holds of the placed netlist, and after the report was
+-- the words of a search upward: a bound that holds for the placed netlist, and after the report was
 -- written what is known of the least width
 pub record SaysUpward (p : PlacedNetlist) (start : ℕ) (is_written : Bool) (r : Report) (text : List ℕ) : Type 0 where
   pub figures : CutFigures
@@ -181,7 +181,7 @@ SearchesWidths o workers allows plan mode route out words p result =
 abbrev pub TakeNothing : (route out words : Writing) → Type 0
 TakeNothing route out words = TakesNothing route × TakesNothing out × TakesNothing words
 
--- A run of `width`, free faults aside: with a fault of its files no sink takes anything; where they
+-- A run of `width`, free faults aside: if its files have a fault, no sink takes anything; if they
 -- say a placed netlist, the widths of the plan are tried for it, and the report is written.
 abbrev pub RunsWidth : RouterOptions → (workers : ℕ) → TurnRule → WidthPlan → Mode → (route out words : Writing) → Result PlacedNetlist AppFault → Result Report AppFault → Type 0
 RunsWidth o workers allows plan mode route out words = StopsOrGoesOn (TakeNothing route out words) (SearchesWidths o workers allows plan mode route out words)

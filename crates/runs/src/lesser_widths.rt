@@ -181,8 +181,8 @@ fn least_with(least: Option<u32>, lesser: u32, is_routed: bool) -> Option<u32>
     if is_routed { Some(lesser) } else { least }
 }
 
-/// What became of the widths below the least: the least of them that was routed, or why no further
-/// one could be tried, and the least width that was tried, or else the width below which they are.
+/// The outcome of the widths below the least: the least of them that was routed, or why no further
+/// one could be tried; and the least width that was tried, or the width that they are below.
 #[derive(Drop)]
 struct Lesser {
     routed: Result<Option<u32>, AppFault>,

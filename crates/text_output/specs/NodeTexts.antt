@@ -30,7 +30,7 @@ place_text x y = codes "(" ++ (decimal x ++ (codes "," ++ (decimal y ++ codes ")
 abbrev pub is_one_place : Span → Bool
 is_one_place s = s.x1 == s.x2 && s.y1 == s.y2
 
--- where a node stands: its place, or the two ends of a wire of several places, as `(1,2) to (4,2)`
+-- where a node is: its place, or the two ends of a wire of several places, as `(1,2) to (4,2)`
 unfoldable pub span_text : Span → List ℕ
 span_text s =
     if is_one_place s then place_text s.x1 s.y1 else (place_text s.x1 s.y1 ++ (codes " to " ++ place_text s.x2 s.y2))

@@ -12,7 +12,7 @@ piece_text (LongNumber n) = decimal n
 piece_text (Place x y) = place_text x y
 piece_text (Node device id) = text_of_node device.now (node_at device.now id)
 
--- the texts of the pieces, one after another, with nothing behind the last
+-- the texts of the pieces, one after another, with nothing after the last
 abbrev pub pieces_text : List Piece → List ℕ
 pieces_text [] = []
 pieces_text (p ∷ []) = piece_text p

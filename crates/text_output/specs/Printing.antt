@@ -12,7 +12,7 @@ pub record IsPrinterTo {W : Type 0} (sink : MutBor W) (p : Printer W) : Type 0 w
   pub holds_nothing : p.buffer ≡ holding []
 
 -- what a printer's sink took, where that is known, whether it has failed, and the buffer before it;
--- the first argument has what a type of sinks tells
+-- the first argument has what a type of sinks gives
 abbrev pub stream_of : {W : Type 0} → Ghosts W → Printer W → Stream
 stream_of sink p = stream (sink.taken p.sink.now) (sink.failed p.sink.now) p.buffer
 

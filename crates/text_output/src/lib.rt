@@ -1,4 +1,4 @@
-//! The pieces of which printed texts are made, through a printer: numbers, places, nodes.
+//! The pieces that make up printed texts, through a printer: numbers, places, nodes.
 #![tactic(auto)]
 
 mod node;

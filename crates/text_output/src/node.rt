@@ -24,7 +24,7 @@ pub fn kind_name(kind: Kind) -> &'static [u8]
     }
 }
 
-/// What a node's number counts, as it stands before the number: `Track: ` and the like.
+/// What a node's number counts, as the text before the number: `Track: ` and the like.
 pub fn label_name(label: Label) -> &'static [u8]
     ensures { result.now ≡ label_text label }
 {
@@ -56,7 +56,7 @@ pub(crate) fn put_node<W: ByteSink>(
     put_number(out, sink, number);
 }
 
-/// Prints the node of a number; nothing for what is no node.
+/// Prints the node of a number; nothing if there is none.
 pub(crate) fn put_node_of<W: ByteSink>(
     out: &mut OutputBuffer,
     sink: &mut W,

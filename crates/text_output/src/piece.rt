@@ -12,7 +12,7 @@ use vpr_text::{ByteSink, OutputBuffer};
 /// A piece of a text.
 #[derive(Clone, Copy, Drop)]
 pub enum Piece<'a> {
-    /// Bytes as they stand.
+    /// Bytes as they are.
     Text(&'a [u8]),
     /// A number, in decimal digits.
     Number(u32),
@@ -20,8 +20,8 @@ pub enum Piece<'a> {
     LongNumber(u64),
     /// A place by its column and its row, as `(1,2)`.
     Place(u32, u32),
-    /// The node of a device that has this number, as `CHANX (1,2) Track: 0`; nothing of what is no
-    /// node.
+    /// The node of a device that has this number, as `CHANX (1,2) Track: 0`; nothing if there is
+    /// none.
     Node(&'a Device, u32),
 }
 

@@ -1,4 +1,4 @@
-//! Places, and where nodes stand.
+//! Places, and where nodes are.
 
 ghost use Rattle.std.specs.Prelude.{◌≡◌};
 ghost use Rattle.vpr_text.specs.Output.{SendsTo};
@@ -25,7 +25,7 @@ fn is_one_place(span: Span) -> bool
     span.x1 == span.x2 && span.y1 == span.y2
 }
 
-/// Prints where a node stands: its place, or the two ends of a wire of several places, as `(1,2) to
+/// Prints where a node is: its place, or the two ends of a wire of several places, as `(1,2) to
 /// (4,2)`.
 pub(crate) fn put_span<W: ByteSink>(out: &mut OutputBuffer, sink: &mut W, span: Span)
     ensures { SendsTo W.taken W.failed sink.old sink.new out.old out.new (span_text span) }

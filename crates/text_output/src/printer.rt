@@ -67,8 +67,8 @@ impl<'a, W: ByteSink> Printer<'a, W> {
         put_place(&mut self.buffer, self.sink, x, y);
     }
 
-    /// Prints where a node stands: its place, or the two ends of a wire of several places, as
-    /// `(1,2) to (4,2)`.
+    /// Prints where a node is: its place, or the two ends of a wire of several places, as `(1,2) to
+    /// (4,2)`.
     pub fn put_span(&mut self, span: Span)
         ensures { PrintsTo W.ByteSink self.old self.new (span_text span) }
     {
@@ -82,7 +82,7 @@ impl<'a, W: ByteSink> Printer<'a, W> {
         put_node(&mut self.buffer, self.sink, kind, span, label, number);
     }
 
-    /// Prints the node of a number; nothing for what is no node.
+    /// Prints the node of a number; nothing if there is none.
     pub fn put_node_of(&mut self, device: &Device, id: u32)
         ensures { PrintsTo W.ByteSink self.old self.new
             (text_of_node device.now (node_at device.now id)) }

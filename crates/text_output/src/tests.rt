@@ -1,6 +1,6 @@
 //! What no clause of `vpr_text` says: known texts and numbers, memory that runs out, and readers
-//! and writers that fail. They stand here, where they are proved beside other crates: in `vpr_text`
-//! all others would wait for them.
+//! and writers that fail. They are here, where they are proved at the same time as other crates: in
+//! `vpr_text` all others would wait for them.
 
 ghost use Rattle.std.specs.Prelude.{◌≡◌, Some};
 
@@ -334,7 +334,7 @@ fn a_writer_that_takes_nothing_is_broken(rt: HostRuntime) {
     assert!(rt; sink.put(b"c") == Err(Broken));
 }
 
-/// A reader or a writer of which one call is interrupted; those before and after it succeed.
+/// A reader or a writer with one interrupted call; those before and after it succeed.
 #[derive(Drop)]
 struct InterruptedOnce<T> {
     inner: T,
@@ -343,7 +343,7 @@ struct InterruptedOnce<T> {
 }
 
 impl<T> InterruptedOnce<T> {
-    /// Counts a call, and fails where it is the one.
+    /// Counts a call, and fails if it is that one.
     fn call(&mut self) -> io::Result<()>
         ensures { self.new.inner ≡ self.old.inner }
     {

@@ -25,10 +25,10 @@ pub record AreDrivenBy (f : Fabric) (t : Grouping) (pin : ℕ) (ds : List Drive)
   -- edges lead to the wires of these and of no other
   pub edges : (p : GroupTrack) → IsOn t.groups p → edge_between f pin (wire_on t.groups p) ≡ drive_track ds p
 
--- what is no output pin drives nothing
+-- a node that is no output pin drives nothing
 abbrev pub OnlyPinsDrive : Fabric → List (List Drive) → Type 0
 OnlyPinsDrive f rows = (id : ℕ) → (kind_of_node f id ≡ Some Opin → ⊥) → get_or rows id [] ≡ []
 
--- what each output pin drives stands at its number
+-- what each output pin drives is at its number
 abbrev pub AreDrives : Fabric → Grouping → List (List Drive) → Type 0
 AreDrives f t rows = (pin : ℕ) → kind_of_node f pin ≡ Some Opin → AreDrivenBy f t pin (get_or rows pin [])

@@ -20,7 +20,7 @@ abbrev pub no_group : Group
 no_group =
     record { kind = Chanx; span = record { x1 = 0; y1 = 0; x2 = 0; y2 = 0 }; reach = 0; base = 0; stride = 0; tracks = 0 }
 
--- group g; where there is none, one without tracks
+-- group g; where there is none, a group without tracks
 unfoldable pub group_at : List Group → ℕ → Group
 group_at groups g = get_or groups g no_group
 

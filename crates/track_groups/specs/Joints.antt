@@ -1,4 +1,4 @@
--- What groups tell of the edges from wires (ours; the edges are those of `rr_edges`).
+-- What groups say about the edges from wires (ours; the edges are those of `rr_edges`).
 use Rattle.std.specs.Prelude.{◌≡◌, ℕ, ◌==◌, ◌&&◌, Bool, true, List, [], map, get_or, Some, All, Contains, ◌↔◌}
 use Rattle.std.specs.List.{list_any}
 use Rattle.std.specs.Int.{bit_at}
@@ -42,7 +42,7 @@ taps_track pin j t = t.pin == pin && bit_at t.tracks j == 1
 unfoldable pub tap_on : List Tap → (pin track : ℕ) → Bool
 tap_on ts pin j = list_any (taps_track pin j) ts
 
--- neighbours tell the edges from a track of a group to wires
+-- neighbours give the edges from a track of a group to wires
 pub record TellsWires (f : Fabric) (groups : List Group) (hs : List ℕ) (p : GroupTrack) : Type 0 where
   -- each has the track
   pub beside : All (IsBeside groups p.track) hs
@@ -50,16 +50,16 @@ pub record TellsWires (f : Fabric) (groups : List Group) (hs : List ℕ) (p : Gr
   pub edges : (w : ℕ) → is_wire_at f w ≡ true
       → (edge_between f (wire_on groups p) w ≡ true) ↔ Contains (map (wire_beside groups p.track) hs) w
 
--- taps tell the edges from a track of a group to input pins
+-- taps give the edges from a track of a group to input pins
 abbrev pub TellsPins : Fabric → List Group → List Tap → GroupTrack → Type 0
 TellsPins f groups ts p =
     (pin : ℕ) → kind_of_node f pin ≡ Some Ipin → edge_between f (wire_on groups p) pin ≡ tap_on ts pin p.track
 
--- a tap is one of an input pin, and tells its sink
+-- a tap is of an input pin, and gives its sink
 abbrev pub IsTap : Fabric → Tap → Type 0
 IsTap f t = IsPinOf f t.sink t.pin
 
--- neighbours and taps of a group tell the edges from its wires
+-- neighbours and taps of a group give the edges from its wires
 pub record TellsEdges (f : Fabric) (groups : List Group) (g : ℕ) (hs : List ℕ) (ts : List Tap) : Type 0 where
   pub wires : (j : ℕ) → IsOn groups (on_track g j) → TellsWires f groups hs (on_track g j)
   pub pins : (j : ℕ) → IsOn groups (on_track g j) → TellsPins f groups ts (on_track g j)

@@ -9,7 +9,7 @@ use std::alloc::{AllocError, Global};
 /// The most tracks of a class: a set of them is a number of 64 bits.
 const MOST_TRACKS: u32 = 64;
 
-/// Tracks `first`, `first + step`, .., of which there are `count`.
+/// The `count` tracks `first`, `first + step`, ..
 #[derive(Clone, Copy, Debug)]
 pub(crate) struct Class {
     pub(crate) first: u32,

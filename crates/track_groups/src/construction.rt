@@ -9,7 +9,7 @@ use routing_problem::Device;
 use std::alloc::{AllocError, Global};
 
 impl TrackGroups {
-    /// Groups of the greatest classes, where their wires stand evenly apart.
+    /// Groups of the greatest classes, where their wires are evenly apart.
     fn of_classes(alloc: Global, device: &Device) -> Result<Option<TrackGroups>, AllocError>
         ensures { IfOk result (λ found. IfSome found (IsTabled device.now)) }
     {
@@ -33,8 +33,8 @@ impl TrackGroups {
     }
 
     /// The groups of a device's wires: of the greatest classes of tracks, at most 64, whose wires
-    /// begin at the same places; where the wires of such a class don't stand evenly apart, each
-    /// wire is a group of its own.
+    /// begin at the same places; where the wires of such a class aren't evenly apart, each wire is
+    /// a group of its own.
     pub fn new(alloc: Global, device: &Device) -> Result<TrackGroups, AllocError>
         ensures { IfOk result (IsTabled device.now) }
     {

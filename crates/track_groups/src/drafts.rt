@@ -1,4 +1,4 @@
-//! Groups from classes of tracks. Nothing is promised of them here: they are tested.
+//! Groups from classes of tracks. Nothing is promised about them here: they are tested.
 
 ghost use Rattle.std.specs.Prelude.{◌^◌, ◌≤◌, length, All, IfOk, IfSome};
 ghost use Rattle.track_groups.specs.kept.Fields.{IsSmall};
@@ -10,7 +10,7 @@ use crate::wires::WireGroups;
 use routing_problem::{Device, Kind, Node};
 use std::alloc::{AllocError, Global};
 
-/// No wire's place is unknown for long: each is written.
+/// The place of a wire until its own is written; each is written.
 const UNKNOWN: GroupTrack = GroupTrack { group: 0, track: 0 };
 
 /// The most groups: a device has fewer nodes.
@@ -129,7 +129,7 @@ fn put_places(places: &mut [GroupTrack], first_wire: u32, number: u32, group: Gr
     }
 }
 
-/// Of each wire its group and track.
+/// The group and track of each wire.
 fn places_from(
     alloc: Global,
     first_wire: u32,

@@ -9,8 +9,8 @@ use crate::rows::Rows;
 use crate::wires::WireGroups;
 use std::marker::Model;
 
-/// The groups of a device's wires, their neighbours, and the input pins that tap them; and of each
-/// wire its group and track. Contracts see the lists of these.
+/// The groups of a device's wires, their neighbours, the input pins that tap them, and the group
+/// and track of each wire. Contracts see the lists of these.
 #[derive(Debug, Drop)]
 pub struct TrackGroups {
     pub(crate) wires: WireGroups,
@@ -52,7 +52,7 @@ impl TrackGroups {
         self.wires.group(group)
     }
 
-    /// The neighbours of a group: the groups to whose wires edges lead from its own, track for
+    /// The neighbours of a group: edges lead from its wires to the wires of these groups, track for
     /// track.
     pub fn neighbours(&self, group: u32) -> &[u32]
         ensures { result.now ≡ neighbours_of self.now group }

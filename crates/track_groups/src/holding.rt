@@ -1,5 +1,5 @@
 //! Whether tables of groups are those of a device. They are made in one way and tested in another:
-//! what is promised of them is what the test finds.
+//! what is promised about them is what the test finds.
 
 ghost use Rattle.std.specs.Prelude.{◌≡◌, ℕ, ◌+◌, ◌<◌, ◌≤◌, true, length, IsTrue};
 ghost use Rattle.routing_problem.specs.Nodes.{node_at, is_wire_at, wire_in};
@@ -38,7 +38,7 @@ impl WireGroups {
         }
     }
 
-    /// Whether all is so that is to hold of a track of a group.
+    /// Whether all that has to hold for a track of a group holds.
     fn track_holds(&self, device: &Device, place: GroupTrack) -> bool
         requires { IsOn self.now.groups place }
         ensures { IsTrue result → IsTrack device.now self.now place }
@@ -46,7 +46,7 @@ impl WireGroups {
         self.is_placed(place) && self.is_alike(device, place)
     }
 
-    /// Whether it is so of all tracks of a group.
+    /// Whether it holds for all tracks of a group.
     fn group_holds(&self, device: &Device, group: u32) -> bool
         requires { group < length self.now.groups }
         ensures { IsTrue result → HaveTracks device.now self.now group }
@@ -60,7 +60,7 @@ impl WireGroups {
         true
     }
 
-    /// Whether it is so of all groups.
+    /// Whether it holds for all groups.
     #[tactic(auto, using(crate::proofs::OnTracks::on_within))]
     fn groups_hold(&self, device: &Device) -> bool
         ensures { IsTrue result
@@ -74,7 +74,7 @@ impl WireGroups {
         true
     }
 
-    /// Whether it is so of all wires of a device.
+    /// Whether it holds for all wires of a device.
     #[tactic(auto, using(crate::proofs::AllHold::all_listed))]
     fn wires_hold(&self, device: &Device) -> bool
         ensures { IsTrue result

@@ -44,7 +44,7 @@ fn put_tap(device: &Device, taps: &mut Vec<Tap>, pin: u32, track: u32) -> Result
     Ok(())
 }
 
-/// Notes that a node taps a track, where it stands before the wires and is an input pin.
+/// Notes that a node taps a track, where it comes before the wires and is an input pin.
 #[tactic(auto, using(crate::proofs::Tapped::no_pin_from))]
 fn put_pin(device: &Device, taps: &mut Vec<Tap>, id: u32, track: u32) -> Result<(), AllocError>
     requires narrow { track < 64 }
@@ -111,7 +111,7 @@ impl Joints {
         }
     }
 
-    /// Puts those of one more group behind the others.
+    /// Puts those of one more group after the others.
     fn push(&mut self, scratch: &Scratch) -> Result<(), AllocError>
         ensures neighbours { OnOk result
             (self.new.neighbours ≡ self.old.neighbours ++ scratch.now.neighbours.items ∷ []) }
@@ -125,7 +125,8 @@ impl Joints {
 }
 
 impl WireGroups {
-    /// Adds the group of a node, where it is a wire; whether such a wire is of a first track.
+    /// Adds the group of a node, where it is a wire, and says whether such a wire is of a first
+    /// track.
     fn put_neighbour(&self, id: u32, neighbours: &mut Vec<u32>) -> Result<bool, AllocError>
         ensures added { IfOk result (λ first. IsTrue first
             → AddsNeighbour self.now id neighbours.old.items neighbours.new.items) }
@@ -142,8 +143,8 @@ impl WireGroups {
         Ok(true)
     }
 
-    /// Lists the groups of the wires among these nodes; whether all these wires are of first
-    /// tracks.
+    /// Lists the groups of the wires among these nodes, and says whether all these wires are of
+    /// first tracks.
     #[tactic(auto, using(crate::proofs::Matched::matches_none))]
     fn list_neighbours(&self, ids: &[u32], neighbours: &mut Vec<u32>) -> Result<bool, AllocError>
         ensures listed { IfOk result (λ first. IsTrue first
@@ -159,7 +160,7 @@ impl WireGroups {
         Ok(true)
     }
 
-    /// How many of the neighbours were met with this node too; None where it is no pin, and not
+    /// How many of the neighbours were met with this node too; None where it is no pin and isn't
     /// that track of the next neighbour.
     fn step(&self, id: u32, neighbours: &[u32], count: usize, track: u32) -> Option<usize>
         ensures { IfSome result (StepsTo self.now id neighbours.now track count) }
@@ -217,8 +218,8 @@ impl WireGroups {
         Ok(self.matches(ids, neighbours, place.track))
     }
 
-    /// Joins one track of a group, behind those before it; whether it has the neighbours of the
-    /// first one.
+    /// Joins one track of a group, after those before it, and says whether it has the neighbours of
+    /// the first one.
     fn join_track(
         &self,
         device: &Device,
@@ -248,7 +249,7 @@ impl WireGroups {
         Ok(true)
     }
 
-    /// Joins a group; whether its tracks have the same neighbours.
+    /// Joins a group, and says whether its tracks have the same neighbours.
     fn join_group(
         &self,
         device: &Device,
@@ -273,7 +274,7 @@ impl WireGroups {
         Ok(true)
     }
 
-    /// Joins all groups; None where tracks of a group have not the same neighbours.
+    /// Joins all groups; None where tracks of a group don't have the same neighbours.
     #[tactic(auto, using(crate::proofs::Joined::told_none, crate::proofs::Joined::told_next))]
     fn joints(&self, alloc: Global, device: &Device) -> Result<Option<Joints>, AllocError>
         requires { IsGrouped device.now self.now }
@@ -294,7 +295,7 @@ impl WireGroups {
         Ok(Some(joints))
     }
 
-    /// The tables of these groups; None where tracks of a group have not the same neighbours.
+    /// The tables of these groups; None where tracks of a group don't have the same neighbours.
     #[tactic(auto, using(crate::proofs::Joined::told_all))]
     pub(crate) fn join(
         self,

@@ -1,4 +1,4 @@
-//! Groups of one wire each, for a device whose tracks don't stand evenly apart.
+//! Groups of one wire each, for a device whose tracks aren't evenly apart.
 
 ghost use Rattle.std.specs.Prelude.{◌≡◌, ◌+◌, ◌^◌, ◌<◌, map, IfOk};
 ghost use Rattle.routing_problem.specs.Fabric.{numbers_below};
@@ -57,7 +57,7 @@ fn lone_wires(
     Ok(groups)
 }
 
-/// Of each wire its group, which has its number among the wires.
+/// The group of each wire, which has the wire's number among the wires.
 fn lone_places(alloc: Global, wires: u32) -> Result<Vec<GroupTrack>, AllocError>
     ensures { IfOk result (λ v. v.items ≡ map first_track (numbers_below wires)) }
 {

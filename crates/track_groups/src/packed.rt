@@ -1,4 +1,4 @@
-//! Groups as they are kept: in 16 bytes each, so that four of them stand in a line of the cache.
+//! Groups as they are kept: in 16 bytes each, so that four of them fit in a cache line.
 
 ghost use Rattle.std.specs.Prelude.{◌≡◌, ◌≤◌};
 ghost use Rattle.track_groups.specs.kept.Fields.{FitsBytes, IsSmall};

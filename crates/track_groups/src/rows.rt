@@ -1,4 +1,4 @@
-//! Lists that stand one behind the other.
+//! Lists that follow each other.
 
 ghost use Rattle.std.specs.Prelude.{◌≡◌, ◌++◌, [], ◌∷◌, get_or, IfOk, OnOk};
 
@@ -12,7 +12,7 @@ pub(crate) struct ListPart {
     pub(crate) end: u32,
 }
 
-/// A place of a list, where it is one that is kept.
+/// A place of a list, if it can be kept.
 fn place(count: usize) -> Result<u32, AllocError>
     ensures { IfOk result (λ place. place ≡ count) }
 {
@@ -22,7 +22,7 @@ fn place(count: usize) -> Result<u32, AllocError>
     }
 }
 
-/// A list of lists. Contracts see it so.
+/// A list of lists. Contracts see it as that.
 #[derive(Debug, Drop)]
 pub(crate) struct Rows<T> {
     parts: Vec<ListPart>,
@@ -51,7 +51,7 @@ impl<T: Copy> Rows<T> {
         }
     }
 
-    /// Puts one more list behind the others.
+    /// Puts one more list after the others.
     ///
     /// # Errors
     ///

@@ -1,4 +1,4 @@
-//! The wires of a device by groups and tracks, and what is looked up of them.
+//! The wires of a device by groups and tracks, and their look-ups.
 
 ghost use Rattle.std.specs.Prelude.{◌≡◌, ℕ, ◌+◌, ◌*◌, ◌^◌, ◌<◌, ◌≤◌, ◌==◌, ◌&&◌, nat_le, nat_lt, ◌↔◌, IsTrue, length};
 ghost use Rattle.track_groups.specs.Groups.{group_at, wire_on, place_of, IsOn, HasPlace};
@@ -7,7 +7,7 @@ use crate::group::{Group, GroupTrack};
 use crate::packed::PackedGroup;
 use std::marker::Model;
 
-/// The groups of a device's wires; and of each wire its group and track. Contracts see the list of
+/// The groups of a device's wires, and the group and track of each wire. Contracts see the list of
 /// the groups, and the list of the wires' places.
 #[derive(Debug, Drop)]
 pub(crate) struct WireGroups {

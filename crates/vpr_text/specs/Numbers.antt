@@ -17,7 +17,7 @@ value_of digits = value_after 0 digits
 abbrev pub is_whole : List ℕ → Bool
 is_whole word = is_filled word && list_all is_digit word
 
--- digits, of a value that a `u32` holds
+-- digits whose value fits in a `u32`
 abbrev pub number_of : List ℕ → Option ℕ
 number_of word = if is_whole word && nat_lt (value_of word) (2 ^ 32) then Some (value_of word) else None
 
@@ -39,11 +39,11 @@ is_pointed word = is_whole (digits_of word)
 abbrev pub units_of : List ℕ → ℕ
 units_of word = value_of (digits_of word) * 10 ^ (9 - length (decimals_of word))
 
--- digits with at most one point, of a value that a `u64` holds in units of 10^-9
+-- digits with at most one point, whose value in units of 10^-9 fits in a `u64`
 abbrev pub fixed_of : List ℕ → Option ℕ
 fixed_of word = if is_pointed word && nat_le (length (decimals_of word)) 9 && nat_lt (units_of word) (2 ^ 64) then Some (units_of word) else None
 
--- what stands after a sign, if there is one
+-- what follows a sign, if there is one
 abbrev pub without_sign : List ℕ → List ℕ
 without_sign [] = []
 without_sign (b ∷ bs) = if (b == 43) || (b == 45) then bs else (b ∷ bs)

@@ -43,7 +43,7 @@ pub record Sends (old new : Stream) (text : List ℕ) : Type 0 where
 abbrev pub stream : Option (List ℕ) → Bool → Buffer → Stream
 stream taken failed buffer = record { taken = taken; failed = failed; buffer = buffer }
 
--- the text was sent through a buffer to a sink, of which these tell what it took and whether it has
+-- the text was sent through a buffer to a sink; these say what the sink took and whether it has
 -- failed
 abbrev pub SendsTo : {S : Type 0} → (taken : S → Option (List ℕ)) → (failed : S → Bool) → (sink new_sink : S) → (buffer new_buffer : Buffer) → List ℕ → Type 0
 SendsTo taken failed sink new_sink buffer new_buffer text =

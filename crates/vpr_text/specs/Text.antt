@@ -9,12 +9,12 @@ use Rattle.vpr_text.specs.Words.{Line, is_line_feed, is_comment_sign, is_separat
 abbrev pub is_bad : ℕ → Bool
 is_bad b = (nat_lt b 32 && not (nat_le 9 b && nat_le b 13)) || (b == 127)
 
--- a byte that a word may have: one that neither separates words nor ends a line nor begins a
--- comment, and isn't bad
+-- a byte that a word may have: it doesn't separate words, end a line or begin a comment, and isn't
+-- bad
 abbrev pub is_word_byte : ℕ → Bool
 is_word_byte b = not (is_separator b || is_line_feed b || is_comment_sign b || is_bad b)
 
--- a word as texts have them: it isn't empty, and each byte is one that words may have
+-- a word of a text: it isn't empty, and a word may have each of its bytes
 pub record IsWord (word : List ℕ) : Type 0 where
   pub filled : is_filled word ≡ true
   pub bytes : All (λ b. is_word_byte b ≡ true) word

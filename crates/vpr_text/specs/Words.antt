@@ -61,7 +61,7 @@ abbrev pub continued : ℕ → List (List ℕ) → List Line → List Line
 continued n ws [] = record { number = n; words = ws } ∷ []
 continued n ws (l ∷ ls) = record { number = n; words = ws ++ l.words } ∷ ls
 
--- the logical lines of physical lines, of which the first has number n
+-- the logical lines of physical lines; the first of these has number n
 abbrev pub lines_from : ℕ → List (List ℕ) → List Line
 lines_from n [] = []
 lines_from n (p ∷ ps) =
@@ -76,7 +76,7 @@ has_words l = is_filled l.words
 abbrev pub words_of : List ℕ → List Line
 words_of bytes = filter has_words (lines_from 1 (slice_split is_line_feed bytes))
 
--- what stands past the last line
+-- what is past the last line
 abbrev pub no_line : Line
 no_line = record { number = 0; words = [] }
 

@@ -1,11 +1,11 @@
-//! The line that tells the size of an array.
+//! The line that gives the size of an array.
 
 ghost use Rattle.std.specs.Prelude.{◌≡◌};
 ghost use Rattle.vpr_text.specs.ArraySize.{begins_size_line};
 
 use crate::words::Words;
 
-/// Whether the line has seven words, of which the first six are `Array size: NX x NY logic`.
+/// Whether the line has seven words and the first six are `Array size: NX x NY logic`.
 #[tactic(auto, unfolding(crate::specs::ArraySize::begins_size_line))]
 pub fn begins_size_line(words: &Words) -> bool
     ensures { result ≡ begins_size_line words.now }

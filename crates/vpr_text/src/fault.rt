@@ -13,7 +13,7 @@ pub enum TextFault {
     /// The text has more than 2^24 bytes.
     #[error("the text has more than 16777216 bytes")]
     TooLong,
-    /// A control byte stands on this physical line, counted from 1.
+    /// A control byte is on this physical line, counted from 1.
     #[error("line {0} has a byte that no text has")]
     BadByte(u32),
     /// Memory ran out.

@@ -6,7 +6,7 @@ ghost use Rattle.vpr_text.specs.Words.{Line, number_at, words_at};
 
 use std::marker::Model;
 
-/// Where a word stands in the source.
+/// Where a word is in the source.
 #[derive(Clone, Copy, Debug)]
 pub(crate) struct ByteRange {
     pub(crate) start: u32,

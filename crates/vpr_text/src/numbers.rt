@@ -49,7 +49,7 @@ fn exponent_at(word: &[u8]) -> Option<usize>
     word.iter().position(|b| is_exponent_sign(*b))
 }
 
-/// What stands before and after the point.
+/// What is before and after the point.
 fn around_point(word: &[u8]) -> (&[u8], &[u8])
     ensures before { result.0.now ≡ before_first is_point word.now }
     ensures after { result.1.now ≡ after_first is_point word.now }
@@ -86,7 +86,7 @@ fn is_whole(word: &[u8]) -> bool
     !word.is_empty() && are_digits(word)
 }
 
-/// The number of a word of digits: one or more, of a value of at most 4294967295.
+/// The number of a word of digits: one or more, with a value of at most 4294967295.
 pub fn number(word: &[u8]) -> Option<u32>
     ensures { result ≡ number_of word.now }
 {

@@ -7,7 +7,7 @@ use crate::source::Broken;
 
 /// A sink of bytes.
 pub trait ByteSink {
-    /// The bytes that were taken, where the type tells them.
+    /// The bytes that were taken, where the type gives them.
     ghost taken: { Self → Option (List ℕ) };
 
     /// Whether a call was `Broken`.

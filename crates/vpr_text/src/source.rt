@@ -12,7 +12,7 @@ pub struct Broken;
 
 /// A source of bytes.
 pub trait ByteSource {
-    /// The bytes that are left, where the type tells them.
+    /// The bytes that are left, where the type gives them.
     ghost remaining: { Self → Option (List ℕ) };
 
     /// Whether a call was `Broken`.

@@ -50,7 +50,7 @@ fn bad_line(source: &[u8]) -> Option<u32>
     None
 }
 
-/// Where the byte first stands in a part of the source, or the part's end.
+/// Where the byte first occurs in a part of the source, or the part's end.
 fn find(source: &[u8], byte: u8, from: usize, to: usize) -> usize
     requires ordered { from ≤ to }
     requires within { to ≤ length source.now }

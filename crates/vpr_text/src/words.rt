@@ -16,7 +16,7 @@ fn word_count(lines: &Lines, i: usize) -> usize
     if i < lines.len() { lines.words(i) } else { 0 }
 }
 
-/// The number of line `i`, by which faults are told; 0 past the last line.
+/// The number of line `i`, which faults give; 0 past the last line.
 pub fn line_number(lines: &Lines, i: usize) -> u32
     ensures { result ≡ number_at lines.now i }
 {

@@ -49,10 +49,10 @@ fn share_of(steps: u16) -> u16
     }
 }
 
-/// Places beyond so many are left out of a bound: with them a product may be too great.
+/// A bound leaves out places beyond this many: with them a product may be too great.
 const MOST_ROUNDED: u16 = 383;
 
-/// Returns a lower bound on the wires that cover so many places.
+/// Returns a lower bound on the wires that cover this many places.
 #[inline(always)]
 fn wires_over(share: u16, steps: u16, places: u16) -> u16
     requires { IsShare steps share }
@@ -324,7 +324,7 @@ impl Outlook {
     }
 }
 
-/// Makes room for one box after so many others, if there is none.
+/// Makes room for one box after this many others, if there is none.
 pub(crate) fn make_room(eights: &mut Vec<EightBoxes>, count: usize) -> Result<(), AllocError>
     requires { count ≤ 8 * length eights.old.items }
     ensures room { OnOk result (count < 8 * length eights.new.items) }
@@ -382,8 +382,8 @@ fn fewest_long_in(eights: &[EightBoxes], outlook: Outlook) -> u16
     fewest
 }
 
-/// Returns a lower bound on the wires from a group to the nearest of so many boxes, times 64, plus
-/// the last six bits of that box's number.
+/// Returns a lower bound on the wires from a group to the nearest of this many boxes, times 64,
+/// plus the last six bits of that box's number.
 #[inline(always)]
 pub(crate) fn fewest_in(eights: &[EightBoxes], boxes: usize, group: &Group) -> u16
     requires { boxes ≤ 8 * length eights.now }

@@ -119,7 +119,7 @@ impl Model for Nearest {
 }
 
 impl Nearest {
-    /// Makes a list without boxes, for so many groups.
+    /// Makes a list without boxes, for this many groups.
     pub fn new(alloc: Global, groups: usize) -> Result<Nearest, AllocError>
         ensures boxes { IfOk result (λ n. n.boxes ≡ []) }
         ensures known { IfOk result (λ n. n.known ≡ replicate groups None) }

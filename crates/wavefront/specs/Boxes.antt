@@ -18,7 +18,7 @@ pub record BoundingBox : Type 0 where
 abbrev pub box_of_span : Span → BoundingBox
 box_of_span s = record { left = s.x1; right = s.x2; bottom = s.y1; top = s.y2 }
 
--- the places of a node; of what is no node the corner
+-- the places of a node, or the corner if it is no node
 abbrev pub box_of_node : Fabric → ℕ → BoundingBox
 box_of_node f v = option_map_or box_of_span (option_map (span_of f) (node_at f v)) (record { left = 0; right = 0; bottom = 0; top = 0 })
 

@@ -46,7 +46,7 @@ pub data IsGrown (s : Space) : List Pair → Type 0 where
   alone : IsGrown s []
   grown : (tree : List Pair) (a : ℕ) (way : List ℕ) (b : ℕ) → IsGrown s tree → IsLeastExtension s tree a way b → IsGrown s (tree ++ pairs_along a way)
 
--- the net with those of its sinks alone that the pairs reach
+-- the net with only those of its sinks that the pairs reach
 abbrev pub net_reached : Net → List Pair → Net
 net_reached n pairs = record { number = n.number; source = n.source; sinks = filter (is_among (ends_of pairs)) n.sinks }
 
@@ -66,7 +66,7 @@ pub record IsPart (s : Space) (pairs : List Pair) : Type 0 where
 abbrev pub IsShut : Space → List Pair → Type 0
 IsShut s tree = (a b : ℕ) (way : List ℕ) → IsStart s tree a → IsTarget s tree b → IsWay s a way b → ⊥
 
--- this part is grown of least ways, v is the least sink that it lacks, and no way leads on to any
+-- this part is grown from least ways, v is the least sink that it lacks, and no way leads on to any
 -- that it lacks
 pub record IsStuckAt (s : Space) (tree : List Pair) (v : ℕ) : Type 0 where
   pub part : IsPart s tree
@@ -75,7 +75,7 @@ pub record IsStuckAt (s : Space) (tree : List Pair) (v : ℕ) : Type 0 where
   pub least : (b : ℕ) → IsTarget s tree b → v ≤ b
   pub shut : IsShut s tree
 
--- the net can't be routed on from some part of a tree, whose least sink missing is v
+-- the net can't be routed on from some part of a tree, whose least missing sink is v
 abbrev pub IsStuck : Space → ℕ → Type 0
 IsStuck s v = (tree : List Pair) × IsStuckAt s tree v
 
@@ -84,7 +84,7 @@ IsStuck s v = (tree : List Pair) × IsStuckAt s tree v
 abbrev pub space_of : RoutingProblem → ℕ → NetView → (present bb : ℕ) → Space
 space_of p i view present bb = record { device = p.device; net = net_in p.nets i; view = view; present = present; bb = bb }
 
--- the tree routes the space's net, is grown of least ways, and stays inside the box
+-- the tree routes the space's net, is grown from least ways, and stays inside the box
 pub record IsWhole (s : Space) (rows : List Row) : Type 0 where
   pub root : node_in rows 0 ≡ s.net.source
   pub legal : IsLegal s.device s.net (pairs_of rows)

@@ -1,5 +1,5 @@
--- How many nets a cut parts, of a routing problem and of a placed design, and what that says of the
--- channel width (this project's).
+-- How many nets a cut parts, of a routing problem and of a placed design, and what that says about
+-- the channel width (this project's).
 use Rattle.std.specs.Prelude.{ℕ, ◌+◌, ◌-◌, ◌/◌, Bool, false, List, count_by, Option, Some, None}
 use Rattle.std.specs.List.{filter_map}
 use Rattle.arch_file.specs.Architecture.{Architecture}
@@ -29,7 +29,8 @@ cut_nets p cut = count_by (is_cut_net p.device cut) p.nets
 abbrev pub cut_nets_of : Architecture → netlist.Netlist → Placement → Cut → ℕ
 cut_nets_of a design placement cut = cut_nets (problem_with Detailed a design placement 1) cut
 
--- how wide channels have to be where so many nets are cut, so many pins are given up and the border
--- has so many places: each of these has room for as many nets as a channel has tracks, rounded up
+-- how wide channels have to be if this many nets are cut, this many pins are given up and the
+-- border has this many places: each of these has room for as many nets as a channel has tracks,
+-- rounded up
 abbrev pub least_width : (nets pins places : ℕ) → ℕ
 least_width nets pins places = ((nets - pins) + (places - 1)) / places

@@ -97,7 +97,7 @@ abbrev pub is_parted_from : Fabric → Cut → (output sink : Node) → Bool
 is_parted_from f cut output sink =
     not (list_any (share_side f cut output) (pins_left f cut Ipin sink))
 
--- a net is cut where each output pin that is left to its source has some sink parted from it
+-- a net is cut if each output pin that is left to its source has some sink parted from it
 unfoldable pub is_cut : Fabric → Cut → (source : Node) → (sinks : List Node) → Bool
 is_cut f cut source sinks =
     list_all (λ output. list_any (is_parted_from f cut output) sinks) (pins_left f cut Opin source)

@@ -9,7 +9,7 @@ ghost use Rattle.width_bound.specs.Cuts.{is_border, border_size, places_of_array
 use crate::sides::Sides;
 use rr_graph::Kind;
 
-/// One where a test passes.
+/// One if a test passes.
 fn one_if(test: bool) -> u32
     ensures { result ≡ (if test then 1 else 0) }
 {

@@ -29,7 +29,7 @@ impl Model for Cut {
 }
 
 impl Cut {
-    /// The cut of these.
+    /// The cut of these three.
     pub fn new(corners: Vec<(u32, u32)>, places: Vec<(Kind, u32, u32)>, pins: Vec<Node>) -> Cut
         ensures { result ≡ record {
           corners = corners.items;

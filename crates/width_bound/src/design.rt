@@ -1,4 +1,4 @@
-//! What a cut says of a placed design.
+//! What a cut says about a placed design.
 
 ghost use Rattle.std.specs.Prelude.{◌≡◌, ℕ, ◌<◌, ◌≤◌, List, length, IfOk};
 ghost use Rattle.net_file.specs.Reads.{ReadsBytes};
@@ -19,8 +19,8 @@ use place_file::Placement;
 use rr_graph::{MadeOfDesigns, Mode, Problem};
 use std::alloc::{AllocError, Global};
 
-/// What the cut says of a netlist and a placement that were read: at no width below the one that
-/// follows there is a routing, in either mode.
+/// What the cut says about a netlist and a placement that were read: there is no routing at a width
+/// below the one that follows, in either mode.
 pub fn design_figures(
     alloc: Global,
     arch: &Arch,

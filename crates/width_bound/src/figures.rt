@@ -1,4 +1,4 @@
-//! What a cut says of a problem.
+//! What a cut says about a problem.
 
 ghost use Rattle.std.specs.Prelude.{◌≡◌, ◌≤◌, length, IfOk};
 ghost use Rattle.width_bound.specs.Cuts.{border_size};
@@ -11,8 +11,8 @@ use crate::sides::Sides;
 use rr_graph::Problem;
 use std::alloc::{AllocError, Global};
 
-/// What a cut says of a problem: how many nets are cut, how many pins are given up, how many places
-/// the border has, and the least width that follows.
+/// What a cut says about a problem: how many nets are cut, how many pins are given up, how many
+/// places the border has, and the least width that follows.
 #[derive(Clone, Copy, Debug, PartialEq, Eq)]
 pub struct CutFigures {
     pub nets: usize,
@@ -21,7 +21,7 @@ pub struct CutFigures {
     pub width: usize,
 }
 
-/// The nets less the pins for each place, rounded up; 0 where there is no place.
+/// The nets less the pins for each place, rounded up; 0 if there is no place.
 #[tactic(auto, using(crate::proofs::Rounding::no_places))]
 fn least_width(nets: usize, pins: usize, places: usize) -> usize
     requires nets { nets ≤ 65535 }
@@ -34,7 +34,7 @@ fn least_width(nets: usize, pins: usize, places: usize) -> usize
     (nets.saturating_sub(pins) + (places - 1)) / places
 }
 
-/// What the cut says of the problem.
+/// What the cut says about the problem.
 pub fn cut_figures(alloc: Global, problem: &Problem, cut: &Cut) -> Result<CutFigures, AllocError>
     ensures nets { IfOk result (λ c. c.nets ≡ cut_nets problem.now cut.now) }
     ensures pins { IfOk result (λ c. c.pins ≡ length cut.now.pins) }

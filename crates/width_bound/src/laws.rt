@@ -14,7 +14,7 @@ ghost use Rattle.route_check.specs.Routed.{IsRouted};
 ghost use Rattle.width_bound.specs.Cuts.{Cut, border_size};
 ghost use Rattle.width_bound.specs.CutNets.{cut_nets, cut_nets_of, least_width};
 
-/// Where a routing routes a problem, no more nets are cut than pins are given up and tracks run
+/// If a routing routes a problem, no more nets are cut than pins are given up and tracks run
 /// through the places of the border.
 #[tactic(auto, using(crate::proofs::Bound::few_are_cut))]
 pub fn few_nets_pass()
@@ -24,7 +24,7 @@ pub fn few_nets_pass()
         length cut.pins + p.device.width * border_size p.device.nx p.device.ny cut }
 {}
 
-/// As many nets of a placed design are cut at every width, and in either mode.
+/// The same number of nets of a placed design are cut at every width, and in either mode.
 #[tactic(auto, using(crate::proofs::SameCount::same_count))]
 pub fn same_at_every_width()
     ensures { (a : Architecture) (netlist : Netlist) (placement : Placement) (cut : Cut)
@@ -37,7 +37,7 @@ pub fn same_at_every_width()
         cut_nets (problem_with mode' a netlist placement other) cut }
 {}
 
-/// Where a routing routes a placed design, no more of its nets are cut than pins are given up and
+/// If a routing routes a placed design, no more of its nets are cut than pins are given up and
 /// tracks run through the places of the border.
 #[tactic(auto, using(crate::proofs::DesignBound::few_of_design))]
 pub fn few_nets_of_design_pass()

@@ -9,7 +9,7 @@ ghost use Rattle.width_bound.specs.kept.Marks.{AreMarks, mark_count, some_corner
 use rr_graph::Kind;
 use std::alloc::{AllocError, Global};
 
-/// Marks of which none stands.
+/// Marks that are all unset.
 fn no_marks(alloc: Global) -> Result<Vec<bool>, AllocError>
     ensures { IfOk result (λ v. AreMarks (λ x y. false) v.items) }
 {

@@ -1,4 +1,4 @@
-//! On which side of a cut places lie, and pins.
+//! On which side of a cut places and pins lie.
 
 ghost use Rattle.std.specs.Prelude.{◌≡◌, ◌&&◌, ◌||◌, not, slice_get, IfOk};
 ghost use Rattle.std.specs.List.{list_any};
@@ -34,7 +34,7 @@ fn is_among(corners: &[(u32, u32)], x: u32, y: u32) -> bool
     corners.iter().any(|corner| x == corner.0 && y == corner.1)
 }
 
-/// Whether the corner is among these, by their marks where there are some.
+/// Whether the corner is among these, by their marks if there are some.
 fn is_marked(marks: &[bool], corners: &[(u32, u32)], x: u32, y: u32) -> bool
     requires { AreMarks (some_corner corners.now) marks.now }
     ensures { result ≡ list_any (is_same_corner (x, y)) corners.now }
@@ -55,7 +55,7 @@ fn is_place_among(places: &[(Kind, u32, u32)], kind: Kind, x: u32, y: u32) -> bo
     })
 }
 
-/// Whether the place is among these, by the marks of its kind where there are some.
+/// Whether the place is among these, by the marks of its kind if there are some.
 fn is_place_marked(marks: &[bool], places: &[(Kind, u32, u32)], kind: Kind, x: u32, y: u32) -> bool
     requires { AreMarks (some_place kind places.now) marks.now }
     ensures { result ≡ list_any (is_same_place (kind, x, y)) places.now }

@@ -10,14 +10,14 @@ ghost use Rattle.width_bound.specs.kept.Terminals.{pin_count, has_pin, direction
 use arch_file::{Direction, Pin};
 use rr_graph::{Device, Kind, Node};
 
-/// A logic block stands at (x, y).
+/// A logic block is at (x, y).
 pub(crate) fn is_block(device: &Device, x: u32, y: u32) -> bool
     ensures { result ≡ is_block device.now x y }
 {
     (1 <= x && x <= device.nx()) && (1 <= y && y <= device.ny())
 }
 
-/// Pads stand at (x, y).
+/// Pads are at (x, y).
 fn is_pad(device: &Device, x: u32, y: u32) -> bool
     ensures { result ≡ is_pad device.now x y }
 {
@@ -72,7 +72,7 @@ pub(crate) fn belongs(device: &Device, pin: Node, terminal: Node) -> bool
         })
 }
 
-/// How many pins the block at (x, y) has, or pads stand there.
+/// How many pins the block at (x, y) has, or how many pads are there.
 pub(crate) fn pin_count(device: &Device, x: u32, y: u32) -> u32
     ensures { result ≡ pin_count device.now x y }
 {
@@ -96,7 +96,7 @@ fn is_for(kind: Kind, pin: Option<Pin>) -> bool
     }
 }
 
-/// Whether a node of the kind stands at (x, y) for the pin or pad of this number.
+/// Whether a node of the kind is at (x, y) for the pin or pad of this number.
 pub(crate) fn has_pin(device: &Device, kind: Kind, x: u32, y: u32, number: u32) -> bool
     ensures { result ≡ has_pin device.now kind x y number }
 {

@@ -1,4 +1,4 @@
--- What a search of widths comes to (ours).
+-- The result of a search of widths (ours).
 use Rattle.std.specs.Prelude.{◌≡◌, ℕ, ◌+◌, ◌-◌, ◌<◌, ◌≤◌, Bool, true, false, List, [], ◌∷◌, ◌++◌, length, take, slice_get, Option, None, Some}
 use Rattle.std.specs.List.{All}
 use Rattle.rr_graph.specs.Fabric.{most_tracks}
@@ -26,34 +26,33 @@ is_success (NotRouted unrouted overused iterations) = false
 
 -- ---- a search
 
--- what a negotiation at this width, of the problem of each width, may come to
+-- a possible outcome of a negotiation at this width, of the problem of each width
 abbrev pub Negotiates : (problem : ℕ → RoutingProblem) → RouterOptions → (workers : ℕ) → TurnRule → (width : ℕ) → Outcome → Type 0
 Negotiates problem o workers allows width outcome = IsOutcome (problem width) o outcome × EndsNegotiation (problem width) o workers allows outcome
 
--- a trial tells whether a negotiation at its width succeeded
+-- a trial says whether a negotiation at its width succeeded
 abbrev pub IsReported : (comes_to : ℕ → Outcome → Type 0) → Trial → Type 0
 IsReported comes_to t = (outcome : Outcome) × comes_to t.width outcome × (t.routed ≡ is_success outcome)
 
--- the routing is that of a success at the least width that was routed; there is none where no width
+-- the routing is that of a success at the least width that was routed; there is none if no width
 -- was
 abbrev pub IsOfLeastWidth : (comes_to : ℕ → Outcome → Type 0) → List Trial → Option LeastWidth → Type 0
 IsOfLeastWidth comes_to trials None = least_routed trials ≡ None
 IsOfLeastWidth comes_to trials (Some least) =
     (iterations : ℕ) × comes_to least.width (Success least.routing iterations) × (least_routed trials ≡ Some least.width)
 
--- what a search comes to that goes from width to width by `next`
+-- the result of a search that goes from width to width by `next`
 pub record IsWidthReport (comes_to : ℕ → Outcome → Type 0) (next : List Trial → Option ℕ) (r : Report) : Type 0 where
   -- each trial is of the width that is next after those before it
   pub widths : IsSequence next r.trials
   -- and after the last one none is next
   pub ended : next r.trials ≡ None
-  -- each tells what its negotiation came to
+  -- each says what its negotiation resulted in
   pub reported : All (IsReported comes_to) r.trials
   -- the routing is that of the least width that was routed
   pub least : IsOfLeastWidth comes_to r.trials r.least
 
--- How a search upward ends: with the routing of its last trial, or with none where no width is
--- left.
+-- How a search upward ends: with the routing of its last trial, or with none if no width is left.
 abbrev pub EndsUpward : (first : ℕ) → List Trial → Option LeastWidth → Type 0
 EndsUpward first trials (Some least) = slice_get trials (length trials - 1) ≡ Some (record { width = least.width; routed = true })
 EndsUpward first trials None = most_tracks < first + length trials
@@ -83,16 +82,16 @@ pub record IsLesser (below : ℕ) (found before : Option ℕ) (t : Trial) : Type
   pub less : t.width < last
   pub within : least ≤ t.width + below
 
--- What a search that doubles and halves comes to, and the lesser widths that were routed after it.
+-- The result of a search that doubles and halves, and the lesser widths that were routed after it.
 pub record IsVerifiedReport (comes_to : ℕ → Outcome → Type 0) (start below : ℕ) (r : Report) : Type 0 where
-  -- so many trials are those of the search, from its first to its last
+  -- this many trials are those of the search, from its first to its last
   pub searched : ℕ
   pub widths : IsSequence (next_width start) (take searched r.trials)
   pub ended : next_width start (take searched r.trials) ≡ None
   -- each later trial was routed, at a lesser width than all before it
   pub lesser : (i : ℕ) (t : Trial) → slice_get r.trials i ≡ Some t → searched ≤ i
       → IsLesser below (least_routed (take searched r.trials)) (least_routed (take i r.trials)) t
-  -- each tells what its negotiation came to
+  -- each says what its negotiation resulted in
   pub reported : All (IsReported comes_to) r.trials
   -- the routing is that of the least width that any trial routed
   pub least : IsOfLeastWidth comes_to r.trials r.least

@@ -10,7 +10,7 @@ use Rattle.width_search.specs.declared.trial.Trial.{Trial}
 abbrev pub with_routed : Option ℕ → Trial → Option ℕ
 with_routed least t = if t.routed then Some (min (unwrap_or least t.width) t.width) else least
 
--- the least width that was routed, where one was
+-- the least width that was routed, if one was
 unfoldable pub least_routed : List Trial → Option ℕ
 least_routed = fold with_routed None
 
@@ -18,16 +18,16 @@ least_routed = fold with_routed None
 abbrev pub with_unrouted : ℕ → Trial → ℕ
 with_unrouted greatest t = if t.routed then greatest else max greatest t.width
 
--- the greatest width that was not routed; 0 where there is none
+-- the greatest width that was not routed; 0 if there is none
 unfoldable pub greatest_unrouted : List Trial → ℕ
 greatest_unrouted = fold with_unrouted 0
 
--- twice the last width, or the greatest there is where that is less; after that one there is none
+-- twice the last width, or the greatest there is if that is less; after that one there is none
 abbrev pub doubled : (last : ℕ) → Option ℕ
 doubled last = if nat_lt last most_tracks then Some (min (2 * last) most_tracks) else None
 
--- half way between the greatest width that was not routed and the least that was, where a width
--- lies between them
+-- half way between the greatest width that was not routed and the least that was, if a width lies
+-- between them
 abbrev pub halved : (unrouted routed : ℕ) → Option ℕ
 halved unrouted routed = if nat_lt 1 (routed - unrouted) then Some ((unrouted + routed) / 2) else None
 
@@ -38,13 +38,13 @@ width_after start None routed unrouted = Some start
 width_after start (Some last) None unrouted = doubled last.width
 width_after start (Some last) (Some routed) unrouted = halved unrouted routed
 
--- the width that is tried after these trials, where another one is
+-- the width that is tried after these trials, if another one is
 abbrev pub next_width : (start : ℕ) → List Trial → Option ℕ
 next_width start trials = width_after start (slice_get trials (length trials - 1)) (least_routed trials) (greatest_unrouted trials)
 
 -- ---- a search upward
 
--- a first width, or none where it is past the greatest there is
+-- a first width, or none if it is past the greatest there is
 abbrev pub first_upward : (first : ℕ) → Option ℕ
 first_upward first = if nat_lt most_tracks first then None else Some first
 
@@ -57,7 +57,7 @@ abbrev pub upward_after : (first : ℕ) → (last : Option Trial) → Option ℕ
 upward_after first None = first_upward first
 upward_after first (Some last) = if last.routed then None else one_more last.width
 
--- the width that is tried after these trials of a search upward, where another one is
+-- the width that is tried after these trials of a search upward, if another one is
 abbrev pub next_upward : (first : ℕ) → List Trial → Option ℕ
 next_upward first trials = upward_after first (slice_get trials (length trials - 1))
 
@@ -67,8 +67,8 @@ next_upward first trials = upward_after first (slice_get trials (length trials -
 abbrev pub IsSequence : (next : List Trial → Option ℕ) → List Trial → Type 0
 IsSequence next trials = (i : ℕ) (t : Trial) → slice_get trials i ≡ Some t → next (take i trials) ≡ Some t.width
 
--- The trials of a search upward as a reader wants them: trial i, counted from 0, is of the width
--- first + i, and each trial but the last was not routed.
+-- The trials of a search upward, one by one: trial i, counted from 0, is of the width first + i,
+-- and each trial but the last was not routed.
 abbrev pub GoesUpward : (first : ℕ) → List Trial → Type 0
 GoesUpward first trials =
     (i : ℕ) (t : Trial) → slice_get trials i ≡ Some t

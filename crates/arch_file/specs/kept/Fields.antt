@@ -1,4 +1,4 @@
--- What the fields of an `Arch` stand for.
+-- What the fields of an `Arch` mean.
 use Rattle.arch_file.specs.Architecture.{Architecture}
 use Rattle.arch_file.specs.declared.arch.Arch.TheInside.{Inside}
 

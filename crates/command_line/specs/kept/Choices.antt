@@ -18,7 +18,7 @@ pub record MayBeChosen (c : Choices) (o : RouterOptions) : Type 0 where
   pub bb : IsAmong c.bb o.bb
   pub iterations : IsAmong c.iterations o.iterations
 
--- what may be chosen is what settings may be
+-- the options that may be chosen are exactly those within the limits
 pub record AreChoices (c : Choices) : Type 0 where
   pub allowed : (o : RouterOptions) → MayBeChosen c o → AreWithinLimits o
   pub whole : (o : RouterOptions) → AreWithinLimits o → MayBeChosen c o

@@ -10,7 +10,7 @@ use Rattle.congestion_book.specs.kept.HistoryTables.{AreHistories}
 use Rattle.congestion_book.specs.Contents.{Content, net_count, node_total}
 use Rattle.congestion_book.specs.Steps.{Closes}
 
--- a close can go on where each net had its turn and there is room for a row; else the fault is its
+-- a close can go on if each net had its turn and there is room for a row; else the fault is its
 -- answer
 abbrev pub TellsClosing : Content → Option CloseFault → Type 0
 TellsClosing c None = IsFirstWaiting c.turns (net_count c) None × (length c.rows < most_iterations)

@@ -9,18 +9,18 @@ use Rattle.route_tree.specs.Usage.{use_of, Lists}
 use Rattle.congestion_book.specs.kept.Usage.{overused_by}
 use Rattle.congestion_book.specs.Recorded.{AreRoutes, unrouted_in}
 
--- these are the rows of a tree, where there is one
+-- these are the rows of a tree, if there is one
 abbrev pub IsTreeOrNone : Option (List Row) → Type 0
 IsTreeOrNone (Some rows) = IsTree rows
 IsTreeOrNone None = Unit {0}
 
--- the rows of a tree; none where there is no tree
+-- the rows of a tree; none if there is no tree
 abbrev pub rows_of : Option (List Row) → List Row
 rows_of (Some rows) = rows
 rows_of None = []
 
--- The problem is one, and what is kept is exact: of the lists, which route their nets, how many
--- nets use each node, how many nodes are overused, and how many nets have no list.
+-- The problem is one, the lists route their nets, and what is kept is exact: how many nets use each
+-- node by the lists, how many nodes are overused, and how many nets have no list.
 pub record AreRecorded (p : RoutingProblem) (lists : Lists) (counts : List ℕ) (overused unrouted : ℕ) : Type 0 where
   pub problem : IsProblem p
   pub one_each : length lists ≡ length p.nets

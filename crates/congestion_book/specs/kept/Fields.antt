@@ -1,4 +1,4 @@
--- What the fields of a book and of its parts stand for, and what is true of them.
+-- What the fields of a book and of its parts mean, and what is true of them.
 use Rattle.std.specs.Prelude.{◌≡◌, ℕ, ◌+◌, ◌<◌, ◌≤◌, length, vec_capacity, is_some, count_by, All}
 use Rattle.std.specs.Arc.{arc_value}
 use Rattle.congestion_book.specs.Turns.{TurnTable, AreInOrder}

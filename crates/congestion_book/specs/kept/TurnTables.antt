@@ -21,7 +21,7 @@ table_closed t =
       earlier = t.earlier ++ t.turns ∷ [];
     }
 
--- The worker gets the least net that was not drawn, or none where all were.
+-- The worker gets the least net that was not drawn, or none if all were.
 abbrev pub GivesNet : TurnTable → (worker : ℕ) → Option ℕ → TurnTable → Type 0
 GivesNet old worker None new = (old.drawn ≡ length old.holders) × (new ≡ old)
 GivesNet old worker (Some i) new = (i ≡ old.drawn) × (i < length old.holders) × (new ≡ table_drawn old worker)

@@ -13,32 +13,32 @@ is_over f counts a = nat_lt (room_of f (node_at f a)) (get_or counts a 0)
 unfoldable pub overused_by : Fabric → (counts : List ℕ) → ℕ
 overused_by f counts = count_by (is_over f counts) (numbers_below (length counts))
 
--- by how many nets more than it has room for a node is used
+-- the overuse of a node: by how many nets more than it has room for it is used
 abbrev pub excess_of : Fabric → (counts : List ℕ) → ℕ → ℕ
 excess_of f counts a = get_or counts a 0 - room_of f (node_at f a)
 
--- by how many nets more than they have room for all nodes are used together
+-- the overuse of all nodes together: by how many nets more than they have room for they are used
 unfoldable pub excess_by : Fabric → (counts : List ℕ) → ℕ
 excess_by f counts = sum_by (excess_of f counts) (numbers_below (length counts))
 
--- the overused nodes, ascending, each with by how many nets
+-- the overused nodes, ascending, each with its overuse
 unfoldable pub row_by : Fabric → (counts : List ℕ) → List (ℕ × ℕ)
 row_by f counts = filter (λ e. nat_lt 0 e.1) (map (λ a. (a, excess_of f counts a)) (numbers_below (length counts)))
 
--- a node with its overuse, or nothing where there is none
+-- a node with its overuse, or nothing if there is none
 abbrev pub entry_of : ℕ × ℕ → List (ℕ × ℕ)
 entry_of e = cond (nat_lt 0 e.1) (e ∷ []) []
 
--- how often a node stands among these
+-- how often a node is among these
 abbrev pub times_in : List ℕ → ℕ → ℕ
 times_in nodes a = count_by (λ b. b == a) nodes
 
--- one net more uses each of these nodes
+-- one more net uses each of these nodes
 pub record AddsEach (old nodes new : List ℕ) : Type 0 where
   pub size : length new ≡ length old
   pub each : (a : ℕ) → get_or new a 0 ≡ get_or old a 0 + times_in nodes a
 
--- one net less uses each of these nodes
+-- one fewer net uses each of these nodes
 pub record TakesEach (old nodes new : List ℕ) : Type 0 where
   pub size : length new ≡ length old
   pub each : (a : ℕ) → get_or new a 0 + times_in nodes a ≡ get_or old a 0

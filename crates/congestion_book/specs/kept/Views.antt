@@ -11,19 +11,19 @@ use Rattle.route_tree.specs.Usage.{use_by, room_of}
 use Rattle.congestion_book.specs.Turns.{one_if}
 use Rattle.congestion_book.specs.kept.Usage.{times_in}
 
--- one net less uses each of these nodes, and all histories stay
+-- one fewer net uses each of these nodes, and all histories stay
 pub record LeavesOut (nodes : List ℕ) (old new : NetView) : Type 0 where
   pub size : length new ≡ length old
   pub others : (a : ℕ) → others_in new a + times_in nodes a ≡ others_in old a
   pub histories : (a : ℕ) → history_in new a ≡ history_in old a
 
--- of each node all uses but those of net i, with this list; and its history
+-- all uses of each node but those of net i, with this list; and the node's history
 pub record SeesOthers (p : RoutingProblem) (i : ℕ) (list : Option (List Pair)) (counts histories : List ℕ) (view : NetView) : Type 0 where
   pub size : length view ≡ length counts
   pub others : (a : ℕ) → others_in view a + use_by (net_in p.nets i) list a ≡ get_or counts a 0
   pub remembered : (a : ℕ) → history_in view a ≡ get_or histories a 0
 
--- the node stands in one of these rows
+-- the node is in one of these rows
 abbrev pub stands_in : List Row → ℕ → Bool
 stands_in rows a = list_any (λ r. r.node == a) rows
 
@@ -31,7 +31,7 @@ stands_in rows a = list_any (λ r. r.node == a) rows
 abbrev pub others_by : (own : List Row) → (counts : List ℕ) → ℕ → ℕ
 others_by own counts a = get_or counts a 0 - one_if (stands_in own a)
 
--- so many others are as many as there is room for, or more, and so many before were fewer
+-- this many others are as many as there is room for, or more, and this many before were fewer
 abbrev pub is_newly_full : (room others before : ℕ) → Bool
 is_newly_full room others before = nat_le room others && not (nat_le room before)
 

@@ -11,7 +11,7 @@ use Rattle.wave_ground.specs.kept.Grounds.{Ground, groups_of}
 use Rattle.group_wave.specs.kept.WaveState.{Wave}
 use Rattle.group_wave.specs.kept.Wave.{IsBest, IsComplete, IsOrigin, IsWave, cost_at, parent_of}
 
--- the wave is one over so many nodes and groups
+-- the wave is one over this many nodes and groups
 pub record IsSized (g : Ground) (w : Wave) : Type 0 where
   pub rows : length w.labels ≡ node_count g.space
   pub groups : length w.known ≡ length (groups_of g)

@@ -1,4 +1,4 @@
--- What the rows of labels stand for.
+-- What the rows of labels mean.
 use Rattle.std.specs.Prelude.{◌≡◌, ℕ, ◌<◌, ◌≤◌, ◌⊎◌, nat_le, List, [], ◌∷◌, ◌++◌, All, map, length, get_or, Contains, cond}
 use Rattle.group_wave.specs.declared.labels.LabelRow.{LabelRow}
 use Rattle.group_wave.specs.declared.labels.Labels.TheInside.{Inside}

@@ -34,7 +34,7 @@ pub record ServesMore (g : Ground) (old new : Wave) (from until : ℕ) : Type 0 
   pub more : (box : SinkBox) → Contains old.boxes box → Contains new.boxes box
   pub part : (p : ℕ) → from ≤ p → p < until → IsServed g new.boxes p
 
--- a box is taken away
+-- a box is removed
 pub record IsWithout (old new : Wave) (box : SinkBox) : Type 0 where
   pub labels : new.labels ≡ old.labels
   pub queue : new.queue ≡ old.queue
@@ -55,7 +55,7 @@ pub record IsWithin (boxes : List SinkBox) (box : SinkBox) : Type 0 where
   pub there : Contains boxes outer
   pub inside : IsInsideBox box.place outer.place
 
--- a box is put in the place of another
+-- a box replaces another
 pub record IsBoxPut (old new : Wave) (at : ℕ) (box : SinkBox) : Type 0 where
   pub labels : new.labels ≡ old.labels
   pub queue : new.queue ≡ old.queue
@@ -64,8 +64,7 @@ pub record IsBoxPut (old new : Wave) (at : ℕ) (box : SinkBox) : Type 0 where
   pub known : new.known ≡ old.known
   pub boxes : new.boxes ≡ slice_set old.boxes at box
 
--- boxes are taken away or made narrower, and each sink that the wave has yet to take has its own
--- still
+-- boxes are removed or made narrower, and each sink that the wave has yet to take has its own still
 pub record IsNarrowed (g : Ground) (old new : Wave) : Type 0 where
   pub labels : new.labels ≡ old.labels
   pub queue : new.queue ≡ old.queue

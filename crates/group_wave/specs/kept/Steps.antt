@@ -51,7 +51,7 @@ pub record IsPopped (w t : Wave) (e : Waiting) : Type 0 where
   pub boxes : t.boxes ≡ w.boxes
   pub known : t.known ≡ w.known
 
--- t is w but for what is known of groups, and that all that costs this, or more, may be left out
+-- t is w but for what is known about groups, and that all that costs this, or more, may be left out
 pub record IsNoted (w t : Wave) (out : ℕ) : Type 0 where
   pub labels : t.labels ≡ w.labels
   pub queue : t.queue ≡ w.queue
@@ -65,7 +65,7 @@ pub record IsLeftOut (w t : Wave) (cost greatest : ℕ) : Type 0 where
   pub known : t.known ≡ w.known
   pub out : greatest ≤ cost
 
--- labels go down, and where one does the node is settled, or new
+-- labels go down, and if one does its node is settled, or new
 pub record Lowers (g : Ground) (old new : Wave) (New : ℕ → Type 0) : Type 0 where
   pub down : (v : ℕ) → cost_at new v ≤ cost_at old v
   pub wait : (v : ℕ) → (cost_at new v ≡ cost_at old v) ⊎ (IsSettled g new v ⊎ New v)
@@ -108,8 +108,8 @@ pub record IsTarget (g : Ground) (group track wire : ℕ) : Type 0 where
   pub on : IsOn (groups_of g) (on_track group track)
   pub is : wire_on (groups_of g) (on_track group track) ≡ wire
 
--- a wire is offered a way from nodes of a label; it waits where its label went down, unless it has
--- the least label there can be
+-- a wire is offered a way from nodes of a label; it waits if its label went down, unless it has the
+-- least label there can be
 pub record RelaxesTrack (g : Ground) (old new : Wave) (label least wire : ℕ) (is_fresh : Bool) : Type 0 where
   pub wave : IsWave g new
   pub lowers : Lowers g old new (λ v. (is_fresh ≡ true) × (v ≡ wire))
@@ -182,14 +182,14 @@ pub record IsTaken (g : Ground) (w : Wave) (sink : ℕ) : Type 0 where
   pub reached : cost_at w sink < FAR
   pub least : IsLeastKey g w (cost_at w sink)
 
--- the wave came to a sink that it has yet to take
+-- the wave reached a sink that it has yet to take
 pub record HasReached (g : Ground) (w : Wave) (sink : ℕ) : Type 0 where
   pub ground : IsGround g
   pub wave : IsWave g w
   pub «open» : IsOpen g w sink
   pub reached : cost_at w sink < FAR
 
--- the way by which the wave came to a sink
+-- the way by which the wave reached a sink
 pub record IsTraced (g : Ground) (w : Wave) (a : ℕ) (way : List ℕ) (sink : ℕ) : Type 0 where
   pub start : IsOrigin w a
   pub walk : IsWay g.space a way sink
@@ -197,7 +197,7 @@ pub record IsTraced (g : Ground) (w : Wave) (a : ℕ) (way : List ℕ) (sink : �
   pub distinct : AreDistinct way
   pub paid : way_cost g.space way ≤ cost_at w sink
 
--- it is such a way on any ground where the wave came to the sink
+-- it is such a way on any ground where the wave reached the sink
 pub record IsWayBack (w : Wave) (a : ℕ) (way : List ℕ) (sink : ℕ) : Type 0 where
   pub on : (g : Ground) → HasReached g w sink → IsTraced g w a way sink
 
@@ -206,8 +206,8 @@ pub record LowersSink (w t : Wave) (sink : ℕ) (label : NodeLabel) : Type 0 whe
   pub set : IsLabelled w t sink label
   pub best : t.best ≡ min w.best label.cost
 
--- a node's label is as it was where that costs no more; or the node before it is another, at the
--- same cost; or it doesn't fit
+-- a node's label is as it was if that costs no more; or the node before it is another, at the same
+-- cost; or it doesn't fit
 abbrev pub KeepsLabel : (w t : Wave) → (node cost parent greatest : ℕ) → Type 0
 KeepsLabel w t node cost parent greatest =
     ((t ≡ w) × (cost_at w node ≤ cost))
@@ -226,7 +226,7 @@ pub record IsFrom (g : Ground) (w : Wave) (label parent node : ℕ) : Type 0 whe
   pub near : label < FAR
   pub some : 0 < label + entry_cost g.space node
 
--- a way to a node over its parent that costs less than its label tells
+-- a way to a node over its parent that costs less than its label says
 pub record IsEntering (g : Ground) (w : Wave) (cost parent node : ℕ) : Type 0 where
   pub edge : HasEdge g.space parent node
   pub inside : IsInside g.space node
@@ -239,7 +239,7 @@ pub record LowersPin (g : Ground) (old new : Wave) (pin cost : ℕ) : Type 0 whe
   pub spreads : Spreads g old new
   pub at : cost_at new pin ≤ cost
 
--- what a group's tap tells: the pin's sink, and edges to the pin from the tracks that are tapped
+-- what a group's tap gives: the pin's sink, and edges to the pin from the tracks that are tapped
 pub record IsTapOf (g : Ground) (group : ℕ) (tap : Tap) : Type 0 where
   pub pin : IsPinOf g.space.device tap.sink tap.pin
   pub edges : (j : ℕ) → IsOn (groups_of g) (on_track group j) → bit_at tap.tracks j ≡ 1 → HasEdge g.space (wire_on (groups_of g) (on_track group j)) tap.pin
@@ -278,7 +278,7 @@ TookTaps g w e taps i = (k : ℕ) (d : Tap) → k < i → k < length taps → To
 abbrev pub TookWires : Ground → Wave → Waiting → ℕ → Type 0
 TookWires g w e h = (j : ℕ) → bit_at e.tracks j ≡ 1 → IsInside g.space (wire_beside (groups_of g) j h) → WentOn g w e.label (wire_beside (groups_of g) j h)
 
--- so they were, or as many wires lead on from it as from them, at least
+-- so they were, or at least as many wires lead on from it as from them
 abbrev pub TookNearer : Ground → Wave → Waiting → (wires h : ℕ) → Type 0
 TookNearer g w e wires h = TookWires g w e h ⊎ IsLow w.boxes (wire_of (group_at (groups_of g) h)) wires
 
@@ -295,16 +295,16 @@ pub record GoesOn (g : Ground) (old new : Wave) (e : Waiting) : Type 0 where
   pub settles : Settles g old new
   pub work : work_of new + 1 ≤ work_of old + weight_of e
 
--- of the neighbours before place i, the wires were offered the way from tracks of an entry
+-- the wires of the neighbours before place i were offered the way from tracks of an entry
 abbrev pub TookBefore : Ground → Wave → Waiting → List ℕ → ℕ → Type 0
 TookBefore g w e hs i = (k : ℕ) → k < i → k < length hs → TookWires g w e (get_or hs k 0)
 
--- so they were of the neighbours before place i, but for those whose bits are 1
+-- so were those of the neighbours before place i, but for those whose bits are 1
 pub record TookBut (g : Ground) (w : Wave) (e : Waiting) (hs : List ℕ) (i bits : ℕ) : Type 0 where
   pub among : (k : ℕ) → bit_at bits k ≡ 1 → k < i
   pub took : (k : ℕ) → k < i → k < length hs → bit_at bits k ≡ 0 → TookWires g w e (get_or hs k 0)
 
--- or as many wires lead on from the neighbour, at least
+-- or at least as many wires lead on from the neighbour
 abbrev pub TookNearerBefore : Ground → Wave → Waiting → (wires : ℕ) → List ℕ → ℕ → Type 0
 TookNearerBefore g w e wires hs i = (k : ℕ) → k < i → k < length hs → TookNearer g w e wires (get_or hs k 0)
 
@@ -312,7 +312,7 @@ TookNearerBefore g w e wires hs i = (k : ℕ) → k < i → k < length hs → To
 abbrev pub TookPins : Ground → Wave → Waiting → (wires : ℕ) → Type 0
 TookPins g w e wires = (1 ≤ wires) ⊎ TookTaps g w e (taps_of g.tables e.group) (length (taps_of g.tables e.group))
 
--- an entry waits anew, whole, by a key that so many wires and a pin may add to its label
+-- an entry waits anew, whole, by a key that this many wires and a pin may add to its label
 pub record WaitsAgain (old new : Wave) (e : Waiting) (wires : ℕ) : Type 0 where
   pub entry : Waiting
   pub pushed : IsPushed old new entry

@@ -54,7 +54,7 @@ pub record IsServed (g : Ground) (boxes : List SinkBox) (p : ℕ) : Type 0 where
 abbrev pub Serves : Ground → Wave → Type 0
 Serves g w = (p : ℕ) → p < length g.space.net.sinks → IsOpen g w (slice_index g.space.net.sinks p) → IsServed g w.boxes p
 
--- what is known of a group is no more than any of the boxes tells
+-- what is known about a group is no more than any of the boxes gives
 abbrev pub AreKnown : Ground → Wave → Type 0
 AreKnown g w = (group wires : ℕ) → get_or w.known group None ≡ Some wires → IsLow w.boxes (wire_of (group_at (groups_of g) group)) wires
 

@@ -1,4 +1,4 @@
--- What the fields of a wave stand for.
+-- What the fields of a wave mean.
 use Rattle.std.specs.Prelude.{ℕ, ◌+◌, ◌<◌, ◌≤◌, All, cond, min}
 use Rattle.group_wave.specs.declared.wave.Wave.TheInside.{Inside}
 use Rattle.group_wave.specs.kept.Labels.{widened}
@@ -20,7 +20,7 @@ pub record IsFitting (greatest : ℕ) (e : Waiting) : Type 0 where
   pub label : e.label < greatest
   pub key : e.key ≤ greatest
 
--- costs are kept up to the greatest; where that is above all costs, so is the ceiling
+-- costs are kept up to the greatest; if that is above all costs, so is the ceiling
 pub record IsWaveInside {K : Type 0} (value : K → ℕ) (greatest : ℕ) (w : Inside K) : Type 0 where
   pub best : value w.best ≤ greatest
   pub ceiling : FAR ≤ greatest → greatest ≤ value w.ceiling

@@ -1,6 +1,6 @@
--- What a wave over groups is: labels of nodes, entries that wait, from what cost on ways may have
--- been left out, the least cost of a way that was found to a sink, boxes around the sinks that it
--- has yet to take, and what is known of how many wires lead on from a group.
+-- What a wave over groups is: labels of nodes, entries that wait, the cost at or above which ways
+-- may have been left out, the least cost of a way that was found to a sink, boxes around the sinks
+-- that it has yet to take, and what is known of how many wires lead on from a group.
 use Rattle.std.specs.Prelude.{ℕ, List, Option}
 use Rattle.wave_ground.specs.kept.Boxes.{SinkBox}
 use Rattle.wave_queue.specs.kept.Queues.{Waiting}
@@ -9,8 +9,8 @@ use Rattle.wave_queue.specs.kept.Queues.{Waiting}
 abbrev pub FAR : ℕ
 FAR = 340282366920938463463374607431768211455
 
--- the cost of a way to a node, and the node before it; at a start the cost is 0, and it is itself
--- that node
+-- the cost of a way to a node, and the node before it; at a start the cost is 0, and the node is
+-- its own predecessor
 pub record NodeLabel : Type 0 where
   pub cost : ℕ
   pub parent : ℕ

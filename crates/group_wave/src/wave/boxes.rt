@@ -10,7 +10,7 @@ use wave_queue::Key;
 /// How many boxes there are at most.
 const MOST_BOXES: usize = 32;
 
-/// Whether a sink stands among those that a box is for.
+/// Whether a sink is among those that a box is for.
 fn is_for(around: SinkBox, sinks: &[u32], sink: u32) -> bool {
     match (
         sinks.get(around.from),
@@ -32,7 +32,7 @@ impl<K: Key> Wave<K> {
     ghost use Rattle.group_wave.specs.kept.Wave.{IsOpen, Serves};
     ghost use Rattle.group_wave.specs.kept.Starts.{HasNoBoxes, IsAimed, IsAroundLeft, IsBoxPut, IsNarrowed, IsWithout, ServesMore};
 
-    /// Takes all boxes away.
+    /// Removes all boxes.
     fn clear_boxes(&mut self)
         ensures { HasNoBoxes self.old self.new }
     {
@@ -51,7 +51,7 @@ impl<K: Key> Wave<K> {
         self.nearest.push(place, from, until)
     }
 
-    /// Puts boxes around the sinks, each for as many that follow one another.
+    /// Puts boxes around the sinks, each for as many consecutive ones.
     pub(crate) fn aim(&mut self, ground: &Ground<'_>) -> Result<(), AllocError>
         ensures aimed { OnOk result (IsAimed ground.now self.old self.new) }
         ensures rows { length self.new.labels ≡ length self.old.labels }
@@ -86,7 +86,7 @@ impl<K: Key> Wave<K> {
         true
     }
 
-    /// Takes a box away.
+    /// Removes a box.
     fn remove_box(&mut self, at: usize) -> SinkBox
         requires { at < length self.old.boxes }
         ensures gone { sink_box result ≡ get_or self.old.boxes at (sink_box result) }
@@ -95,7 +95,7 @@ impl<K: Key> Wave<K> {
         self.nearest.remove(at)
     }
 
-    /// Puts a narrower box in the place of one.
+    /// Replaces a box by a narrower one.
     fn put_box(&mut self, at: usize, around: SinkBox, place: BoundingBox)
         requires { at < length self.old.boxes }
         ensures { IsBoxPut self.old self.new at
@@ -132,7 +132,7 @@ impl<K: Key> Wave<K> {
         around
     }
 
-    /// Makes a box narrower, now that a sink was taken that it is for, or takes it away.
+    /// Makes a box narrower after a sink that it is for was taken, or removes it.
     fn narrow_box(&mut self, ground: &Ground<'_>, at: usize)
         requires ground { IsGround ground.now }
         requires rows { length self.old.labels ≡ node_count ground.now.space }
@@ -150,7 +150,7 @@ impl<K: Key> Wave<K> {
         }
     }
 
-    /// Makes a box narrower or takes it away, if it is for a sink.
+    /// Makes a box narrower or removes it, if it is for a sink.
     fn narrow_at(&mut self, ground: &Ground<'_>, sink: u32, at: usize)
         requires ground { IsGround ground.now }
         requires rows { length self.old.labels ≡ node_count ground.now.space }
@@ -164,7 +164,7 @@ impl<K: Key> Wave<K> {
         }
     }
 
-    /// Makes the box of a sink that was taken narrower, or takes it away where that was its last.
+    /// Makes the box of a taken sink narrower, or removes it if that was its last.
     pub(crate) fn narrow(&mut self, ground: &Ground<'_>, sink: u32)
         requires ground { IsGround ground.now }
         requires rows { length self.old.labels ≡ node_count ground.now.space }

@@ -139,7 +139,7 @@ impl<K: Key> Wave<K> {
         Ok(())
     }
 
-    /// Which neighbours, by their places, have a wire whose label the way from the one track of an
+    /// The places of the neighbours that have a wire whose label the way from the one track of an
     /// entry may lower. All are looked at with no branch between, so that their rows are fetched
     /// side by side.
     #[inline(always)]
@@ -168,8 +168,7 @@ impl<K: Key> Wave<K> {
         places
     }
 
-    /// Offers the wires of those neighbours the way from the one track of an entry whose places are
-    /// given.
+    /// Offers the wires of the neighbours at these places the way from the one track of an entry.
     #[inline(always)]
     fn relax_unsettled(
         &mut self,
@@ -261,7 +260,7 @@ impl<K: Key> Wave<K> {
         }
     }
 
-    /// Offers the wires of those neighbours the way from which fewer wires lead on.
+    /// Offers the way to the wires of those neighbours from which fewer wires lead on.
     fn relax_all_nearer(
         &mut self,
         ground: &Ground<'_>,
@@ -282,7 +281,7 @@ impl<K: Key> Wave<K> {
         Ok(())
     }
 
-    /// Offers input pins the way, where a sink may stand beside.
+    /// Offers input pins the way, where a sink may be adjacent.
     #[inline(always)]
     fn reach_if_beside(
         &mut self,

@@ -109,8 +109,8 @@ impl<K: Key> Wave<K> {
         self.enter_sink(ground, cost, tap.pin, tap.sink)
     }
 
-    /// Offers an input pin of an open sink the way from a wire. It stands where its sink does:
-    /// inside the net's box.
+    /// Offers an input pin of an open sink the way from a wire. It is where its sink is: inside the
+    /// net's box.
     fn enter_pin(
         &mut self,
         ground: &Ground<'_>,
@@ -180,8 +180,8 @@ impl<K: Key> Wave<K> {
         self.reach_from(ground, entry.label, wire, tap)
     }
 
-    /// Offers all input pins that tap tracks of an entry the way from them. It looks the group up
-    /// itself, so that one that is passed needn't stand in memory where no sink is beside.
+    /// Offers all input pins that tap tracks of an entry the way from them. It looks up the group
+    /// itself, so that a passed one needn't be in memory where no sink is adjacent.
     #[inline(never)]
     pub(super) fn reach_all(
         &mut self,

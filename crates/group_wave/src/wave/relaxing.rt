@@ -23,7 +23,7 @@ pub(crate) struct Offer<K> {
 }
 
 /// What holds for all tracks of a group that are offered a way: the label of the nodes from which
-/// it comes, and the least that there can be then.
+/// it comes, and the least label that there can be then.
 #[derive(Clone, Copy, Drop)]
 struct Relaxing<K> {
     label: K,
@@ -66,7 +66,7 @@ impl<K: Key> Wave<K> {
     ghost use Rattle.group_wave.specs.kept.Steps.{IsLive, IsNoted, IsOffer, IsStep, IsTarget, Relaxes, RelaxesSome, RelaxesTrack, Spreads, TookWires, WaitsFresh, fresh_entry, IsOut};
     ghost use Rattle.wave_queue.specs.kept.Queues.{entry_of};
 
-    /// Leaves out what costs so much, if that is above the ceiling. Answers whether it is.
+    /// Leaves out a way of this cost, if that is above the ceiling. Returns whether it is.
     #[inline(always)]
     fn drops(&mut self, cost: K) -> bool
         ensures noted { IsTrue result → IsNoted self.old self.new (K.value cost) }
@@ -194,8 +194,8 @@ impl<K: Key> Wave<K> {
         self.lower_bounded(ground, step, to, cost)
     }
 
-    /// Lowers a wire's label. Where that is not the least there can be, the wire waits by itself;
-    /// else it is still to wait, which is answered.
+    /// Lowers a wire's label. If that is not the least there can be, the wire waits by itself.
+    /// Otherwise it is still to wait. Returns whether it is.
     #[inline(always)]
     fn lower(
         &mut self,
@@ -225,7 +225,7 @@ impl<K: Key> Wave<K> {
         Ok(true)
     }
 
-    /// Offers a wire a way. Answers whether its label became the least there can be: then it is
+    /// Offers a wire a way. Returns whether its label became the least there can be: then it is
     /// still to wait.
     #[inline(always)]
     fn relax_track(
@@ -257,7 +257,7 @@ impl<K: Key> Wave<K> {
         Ok(false)
     }
 
-    /// Offers the tracks of a group a way. Answers those whose labels became the least there can
+    /// Offers the tracks of a group a way. Returns those whose labels became the least there can
     /// be: they are still to wait.
     #[inline(always)]
     fn relax_tracks(
@@ -383,8 +383,8 @@ impl<K: Key> Wave<K> {
         })
     }
 
-    /// Offers a wire a way, where its label is none below the least that there can be. It waits by
-    /// itself where its label goes down.
+    /// Offers a wire a way, if its label is not below the least that there can be. It waits by
+    /// itself if its label goes down.
     #[inline(always)]
     fn relax_alone(
         &mut self,

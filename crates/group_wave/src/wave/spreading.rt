@@ -19,7 +19,7 @@ impl<K: Key> Wave<K> {
     ghost use Rattle.group_wave.specs.kept.Wave.{AreTracks, IsBest, IsComplete, IsOpen, IsOrigin, IsWave, cost_at, weight_of, work_of, IsCompleteButFor};
     ghost use Rattle.group_wave.specs.kept.Steps.{GoesOn, IsAbove, IsLeastKey, IsLive, IsPopped, IsPushed, IsTaken, SameOrigins, Settles, WaitsAgain, IsNearest, IsOut};
 
-    /// Takes an entry out that a way to the nearest sink may cost as much as.
+    /// Takes out an entry whose key is no more than the cost of the nearest sink.
     fn pop(&mut self) -> Option<QueueEntry<K>>
         ensures some { IfSome result (λ e. IsPopped self.old self.new (entry_of K.value e)) }
         ensures fits { IfSome result (λ e. K.value e.label < K.greatest) }
@@ -29,8 +29,8 @@ impl<K: Key> Wave<K> {
         self.queue.pop_to(self.best)
     }
 
-    /// Lets an entry wait again whose key is lower than it has to be, now that sinks were taken,
-    /// and that is not needed yet.
+    /// Lets an entry wait again if its key is lower than it has to be, now that sinks were taken,
+    /// and if it is not needed yet.
     fn wait_again(&mut self, entry: QueueEntry<K>, wires: u32) -> Result<bool, AllocError>
         requires fits { K.value entry.label < K.greatest }
         ensures waits { IfOk result (λ waits. IsTrue waits →
@@ -56,7 +56,8 @@ impl<K: Key> Wave<K> {
         Ok(true)
     }
 
-    /// Looks at an entry again, of so many that are still to be looked at: whether it waits again.
+    /// Looks again at an entry, one of this many that are still to be looked at. Returns whether it
+    /// waits again.
     fn look_again(
         &mut self,
         entry: QueueEntry<K>,
@@ -99,8 +100,8 @@ impl<K: Key> Wave<K> {
         }
     }
 
-    /// Goes on from those tracks of an entry that still have its label, or lets them wait again. So
-    /// many entries are still looked at for that.
+    /// Goes on from those tracks of an entry that still have its label, or lets them wait again.
+    /// This many entries are still looked at for that.
     fn go_on_from(
         &mut self,
         ground: &Ground<'_>,
@@ -171,7 +172,7 @@ impl<K: Key> Wave<K> {
         Ok(())
     }
 
-    /// Where an open sink stands in the order in which those of one cost are taken: first those
+    /// The place of an open sink in the order in which those of one cost are taken: first those
     /// that cost something themselves, by number; then the others, by the number of the pin before
     /// them.
     fn rank(&self, ground: &Ground<'_>, sink: u32) -> u64

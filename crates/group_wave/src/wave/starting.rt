@@ -36,7 +36,7 @@ impl<K: Key> Wave<K> {
     ghost use Rattle.group_wave.specs.kept.Steps.{Enters, IsStarted, LeadsToSink, MoreOrigins, NoOrigins, SameOrigins, Spreads};
     ghost use Rattle.group_wave.specs.kept.Starts.{IsBestPut, IsCleared, IsLeastCost, IsNearerOf, MayStart, StartsAt, TookDrive};
 
-    /// A wave that reaches no node, of so many nodes and groups.
+    /// A wave over this many nodes and groups that reaches no node.
     pub(crate) fn new(alloc: Global, nodes: usize, groups: usize) -> Result<Wave<K>, AllocError>
         ensures rows { IfOk result (λ w. length w.labels ≡ nodes) }
         ensures groups { IfOk result (λ w. length w.known ≡ groups) }
@@ -55,7 +55,7 @@ impl<K: Key> Wave<K> {
         })
     }
 
-    /// Whether it is over so many nodes and groups.
+    /// Whether it is over this many nodes and groups.
     pub(crate) fn fits(&self, nodes: usize, groups: usize) -> bool
         ensures { IsTrue result ↔ ((length self.now.labels ≡ nodes)
             × (length self.now.known ≡ groups)) }
@@ -86,7 +86,7 @@ impl<K: Key> Wave<K> {
         self.labels.row(node).cost
     }
 
-    /// Takes all labels off and all entries out.
+    /// Removes all labels and entries.
     fn clear(&mut self, ceiling: K)
         ensures { IsCleared self.old self.new }
     {
@@ -97,8 +97,8 @@ impl<K: Key> Wave<K> {
         self.left_out = false;
     }
 
-    /// Takes all labels off and all entries out, and puts boxes around the sinks. From here on no
-    /// way is looked for that costs more than the ceiling, where costs may not fit.
+    /// Removes all labels and entries, and puts boxes around the sinks. From here on no way that
+    /// costs more than the ceiling is looked for, if costs may not fit.
     pub(crate) fn begin(&mut self, ground: &Ground<'_>, ceiling: K) -> Result<(), AllocError>
         requires ground { IsGround ground.now }
         requires rows { length self.old.labels ≡ node_count ground.now.space }
@@ -352,8 +352,8 @@ impl<K: Key> Wave<K> {
         self.best = best;
     }
 
-    /// Finds out anew how near the nearest sink is, after this one was taken, and makes the box of
-    /// that narrower, or takes it away.
+    /// Finds anew how near the nearest sink is, after this one was taken, and makes the box of the
+    /// taken sink narrower, or removes it.
     pub(crate) fn renew(&mut self, ground: &Ground<'_>, sink: u32)
         requires ground { IsGround ground.now }
         requires wave { IsWave ground.now self.old }

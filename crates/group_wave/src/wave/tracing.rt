@@ -1,4 +1,4 @@
-//! The way on which a wave came to a sink.
+//! The way on which a wave reached a sink.
 
 ghost use Rattle.std.specs.Prelude.{◌≡◌, ◌<◌};
 
@@ -20,8 +20,8 @@ impl<K: Key> Wave<K> {
         self.labels.row(node).parent
     }
 
-    /// Puts the nodes of the way to a sink that was taken into the list, and answers the node from
-    /// which it starts.
+    /// Puts the nodes of the way to a taken sink into the list, and returns the node from which the
+    /// way starts.
     pub(crate) fn trace(&self, sink: u32, way: &mut Vec<u32>) -> Result<u32, AllocError>
         requires { (g : Ground) × HasReached g self.now sink }
         ensures { IfOk result (λ a. IsWayBack self.now a way.new.items sink) }
@@ -32,8 +32,8 @@ impl<K: Key> Wave<K> {
         Ok(start)
     }
 
-    /// Puts the nodes of the way to a sink into the list, the sink first, and answers the node from
-    /// which it starts.
+    /// Puts the nodes of the way to a sink into the list, the sink first, and returns the node from
+    /// which the way starts.
     fn trace_back(&self, sink: u32, way: &mut Vec<u32>) -> Result<u32, AllocError>
         requires sink { (g : Ground) × HasReached g self.now sink }
         requires empty { way.old.items ≡ [] }

@@ -17,7 +17,7 @@ pub record IsSeen (before : List Line) (seen : Seen) : Type 0 where
   pub nets : seen.nets ≡ net_names before
   pub globals : seen.globals ≡ global_names before
 
--- the block that lines speak of last, after a line with these words
+-- the block that lines describe last, after a line with these words
 abbrev pub latest_after : Option BlockKind → List (List ℕ) → Option BlockKind
 latest_after latest words = if is_element words then kind_at words else latest
 

@@ -1,4 +1,4 @@
--- What lies under the lock of an iteration.
+-- What the lock of an iteration protects.
 use Rattle.std.specs.Prelude.{◌≡◌, ℕ, ◌<◌, length, All}
 use Rattle.congestion_book.specs.Contents.{Content}
 use Rattle.net_workers.specs.WorkerParts.{IsOfIteration}

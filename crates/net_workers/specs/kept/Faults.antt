@@ -1,4 +1,4 @@
--- Why workers stop, and which fault of an iteration is answered.
+-- Why workers stop, and which fault of an iteration is returned.
 use Rattle.std.specs.Prelude.{List, [], ◌∷◌, Option, Some, None, Result, Ok, Err}
 use Rattle.net_workers.specs.declared.fault.WorkFault.{WorkFault}
 use Rattle.net_workers.specs.declared.fault.WorkFault.TheVariants as work
@@ -10,17 +10,17 @@ abbrev pub work_fault : TurnFault → WorkFault
 work_fault Memory = work.Memory
 work_fault Astray = work.Astray
 
--- of two faults the first
+-- the first of two faults
 abbrev pub lesser : TurnFault → TurnFault → TurnFault
 lesser Memory b = Memory
 lesser Astray b = b
 
--- of a fault and those that were met before the first
+-- the first of a fault and those that were met before
 abbrev pub first_of : Option TurnFault → TurnFault → TurnFault
 first_of None b = b
 first_of (Some a) b = lesser a b
 
--- of the faults among the results and those that were met before the first, if there are any
+-- the first of the faults among the results and those that were met before, if there are any
 abbrev pub first_met : {A : Type 0} → Option TurnFault → List (Result A TurnFault) → Option TurnFault
 first_met met [] = met
 first_met met (Ok done ∷ results) = first_met met results

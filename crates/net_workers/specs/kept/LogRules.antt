@@ -1,10 +1,10 @@
--- The rule of the history, and what its step tells.
+-- The rule of the history, and what its step gives.
 use Rattle.std.specs.Prelude.{ℕ, ◌≡◌, ◌==◌, true, List, [], ◌∷◌, ◌++◌, length, MatchBool}
 use Rattle.logbook.specs.Pages.{Cell, Step, View, Book, Named}
 use Rattle.net_workers.specs.declared.made_turn.MadeTurn.{MadeTurn}
 
--- the first word is the length of the history; a logbook has two words, of which this one leaves
--- the second at 0
+-- the first word is the length of the history; a logbook has two words, and this one leaves the
+-- second at 0
 abbrev pub IsKept : List Cell → List MadeTurn → Type 0
 IsKept cells log = cells ≡ (length log, true) ∷ (0, true) ∷ []
 

@@ -1,5 +1,4 @@
--- What lies in a cell, what a search found, what a worker's replica has, and what lies under the
--- lock.
+-- What a cell holds, what a search found, what a worker's replica has, and what the lock protects.
 use Rattle.std.specs.Prelude.{◌≡◌, ℕ, ◌-◌, ◌<◌, if◌then◌else◌, Bool, false, List, [], ◌∷◌, ◌++◌, length, take, map, get_or, Option}
 use Rattle.route_tree.specs.declared.tree.Row.{Row}
 use Rattle.route_tree.specs.TreeLists.{lists_of_trees}

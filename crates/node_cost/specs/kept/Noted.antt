@@ -12,6 +12,6 @@ pub record AreHistories (histories words : List ℕ) : Type 0 where
   pub each : length words ≡ length histories / 16 + 1
   pub noted : IsNoted histories words
 
--- a node's flag says whether its history is above 0, beside its number
+-- a node's flag, next to its number, says whether its history is above 0
 abbrev pub IsFlagged : (histories words : List ℕ) → Type 0
 IsFlagged histories words = (id : ℕ) → flag_of words id ≡ min (get_or histories id 0) 1

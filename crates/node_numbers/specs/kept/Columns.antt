@@ -1,4 +1,4 @@
--- How many nodes of a kind of terminals or pins stand before a place, by arithmetic, where a block
+-- How many nodes of a kind of terminals or pins come before a place, by arithmetic, where a block
 -- has so many of them.
 use Rattle.std.specs.Prelude.{ℕ, ◌+◌, ◌-◌, ◌*◌, ◌==◌, if◌then◌else◌}
 use Rattle.channel_tables.specs.Fabric.{Fabric, is_between}

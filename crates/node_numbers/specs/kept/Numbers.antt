@@ -18,7 +18,7 @@ pub record IsBlock (f : Fabric) (b : BlockNumbers) : Type 0 where
   pub opins : b.opins.items ≡ block_numbers f Opin
   pub ipins : b.ipins.items ≡ block_numbers f Ipin
 
--- how many nodes stand before those of each kind
+-- how many nodes come before those of each kind
 pub record IsStarts (f : Fabric) (s : Starts) : Type 0 where
   pub sink : s.sink ≡ kind_start f Sink
   pub opin : s.opin ≡ kind_start f Opin

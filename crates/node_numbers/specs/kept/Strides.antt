@@ -1,4 +1,4 @@
--- What the divisors hold with which a device finds nodes by their numbers.
+-- What the divisors hold that find a device's nodes by their numbers.
 use Rattle.std.specs.Prelude.{◌≡◌, ℕ, ◌+◌, max, length, map}
 use Rattle.node_numbers.specs.declared.strides.Strides.{Strides}
 use Rattle.channel_tables.specs.Fabric.{Fabric, numbers_below}

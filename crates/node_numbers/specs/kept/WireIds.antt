@@ -11,8 +11,8 @@ use Rattle.node_numbers.specs.Starts.{place_start}
 abbrev pub beginnings_below : Fabric → (n place track : ℕ) → ℕ
 beginnings_below f n place track = length (filter (λ s. begins f n s place) (numbers_below track))
 
--- the number of the node of the wire of a track that begins at (x, y) (of what is no wire, of the
--- first node there)
+-- the number of the node of the wire of a track that begins at (x, y) (of the first node there, if
+-- that is no wire)
 unfoldable pub wire_id : Fabric → Kind → (x y track : ℕ) → ℕ
 wire_id f Chanx x y track = place_start f Chanx x y + beginnings_below f f.nx x track
 wire_id f Chany x y track = place_start f Chany x y + beginnings_below f f.ny y track

@@ -1,4 +1,4 @@
--- What the fields of a `Placement` stand for.
+-- What the fields of a `Placement` mean.
 use Rattle.place_file.specs.declared.placement.Placement.TheInside.{Inside}
 use Rattle.place_file.specs.Placement.{Placement}
 

@@ -1,4 +1,4 @@
--- How it is kept which sites are occupied.
+-- How the occupied sites are kept.
 use Rattle.std.specs.Prelude.{◌≡◌, ℕ, ◌+◌, ◌*◌, ◌≤◌, true, false, ◌&&◌, nat_lt, Bool, List, length, Option, slice_index_or}
 use Rattle.arch_file.specs.Architecture.{most_pads}
 use Rattle.place_file.specs.declared.site.Array.{Array}
@@ -31,7 +31,7 @@ table_size a = (a.nx + 2) * 1632
 abbrev pub entry_of : Site → ℕ
 entry_of s = s.x * 1632 + s.y * 16 + s.subblk
 
--- the table tells of each site whether a block stands there
+-- the table says for each site whether a block is there
 pub record IsTable (array : Array) (sites : List (Option Site)) (taken : List Bool) : Type 0 where
   pub size : length taken ≡ table_size array
   pub tells : (s : Site) → is_in_table array s ≡ true → slice_index_or taken (entry_of s) false ≡ is_occupied sites s

@@ -23,7 +23,7 @@ most_shown = 200
 abbrev pub shown_text : List ℕ → List ℕ
 shown_text piece = map shown_byte (take most_shown piece)
 
--- the place of the offending word among so many words, if there is one
+-- the place of the offending word among this many words, if there is one
 abbrev pub place_in : Offender → ℕ → Option ℕ
 place_in NoWord n = None
 place_in First n = Some 0

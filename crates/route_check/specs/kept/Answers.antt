@@ -9,7 +9,7 @@ use Rattle.route_tree.specs.Usage.{Lists}
 use Rattle.route_check.specs.Faults.{IsFirstRouteFault}
 use Rattle.route_check.specs.kept.Counted.{excess_of}
 
--- the fault stands at a place, and none before it
+-- the fault is at a place, and none is before it
 pub record IsFirstAmong (answers : List (Option RouteFault)) (fault : RouteFault) : Type 0 where
   pub place : ℕ
   pub within : place < length answers
@@ -35,7 +35,7 @@ abbrev pub TellsExcess : Fabric → List ℕ → Option RouteFault → Type 0
 TellsExcess f counts None = (a : ℕ) → excess_of f counts a ≡ 0
 TellsExcess f counts (Some fault) = IsLeastExcess f counts fault
 
--- the answer for a routing: none where it routes the problem, else its first fault
+-- the answer for a routing: none if it routes the problem, else its first fault
 abbrev pub JudgesRouting : RoutingProblem → Lists → Option RouteFault → Type 0
 JudgesRouting p lists None = IsRouted p lists
 JudgesRouting p lists (Some fault) = IsFirstRouteFault p lists fault

@@ -14,7 +14,7 @@ pub record AreUses (p : RoutingProblem) (lists : Lists) (nets : ℕ) (counts : L
 abbrev pub excess_of : Fabric → (counts : List ℕ) → ℕ → ℕ
 excess_of f counts a = get_or counts a 0 - room_of f (node_at f a)
 
--- each of these nodes has a count, which can grow as often as it stands among them
+-- each of these nodes has a count, which can grow as often as the node is among them
 pub record HasRoom (counts : List ℕ) (nodes : List ℕ) : Type 0 where
   pub there : All (λ a. a < length counts) nodes
   pub room : (a : ℕ) → get_or counts a 0 + count_by (λ b. b == a) nodes ≤ 65535

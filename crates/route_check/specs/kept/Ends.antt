@@ -27,7 +27,7 @@ pub record AreEnds (pairs : List Pair) (ends : List End) : Type 0 where
   pub all : IsPermutation (map (end_at pairs) (numbers_below (length pairs))) ends
   pub ascend : IsNonDecreasingBy (λ e. e.node) ends
 
--- a pair that ends in the node, or none where there is none
+-- a pair that ends in the node, or none if there is none
 abbrev pub IsRowOf : List Pair → ℕ → Option ℕ → Type 0
 IsRowOf pairs a (Some k) = (k < length pairs) × (end_in pairs k ≡ a)
 IsRowOf pairs a None = is_among (ends_of pairs) a ≡ false
@@ -36,7 +36,7 @@ IsRowOf pairs a None = is_among (ends_of pairs) a ≡ false
 abbrev pub is_repeated_at : List End → ℕ → Bool
 is_repeated_at ends k = (get_or ends k no_end).node == (get_or ends (k + 1) no_end).node
 
--- two ends that stand beside each other are one node
+-- two adjacent ends are one node
 abbrev pub is_repeated : List End → Bool
 is_repeated ends = list_any (is_repeated_at ends) (numbers_below (length ends - 1))
 

@@ -1,4 +1,4 @@
--- What the judging of one net's list tells.
+-- What the judging of one net's list gives.
 use Rattle.std.specs.Prelude.{◌≡◌, ℕ, Bool, ◌&&◌, not, List, Option, Some, None, MatchOption, if◌then◌else◌, All}
 use Rattle.std.specs.Bool.{MatchBool}
 use Rattle.routing_problem.specs.Fabric.{Fabric}
@@ -10,7 +10,7 @@ use Rattle.route_check.specs.declared.listing.End.{End}
 use Rattle.route_tree.specs.Legality.{is_among, IsJoined, is_listed}
 use Rattle.route_tree.specs.Faults.{begins_elsewhere, lacks_switch, reaches_twice, leaves_twice, has_foreign_sink, misses_sink, IsFirstFault, IsRoute}
 
--- the answer for a list: none where it routes the net, else its first fault
+-- the answer for a list: none if it routes the net, else its first fault
 abbrev pub Judges : RoutingProblem → ℕ → List Pair → Option TreeFault → Type 0
 Judges p i pairs None = IsRoute p i pairs
 Judges p i pairs (Some fault) = IsFirstFault p i pairs fault
@@ -44,7 +44,7 @@ late_fault_of dangles listed sinks pairs =
     else (if misses_sink sinks pairs then Some MissingSink
     else (if listed then None else Some Order))
 
--- the test tells whether a pair dangles
+-- the test says whether a pair dangles
 abbrev pub TellsDangling : (dangles : Bool) → (source : ℕ) → (sinks : List ℕ) → List Pair → Type 0
 TellsDangling dangles source sinks pairs = MatchBool dangles (Dangles source sinks pairs) (All (IsJoined (net_of source sinks) pairs) pairs)
 

@@ -1,4 +1,4 @@
--- Pairs in order: what stands before one, and where the last one ends.
+-- Pairs in order: what comes before one, and where the last one ends.
 use Rattle.std.specs.Prelude.{ℕ, ◌-◌, Bool, List, length, reverse, take}
 use Rattle.routing_problem.specs.Fabric.{Fabric}
 use Rattle.routing_problem.specs.Problems.{is_sink}

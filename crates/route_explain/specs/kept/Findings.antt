@@ -15,7 +15,7 @@ use Rattle.route_explain.specs.Lines.{line_of_spot, starts_of}
 use Rattle.route_explain.specs.Spots.{fault_spot}
 use Rattle.route_explain.specs.kept.Places.{IsIndex}
 
--- the line of the file that the fault of net i is about, where the sections begin at these places
+-- the line of the file that the fault of net i is about, if the sections begin at these places
 abbrev pub line_from : (starts : List ℕ) → RoutingProblem → List Line → Lists → ℕ → RouteFault → ℕ
 line_from starts p lines lists i fault =
     let n = net_in p.nets i in
@@ -25,7 +25,7 @@ line_from starts p lines lists i fault =
 abbrev pub IsIndexOf : RoutingProblem → Lists → ℕ → NetIndex → Type 0
 IsIndexOf p lists i x = IsIndex (net_in p.nets i).sinks (pairs_in (list_in lists i)) x
 
--- of each of the first k nets that has a fault there is an index
+-- each of the first k nets that has a fault has an index
 pub record AreIndexes (p : RoutingProblem) (lists : Lists) (faults : List (Option RouteFault)) (k : ℕ) (indexes : List NetIndex) : Type 0 where
   pub count : length indexes ≡ k
   pub each : (i : ℕ) (d : NetIndex) → i < k → is_some (get_or faults i None) ≡ true → IsIndexOf p lists i (get_or indexes i d)

@@ -1,4 +1,4 @@
--- Where nodes stand first in a list.
+-- The first places of nodes in a list.
 use Rattle.std.specs.Prelude.{◌≡◌, ℕ, ◌==◌, Bool, false, nat_lt, if◌then◌else◌, List, Option, None, Some}
 use Rattle.std.specs.BTreeMap.{get}
 use Rattle.std.specs.List.{position_from}
@@ -9,7 +9,7 @@ use Rattle.route_explain.specs.declared.index.NetIndex.{NetIndex}
 use Rattle.route_explain.specs.declared.places.Places.{Places}
 use Rattle.route_explain.specs.Steps.{begins_of}
 
--- where a node stands first
+-- the first place of a node
 abbrev pub first_place : List ℕ → ℕ → Option ℕ
 first_place nodes a = position_from (λ b. b == a) 0 nodes
 
@@ -17,19 +17,19 @@ first_place nodes a = position_from (λ b. b == a) 0 nodes
 abbrev pub place_in : Places → ℕ → Option ℕ
 place_in places a = get nat_cmp places.first a
 
--- one more node stands at a place
+-- the first place of a node, with one more node at a place
 abbrev pub with_place : (places : Option ℕ) → (node place : ℕ) → ℕ → Option ℕ
 with_place places node place a = option_or places (if node == a then Some place else None)
 
--- each node has the place where it stands first in the list
+-- each node has its first place in the list
 abbrev pub ArePlaces : List ℕ → Places → Type 0
 ArePlaces nodes places = (a : ℕ) → place_in places a ≡ first_place nodes a
 
--- one more node stands at a place
+-- one more node is at a place
 abbrev pub HasMore : (old new : Places) → (node place : ℕ) → Type 0
 HasMore old new node place = (a : ℕ) → place_in new a ≡ with_place (place_in old a) node place a
 
--- the place is there, and before k
+-- there is a place, and it is before k
 abbrev pub is_before : Option ℕ → ℕ → Bool
 is_before None k = false
 is_before (Some i) k = nat_lt i k

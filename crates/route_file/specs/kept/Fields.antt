@@ -1,4 +1,4 @@
--- What the fields of types stand for.
+-- What the fields of types mean.
 use Rattle.std.specs.Prelude.{ℕ, List, map, take}
 use Rattle.route_file.specs.declared.node_words.NodeWords.TheInside as words
 

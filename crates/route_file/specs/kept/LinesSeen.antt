@@ -1,4 +1,4 @@
--- What is kept of the lines so far.
+-- What is kept from the lines so far.
 use Rattle.std.specs.Prelude.{◌≡◌, ℕ, ◌<◌, ◌==◌, Bool, true, false, not, ◌&&◌, if◌then◌else◌, List, [], ◌++◌, length, map, Option, Some, None, unwrap_or, Result, slice_index_or, slice_set}
 use Rattle.std.specs.List.{list_any, last_or, range_with_len}
 use Rattle.std.specs.Option.{option_map_or, option_to_list}
@@ -38,12 +38,12 @@ pub record IsSeen (netlist : Netlist) (f : Fabric) (before : List Line) (seen : 
   pub had : (n : ℕ) → n < length netlist.nets → slice_index_or seen.had.items n false ≡ had_line netlist before n
   pub lists_count : length seen.lists.items ≡ length netlist.nets
   pub lists : (n : ℕ) → n < length netlist.nets → slice_index_or seen.lists.items n None ≡ routed_list netlist f before n
-  -- a node that net n owns stands in its section; and if the next line is in that section, net n
-  -- owns all nodes that stand in it
+  -- a node that net n owns is in its section; and if the next line is in that section, net n owns
+  -- all nodes in it
   pub owners_count : length seen.owners.items ≡ node_count_of f
   pub owned : (n a : ℕ) → n < length netlist.nets → is_routed_at netlist n ≡ true → slice_index_or seen.owners.items a no_owner ≡ n → is_among (nodes_in netlist f before n) a ≡ true
   pub owns : (n a : ℕ) → latest netlist before ≡ Some n → is_routed_at netlist n ≡ true → is_among (nodes_in netlist f before n) a ≡ true → slice_index_or seen.owners.items a no_owner ≡ n
-  -- after the line of a net stands that of another one, unless the next line is in its section
+  -- the line of a net is followed by that of another one, unless the next line is in its section
   pub ended : (n : ℕ) → had_line netlist before n ≡ true → list_any is_net_line (lines_after (is_line_of netlist n) before) ≡ not (is_net n (latest netlist before))
   -- the section is that of a net whose line was among these
   pub opened : (n : ℕ) → latest netlist before ≡ Some n → (n < length netlist.nets) × (had_line netlist before n ≡ true)
@@ -52,7 +52,7 @@ pub record IsSeen (netlist : Netlist) (f : Fabric) (before : List Line) (seen : 
 abbrev pub had_net : Seen → (n : ℕ) → Bool
 had_net seen n = slice_index_or seen.had.items n false
 
--- the last node is a sink, and node a doesn't stand in net n's section
+-- the last node is a sink, and node a isn't in net n's section
 abbrev pub is_off : Fabric → Seen → (n a : ℕ) → Bool
 is_off f seen n a = option_map_or (is_sink f) seen.last false && not (slice_index_or seen.owners.items a no_owner == n)
 

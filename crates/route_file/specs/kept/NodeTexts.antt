@@ -1,5 +1,5 @@
--- How the words of a node's line are cut, how the node that a line tells is found, and what is kept
--- of the lines so far.
+-- How the words of a node's line are cut, how the node that a line gives is found, and what is kept
+-- from the lines so far.
 use Rattle.std.specs.Prelude.{◌≡◌, ℕ, ◌<◌, min, Bool, true, false, ◌&&◌, List, [], ◌∷◌, ◌++◌, length, Option, Some, None}
 use Rattle.std.specs.Option.{option_map_or}
 use Rattle.rr_graph.specs.node.Node.{Node}
@@ -10,7 +10,7 @@ use Rattle.route_file.specs.NodeLine.{are_ends, same_label}
 use Rattle.route_file.specs.NodeWords.{pieces_of}
 use denote.Ref.{Bor}
 
--- the word has no piece, or it is cut into its first piece and what stands after it, which is
+-- the word has no piece, or it is cut into its first piece and what comes after it, which is
 -- shorter
 pub record IsCut (word piece rest : List ℕ) : Type 0 where
   pub pieces : pieces_of word ≡ piece ∷ pieces_of rest
@@ -20,7 +20,7 @@ abbrev pub CutsPiece : List ℕ → Option (Bor (List ℕ) × Bor (List ℕ)) �
 CutsPiece word None = pieces_of word ≡ []
 CutsPiece word (Some cut) = IsCut word cut.0.now cut.1.now
 
--- the pieces were added to the words, where all of them together are at most eight
+-- the pieces were added to the words, if all of them together are at most eight
 abbrev pub CutsWords : (old new pieces : List (List ℕ)) → Bool → Type 0
 CutsWords old new pieces true = new ≡ old ++ pieces
 CutsWords old new pieces false = 8 < length (old ++ pieces)

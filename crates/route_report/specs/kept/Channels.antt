@@ -63,6 +63,6 @@ pub record AreSmall (channels : List (List ℕ)) : Type 0 where
   pub rows : (c : ℕ) → length (get_or channels c []) ≤ 65535
   pub each : (c m : ℕ) → get_or (get_or channels c []) m 0 ≤ 2 ^ 40
 
--- so many channels of a kind with these places, by number
+-- this many channels of a kind with these places, by number
 abbrev pub numbered : Kind → List (List ℕ) → (count : ℕ) → List Channel
 numbered k channels count = map (λ c. channel_with k c (get_or channels c [])) (numbers_below count)

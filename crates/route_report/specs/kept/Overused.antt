@@ -15,7 +15,7 @@ overuse_inside o = record { node = o.node; used = o.used; capacity = o.capacity;
 abbrev pub bare : Fabric → List ℕ → ℕ → Overuse
 bare f uses a = record { node = a; used = get_or uses a 0; capacity = room_of f (node_at f a); nets = [] }
 
--- a net more, where the node passes the test
+-- one more net, if the node passes the test
 abbrev pub with_net : (ℕ → Bool) → ℕ → Overuse → Overuse
 with_net test net o = record {
   node = o.node;

@@ -1,4 +1,4 @@
--- What the fields of trees, marks and routings stand for.
+-- What the fields of trees, marks and routings mean.
 use Rattle.std.specs.Prelude.{ℕ, ◌==◌, Bool, List, length, map, Option}
 use Rattle.route_tree.specs.Paths.{Pair}
 use Rattle.route_tree.specs.declared.tree.Row.{Row}

@@ -27,7 +27,7 @@ breaks_at f pairs k =
 abbrev pub breaks_off : Fabric → List Pair → Bool
 breaks_off f pairs = list_any (breaks_at f pairs) (numbers_below (length pairs - 1))
 
--- the first test of pairs that they fail, of those for which the sinks are marked
+-- the first test that the pairs fail, among those for which the sinks are marked
 abbrev pub sink_fault_of : Fabric → (sinks : List ℕ) → List Pair → Option TreeFault
 sink_fault_of f sinks pairs =
     if has_foreign_sink f sinks pairs then Some ForeignSink
@@ -35,13 +35,13 @@ sink_fault_of f sinks pairs =
     else (if misses_sink sinks pairs then Some MissingSink
     else (if breaks_off f pairs then Some Order else None)))
 
--- of those of pairs that are switches
+-- among those for pairs that are switches
 abbrev pub marked_fault_of : Fabric → (source : ℕ) → (sinks : List ℕ) → List Pair → Option TreeFault
 marked_fault_of f source sinks pairs =
     if reaches_twice source pairs then Some NodeTwice
     else (if leaves_twice source pairs then Some SecondOutput else sink_fault_of f sinks pairs)
 
--- of all for a net that there is
+-- among all, for a net that exists
 abbrev pub net_fault_of : Fabric → (source : ℕ) → (sinks : List ℕ) → List Pair → Option TreeFault
 net_fault_of f source sinks pairs =
     if begins_elsewhere source pairs then Some WrongSource

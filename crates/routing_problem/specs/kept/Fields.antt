@@ -1,4 +1,4 @@
--- What the fields of a `Layout`, of `Terminals` and of a `Problem` stand for.
+-- What the fields of a `Layout`, of `Terminals` and of a `Problem` mean.
 use Rattle.routing_problem.specs.Problems.{Net, RoutingProblem}
 use Rattle.routing_problem.specs.declared.nets.Terminals.TheInside as terminals
 use Rattle.routing_problem.specs.declared.problem.Problem.TheInside as problem

@@ -74,11 +74,11 @@ abbrev pub step_along : Axis → Fabric → (place : ℕ) → ℕ
 step_along Row f place = length (starting_at f f.nx place)
 step_along Column f place = wires_before f f.ny (f.ny + 1)
 
--- the wires of a track that begin at a place of a channel along an axis and of those behind it
+-- the wires of a track that begin at a place of a channel along an axis and of those after it
 abbrev pub run_along : Axis → Fabric → (track channel place : ℕ) → NumberRun
 run_along axis f track channel place = record { first = wire_along axis f track channel place; step = step_along axis f place }
 
--- how many input pins stand at a place of a column, and in a column of blocks
+-- how many input pins are at a place of a column, and in a column of blocks
 abbrev pub pins_of_row : Fabric → (x : ℕ) → ℕ
 pins_of_row f x = if is_between 1 f.nx x then length (block_numbers f Ipin) else f.architecture.io_rat
 

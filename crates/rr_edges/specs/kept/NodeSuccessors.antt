@@ -28,7 +28,7 @@ pub record IsWire (f : Fabric) (n track place : ℕ) : Type 0 where
   pub here : begins f n track place ≡ true
   pub within : track < tracks_in f.mode f.width
 
--- the node stands at a place of its kind
+-- the node is at a place of its kind
 pub record IsAtPlace (f : Fabric) (a : Node) : Type 0 where
   pub terminal : is_terminal a.kind ≡ true → IsTerminal f a.x a.y a.number
   pub row_wire : a.kind ≡ Chanx → IsWire f f.nx a.number a.x × (a.y ≤ f.ny)

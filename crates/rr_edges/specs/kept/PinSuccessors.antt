@@ -21,7 +21,7 @@ pins_of_source f x y class = picks (λ p. has_class (slice_get f.architecture.pi
 unfoldable pub source_successors : Fabric → Node → List ℕ
 source_successors f a = if is_block f a.x a.y then pins_of_source f a.x a.y a.number else (place_start f Opin a.x a.y + a.number) ∷ []
 
--- the sink of a pin's class at the block at (x, y), which stands behind those of the input classes
+-- the sink of a pin's class at the block at (x, y), which comes after those of the input classes
 -- below
 unfoldable pub sink_of_pin : Fabric → Option Pin → (x y : ℕ) → List ℕ
 sink_of_pin f (Some p) x y =

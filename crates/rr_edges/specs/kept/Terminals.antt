@@ -18,7 +18,7 @@ use Rattle.channel_tables.specs.Channels.{first_of}
 use Rattle.rr_edges.specs.kept.Channels.{wire_along}
 use Rattle.rr_edges.specs.kept.PinSuccessors.{taps_track, tapped_chanx, tapped_rows, tapped_column}
 
--- a node that is no wire may stand at (x, y) with this number
+-- a node that is no wire may be at (x, y) with this number
 pub record IsTerminal (f : Fabric) (x y number : ℕ) : Type 0 where
   pub column : x ≤ f.nx + 1
   pub row : y ≤ f.ny + 1
@@ -59,7 +59,7 @@ rows_of_tracks f fc pin column row s tracks =
     (if s.bottom then flat_map (tapped_wire Row f fc pin column (row - 1)) tracks else [])
     ++ (if s.top then flat_map (tapped_wire Row f fc pin column row) tracks else [])
 
--- the wires that an output pin taps that is reached on these sides of (x, y)
+-- the wires that an output pin reached on these sides of (x, y) taps
 abbrev pub wires_on : Fabric → (fc pin x y : ℕ) → Sides → List ℕ
 wires_on f fc pin x y s =
     tapped_rows f fc pin x y s.bottom s.top

@@ -7,7 +7,7 @@ use Rattle.channel_tables.specs.Fabric.{Fabric, is_block}
 use Rattle.node_numbers.specs.Starts.{place_start}
 use Rattle.channel_tables.specs.Sides.{tapping_pins, tapping_pads}
 
--- the input pins of the block at (x, y) that tap a track of the channel on a side; of a place of
+-- the input pins of the block at (x, y) that tap a track of the channel on a side; at a place of
 -- the perimeter the input pads that tap the track
 unfoldable pub pins_beside : Fabric → (Sides → Bool) → (x y track : ℕ) → List ℕ
 pins_beside f side x y track =

@@ -1,5 +1,5 @@
--- The text of a log (ours): lines with `#` tell of the run, and behind titles a line tells of each
--- iteration.
+-- The text of a log (ours): lines with `#` describe the run. After the titles, each iteration has a
+-- line.
 use Rattle.std.specs.Prelude.{ℕ, ◌-◌, ◌*◌, ◌/◌, ◌%◌, Bool, false, true, List, [], ◌++◌, Option, Some, None, codes, decimal, length, option_copied, take}
 use Rattle.rr_graph.specs.node.Mode.{Mode}
 use Rattle.rr_graph.specs.node.Mode.TheVariants.{Detailed, Global}
@@ -41,11 +41,11 @@ problem_text p =
     ++ (amount_text (codes "nets") (length p.nets) []
     ++ (entry_text (codes "routing") (mode_name p.device.mode) ++ amount_text (codes "width") p.device.width (codes " tracks")))
 
--- what stands above the columns
+-- the titles of the columns
 abbrev pub titles_text : List ℕ
 titles_text = codes "width iteration    present overused   excess unrouted wirelength   seconds\n"
 
--- that nets keep to the trees that they have, if they do
+-- the line that nets keep to the trees that they have, if they do
 abbrev pub steady_text : Bool → List ℕ
 steady_text false = []
 steady_text true = entry_text (codes "steady") (codes "yes")
@@ -59,19 +59,19 @@ head_text program files p workers o =
 
 -- ---- columns
 
--- a text of so many places or more, with the front of a filling before it where it has fewer
+-- a text in at least this many places; a shorter text is preceded by a front of the filling
 unfoldable pub filled_text : (filling : List ℕ) → (places : ℕ) → List ℕ → List ℕ
 filled_text filling places text = take (places - length text) filling ++ text
 
--- a text at the right of so many places, which are no more than ten
+-- a text right-aligned in this many places, at most ten
 abbrev pub column_text : (places : ℕ) → List ℕ → List ℕ
 column_text places text = filled_text (codes "          ") places text
 
--- what stands behind the point, in so many places, which are no more than four
+-- the digits after a decimal point, in this many places, at most four
 abbrev pub part_text : (places : ℕ) → List ℕ → List ℕ
 part_text places text = filled_text (codes "0000") places text
 
--- a number with so many places behind the point
+-- a number with this many places after the decimal point
 unfoldable pub point_text : (whole : List ℕ) → (places : ℕ) → (part : List ℕ) → List ℕ
 point_text whole places part = column_text 5 whole ++ (codes "." ++ part_text places part)
 
@@ -83,38 +83,38 @@ sixteenths_text n = point_text (decimal (n / 16)) 4 (decimal (n % 16 * 625))
 abbrev pub seconds_text : ℕ → List ℕ
 seconds_text n = point_text (decimal (n / 1000)) 3 (decimal (n % 1000))
 
--- which iteration of which negotiation a line tells of
+-- the columns for the width, the iteration and the present-congestion factor
 unfoldable pub iteration_text : (width iteration present : ℕ) → List ℕ
 iteration_text width iteration present =
     column_text 5 (decimal width) ++ (codes " " ++ (column_text 9 (decimal iteration) ++ (codes " " ++ sixteenths_text present)))
 
--- what it left
+-- the columns for what the iteration left
 unfoldable pub figures_text : (overused excess unrouted wirelength : ℕ) → List ℕ
 figures_text overused excess unrouted wirelength =
     codes " "
     ++ (column_text 8 (decimal overused)
     ++ (codes " " ++ (column_text 8 (decimal excess) ++ (codes " " ++ (column_text 8 (decimal unrouted) ++ (codes " " ++ column_text 10 (decimal wirelength)))))))
 
--- when it ended, and the end of the line
+-- the time at which the iteration ended, and the end of the line
 unfoldable pub time_text : (milliseconds : ℕ) → List ℕ
 time_text milliseconds = codes " " ++ (seconds_text milliseconds ++ codes "\n")
 
--- the line of an iteration by these options, of the book that it left, so many milliseconds after
--- the beginning
+-- the line of an iteration by these options, from the book that it left, this many milliseconds
+-- after the beginning
 unfoldable pub row_text : RouterOptions → (iteration : ℕ) → Content → (milliseconds : ℕ) → List ℕ
 row_text o iteration c milliseconds =
     iteration_text c.problem.device.width iteration (present_of o iteration)
     ++ (figures_text (overused_in c.problem c.lists) (excess_in c.problem c.lists) (unrouted_in c.lists) (wirelength_in c.problem c.lists)
     ++ time_text milliseconds)
 
--- ---- what a trial of a width came to
+-- ---- the outcome of a trial of a width
 
--- a routing, after so many iterations
+-- a routing, after this many iterations
 unfoldable pub trial_routed_text : (width iterations : ℕ) → List ℕ
 trial_routed_text width iterations =
     codes "# width " ++ (decimal width ++ (codes ": routed, iterations " ++ (decimal iterations ++ codes "\n")))
 
--- no routing: so many nets without a tree and overused nodes, after so many iterations
+-- no routing: this many nets without a tree and overused nodes, after this many iterations
 unfoldable pub trial_left_text : (width unrouted overused iterations : ℕ) → List ℕ
 trial_left_text width unrouted overused iterations =
     codes "# width "

@@ -1,10 +1,10 @@
--- The turns of an iteration that were made so far, and what tells whether another one may follow.
+-- The turns of an iteration that were made so far, and which turns may follow.
 use Rattle.std.specs.Prelude.{◌≡◌, ◌≢◌, ◌⊎◌, ℕ, ◌^◌, ◌<◌, ◌≤◌, Bool, false, ◌==◌, List, [], ◌∷◌, ◌++◌, length, slice_index_or}
 use Rattle.std.specs.List.{All, Any, list_any}
 use Rattle.gates.specs.declared.schedule.ScheduledTurn.{ScheduledTurn}
 use Rattle.run_schedule.specs.Schedules.{AreTurns}
 
--- turns of an iteration of so many nets by so many workers
+-- turns of an iteration of this many nets by this many workers
 pub record TurnsMade : Type 0 where
   pub nets : ℕ
   pub workers : ℕ
@@ -29,12 +29,12 @@ none_made nets workers = record { nets = nets; workers = workers; turns = [] }
 abbrev pub has_turn : List ScheduledTurn → (net : ℕ) → Bool
 has_turn turns net = list_any (λ t. t.net == net) turns
 
--- how many turns a worker had seen at its last one; 0 where it has made none
+-- how many turns a worker had seen at its last one; 0 if it has made none
 pub record IsLastSeen (turns : List ScheduledTurn) (worker last : ℕ) : Type 0 where
   pub most : All (λ s. s.worker ≡ worker → s.seen ≤ last) turns
   pub some : (last ≡ 0) ⊎ Any (λ s. (s.worker ≡ worker) × (s.seen ≡ last)) turns
 
--- of each net whether it has had its turn, and of each worker what it had seen
+-- for each net whether it has had its turn, and for each worker what it had seen
 pub record AreKept (had : List Bool) (last : List ℕ) (turns : List ScheduledTurn) : Type 0 where
   pub few_nets : length had < 2 ^ 32
   pub few_workers : length last < 2 ^ 32

@@ -1,4 +1,4 @@
--- What is told of the nets to which a negotiation without success left no tree (ours).
+-- The lines on the nets for which a negotiation without success left no tree (ours).
 use Rattle.std.specs.Prelude.{ℕ, List, ◌++◌, slice_index_or, codes}
 use Rattle.std.specs.List.{flat_map}
 use Rattle.net_file.specs.Netlist.{Netlist}
@@ -8,7 +8,7 @@ use Rattle.rr_graph.specs.Nodes.{node_at}
 use Rattle.rr_graph.specs.Problems.{RoutingProblem, net_in}
 use Rattle.text_output.specs.NodeTexts.{text_of_node}
 
--- a net by its name, and a sink to which no way leads, as `net a: stuck at SINK (1,1) Class: 0`
+-- a net by its name, and a sink that no path leads to, as `net a: stuck at SINK (1,1) Class: 0`
 unfoldable pub stuck_line : Fabric → (name : List ℕ) → (sink : ℕ) → List ℕ
 stuck_line f name sink = codes "net " ++ (name ++ (codes ": stuck at " ++ (text_of_node f (node_at f sink) ++ codes "\n")))
 

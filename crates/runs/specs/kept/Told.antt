@@ -3,8 +3,7 @@ use Rattle.std.specs.Prelude.{◌≡◌, ℕ, Bool, true, false, List, Option}
 use Rattle.std.specs.Io.KnownBytes.{Appends}
 use Rattle.run_inputs.specs.Runs.{TakesFront, writing}
 
--- what a sink took, where that is known, whether it has failed, and whether it broke under these
--- texts
+-- what a sink took, if that is known, whether it has failed, and whether it broke under these texts
 pub record Told : Type 0 where
   pub taken : Option (List ℕ)
   pub failed : Bool
@@ -20,6 +19,6 @@ pub record Tells (old new : Told) (text : List ℕ) : Type 0 where
   pub breaks : old.broken ≡ false → new.broken ≡ true → (new.failed ≡ true) × TakesFront (writing old.taken new.taken new.failed) text
   pub stays : old.broken ≡ true → new ≡ old
 
--- of a sink of which these tell what it took and whether it has failed
+-- the same for a sink; these functions give what it took and whether it has failed
 abbrev pub TellsTo : {S : Type 0} → (taken : S → Option (List ℕ)) → (failed : S → Bool) → (sink new_sink : S) → (broken new_broken : Bool) → (text : List ℕ) → Type 0
 TellsTo taken failed sink new_sink broken new_broken text = Tells (told (taken sink) (failed sink) broken) (told (taken new_sink) (failed new_sink) new_broken) text

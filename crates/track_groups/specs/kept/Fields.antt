@@ -1,4 +1,4 @@
--- What the fields of groups stand for.
+-- What the fields of groups mean.
 use Rattle.std.specs.Prelude.{◌≤◌, ◌<◌, ◌^◌, length, All}
 use Rattle.track_groups.specs.declared.group.Group.{Group}
 use Rattle.track_groups.specs.declared.wires.WireGroups.TheInside as inside

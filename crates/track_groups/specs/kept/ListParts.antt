@@ -1,4 +1,4 @@
--- Lists that stand one behind the other.
+-- Lists that follow each other.
 use Rattle.std.specs.Prelude.{ℕ, ◌≤◌, List, slice_range}
 use Rattle.track_groups.specs.declared.rows.ListPart.{ListPart}
 use Rattle.routing_problem.specs.Fabric.{Fabric}
@@ -12,6 +12,6 @@ pub record IsListPart (count : ℕ) (p : ListPart) : Type 0 where
 abbrev pub part_of : {T : Type 0} → List T → ListPart → List T
 part_of xs p = slice_range xs p.start p.end
 
--- all is so that is to hold of the tracks of a group
+-- all that has to hold for the tracks of a group holds
 abbrev pub HaveTracks : Fabric → Grouping → (group : ℕ) → Type 0
 HaveTracks f t g = (j : ℕ) → IsOn t.groups (on_track g j) → IsTrack f t (on_track g j)

@@ -33,7 +33,7 @@ pub record AreMerged (t : Grouping) (ids : List ℕ) (ds : List Drive) : Type 0 
   pub on : (p : GroupTrack) → drive_track ds p ≡ true → IsOn t.groups p
   pub told : (p : GroupTrack) → IsOn t.groups p → drive_track ds p ≡ list_any (is_wire_of t p) ids
 
--- before a number, what is no output pin drives nothing
+-- before a number, a node that is no output pin drives nothing
 abbrev pub OnlyPinsDriveBefore : ℕ → Fabric → List (List Drive) → Type 0
 OnlyPinsDriveBefore id f rows = (other : ℕ) → other < id → (kind_of_node f other ≡ Some Opin → ⊥) → get_or rows other [] ≡ []
 

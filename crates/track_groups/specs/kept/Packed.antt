@@ -1,4 +1,4 @@
--- What the fields of groups in bytes stand for.
+-- What the fields of groups in bytes mean.
 use Rattle.track_groups.specs.declared.group.Group.{Group}
 use Rattle.track_groups.specs.declared.packed.PackedGroup.TheInside as inside
 

@@ -49,7 +49,7 @@ pub record Adds (source : List ℕ) (old new : List ByteRange) (ws : List (List 
 abbrev pub words_left : List (List ℕ) → List (List ℕ)
 words_left ws = if goes_on ws then given_up ws else ws
 
--- the words from first on gave up their last backslash, where they end in one
+-- the words from first on lost their last backslash, where they end in one
 pub record GivesUp (source : List ℕ) (first : ℕ) (old new : List ByteRange) (result : Bool) : Type 0 where
   pub answer : result ≡ goes_on (words_in source (drop first old))
   pub left : Adds source (take first old) new (words_left (words_in source (drop first old)))

@@ -14,7 +14,7 @@ boxed b = record { left = b.left; right = b.right; bottom = b.bottom; top = b.to
 abbrev pub AreFirstBoxes : Fabric → List BoundingBox → Type 0
 AreFirstBoxes f boxes = (v : ℕ) (d : BoundingBox) → v < length boxes → boxed (get_or boxes v d) ≡ plain.box_of_node f v
 
--- a box with so many more columns and rows on each side, as far as 32 bits hold them
+-- a box with this many more columns and rows on each side, as far as 32 bits hold them
 pub record IsWidened (bb : ℕ) (b wide : plain.BoundingBox) : Type 0 where
   pub left : wide.left ≡ b.left - bb
   pub right : wide.right ≡ min (b.right + bb) 4294967295

@@ -56,11 +56,11 @@ least_wire_cost = wire_base * unit_factor
 abbrev pub least_pin_cost : ℕ
 least_pin_cost = input_pin_base * unit_factor
 
--- what a way costs at least that goes on over so many wires, and an input pin
+-- what a way that goes on over so many wires, and an input pin, costs at least
 abbrev pub left_over : (wires : ℕ) → ℕ
 left_over wires = least_wire_cost * wires + least_pin_cost
 
--- node v stands inside the box
+-- node v is inside the box
 abbrev pub Surrounds : Fabric → BoundingBox → ℕ → Type 0
 Surrounds f box v = (node : Node) → node_at f v ≡ Some node → (box.left ≤ node.x) × (node.x ≤ box.right) × (box.bottom ≤ node.y) × (node.y ≤ box.top)
 

@@ -28,7 +28,7 @@ pub record IsSpace (s : Space) : Type 0 where
   pub costly : (a v b : ℕ) → HasEdge s a v → HasEdge s v b → 0 < entry_cost s v
   pub cheap : (v : ℕ) → v < node_count s → entry_cost s v < 2 ^ 80
 
--- from v the sink alone is entered, and nothing from there
+-- only the sink is entered from v, and nothing from the sink
 pub record LeadsOnlyTo (s : Space) (v sink : ℕ) : Type 0 where
   pub edge : HasEdge s v sink
   pub only : (b : ℕ) → HasEdge s v b → b ≡ sink

@@ -1,4 +1,4 @@
--- What the fields of a `Cut` stand for, and what is true of the marks on one.
+-- What the fields of a `Cut` mean, and what is true of the marks on one.
 use Rattle.std.specs.Prelude.{Bool, List}
 use Rattle.rr_graph.specs.node.Kind.TheVariants.{Chanx, Chany}
 use Rattle.width_bound.specs.declared.cut.Cut.TheInside as cut

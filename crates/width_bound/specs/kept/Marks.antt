@@ -1,5 +1,5 @@
 -- Marks on the corners or the places of an array: one for each column and row, in a list. Columns
--- and rows go from 0 to 101, where the pads of the largest array stand.
+-- and rows go from 0 to 101, where the pads of the largest array are.
 use Rattle.std.specs.Prelude.{◌≡◌, ℕ, ◌+◌, ◌*◌, ◌<◌, Bool, false, if◌then◌else◌, List, length, get_or}
 use Rattle.std.specs.List.{list_any}
 use Rattle.rr_graph.specs.node.Kind.{Kind}
@@ -18,7 +18,7 @@ mark_count = 10404
 abbrev pub entry_of : (x y : ℕ) → ℕ
 entry_of x y = x * rows + y
 
--- a mark for each column and row, which stands where the test passes
+-- a mark for each column and row, which is set where the test passes
 pub record AreMarks (test : (x y : ℕ) → Bool) (marks : List Bool) : Type 0 where
   pub whole : length marks ≡ mark_count
   pub tells : (x y : ℕ) → x < rows → y < rows → get_or marks (entry_of x y) false ≡ test x y

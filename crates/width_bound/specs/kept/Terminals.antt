@@ -11,7 +11,7 @@ use Rattle.rr_graph.specs.Pins.{belongs, has_direction}
 use Rattle.rr_graph.specs.Nodes.{node_of}
 use Rattle.width_bound.specs.Cuts.{Cut, is_given_up}
 
--- how many pins the block at (x, y) has, or pads stand there
+-- how many pins the block at (x, y) has, or how many pads are there
 abbrev pub pin_count : Fabric → (x y : ℕ) → ℕ
 pin_count f x y =
     if is_block f x y then length f.architecture.pins

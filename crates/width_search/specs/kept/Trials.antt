@@ -1,4 +1,4 @@
--- What the gate is reported of a trial.
+-- What is reported to the gate about a trial.
 use Rattle.iteration.specs.declared.outcome.Outcome.{Outcome}
 use Rattle.iteration.specs.declared.outcome.Outcome.TheVariants.{Success, NotRouted}
 use Rattle.gates.specs.declared.trial.TrialEnd.{TrialEnd}
