@@ -261,8 +261,8 @@ fn add_first_way<K: Key>(
     Ok(true)
 }
 
-/// Attaches the way to a taken sink at the source: the node from which the wave reached the sink,
-/// and the nodes on the way.
+/// Attaches the way to a taken sink at the source: the node where the way starts, and the nodes on
+/// it.
 fn attach_first<K: Key>(
     ground: &Ground<'_>,
     scratch: &mut WaveScratch<K>,

@@ -122,8 +122,8 @@ impl Ties {
         }
     }
 
-    /// The one of these tracks of a group from which a pin is entered: that of the tree, or else
-    /// the least.
+    /// Returns the track that enters a pin, one of these tracks of a group: the tree's track if it
+    /// is among them, or else the least.
     #[tactic(auto, using(crate::proofs::Tapped::first_one))]
     pub(crate) fn track(&self, group: &Group, pin: u32, tracks: u64) -> u32
         requires { 0 < tracks }

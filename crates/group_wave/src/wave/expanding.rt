@@ -260,7 +260,7 @@ impl<K: Key> Wave<K> {
         }
     }
 
-    /// Offers the way to the wires of those neighbours from which fewer wires lead on.
+    /// Offers the way to the wires of the neighbours that lead on to fewer wires.
     fn relax_all_nearer(
         &mut self,
         ground: &Ground<'_>,

@@ -20,8 +20,8 @@ impl<K: Key> Wave<K> {
         self.labels.row(node).parent
     }
 
-    /// Puts the nodes of the way to a taken sink into the list, and returns the node from which the
-    /// way starts.
+    /// Puts the nodes of the way to a taken sink into the list, and returns the node where the way
+    /// starts.
     pub(crate) fn trace(&self, sink: u32, way: &mut Vec<u32>) -> Result<u32, AllocError>
         requires { (g : Ground) × HasReached g self.now sink }
         ensures { IfOk result (λ a. IsWayBack self.now a way.new.items sink) }
