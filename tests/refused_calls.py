@@ -24,7 +24,7 @@ SECONDS = 120
 PROCESSORS = len(os.sched_getaffinity(0))
 # So often a run is made that says nothing.
 TRIES = 5
-# Up to here each call is refused; of later ones, where they are thinned out, each hundredth of what lies behind.
+# Up to here each call is refused; of later ones, where they are thinned out, each hundredth after it.
 EACH_CALL = 300
 # A job, and what came of it, as refused_call.c has them.
 JOB = struct.Struct("3L")
@@ -325,7 +325,7 @@ def main(kind, runs_of_program):
     if (given.program is None) == (given.crates is None):
         words.error("either a program or --crates")
     program = given.program and os.path.abspath(given.program)
-    # behind a refusal a test of a crate calls again, which must succeed: so none is refused from some call on
+    # after a refusal a test of a crate calls again, which must succeed: so none is refused from some call on
     ways, runs = ((False, True), runs_of_program(program)) if program else ((False,), runs_of_crates(given.crates, f"_without_{kind}"))
     with tempfile.TemporaryDirectory() as folder:
         library = built_library(folder)

@@ -2,7 +2,7 @@
 import re
 from dataclasses import dataclass
 
-# A number that no answer has: behind it begins the answer to the next call.
+# A number that no answer has: after it begins the answer to the next call.
 MARK = "3141592653"
 KINDS = ("arch", "net", "device", "problem", "tree", "counts", "view")
 DEVICE = ("parts", "edge_count", "has_architecture")

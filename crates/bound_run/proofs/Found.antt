@@ -31,7 +31,7 @@ use Rattle.bound_run.specs.BoundRun.{WritesBound}
 -- lines that were not printed
 pub unprinted : (lines text : List ℕ) (cut : Writing) (before after : Option (List ℕ)) (failed : Bool) (f : AppFault)
     → PrintsText (writing before after failed) lines (tt {0}) (Err f) → TakesNothing cut
-    → WritesBound true cut (writing before after failed) lines text (Err f)
+    → WritesBound cut (writing before after failed) lines text (Err f)
 unprinted lines text cut before after true f p nothing = (p.0, p.1, nothing)
 unprinted lines text cut before after false f p nothing = let clash = p.0 in absurd cc
 

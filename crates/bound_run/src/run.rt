@@ -57,33 +57,12 @@ fn print_both<C: ByteSink, W: ByteSink>(
     out: &mut W,
 ) -> Result<(), AppFault>
     requires { figures ≡ figures_of placed.now found.now }
-    ensures { WritesBound true (writing_to C.taken C.failed cut.old cut.new)
+    ensures { WritesBound (writing_to C.taken C.failed cut.old cut.new)
         (writing_to W.taken W.failed out.old out.new) (bound_lines figures)
         (cut_text placed.now found.now) result }
 {
     print_bound(figures, out)?;
     print_cut(placed, found, figures, cut)
-}
-
-/// Prints the lines on a cut of a placed netlist, and then its text if that is wanted.
-fn print_found<C: ByteSink, W: ByteSink>(
-    placed: &PlacedNetlist<'_>,
-    found: &Cut,
-    figures: CutFigures,
-    cut: &mut C,
-    out: &mut W,
-    is_wanted: bool,
-) -> Result<(), AppFault>
-    requires { figures ≡ figures_of placed.now found.now }
-    ensures { WritesBound is_wanted (writing_to C.taken C.failed cut.old cut.new)
-        (writing_to W.taken W.failed out.old out.new) (bound_lines figures)
-        (cut_text placed.now found.now) result }
-{
-    if is_wanted {
-        print_both(placed, found, figures, cut, out)
-    } else {
-        print_bound(figures, out)
-    }
 }
 
 /// Finds a cut of a placed netlist, and prints what it shows.
@@ -92,10 +71,9 @@ fn bound_placed<C: ByteSink, W: ByteSink>(
     placed: &PlacedNetlist<'_>,
     cut: &mut C,
     out: &mut W,
-    is_wanted: bool,
 ) -> Result<(), AppFault>
     ensures prints { result ≢ Err AppFault.Memory
-        → PrintsBound is_wanted (writing_to C.taken C.failed cut.old cut.new)
+        → PrintsBound (writing_to C.taken C.failed cut.old cut.new)
         (writing_to W.taken W.failed out.old out.new) placed.now result }
     ensures cut { result ≡ Err AppFault.Memory
         → TakesNothing (writing_to C.taken C.failed cut.old cut.new) }
@@ -107,13 +85,13 @@ fn bound_placed<C: ByteSink, W: ByteSink>(
         Ok(found) => found,
         Err(_) => return Err(AppFault::Memory),
     };
-    print_found(placed, &found.cut, found.figures, cut, out, is_wanted)
+    print_both(placed, &found.cut, found.figures, cut, out)
 }
 
 /// Reads an architecture, a netlist and its placement in this order, each only if those before it
 /// have no fault. Finds a cut of the array. Prints the width below which the cut leaves no routing,
-/// and how many nets it cuts by how many places and pins. Then writes the text of the cut to `cut`,
-/// if that is wanted. The caller moves what was written there to its place.
+/// and how many nets it cuts by how many places and pins. Then writes the text of the cut to `cut`.
+/// The caller moves what was written there to its place.
 ///
 /// # Errors
 /// Each fault exactly when it comes first; only `Memory` is unspecified. The faults of the files
@@ -127,7 +105,6 @@ pub fn bound_run<N: ByteSource, A: ByteSource, P: ByteSource, C: ByteSink, W: By
     place: &mut P,
     cut: &mut C,
     out: &mut W,
-    is_wanted: bool,
 ) -> Result<(), AppFault>
     // The files decide. If they give a placed netlist, the lines of some cut of it are printed, and
     // it has no routing at a width that these rule out.
@@ -135,7 +112,7 @@ pub fn bound_run<N: ByteSource, A: ByteSource, P: ByteSource, C: ByteSink, W: By
         → MeetsDesign (reading (A.remaining arch.old) (A.failed arch.new))
         (reading (N.remaining net.old) (N.failed net.new))
         (reading (P.remaining place.old) (P.failed place.new))
-        (λ files. RunsBound is_wanted (writing_to C.taken C.failed cut.old cut.new)
+        (λ files. RunsBound (writing_to C.taken C.failed cut.old cut.new)
         (writing_to W.taken W.failed out.old out.new) (placed_in files) result) }
     // Nothing is written if memory runs out.
     ensures cut { result ≡ Err AppFault.Memory
@@ -148,5 +125,5 @@ pub fn bound_run<N: ByteSource, A: ByteSource, P: ByteSource, C: ByteSink, W: By
 {
     let text = NetlistText::read(alloc, arch, net)?;
     let placed = PlacedNetlist::read(alloc, &text, place)?;
-    bound_placed(alloc, &placed, cut, out, is_wanted)
+    bound_placed(alloc, &placed, cut, out)
 }

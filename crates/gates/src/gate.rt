@@ -1,7 +1,7 @@
 //! What workers, the driver of a negotiation and a search of widths report to an onlooker, and what
 //! they ask it.
 
-ghost use Rattle.std.specs.Prelude.{IsTrue};
+ghost use Rattle.std.specs.Prelude.{◌≡◌, IsTrue, length};
 
 use crate::schedule::{Schedule, ScheduledTurn};
 use crate::trial::TrialEnd;
@@ -47,9 +47,12 @@ pub trait Gate {
     fn accepts(&self, iteration: u32, turns: &[ScheduledTurn]) -> bool
         ensures { IsTrue result → accepted self.now iteration turns.now };
 
-    /// After an iteration was closed, with the book that it left. What is asked of the book is
-    /// looked up then, and nothing if nothing is asked.
-    fn closed(&self, _iteration: u32, _book: &Book) {}
+    /// After an iteration was closed, with the book that it left, which has a row for each
+    /// iteration so far. What is asked of the book is looked up then, and nothing if nothing is
+    /// asked.
+    fn closed(&self, _iteration: u32, _book: &Book)
+        requires rows { length _book.now.rows ≡ _iteration }
+    {}
 
     /// After a negotiation that found this routing of the problem.
     fn found(&self, _problem: &Problem, _routing: &Routing) {}

@@ -1,5 +1,5 @@
 -- What neighbours of a group are offered.
-use Rattle.std.proofs.Common.{◌≡◌, ℕ, ◌+◌, ◌*◌, ◌<◌, List, [], ◌∷◌, length, map, get_or, Contains, true, false, inl, inr, sym, ap, ◌∙◌, subst, arith}
+use Rattle.std.proofs.Common.{◌≡◌, Bool, ℕ, ◌+◌, ◌*◌, ◌<◌, List, [], ◌∷◌, length, map, get_or, Contains, true, false, inl, inr, refl, sym, ap, ◌∙◌, subst, arith}
 use Rattle.std.specs.Int.{bit_at}
 use Rattle.std.proofs.lemmas.Bool.{cases_eq, cases_lt, false≢true}
 use Rattle.std.proofs.lemmas.Nat.Bits.{bit_at-zero}
@@ -8,15 +8,19 @@ use Rattle.track_groups.specs.declared.group.Group.{Group}
 use Rattle.track_groups.specs.Groups.{IsOn, group_at, on_track}
 use Rattle.track_groups.specs.Joints.{IsBeside, neighbours_of, taps_of, wire_beside}
 use Rattle.track_groups.proofs.OnTracks.{on_within}
-use Rattle.wavefront.specs.Boxes.{box_of_net, touches}
+use Rattle.routing_problem.specs.node.Span.{Span}
+use Rattle.routing_problem.specs.Nodes.{is_wire_at}
+use Rattle.wavefront.specs.Boxes.{box_of_net, is_in_box, touches}
 use Rattle.wavefront.specs.Space.{IsInside}
+use Rattle.wavefront.specs.kept.Spaces.{node_count}
+use Rattle.wavefront.proofs.WaysLeft.{wire_paid}
 use Rattle.wavefront.proofs.Lists.{contains_none, contains_first, contains_later, contains_cases}
 use Rattle.wave_queue.specs.kept.Bits.{PutsBit, TakesBit}
 use Rattle.wave_ground.specs.kept.Grounds.{Ground, IsGround, groups_of}
 use Rattle.wave_queue.specs.kept.Queues.{Waiting}
 use Rattle.group_wave.specs.kept.WaveState.{FAR, Wave}
 use Rattle.group_wave.specs.kept.Wave.{AreTracks}
-use Rattle.group_wave.specs.kept.Steps.{IsLive, IsOffer, IsStep, Spreads, TookBefore, TookBut, TookNearer, TookNearerBefore, TookPins, TookWires}
+use Rattle.group_wave.specs.kept.Steps.{IsFrom, IsLive, IsOffer, IsStep, IsTarget, Spreads, TookBefore, TookBut, TookNearer, TookNearerBefore, TookPins, TookWires}
 use Rattle.group_wave.proofs.Grouped.{group_inside, is_wire_here, wire_within}
 use Rattle.group_wave.proofs.Lower.{went_lower}
 
@@ -26,6 +30,33 @@ in_map f (y ∷ ys) x h = elim (contains_cases y x ys h) [
   | inl e ↦ rw e (contains_first (f y) (map f ys))
   | inr later ↦ contains_later (f y) (f x) (map f ys) (in_map f ys x later)
 ]
+
+module _ (g : Ground) (ok : IsGround g) (group track wire : ℕ) (target : IsTarget g group track wire) where
+  -- the wire of a target is inside where its group is
+  target_inside : (span : Span) → span ≡ (group_at (groups_of g) group).span → is_in_box g.space.device g.space.bb g.space.net wire ≡ touches g.space.bb (box_of_net g.space.device g.space.net) span
+  target_inside span at = sym (ap (is_in_box g.space.device g.space.bb g.space.net) target.is) ∙ group_inside g ok (on_track group track) target.on ∙ ap (touches g.space.bb (box_of_net g.space.device g.space.net)) (sym at)
+
+  -- and outside where that is
+  pub target_outside : (span : Span) (inside : Bool) → span ≡ (group_at (groups_of g) group).span → inside ≡ touches g.space.bb (box_of_net g.space.device g.space.net) span → inside ≡ false → IsInside g.space wire → ⊥
+  target_outside span inside at is off on = false≢true (sym off ∙ is ∙ sym (target_inside span at) ∙ on)
+
+  pub target_is : is_wire_at g.space.device wire ≡ true
+  target_is = subst (λ v. is_wire_at g.space.device v ≡ true) target.is (is_wire_here g ok (on_track group track) target.on)
+
+  pub target_within : wire < node_count g.space
+  target_within = ok.wires wire target_is
+
+  -- an edge to it from a node of a label
+  pub target_step : (w : Wave) (label parent : ℕ) (span : Span) (inside : Bool) → IsFrom g w label parent wire → span ≡ (group_at (groups_of g) group).span
+      → inside ≡ touches g.space.bb (box_of_net g.space.device g.space.net) span → inside ≡ true → IsStep g w label wire parent
+  target_step w label parent span inside from at is on = record {
+    edge = from.edge;
+    inside = target_inside span at ∙ sym is ∙ on;
+    from = from.from;
+    near = from.near;
+    is = target_is;
+    within = target_within;
+  }
 
 module _ (g : Ground) (e : Waiting) where
   pub took_then : (s t : Wave) (h : ℕ) → Spreads g s t → TookWires g s e h → TookWires g t e h
@@ -116,15 +147,28 @@ module _ (g : Ground) (e : Waiting) where
     })
 
     -- from a track of the entry an edge leads to its wire of a neighbour
-    pub beside_step : (w : Wave) (is : Group) → is ≡ group_at (groups_of g) e.group → IsLive g w e → e.label < FAR → (j : ℕ) → bit_at e.tracks j ≡ 1 → IsInside g.space (wire_beside (groups_of g) j h)
-        → IsStep g w e.label (wire_beside (groups_of g) j h) (is.base + j * is.stride)
-    beside_step w is at live near j one inside = rw at (record {
+    pub beside_from : (w : Wave) (is : Group) → is ≡ group_at (groups_of g) e.group → IsLive g w e → e.label < FAR → (j : ℕ) → bit_at e.tracks j ≡ 1 → IsFrom g w e.label (is.base + j * is.stride) (wire_beside (groups_of g) j h)
+    beside_from w is at live near j one = rw at (record {
       edge =
           let told = ((ok.tabled.joined e.group).wires j (tracks j one)).edges (wire_beside (groups_of g) j h) (is_wire_here g ok (on_track h j) (beside_on j one)) in
           told.1 (in_map (wire_beside (groups_of g) j) (neighbours_of g.tables e.group) h beside);
-      inside = inside;
       from = live.labels j one;
       near = near;
-      is = is_wire_here g ok (on_track h j) (beside_on j one);
-      within = wire_within g ok (on_track h j) (beside_on j one);
+      some = let paid = wire_paid g.space (wire_beside (groups_of g) j h) (is_wire_here g ok (on_track h j) (beside_on j one)) in omega (arith, paid);
     })
+
+    pub beside_target : (j : ℕ) → bit_at e.tracks j ≡ 1 → IsTarget g h j (wire_beside (groups_of g) j h)
+    beside_target j one = record { on = beside_on j one; is = refl }
+
+    pub beside_step : (w : Wave) (is : Group) → is ≡ group_at (groups_of g) e.group → IsLive g w e → e.label < FAR → (j : ℕ) → bit_at e.tracks j ≡ 1 → IsInside g.space (wire_beside (groups_of g) j h)
+        → IsStep g w e.label (wire_beside (groups_of g) j h) (is.base + j * is.stride)
+    beside_step w is at live near j one inside =
+        let from = beside_from w is at live near j one in
+        record {
+          edge = from.edge;
+          inside = inside;
+          from = from.from;
+          near = near;
+          is = is_wire_here g ok (on_track h j) (beside_on j one);
+          within = wire_within g ok (on_track h j) (beside_on j one);
+        }

@@ -68,9 +68,20 @@ best_same g s t origins at same best = record {
   ];
 }
 
-module _ (g : Ground) (ok : IsGround g) (s : Wave) (wave : IsWave g s) (label node parent : ℕ) (from : IsFrom g s label parent node) (inside : IsInside g.space node) where
+module _ (g : Ground) (ok : IsGround g) (s : Wave) (wave : IsWave g s) (label node parent : ℕ) (from : IsFrom g s label parent node) where
   row_in : node < length s.labels
   row_in = let rows = wave.rows in let lt = ok.space.range parent node from.edge in omega (arith, rows, lt)
+
+  -- a node that has a label already, and is no start, is inside the box
+  inside_kept : cost_at s node < FAR → 0 < cost_at s node → IsInside g.space node
+  inside_kept near some = elim (wave.entered node near) [
+    | inl o ↦ absurd (let zero = o.0 in omega (arith, zero, some))
+    | inr e ↦ e.inside
+  ]
+
+  -- outside the box nothing is owed
+  pub entered_outside : (IsInside g.space node → ⊥) → Enters g s s label node
+  entered_outside off = record { spreads = spreads_refl g s wave; went = λ inside. absurd (off inside) }
 
   entered_stays : cost_at s node ≤ label + entry_cost g.space node → Enters g s s label node
   entered_stays low = record { spreads = spreads_refl g s wave; went = λ h. inr (omega (arith, low)) }
@@ -82,6 +93,7 @@ module _ (g : Ground) (ok : IsGround g) (s : Wave) (wave : IsWave g s) (label no
       let e = same.same in
       let fits = same.fits in
       let some = from.some in
+      let inside = inside_kept (omega (arith, e, fits, narrow)) (omega (arith, e, sum, some, fits)) in
       let low = set_keeps g s t node _ same.set row_in e (omega (arith, sum, some, fits)) in
       let costs : (v : ℕ) → cost_at t v ≡ cost_at s v = λ v. elim (cases_eq v node) [
         | inl f ↦ rw f (ap (λ l. l.cost) (label_here g s t node _ same.set row_in) ∙ e)

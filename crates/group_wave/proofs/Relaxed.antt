@@ -8,7 +8,7 @@ use Rattle.wavefront.proofs.WaysLeft.{wire_paid}
 use Rattle.wave_ground.specs.kept.Grounds.{Ground, IsGround}
 use Rattle.wave_queue.specs.kept.Queues.{Waiting}
 use Rattle.group_wave.specs.kept.Wave.{AreTracks, IsBound, IsOf, IsWave, WentOn, cost_at, weight_of, work_of}
-use Rattle.group_wave.specs.kept.Steps.{IsLabelled, IsNoted, IsPushed, IsStep, KeepsLabel, KeepsSinks, Lowers, RelaxesTrack, Spreads}
+use Rattle.group_wave.specs.kept.Steps.{Enters, IsLabelled, IsNoted, IsPushed, IsStep, KeepsLabel, KeepsSinks, Lowers, RelaxesTrack, Spreads}
 use Rattle.group_wave.proofs.Lower.{keeps, label_here, label_there, lowers_then, set_enters, set_keeps, set_lowers, set_same_work, set_wave, set_work, still_open}
 use Rattle.group_wave.proofs.Noted.{noted_label, noted_lowers, noted_sinks, noted_wave, noted_work}
 use Rattle.group_wave.proofs.Pushed.{new_wait, pushed_cost, pushed_label, pushed_wave, pushed_work}
@@ -186,3 +186,7 @@ track_spreads g s t label least wire step = record {
   work = let w = step.work in omega (arith, w);
   best = sinks_best g s t step.lowers.origins step.sinks;
 }
+
+-- so it was offered the way
+pub track_enters : (g : Ground) (s t : Wave) (label least wire : ℕ) → RelaxesTrack g s t label least wire false → Enters g s t label wire
+track_enters g s t label least wire step = record { spreads = track_spreads g s t label least wire step; went = λ inside. step.went }

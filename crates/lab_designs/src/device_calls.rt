@@ -64,7 +64,7 @@ fn make(
     out: &mut String,
 ) -> Result<(), Unanswered> {
     let [nx, ny, width, rest @ ..] = given else {
-        return Err(Unanswered::Misread("device NX NY W, or with `global` behind it"));
+        return Err(Unanswered::Misread("device NX NY W, or with `global` after it"));
     };
     let (Some(nx), Some(ny), Some(width)) = (number(nx), number(ny), number(width)) else {
         return Err(NO_NUMBER);

@@ -110,7 +110,7 @@ fn room(given: &[&str], out: &mut String) -> Result<Option<usize>, Unanswered> {
             Some(count) => Some(count as usize),
             None => return Err(NO_NUMBER),
         },
-        _ => return Err(Unanswered::Misread("the sink and `whole` or `failing N` behind it")),
+        _ => return Err(Unanswered::Misread("the sink and `whole` or `failing N` after it")),
     };
     put(out, "ok")?;
     Ok(room)

@@ -26,7 +26,7 @@ const ROUTE: &[u8] = b"route";
 
 /// The answer to a call of `report_run` with other words.
 const REPORT: Unanswered = Unanswered::Misread(
-    "report_run W, or with `global`, and then `full`, `map` and `json`, behind it",
+    "report_run W, or with `global`, and then `full`, `map` and `json`, after it",
 );
 
 /// Makes a call, and adds its answer.
@@ -118,7 +118,7 @@ fn run_explain(
     out: &mut String,
 ) -> Result<(), Unanswered> {
     let [width, rest @ ..] = given else {
-        return Err(Unanswered::Misread("explain_run W, or with `global` behind it"));
+        return Err(Unanswered::Misread("explain_run W, or with `global` after it"));
     };
     let asked = asked_device(width, rest)?;
     explain_design(rt, files, kept_routed(files)?, asked, out)

@@ -62,7 +62,7 @@ fn run_graph(
     out: &mut String,
 ) -> Result<(), Unanswered> {
     let [nx, ny, width, rest @ ..] = given else {
-        return Err(Unanswered::Misread("graph_run NX NY W, or with `global` behind it"));
+        return Err(Unanswered::Misread("graph_run NX NY W, or with `global` after it"));
     };
     let (nx, ny) = (array_side(nx)?, array_side(ny)?);
     let AskedDevice { width, mode } = asked_device(width, rest)?;
@@ -127,7 +127,7 @@ fn run_route(
 ) -> Result<(), Unanswered> {
     let [width, workers, rest @ ..] = given else {
         return Err(Unanswered::Misread(
-            "route_run W WORKERS, or with `global` and a gate behind it",
+            "route_run W WORKERS, or with `global` and a gate after it",
         ));
     };
     let (width, workers) = (channel_width(width)?, worker_count(workers)?);
@@ -192,7 +192,7 @@ fn run_width(
 ) -> Result<(), Unanswered> {
     let [start, workers, rest @ ..] = given else {
         return Err(Unanswered::Misread(
-            "width_run START WORKERS, or with `global` and a gate behind it",
+            "width_run START WORKERS, or with `global` and a gate after it",
         ));
     };
     let (width, workers) = (channel_width(start)?, worker_count(workers)?);
@@ -262,7 +262,7 @@ fn run_check(
     out: &mut String,
 ) -> Result<(), Unanswered> {
     let [width, rest @ ..] = given else {
-        return Err(Unanswered::Misread("check_run W, or with `global` behind it"));
+        return Err(Unanswered::Misread("check_run W, or with `global` after it"));
     };
     let asked = asked_device(width, rest)?;
     check_design(rt, files, kept_routed(files)?, asked, out)

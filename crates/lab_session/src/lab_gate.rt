@@ -14,7 +14,7 @@ use std::time::Clock;
 
 /// The syntax of a gate.
 const GATES: &str =
-    "the call and no gate, or `open`, `meeting N`, `holding W`, `counting` or `timing` behind it";
+    "the call and no gate, or `open`, `meeting N`, `holding W`, `counting` or `timing` after it";
 
 /// The gate that the last words of a call name.
 #[derive(Clone, Copy)]

@@ -6,7 +6,7 @@ use rr_graph::Mode;
 use std::alloc::Global;
 
 /// The answer to a call with words that takes none.
-pub const NO_WORDS: Unanswered = Unanswered::Misread("the call with no word behind it");
+pub const NO_WORDS: Unanswered = Unanswered::Misread("the call with no word after it");
 
 /// The answer to a call with a word that should be a number and isn't.
 pub const NO_NUMBER: Unanswered = Unanswered::Misread("a number below 2^32 in each place of one");
@@ -85,7 +85,7 @@ pub fn number_list(alloc: Global, given: &[&str]) -> Result<Vec<u32>, Unanswered
 pub fn text_below<'a>(call: Call<'a>) -> Result<&'a str, Unanswered> {
     match call.given {
         [word] if *word == BELOW => text_of(call.text),
-        _ => Err(Unanswered::Misread("the call with `<<` behind it, and a text below")),
+        _ => Err(Unanswered::Misread("the call with `<<` after it, and a text below")),
     }
 }
 
@@ -101,7 +101,7 @@ pub fn text_of(text: &[u8]) -> Result<&str, Unanswered> {
 pub fn one<'a>(given: &[&'a str]) -> Result<&'a str, Unanswered> {
     match given {
         [word] => Ok(*word),
-        _ => Err(Unanswered::Misread("the call with one word behind it")),
+        _ => Err(Unanswered::Misread("the call with one word after it")),
     }
 }
 

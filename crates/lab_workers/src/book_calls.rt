@@ -14,7 +14,7 @@ use rr_graph::Problem;
 use std::alloc::Global;
 
 /// The syntax of a commit.
-pub const COMMIT: &str = "commit WORKER NET, or with the words of a tree behind it";
+pub const COMMIT: &str = "commit WORKER NET, or with the words of a tree after it";
 
 /// Makes a call, and adds its answer.
 pub fn call(

@@ -203,9 +203,18 @@ fn call_with_one<G: Gate>(
     number: u32,
 ) -> Result<(), Unanswered> {
     match name {
-        "closed" => gate.closed(number, passed.book()?),
+        "closed" => return close(gate, number, passed.book()?),
         _ => gate.tries(number),
     }
+    Ok(())
+}
+
+/// Tells a gate that an iteration was closed, if the book has a row for each so far.
+fn close<G: Gate>(gate: &G, iteration: u32, book: &Book) -> Result<(), Unanswered> {
+    if book.rows().len() != iteration as usize {
+        return Err(Unanswered::Misread(BOTH));
+    }
+    gate.closed(iteration, book);
     Ok(())
 }
 

@@ -105,11 +105,7 @@ fn make_iteration(
     call: Call<'_>,
     out: &mut String,
 ) -> Result<(), Unanswered> {
-    let asked = asked_iteration(
-        settings,
-        call,
-        "iterate K WORKERS, or with a gate behind it",
-    )?;
+    let asked = asked_iteration(settings, call, "iterate K WORKERS, or with a gate after it")?;
     let gate = LabGate::new(rt, asked.gate, net_count(book)?)?;
     iterate_under(rt, book, &asked, &gate, out)
 }
@@ -202,7 +198,7 @@ fn make_iteration_in(
     let asked = asked_iteration(
         settings,
         call,
-        "iterate_in K WORKERS, or with a gate behind it",
+        "iterate_in K WORKERS, or with a gate after it",
     )?;
     let gate = LabGate::new(rt, asked.gate, net_count(book)?)?;
     iterate_in_under(rt, book, workspace, &asked, &gate, out)

@@ -56,7 +56,7 @@ fn negotiate_routing(
     out: &mut String,
 ) -> Result<(), Unanswered> {
     let [workers, rest @ ..] = given else {
-        return Err(Unanswered::Misread("negotiate WORKERS, or with a gate behind it"));
+        return Err(Unanswered::Misread("negotiate WORKERS, or with a gate after it"));
     };
     let workers = worker_count(workers)?;
     let words = gate_words(rest, workers)?;
@@ -130,7 +130,7 @@ fn search_widths(
 ) -> Result<(), Unanswered> {
     let [start, workers, rest @ ..] = given else {
         return Err(Unanswered::Misread(
-            "least_width START WORKERS, or with `global` and a gate behind it",
+            "least_width START WORKERS, or with `global` and a gate after it",
         ));
     };
     let (width, workers) = (channel_width(start)?, worker_count(workers)?);

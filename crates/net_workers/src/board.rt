@@ -1,10 +1,11 @@
 //! What the workers of an iteration share without a lock.
 
-ghost use Rattle.std.specs.Prelude.{◌↔◌, ◌≡◌, ◌<◌, length, Err, IfOk};
+ghost use Rattle.std.specs.Prelude.{◌↔◌, ◌≡◌, ◌<◌, ◌≤◌, length, Err, IfOk};
 ghost use Rattle.routing_problem.specs.Nodes.{node_count_of};
 ghost use Rattle.route_tree.specs.TreeLists.{list_of_tree, lists_of_trees};
 ghost use Rattle.route_tree.specs.Usage.{list_in};
 ghost use Rattle.congestion_book.specs.Contents.{net_count, node_total};
+ghost use Rattle.net_workers.specs.kept.Looks.{greatest_looks};
 ghost use Rattle.wavefront.specs.Growth.{IsAnswer, RoutesIfFound, space_of};
 ghost use Rattle.wavefront.specs.declared.search_outcome.SearchFault.TheVariants.{ViewSize};
 
@@ -107,7 +108,9 @@ impl<'a, L: Logged> Board<'a, L> {
     }
 
     /// Returns how many times a worker may look again at a net that it holds.
-    pub(crate) fn looks(&self) -> u32 {
+    pub(crate) fn looks(&self) -> u32
+        ensures { result ≤ greatest_looks }
+    {
         self.options.looks
     }
 

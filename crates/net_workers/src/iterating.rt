@@ -1,6 +1,6 @@
 //! An iteration of several workers on one book.
 
-ghost use Rattle.std.specs.Prelude.{◌≡◌, ◌<◌, ◌≤◌, true, map, [], vec_len, IfOk, IfErr};
+ghost use Rattle.std.specs.Prelude.{◌≡◌, ◌≢◌, ◌<◌, ◌≤◌, true, map, [], vec_len, IfOk, IfErr};
 ghost use Rattle.node_cost.specs.Options.{present_of, most_iterations, most_workers};
 ghost use Rattle.congestion_book.specs.Contents.{IsSound, IsFresh};
 ghost use Rattle.net_workers.specs.declared.fault.WorkFault.TheVariants.{NoThread};
@@ -94,6 +94,21 @@ fn book_and_reports<L: Logged, G: Gate>(
     Ok((book, reports))
 }
 
+/// Tests that as many workers worked as there are.
+///
+/// # Errors
+/// `NoThread` exactly if not.
+fn test_all_worked(worked: usize, workers: usize) -> Result<(), WorkFault>
+    ensures all { IfOk result (λ _. worked ≡ workers) }
+    ensures missing { IfErr result (λ fault. (fault ≡ NoThread) × (worked ≢ workers)) }
+{
+    if worked == workers {
+        Ok(())
+    } else {
+        Err(WorkFault::NoThread)
+    }
+}
+
 /// Lets workers work at a desk, each in a thread, until no net is left or the turns of the course
 /// are made. They leave their tools.
 fn work_together<L: Logged + Send + Sync, R: Threads + Wait + Sync, G: Gate + Sync>(
@@ -109,9 +124,7 @@ fn work_together<L: Logged + Send + Sync, R: Threads + Wait + Sync, G: Gate + Sy
     let all = workers.len();
     let desk = Mutex::new(desk);
     let results = run_all(rt, searcher, &desk, course, workers)?;
-    if results.len() != all {
-        return Err(WorkFault::NoThread);
-    }
+    test_all_worked(results.len(), all)?;
     dismiss_all(results, tools)?;
     Ok(desk.into_inner())
 }

@@ -6,7 +6,7 @@ ghost use Rattle.node_cost.specs.Options.{greatest_present, present_of, most_ite
 ghost use Rattle.wavefront.specs.Growth.{space_of};
 ghost use Rattle.net_workers.specs.Searches.{IsFoundIn};
 ghost use Rattle.net_workers.specs.kept.Routes.{RoutesNet};
-ghost use Rattle.net_workers.specs.kept.Looks.{most_looks};
+ghost use Rattle.net_workers.specs.kept.Looks.{greatest_looks, most_looks};
 ghost use Rattle.net_workers.specs.declared.fault.TurnFault.TheVariants.{Memory};
 
 use crate::board::Board;
@@ -35,6 +35,19 @@ pub(crate) struct SearchOptions {
     pub(crate) looks: u32,
     pub(crate) ghost present_within: { present ≤ greatest_present },
     pub(crate) ghost bb_within: { (1 ≤ bb) × (bb ≤ 255) },
+    pub(crate) ghost looks_within: { looks ≤ greatest_looks },
+}
+
+/// Returns how many times one of this many workers may look again at a net, in an iteration.
+fn looks_of(iteration: u32, workers: u32) -> u32
+    ensures exact { result ≡ most_looks iteration workers }
+    ensures few { result ≤ greatest_looks }
+{
+    if iteration == 1 || workers == 1 {
+        0
+    } else {
+        MOST_LOOKS
+    }
 }
 
 impl SearchOptions {
@@ -53,11 +66,7 @@ impl SearchOptions {
             present: settings.present(iteration),
             bb: settings.bb(),
             is_steady: settings.is_steady(),
-            looks: if iteration == 1 || workers == 1 {
-                0
-            } else {
-                MOST_LOOKS
-            },
+            looks: looks_of(iteration, workers),
         }
     }
 }

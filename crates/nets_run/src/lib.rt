@@ -5,4 +5,4 @@
 mod lines;
 mod run;
 
-pub use run::nets_run;
+pub use run::{NetsOptions, nets_run};

@@ -15,6 +15,13 @@ use std::alloc::Global;
 use text_output::{ByteSink, Printer};
 use vpr_text::ByteSource;
 
+/// The device on which nets are placed: the tracks of each channel, and the mode.
+#[derive(Clone, Copy, Debug)]
+pub struct NetsOptions {
+    pub width: u32,
+    pub mode: Mode,
+}
+
 /// Prints the lines of the nets of a problem. It has at least one.
 fn print_lines<W: ByteSink>(
     netlist: &Netlist<'_>,
@@ -62,17 +69,16 @@ pub fn nets_run<N: ByteSource, A: ByteSource, P: ByteSource, W: ByteSink>(
     arch: &mut A,
     place: &mut P,
     out: &mut W,
-    width: u32,
-    mode: Mode,
+    options: NetsOptions,
 ) -> Result<(), AppFault>
-    requires tracks { (1 ≤ width) × (width ≤ most_tracks) }
+    requires tracks { (1 ≤ options.width) × (options.width ≤ most_tracks) }
     // The files decide. If they give a placed design, the lines of its nets are printed.
     ensures runs { result ≢ Err AppFault.Memory
         → MeetsDesign (reading (A.remaining arch.old) (A.failed arch.new))
         (reading (N.remaining net.old) (N.failed net.new))
         (reading (P.remaining place.old) (P.failed place.new))
         (λ files. RunsNets (writing_to W.taken W.failed out.old out.new)
-        (design_in width mode files) result) }
+        (design_in options.width options.mode files) result) }
     // Nothing is written if memory runs out.
     ensures memory { result ≡ Err AppFault.Memory
         → TakesNothing (writing_to W.taken W.failed out.old out.new) }
@@ -81,6 +87,6 @@ pub fn nets_run<N: ByteSource, A: ByteSource, P: ByteSource, W: ByteSink>(
     ensures place { ends_before InputFile.Place result ≡ true → place.new ≡ place.old }
 {
     let text = NetlistText::read(alloc, arch, net)?;
-    let design = Design::read(alloc, &text, place, width, mode)?;
+    let design = Design::read(alloc, &text, place, options.width, options.mode)?;
     print_nets(&design, out)
 }

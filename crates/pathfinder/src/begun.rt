@@ -28,13 +28,28 @@ pub struct OpenedRouting {
     pub route: Input,
 }
 
-/// The names of a run's files, the opened files of its design, and the bytes of the schedule that
-/// it follows, if it follows one.
+/// The names of a run's files, and the bytes of the schedule that it follows, if it follows one.
+#[derive(Drop)]
+pub struct RunTexts {
+    pub names: ShownNames,
+    followed: Option<Vec<u8>>,
+}
+
+impl RunTexts {
+    /// Returns the bytes of the schedule that the run follows, if it follows one.
+    pub fn followed_bytes(&self) -> Option<&[u8]> {
+        match &self.followed {
+            Some(bytes) => Some(bytes.as_slice()),
+            None => None,
+        }
+    }
+}
+
+/// The texts of a run, and the opened files of its design.
 #[derive(Drop)]
 pub struct OpenedRun {
-    pub names: ShownNames,
+    pub texts: RunTexts,
     pub design: OpenedDesign,
-    pub followed: Option<Vec<u8>>,
 }
 
 /// Opens the files of a design: NET, ARCH and PLACE, before ROUTE. `further` names the other files
@@ -103,10 +118,10 @@ pub fn begin_run(
         follow: words.follow,
     };
     let OpenedNames { names, design } = begin(rt, files, further, is_explained)?;
+    let followed = read_followed(rt, words.follow)?;
     Ok(OpenedRun {
-        names,
+        texts: RunTexts { names, followed },
         design,
-        followed: read_followed(rt, words.follow)?,
     })
 }
 

@@ -7,17 +7,16 @@ ghost use Rattle.rr_graph.specs.node.Mode.TheVariants.{Detailed, Global};
 use crate::begun::OpenedRouting;
 use crate::opened::{Input, OpenedDesign};
 use crate::shown::PlainWriter;
-use crate::terminal::{Watched, output};
+use crate::terminal::{Screen, Watched, output};
 use crate::written::{paths_of, written_file};
 use bound_run::bound_run;
 use command_line::command::{BoundWords, CheckWords, GraphWords, NetsWords, ReportWords};
-use nets_run::nets_run;
+use nets_run::{NetsOptions, nets_run};
 use report_run::{ReportForm, report_run};
 use route_check::RouteFault;
 use route_explain::explain_run;
 use rr_graph::Mode;
 use run_inputs::AppFault;
-use run_log::Progress;
 use runs::{check_run, graph_run};
 use std::io;
 use std::io::Write;
@@ -117,38 +116,34 @@ pub fn report(
 
 /// Runs the `bound` command.
 pub fn bound<'a>(
-    rt: &'a HostRuntime,
+    screen: &'a Screen<'a>,
     given: BoundWords<'a>,
     design: &mut OpenedDesign,
-    progress: &'a Progress<'a, HostRuntime>,
-    watched: Watched,
 ) -> Result<(), AppFault> {
     if let Some(name) = given.cut {
         let files = paths_of(given.net, given.arch, given.place, name);
-        return certify(rt, files, design, progress, watched);
+        return certify(screen, files, design);
     }
-    let mut out = Adapted::new(output(rt, watched));
+    let mut out = Adapted::new(output(screen.rt, screen.watched));
     bound_run(
-        rt.alloc(),
+        screen.rt.alloc(),
         &mut design.net,
         &mut design.arch,
         &mut design.place,
         &mut Adapted::new(io::sink()),
         &mut out,
-        false,
     )
 }
 
 /// Runs the `bound` command with a certificate. Its name comes after those of the inputs.
 fn certify<'a>(
-    rt: &'a HostRuntime,
+    screen: &'a Screen<'a>,
     files: [&'a str; 4],
     design: &mut OpenedDesign,
-    progress: &'a Progress<'a, HostRuntime>,
-    watched: Watched,
 ) -> Result<(), AppFault> {
-    let mut cut = written_file(rt, progress, files, None)?;
-    let mut out = Adapted::new(output(rt, watched));
+    let rt = screen.rt;
+    let mut cut = written_file(rt, &screen.progress, files, None)?;
+    let mut out = Adapted::new(output(rt, screen.watched));
     bound_run(
         rt.alloc(),
         &mut design.net,
@@ -156,7 +151,6 @@ fn certify<'a>(
         &mut design.place,
         &mut cut,
         &mut out,
-        true,
     )?;
     cut.finish().map_err(|_| AppFault::Unwritten)
 }
@@ -196,14 +190,16 @@ pub fn nets(
     requires { (1 ≤ given.width) × (given.width ≤ most_tracks) }
 {
     let mut out = Adapted::new(output(rt, watched));
-    let (width, mode) = (given.width, mode_of(given.global));
+    let options = NetsOptions {
+        width: given.width,
+        mode: mode_of(given.global),
+    };
     nets_run(
         rt.alloc(),
         &mut design.net,
         &mut design.arch,
         &mut design.place,
         &mut out,
-        width,
-        mode,
+        options,
     )
 }

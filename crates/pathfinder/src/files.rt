@@ -6,7 +6,7 @@ ghost use Rattle.std.specs.Prelude.{◌≡◌, None};
 use crate::identity::{STANDARD_ERROR, STANDARD_OUTPUT, leads_to};
 use crate::replacement::{Replacement, begin_replacement, replacement_of};
 use crate::shown::{Plain, PlainWriter};
-use crate::target::{LateSink, Target};
+use crate::target::{LateSink, StandardStream, Target};
 use run_log::Progress;
 use runs::WholeSink;
 use std::fs;
@@ -19,33 +19,8 @@ use vpr_text::{Broken, ByteSink};
 /// The greatest number of bytes of a file that can be read.
 const MOST_BYTES: u64 = 16_777_216;
 
-/// A standard stream, as the target of a file or of words.
-#[derive(Drop)]
-pub enum Stream {
-    /// Standard output, which goes to the file.
-    Output(Stdout),
-    /// Standard error, which goes to the file.
-    Error(Stderr),
-    /// Words on standard error.
-    Words(PlainWriter<Stderr>),
-}
-
-impl Write for Stream {
-    fn write(&mut self, bytes: &[u8]) -> Result<usize> {
-        match self {
-            Stream::Output(stream) => stream.write(bytes),
-            Stream::Error(stream) => stream.write(bytes),
-            Stream::Words(stream) => stream.write(bytes),
-        }
-    }
-
-    fn flush(&mut self) -> Result<()> {
-        Ok(())
-    }
-}
-
 /// Where the bytes of a run's file go.
-type FileTarget = Target<File, Stream>;
+type FileTarget = Target<File, StandardStream<Stdout, Stderr, PlainWriter<Stderr>>>;
 
 /// Creates a file, or empties the one that is there. Opens a pipe without waiting for a reader.
 #[inline(never)]
@@ -105,10 +80,10 @@ fn begin_file(
         return Ok(Target::InPlace(fs::create(rt, name)?));
     }
     if leads_to(rt, STANDARD_OUTPUT, &found) {
-        return Ok(Target::Stream(Stream::Output(rt.stdout())));
+        return Ok(Target::Stream(StandardStream::Output(rt.stdout())));
     }
     if leads_to(rt, STANDARD_ERROR, &found) {
-        return Ok(Target::Stream(Stream::Error(rt.stderr())));
+        return Ok(Target::Stream(StandardStream::Error(rt.stderr())));
     }
     // A file that may not be written isn't replaced either.
     let _ = OpenOptions::new().write(true).open(rt, name)?;
@@ -247,7 +222,7 @@ impl<'a> RunFile<'a> {
             Some(name) => begin_file(self.rt, name.as_str(), self.replacement.as_mut()),
             None => {
                 let words = PlainWriter::new(self.rt.stderr(), true);
-                Ok(Target::Stream(Stream::Words(words)))
+                Ok(Target::Stream(StandardStream::Words(words)))
             }
         }
     }

@@ -34,7 +34,6 @@ use names::{FurtherNames, ShownNames};
 use opened::{Input, open, standard_input};
 use refusals::tell_vpr_options;
 use run_inputs::{AppFault, InputFile, status};
-use run_log::Progress;
 use runs::{outcome_status, report_status, verdict_status};
 use std::io::{IsTerminal, Write};
 use std::process::ExitCode;
@@ -42,7 +41,7 @@ use std::rt::Runtime;
 use std::sync::Wait;
 use std::thread::Threads;
 use std::{env, io};
-use terminal::{Watched, columns, output, takes_lines_back};
+use terminal::{Screen, Watched, output};
 
 /// The exit status of an invalid command line.
 const BAD_WORDS: u8 = 2;
@@ -106,32 +105,17 @@ fn run_route<R: Runtime + Threads + Wait + Sync + AllocGlobal>(
         return BAD_WORDS;
     };
     let (is_explained, follow) = (watched.explains(words.explain), words.follow);
-    let OpenedRun {
-        names,
-        mut design,
-        followed,
-    } = match begin_run(rt, &words, is_explained) {
+    let OpenedRun { texts, mut design } = match begin_run(rt, &words, is_explained) {
         Ok(opened) => opened,
         Err(status) => return status,
     };
-    let progress = progress_on(rt, watched);
-    let followed = bytes_of(&followed);
-    let answer = negotiations::route(
-        handle,
-        rt,
-        words,
-        given,
-        &names,
-        &mut design,
-        followed,
-        &progress,
-        watched,
-    );
-    progress.end();
+    let screen = Screen::new(rt, watched);
+    let answer = negotiations::route(handle, &screen, words, given, &texts, &mut design);
+    screen.progress.end();
     match answer {
         Ok(outcome) => outcome_status(&outcome),
         Err(fault) => {
-            let files = read_of(&names, &design, &[]);
+            let files = read_of(&texts.names, &design, &[]);
             refused_run(rt, fault, follow, is_explained, files)
         }
     }
@@ -149,42 +133,19 @@ fn run_width<R: Runtime + Threads + Wait + Sync + AllocGlobal>(
         return BAD_WORDS;
     };
     let (is_explained, follow) = (watched.explains(words.explain), words.follow);
-    let OpenedRun {
-        names,
-        mut design,
-        followed,
-    } = match begin_run(rt, &words, is_explained) {
+    let OpenedRun { texts, mut design } = match begin_run(rt, &words, is_explained) {
         Ok(opened) => opened,
         Err(status) => return status,
     };
-    let progress = progress_on(rt, watched);
-    let followed = bytes_of(&followed);
-    let answer = negotiations::width(
-        handle,
-        rt,
-        words,
-        given,
-        &names,
-        &mut design,
-        followed,
-        &progress,
-        watched,
-    );
-    progress.end();
+    let screen = Screen::new(rt, watched);
+    let answer = negotiations::width(handle, &screen, words, given, &texts, &mut design);
+    screen.progress.end();
     match answer {
         Ok(report) => report_status(&report),
         Err(fault) => {
-            let files = read_of(&names, &design, &[]);
+            let files = read_of(&texts.names, &design, &[]);
             refused_run(rt, fault, follow, is_explained, files)
         }
-    }
-}
-
-/// Returns the bytes of a file, if there is one.
-fn bytes_of(file: &Option<Vec<u8>>) -> Option<&[u8]> {
-    match file {
-        Some(bytes) => Some(bytes.as_slice()),
-        None => None,
     }
 }
 
@@ -260,8 +221,8 @@ fn run_bound(rt: &HostRuntime, given: &ArgMatches<'_>, watched: Watched) -> u8 {
         Ok(opened) => opened,
         Err(status) => return status,
     };
-    let progress = progress_on(rt, watched);
-    match commands::bound(rt, given, &mut design, &progress, watched) {
+    let screen = Screen::new(rt, watched);
+    match commands::bound(&screen, given, &mut design) {
         Ok(()) => 0,
         Err(fault) => refused_with(rt, fault, is_explained, read_of(&names, &design, &[])),
     }
@@ -364,17 +325,5 @@ fn explained(rt: &HostRuntime, error: &ClapError, words: &[String], watched: Wat
             tell_vpr_options(rt, words);
             BAD_WORDS
         }
-    }
-}
-
-/// Returns the progress of a run. It is shown if standard error is a terminal on which a line can
-/// be taken back.
-fn progress_on(rt: &HostRuntime, watched: Watched) -> Progress<'_, HostRuntime> {
-    let is_wanted = watched.errors && takes_lines_back(rt);
-    let progress = Progress::new(rt, is_wanted).within(columns(rt));
-    if watched.output {
-        progress.without_trials()
-    } else {
-        progress
     }
 }

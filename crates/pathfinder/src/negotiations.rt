@@ -6,16 +6,16 @@ ghost use Rattle.node_cost.specs.Options.{most_workers};
 ghost use Rattle.runs.specs.declared.plan.WidthPlan.TheVariants.{Search, Upward};
 ghost use Rattle.runs.specs.WidthRun.{start_of};
 
+use crate::begun::RunTexts;
 use crate::commands::mode_of;
 use crate::files::{BehindProgress, RunFile};
-use crate::names::ShownNames;
 use crate::opened::OpenedDesign;
 use crate::run_gates::RunGates;
 use crate::schedule::{
     InputSums, RunFault, ScheduleGates, route_text, schedule_in, width_text, workers_of,
 };
 use crate::side::{RestFile, TrialFiles, free_name, log_sink, others_of};
-use crate::terminal::{Watched, output};
+use crate::terminal::{Screen, output};
 use crate::written::{paths_of, written_file};
 use command_line::command::{RouteWords, RunWords, WidthWords};
 use command_line::help::VERSION;
@@ -24,7 +24,7 @@ use net_workers::Gate;
 use node_cost::Settings;
 use rr_graph::Mode;
 use run_inputs::AppFault;
-use run_log::{Log, LogHead, Progress};
+use run_log::{Log, LogHead};
 use run_schedule::Summed;
 use runs::{SideFiles, WidthPlan, route_run, width_run};
 use std::rt::Runtime;
@@ -81,22 +81,20 @@ where
 /// closed.
 pub fn route<'a, R: Runtime + Threads + Wait + Sync + AllocGlobal>(
     handle: &'a R,
-    rt: &'a HostRuntime,
+    screen: &'a Screen<'a>,
     words: RunWords<'a>,
     given: RouteWords<'a>,
-    names: &'a ShownNames,
+    texts: &'a RunTexts,
     design: &mut OpenedDesign,
-    followed_bytes: Option<&'a [u8]>,
-    progress: &'a Progress<'a, HostRuntime>,
-    watched: Watched,
 ) -> Result<Outcome, RunFault>
     requires tracks { (1 ≤ given.width) × (given.width ≤ most_tracks) }
     requires workers { (1 ≤ words.workers) × (words.workers ≤ most_workers) }
 {
+    let (rt, progress) = (screen.rt, &screen.progress);
     let files = paths_of(words.net, words.arch, words.place, words.route);
     let mut route = written_file(rt, progress, files, words.follow)?;
-    let mut out = Adapted::new(BehindProgress::new(output(rt, watched), progress));
-    let schedule = schedule_in(rt.alloc(), followed_bytes, words.workers)?;
+    let mut out = Adapted::new(BehindProgress::new(output(rt, screen.watched), progress));
+    let schedule = schedule_in(rt.alloc(), texts.followed_bytes(), words.workers)?;
     let (workers, settings) = (workers_of(&schedule, words.workers), words.settings);
     let (width, mode) = (given.width, mode_of(words.global));
     let command = route_text(rt.alloc(), width, mode, settings.is_steady())?;
@@ -112,11 +110,11 @@ pub fn route<'a, R: Runtime + Threads + Wait + Sync + AllocGlobal>(
     );
     let head = LogHead {
         program: VERSION,
-        files: names.files(recorded.is_some()),
+        files: texts.names.files(recorded.is_some()),
         workers,
         settings,
     };
-    let log = Log::new(handle, names.log(), head, sink);
+    let log = Log::new(handle, texts.names.log(), head, sink);
     let rest = RestFile {
         rt,
         name: free_name(
@@ -201,22 +199,20 @@ where
 /// Runs the `width` command. Its files were opened like those of `route`.
 pub fn width<'a, R: Runtime + Threads + Wait + Sync + AllocGlobal>(
     handle: &'a R,
-    rt: &'a HostRuntime,
+    screen: &'a Screen<'a>,
     words: RunWords<'a>,
     given: WidthWords<'a>,
-    names: &'a ShownNames,
+    texts: &'a RunTexts,
     design: &mut OpenedDesign,
-    followed_bytes: Option<&'a [u8]>,
-    progress: &'a Progress<'a, HostRuntime>,
-    watched: Watched,
 ) -> Result<WidthReport, RunFault>
     requires start { (1 ≤ given.start) × (given.start ≤ most_tracks) }
     requires workers { (1 ≤ words.workers) × (words.workers ≤ most_workers) }
 {
+    let (rt, progress) = (screen.rt, &screen.progress);
     let files = paths_of(words.net, words.arch, words.place, words.route);
     let mut route = written_file(rt, progress, files, words.follow)?;
-    let mut out = Adapted::new(BehindProgress::new(output(rt, watched), progress));
-    let schedule = schedule_in(rt.alloc(), followed_bytes, words.workers)?;
+    let mut out = Adapted::new(BehindProgress::new(output(rt, screen.watched), progress));
+    let schedule = schedule_in(rt.alloc(), texts.followed_bytes(), words.workers)?;
     let (workers, settings) = (workers_of(&schedule, words.workers), words.settings);
     let plan = plan_of(given.start, given.upward, given.verify, !given.no_bound);
     let mode = mode_of(words.global);
@@ -233,11 +229,11 @@ pub fn width<'a, R: Runtime + Threads + Wait + Sync + AllocGlobal>(
     );
     let head = LogHead {
         program: VERSION,
-        files: names.files(recorded.is_some()),
+        files: texts.names.files(recorded.is_some()),
         workers,
         settings,
     };
-    let log = Log::new(handle, names.log(), head, sink);
+    let log = Log::new(handle, texts.names.log(), head, sink);
     let kept = TrialFiles {
         rt,
         prefix: given.keep,

@@ -5,6 +5,35 @@ ghost use Rattle.std.specs.Prelude.{◌≡◌, option_and_then, true};
 use std::io::{Result, Write};
 use vpr_text::{Broken, ByteSink};
 
+/// A standard stream, as the target of a file or of words.
+#[derive(Drop)]
+pub enum StandardStream<O, E, W> {
+    /// Standard output, which goes to the file.
+    Output(O),
+    /// Standard error, which goes to the file.
+    Error(E),
+    /// Words on standard error.
+    Words(W),
+}
+
+impl<O: Write, E: Write, W: Write> Write for StandardStream<O, E, W> {
+    ghost use Rattle.pathfinder.specs.kept.Targets.{stream_contents};
+
+    ghost contents = { stream_contents O.contents E.contents W.contents };
+
+    fn write(&mut self, bytes: &[u8]) -> Result<usize> {
+        match self {
+            StandardStream::Output(output) => output.write(bytes),
+            StandardStream::Error(errors) => errors.write(bytes),
+            StandardStream::Words(words) => words.write(bytes),
+        }
+    }
+
+    fn flush(&mut self) -> Result<()> {
+        Ok(())
+    }
+}
+
 /// Where the bytes of a file go: to a file or to a standard stream.
 #[derive(Drop)]
 pub enum Target<F, S> {

@@ -73,7 +73,7 @@ impl<K: Key> Wave<K> {
     /// Offers the wires of a neighbour the way from tracks of an entry, if it is inside the net's
     /// box.
     #[inline(always)]
-    fn relax_beside(
+    fn expand_tracks_to_one(
         &mut self,
         ground: &Ground<'_>,
         entry: QueueEntry<K>,
@@ -99,7 +99,7 @@ impl<K: Key> Wave<K> {
 
     /// Offers them the way if fewer wires lead on from the neighbour than from the entry's group.
     #[inline(always)]
-    fn relax_nearer(
+    fn expand_tracks_if_nearer(
         &mut self,
         ground: &Ground<'_>,
         entry: QueueEntry<K>,
@@ -116,11 +116,11 @@ impl<K: Key> Wave<K> {
         if self.wires_left(ground, neighbour) >= wires {
             return Ok(());
         }
-        self.relax_beside(ground, entry, group, neighbour)
+        self.expand_tracks_to_one(ground, entry, group, neighbour)
     }
 
     /// Offers the wires of all neighbours the way.
-    fn relax_all(
+    fn expand_tracks(
         &mut self,
         ground: &Ground<'_>,
         entry: QueueEntry<K>,
@@ -134,7 +134,7 @@ impl<K: Key> Wave<K> {
     {
         let neighbours = ground.neighbours(entry.group);
         for neighbour in neighbours {
-            self.relax_beside(ground, entry, group, *neighbour)?;
+            self.expand_tracks_to_one(ground, entry, group, *neighbour)?;
         }
         Ok(())
     }
@@ -170,7 +170,7 @@ impl<K: Key> Wave<K> {
 
     /// Offers the wires of the neighbours at these places the way from the one track of an entry.
     #[inline(always)]
-    fn relax_unsettled(
+    fn expand_track_to_unsettled(
         &mut self,
         ground: &Ground<'_>,
         entry: QueueEntry<K>,
@@ -191,13 +191,13 @@ impl<K: Key> Wave<K> {
         let mut left = places;
         while left != 0 {
             let at = take_bit(&mut left);
-            self.relax_one(ground, entry, group, track, neighbours[at as usize])?;
+            self.expand_track_to_one(ground, entry, group, track, neighbours[at as usize])?;
         }
         Ok(())
     }
 
     /// Offers the wires of many neighbours the way from the one track of an entry.
-    fn relax_many(
+    fn expand_track_to_many(
         &mut self,
         ground: &Ground<'_>,
         entry: QueueEntry<K>,
@@ -213,13 +213,13 @@ impl<K: Key> Wave<K> {
             neighbours.now (length neighbours.now)) }
     {
         for neighbour in neighbours {
-            self.relax_one(ground, entry, group, track, *neighbour)?;
+            self.expand_track_to_one(ground, entry, group, track, *neighbour)?;
         }
         Ok(())
     }
 
     /// Offers the wires of all neighbours the way from the one track of an entry.
-    fn relax_all_alone(
+    fn expand_track(
         &mut self,
         ground: &Ground<'_>,
         entry: QueueEntry<K>,
@@ -235,14 +235,14 @@ impl<K: Key> Wave<K> {
     {
         let neighbours = ground.neighbours(entry.group);
         if neighbours.len() > 64 {
-            return self.relax_many(ground, entry, group, track, neighbours);
+            return self.expand_track_to_many(ground, entry, group, track, neighbours);
         }
         let places = self.unsettled(ground, entry, track, neighbours);
-        self.relax_unsettled(ground, entry, group, track, neighbours, places)
+        self.expand_track_to_unsettled(ground, entry, group, track, neighbours, places)
     }
 
     /// Offers the wires of all neighbours the way from the tracks of an entry.
-    fn relax_each(
+    fn expand_to_all(
         &mut self,
         ground: &Ground<'_>,
         entry: QueueEntry<K>,
@@ -255,13 +255,13 @@ impl<K: Key> Wave<K> {
             (length (neighbours_of ground.now.tables entry.group))) }
     {
         match only_bit(entry.tracks) {
-            Some(track) => self.relax_all_alone(ground, entry, group, track),
-            None => self.relax_all(ground, entry, group),
+            Some(track) => self.expand_track(ground, entry, group, track),
+            None => self.expand_tracks(ground, entry, group),
         }
     }
 
     /// Offers the way to the wires of the neighbours that lead on to fewer wires.
-    fn relax_all_nearer(
+    fn expand_tracks_to_nearer(
         &mut self,
         ground: &Ground<'_>,
         entry: QueueEntry<K>,
@@ -276,7 +276,7 @@ impl<K: Key> Wave<K> {
     {
         let neighbours = ground.neighbours(entry.group);
         for neighbour in neighbours {
-            self.relax_nearer(ground, entry, group, wires, *neighbour)?;
+            self.expand_tracks_if_nearer(ground, entry, group, wires, *neighbour)?;
         }
         Ok(())
     }
@@ -320,7 +320,7 @@ impl<K: Key> Wave<K> {
             (GoesOn ground.now self.old self.new (entry_of K.value entry)) }
     {
         self.reach_if_beside(ground, entry, wires)?;
-        self.relax_all_nearer(ground, entry, group, wires)?;
+        self.expand_tracks_to_nearer(ground, entry, group, wires)?;
         self.wait(QueueEntry {
             key: entry.label.plus(bound_over(wires)).plus(K::cut(WIRE)),
             label: entry.label,
@@ -345,6 +345,6 @@ impl<K: Key> Wave<K> {
             (GoesOn ground.now self.old self.new (entry_of K.value entry)) }
     {
         self.reach_if_beside(ground, entry, wires)?;
-        self.relax_each(ground, entry, group)
+        self.expand_to_all(ground, entry, group)
     }
 }

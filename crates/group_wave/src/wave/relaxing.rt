@@ -9,6 +9,7 @@ ghost use Rattle.wavefront.specs.kept.Spaces.{node_count};
 
 use super::{Wave, bound_over};
 use crate::labels::LabelRow;
+use routing_problem::Span;
 use std::alloc::AllocError;
 use track_groups::Group;
 use wave_ground::{Ground, WIRE};
@@ -63,7 +64,7 @@ impl<K: Key> Wave<K> {
     ghost use Rattle.wave_ground.specs.kept.Grounds.{IsGround, groups_of};
     ghost use Rattle.group_wave.specs.kept.Labels.{label_of};
     ghost use Rattle.group_wave.specs.kept.Wave.{IsBound, IsWave, cost_at, label_at};
-    ghost use Rattle.group_wave.specs.kept.Steps.{IsLive, IsNoted, IsOffer, IsStep, IsTarget, Relaxes, RelaxesSome, RelaxesTrack, Spreads, TookWires, WaitsFresh, fresh_entry, IsOut};
+    ghost use Rattle.group_wave.specs.kept.Steps.{Enters, IsFrom, IsLive, IsNoted, IsOffer, IsStep, IsTarget, Relaxes, RelaxesSome, RelaxesTrack, Spreads, TookWires, WaitsFresh, fresh_entry, IsOut};
     ghost use Rattle.wave_queue.specs.kept.Queues.{entry_of};
 
     /// Leaves out a way of this cost, if that is above the ceiling. Returns whether it is.
@@ -383,31 +384,61 @@ impl<K: Key> Wave<K> {
         })
     }
 
-    /// Offers a wire a way, if its label is not below the least that there can be. It waits by
-    /// itself if its label goes down.
+    /// Lowers a wire's label, and lets the wire wait by itself, if its group, which has this span,
+    /// is inside the net's box.
+    #[inline(always)]
+    fn lower_if_inside(
+        &mut self,
+        ground: &Ground<'_>,
+        step: Relaxing<K>,
+        to: Target,
+        span: Span,
+        cost: K,
+    ) -> Result<(), AllocError>
+        requires ground { IsGround ground.now }
+        requires wave { IsWave ground.now self.old }
+        requires from { IsFrom ground.now self.old (K.value step.label) to.parent to.wire }
+        requires to { IsTarget ground.now step.group to.track to.wire }
+        requires few { to.track < 64 }
+        requires span { span ≡ (group_at (groups_of ground.now) step.group).span }
+        requires cost { K.value cost ≡ K.value step.label + entry_cost ground.now.space to.wire }
+        requires fits { K.value cost < K.greatest }
+        requires less { K.value cost < cost_at self.old to.wire }
+        ensures { OnOk result (Enters ground.now self.old self.new (K.value step.label) to.wire) }
+    {
+        if !ground.is_span_inside(span) {
+            return Ok(());
+        }
+        self.lower_alone(ground, step, to, cost)
+    }
+
+    /// Offers a wire of a group of this span a way, if its label is not below the least that there
+    /// can be. It waits by itself if its label goes down. A wire outside the net's box keeps none:
+    /// that is tested last, since most wires are inside, and most labels stay.
     #[inline(always)]
     fn relax_alone(
         &mut self,
         ground: &Ground<'_>,
         step: Relaxing<K>,
         to: Target,
+        span: Span,
         row: LabelRow<K>,
     ) -> Result<(), AllocError>
         requires ground { IsGround ground.now }
         requires wave { IsWave ground.now self.old }
-        requires from { IsStep ground.now self.old (K.value step.label) to.wire to.parent }
+        requires from { IsFrom ground.now self.old (K.value step.label) to.parent to.wire }
         requires to { IsTarget ground.now step.group to.track to.wire }
         requires few { to.track < 64 }
+        requires span { span ≡ (group_at (groups_of ground.now) step.group).span }
         requires row { label_of K.value K.greatest row ≡ label_at self.old to.wire }
         requires fits { K.value row.cost ≤ K.greatest }
         requires least { K.value step.least ≡
             min (K.value step.label + least_wire_cost) K.greatest }
-        ensures { OnOk result (RelaxesTrack ground.now self.old self.new
-            (K.value step.label) (K.value step.least) to.wire false) }
+        ensures { OnOk result (Enters ground.now self.old self.new (K.value step.label) to.wire) }
     {
         let cost = label_by(ground, step, to.wire);
         if cost.is_below(row.cost) {
-            return self.lower_alone(ground, step, to, cost);
+            return self.lower_if_inside(ground, step, to, span, cost);
         }
         self.keep_least(to.wire, to.parent, row, cost);
         Ok(())
@@ -437,10 +468,9 @@ impl<K: Key> Wave<K> {
         row.cost.is_below(entry.label.plus(K::cut(WIRE)))
     }
 
-    /// Offers the wire of a neighbour the way from the one track of an entry, if it is inside the
-    /// net's box.
+    /// Offers the wire of a neighbour the way from the one track of an entry.
     #[inline(always)]
-    pub(super) fn relax_one(
+    pub(super) fn expand_track_to_one(
         &mut self,
         ground: &Ground<'_>,
         entry: QueueEntry<K>,
@@ -470,9 +500,6 @@ impl<K: Key> Wave<K> {
         if row.cost.is_below(step.least) {
             return Ok(());
         }
-        if !ground.is_span_inside(beside.span) {
-            return Ok(());
-        }
-        self.relax_alone(ground, step, to, row)
+        self.relax_alone(ground, step, to, beside.span, row)
     }
 }

@@ -116,7 +116,7 @@ impl<K: Key> Wave<K> {
 
     /// Offers tracks of a group that an output pin drives the way from it, if the group is inside
     /// the net's box.
-    fn relax_driven(
+    fn drive_tracks(
         &mut self,
         ground: &Ground<'_>,
         pin: u32,
@@ -163,7 +163,7 @@ impl<K: Key> Wave<K> {
     {
         let drives = ground.drives(pin);
         for drive in drives {
-            self.relax_driven(ground, pin, label, drive.group, drive.tracks)?;
+            self.drive_tracks(ground, pin, label, drive.group, drive.tracks)?;
         }
         Ok(())
     }

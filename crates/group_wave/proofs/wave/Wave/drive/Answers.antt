@@ -8,7 +8,7 @@ loop-drive-init g c = record { same = c.drives-drives.ensures; driving = driving
 pub loop-drive-preserved : goal.loop-drive-preserved
 loop-drive-preserved g c = record {
   same = c.loop-drive.invariant.same;
-  driving = driving_more c.args.ground.now c.requires.ground c.args.pin c.requires.pin c.args.self.now c.loop-drive.self c.relax_driven.new.self _ c.loop-drive.drive-index _ c.loop-drive.invariant.driving c.in_ok-relax_driven.ensures.spreads (rw c.drives-drives.ensures at c.in_ok-relax_driven.ensures.took);
+  driving = driving_more c.args.ground.now c.requires.ground c.args.pin c.requires.pin c.args.self.now c.loop-drive.self c.drive_tracks.new.self _ c.loop-drive.drive-index _ c.loop-drive.invariant.driving c.in_ok-drive_tracks.ensures.spreads (rw c.drives-drives.ensures at c.in_ok-drive_tracks.ensures.took);
 }
 
 pub returns-clause-went : goal.returns-clause-went

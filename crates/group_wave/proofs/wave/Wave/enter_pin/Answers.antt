@@ -17,7 +17,7 @@ returns g c =
     let total : g.K.Key.value c.plus-cost.result ≡ min (g.K.Key.value c.args.label + entry_cost c.args.ground.now.space c.args.tap.pin) g.K.Key.greatest = omega (arith, c.plus-cost.ensures, c.cut.ensures, c.pin_cost.ensures) in
     entered_kept c.args.ground.now c.requires.ground c.args.self.now c.requires.wave (g.K.Key.value c.args.label) c.args.tap.pin c.args.wire
     (tap_from c.args.ground.now c.requires.ground c.args.self.now c.requires.wave c.args.tap.sink c.args.tap.pin c.requires.tap (g.K.Key.value c.args.label) c.args.wire c.requires.edge c.requires.from (omega (arith, c.requires.fits, narrow g)))
-    (pin_inside c.args.ground.now c.requires.ground c.args.tap.sink c.args.tap.pin c.requires.tap c.requires.sink.0) c.keep_least.new.self (g.K.Key.value c.plus-cost.result) g.K.Key.greatest (narrow g) total c.keep_least.ensures
+    c.keep_least.new.self (g.K.Key.value c.plus-cost.result) g.K.Key.greatest (narrow g) total c.keep_least.ensures
 
 pub lower_pin-requires-clause-enters : goal.lower_pin-requires-clause-enters
 lower_pin-requires-clause-enters g c =

@@ -26,7 +26,7 @@ returns-then-is_below g c =
     (omega (arith, less, fits, narrow g)) (omega (arith, sum g c, less, fits))) c.lower_sink.ensures
 
 pub returns : goal.returns
-returns g c = let total : g.K.Key.value c.plus-cost.result ≡ min (g.K.Key.value c.args.label + entry_cost c.args.ground.now.space c.args.sink) g.K.Key.greatest = omega (arith, c.plus-cost.ensures, c.cut.ensures, c.sink_cost.ensures) in entered_kept c.args.ground.now c.requires.ground c.args.self.now c.requires.wave (g.K.Key.value c.args.label) c.args.sink c.args.pin c.requires.from (sink_inside c.args.ground.now c.requires.ground c.args.sink c.args.pin c.requires.pin c.requires.sink.0) c.keep_least.new.self (g.K.Key.value c.plus-cost.result) g.K.Key.greatest (narrow g) total c.keep_least.ensures
+returns g c = let total : g.K.Key.value c.plus-cost.result ≡ min (g.K.Key.value c.args.label + entry_cost c.args.ground.now.space c.args.sink) g.K.Key.greatest = omega (arith, c.plus-cost.ensures, c.cut.ensures, c.sink_cost.ensures) in entered_kept c.args.ground.now c.requires.ground c.args.self.now c.requires.wave (g.K.Key.value c.args.label) c.args.sink c.args.pin c.requires.from c.keep_least.new.self (g.K.Key.value c.plus-cost.result) g.K.Key.greatest (narrow g) total c.keep_least.ensures
 
 pub sink_cost-requires-clause-is : goal.sink_cost-requires-clause-is
 sink_cost-requires-clause-is g c = c.requires.ground.space.are_sinks c.args.sink c.requires.sink.0

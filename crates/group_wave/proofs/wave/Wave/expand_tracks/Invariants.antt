@@ -1,6 +1,6 @@
 use Rattle.wave_queue.specs.kept.Queues.{entry_of}
 use Rattle.group_wave.specs.kept.Steps.{Spreads, TookBefore}
-use Rattle.group_wave.proofs.wave.Wave.relax_many.Given as goal
+use Rattle.group_wave.proofs.wave.Wave.expand_tracks.Given as goal
 
 -- those so far were offered the way
 abbrev pub invariant-loop-neighbour : goal.invariant-loop-neighbour

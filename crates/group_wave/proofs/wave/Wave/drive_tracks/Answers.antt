@@ -1,7 +1,7 @@
 use Rattle.std.proofs.Common.{◌∙◌, sym, arith}
 use Rattle.std.proofs.lemmas.Result.{on_ok_weaker}
 use Rattle.group_wave.proofs.Outputs.{drive_group, drive_offer, drive_outside, drive_took}
-use Rattle.group_wave.proofs.wave.Wave.relax_driven.Goals as goal
+use Rattle.group_wave.proofs.wave.Wave.drive_tracks.Goals as goal
 
 pub group-requires : goal.group-requires
 group-requires g c = drive_group c.args.ground.now c.requires.ground c.args.pin c.requires.pin _ c.requires.drive (omega (arith, c.if-tracks-eq0.false)) (omega (arith, c.ranges.tracks.fits))

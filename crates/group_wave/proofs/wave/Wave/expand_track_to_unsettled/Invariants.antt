@@ -1,7 +1,7 @@
 use Rattle.std.proofs.Common.{length}
 use Rattle.wave_queue.specs.kept.Queues.{entry_of}
 use Rattle.group_wave.specs.kept.Steps.{Spreads, TookBut}
-use Rattle.group_wave.proofs.wave.Wave.relax_unsettled.Given as goal
+use Rattle.group_wave.proofs.wave.Wave.expand_track_to_unsettled.Given as goal
 
 -- all but those that are left were offered the way
 abbrev pub invariant-loop-left : goal.invariant-loop-left

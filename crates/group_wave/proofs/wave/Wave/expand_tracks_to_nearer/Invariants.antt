@@ -1,6 +1,6 @@
 use Rattle.wave_queue.specs.kept.Queues.{entry_of}
 use Rattle.group_wave.specs.kept.Steps.{Spreads, TookNearerBefore}
-use Rattle.group_wave.proofs.wave.Wave.relax_all_nearer.Given as goal
+use Rattle.group_wave.proofs.wave.Wave.expand_tracks_to_nearer.Given as goal
 
 -- those so far were offered the way, if fewer wires lead on from them
 abbrev pub invariant-loop-neighbour : goal.invariant-loop-neighbour

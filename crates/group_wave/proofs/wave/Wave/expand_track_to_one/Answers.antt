@@ -3,15 +3,16 @@ use Rattle.std.proofs.lemmas.Result.{on_ok_weaker}
 use Rattle.track_groups.specs.declared.group.Group.{Group}
 use Rattle.track_groups.specs.Groups.{on_track}
 use Rattle.track_groups.specs.Joints.{wire_beside}
+use Rattle.wavefront.specs.Space.{IsInside}
 use Rattle.wave_ground.specs.kept.Grounds.{groups_of}
 use Rattle.wave_queue.specs.kept.Queues.{entry_of}
 use Rattle.group_wave.specs.kept.WaveState.{FAR, Wave}
 use Rattle.group_wave.specs.kept.Wave.{WentOn, cost_at, unreached}
-use Rattle.group_wave.proofs.Beside.{beside_on, beside_step, beside_within, none_inside}
+use Rattle.group_wave.proofs.Beside.{beside_from, beside_on, beside_step, beside_target, beside_within}
 use Rattle.group_wave.proofs.Costs.{cost_below}
-use Rattle.group_wave.proofs.Grouped.{group_inside, wire_within}
-use Rattle.group_wave.proofs.Relaxed.{relaxed_low, track_spreads}
-use Rattle.group_wave.proofs.wave.Wave.relax_one.Goals as goal
+use Rattle.group_wave.proofs.Grouped.{wire_within}
+use Rattle.group_wave.proofs.Relaxed.{relaxed_low}
+use Rattle.group_wave.proofs.wave.Wave.expand_track_to_one.Goals as goal
 
 pub group-beside-requires : goal.group-beside-requires
 group-beside-requires g c = beside_within c.args.ground.now (entry_of g.K.Key.value c.args.entry) c.requires.out.ground c.args.neighbour c.requires.beside c.requires.out.live.tracks c.args.self.now c.requires.out.live
@@ -45,37 +46,29 @@ returns-then-is_below-clause-took g c j one inside =
     let step = beside_step ground (entry_of value c.args.entry) c.requires.out.ground c.args.neighbour c.requires.beside c.requires.out.live.tracks was c.args.group.now c.requires.out.group c.requires.out.live near j one inside in
     (relaxed_low ground c.requires.out.ground was c.requires.out.wave (value c.args.entry.label) wire _ step (value c.plus.result) (omega (arith, same, there, less)) (omega (arith, least, cut))).went
 
-pub returns-then-not-is_span_inside-clause-took : goal.returns-then-not-is_span_inside-clause-took
-returns-then-not-is_span_inside-clause-took g c =
-    none_inside c.args.ground.now (entry_of g.K.Key.value c.args.entry) c.requires.out.ground c.args.neighbour c.requires.beside c.requires.out.live.tracks c.args.self.now
-    (rw c.group-beside.ensures.group at (sym c.is_span_inside.ensures ∙ c.if-not-is_span_inside.true))
-
 pub relax_alone-requires-clause-from : goal.relax_alone-requires-clause-from
 relax_alone-requires-clause-from g c =
     let value = g.K.Key.value in
-    let ground = c.args.ground.now in
-    let e = entry_of value c.args.entry in
-    let on = beside_on ground e c.requires.out.ground c.args.neighbour c.requires.beside c.requires.out.live.tracks c.args.track c.requires.track.has in
     let at = ap (λ (x : Group). x.base + c.args.track * x.stride) c.group-beside.ensures.group in
-    let touched = rw c.group-beside.ensures.group at (sym c.is_span_inside.ensures ∙ c.if-not-is_span_inside.false) in
-    let inside = group_inside ground c.requires.out.ground (on_track c.args.neighbour c.args.track) on ∙ touched in
     let near : value c.args.entry.label < FAR = omega (arith, c.requires.out.fits, g.met.K.Key.narrow) in
-    rw at (beside_step ground e c.requires.out.ground c.args.neighbour c.requires.beside c.requires.out.live.tracks c.args.self.now c.args.group.now c.requires.out.group c.requires.out.live near c.args.track c.requires.track.has inside)
+    rw at (beside_from c.args.ground.now (entry_of value c.args.entry) c.requires.out.ground c.args.neighbour c.requires.beside c.requires.out.live.tracks c.args.self.now c.args.group.now c.requires.out.group c.requires.out.live near c.args.track c.requires.track.has)
 
 pub relax_alone-requires-clause-to : goal.relax_alone-requires-clause-to
-relax_alone-requires-clause-to g c = record {
-  on = beside_on c.args.ground.now (entry_of g.K.Key.value c.args.entry) c.requires.out.ground c.args.neighbour c.requires.beside c.requires.out.live.tracks c.args.track c.requires.track.has;
-  is = sym (ap (λ (x : Group). x.base + c.args.track * x.stride) c.group-beside.ensures.group);
-}
+relax_alone-requires-clause-to g c =
+    let at = ap (λ (x : Group). x.base + c.args.track * x.stride) c.group-beside.ensures.group in
+    rw at (beside_target c.args.ground.now (entry_of g.K.Key.value c.args.entry) c.requires.out.ground c.args.neighbour c.requires.beside c.requires.out.live.tracks c.args.track c.requires.track.has)
+
+pub relax_alone-requires-clause-span : goal.relax_alone-requires-clause-span
+relax_alone-requires-clause-span g c = ap (λ (x : Group). x.span) c.group-beside.ensures.group
 
 pub returns-clause-spreads : goal.returns-clause-spreads
-returns-clause-spreads g c = on_ok_weaker c.relax_alone.result (track_spreads c.args.ground.now c.args.self.now c.relax_alone.new.self (g.K.Key.value c.args.entry.label) (g.K.Key.value c.plus.result) _) c.relax_alone.ensures
+returns-clause-spreads g c = on_ok_weaker c.relax_alone.result (λ enters. enters.spreads) c.relax_alone.ensures
 
 pub returns-clause-took : goal.returns-clause-took
 returns-clause-took g c =
     let ground = c.args.ground.now in
     on_ok_weaker c.relax_alone.result
-    (λ step j one inside.
+    (λ enters j one inside.
     let at = ap (λ (x : Group). x.base + c.args.track * x.stride) c.group-beside.ensures.group ∙ ap (λ t. wire_beside (groups_of ground) t c.args.neighbour) (sym (c.requires.track.only j one)) in
-    subst (WentOn ground c.relax_alone.new.self (g.K.Key.value c.args.entry.label)) at step.went)
+    subst (WentOn ground c.relax_alone.new.self (g.K.Key.value c.args.entry.label)) at (enters.went (subst (IsInside ground.space) (sym at) inside)))
     c.relax_alone.ensures

@@ -2,7 +2,7 @@ use Rattle.std.proofs.Common.{sym, ◌∙◌}
 use Rattle.std.proofs.lemmas.Result.{on_ok_weaker}
 use Rattle.wave_queue.specs.kept.Queues.{entry_of}
 use Rattle.group_wave.proofs.Beside.{beside_offer, beside_within, none_inside}
-use Rattle.group_wave.proofs.wave.Wave.relax_beside.Goals as goal
+use Rattle.group_wave.proofs.wave.Wave.expand_tracks_to_one.Goals as goal
 
 pub group-requires : goal.group-requires
 group-requires g c = beside_within c.args.ground.now (entry_of g.K.Key.value c.args.entry) c.requires.out.ground c.args.neighbour c.requires.beside c.requires.out.live.tracks c.args.self.now c.requires.out.live
