@@ -13,7 +13,7 @@ use Rattle.wave_queue.specs.kept.Queues.{Waiting}
 use Rattle.group_wave.specs.kept.WaveState.{FAR, Wave}
 use Rattle.group_wave.specs.kept.Wave.{IsBest, IsDead, IsOpen, IsWave, WentOn, cost_at, weight_of}
 use Rattle.group_wave.specs.kept.Steps.{Enters, IsEntering, IsFrom, IsLabelled, IsLive, IsNoted, IsOut, KeepsLabel, Lowers, LowersPin, LowersSink, SameOrigins, Spreads}
-use Rattle.group_wave.proofs.Lower.{keeps, label_here, label_there, lowers_refl, lowers_then, set_enters, set_keeps, set_lowers, set_same_work, set_wave, set_work, still_open, went_up}
+use Rattle.group_wave.proofs.Lower.{entered_here, keeps, label_here, label_there, lowers_refl, lowers_then, set_enters, set_keeps, set_lowers, set_same_work, set_wave, set_work, still_open, went_up}
 use Rattle.group_wave.proofs.Noted.{noted_lowers, noted_sinks, noted_wave, noted_work}
 use Rattle.group_wave.proofs.Sinks.{sinks_best}
 
@@ -72,16 +72,23 @@ module _ (g : Ground) (ok : IsGround g) (s : Wave) (wave : IsWave g s) (label no
   row_in : node < length s.labels
   row_in = let rows = wave.rows in let lt = ok.space.range parent node from.edge in omega (arith, rows, lt)
 
-  -- a node that has a label already, and is no start, is inside the box
-  inside_kept : cost_at s node < FAR → 0 < cost_at s node → IsInside g.space node
-  inside_kept near some = elim (wave.entered node near) [
-    | inl o ↦ absurd (let zero = o.0 in omega (arith, zero, some))
-    | inr e ↦ e.inside
-  ]
-
   -- outside the box nothing is owed
   pub entered_outside : (IsInside g.space node → ⊥) → Enters g s s label node
   entered_outside off = record { spreads = spreads_refl g s wave; went = λ inside. absurd (off inside) }
+
+  -- the way is left out
+  pub entered_out : (t : Wave) (out : ℕ) → IsNoted s t out → t.known ≡ s.known → out ≤ label + entry_cost g.space node → Enters g s t label node
+  entered_out t out noted known dear =
+      let low = noted_lowers g s t out noted in
+      record {
+        spreads = record {
+          wave = noted_wave g s t out noted wave (ap length known ∙ wave.sized) (rw (noted.boxes, known) wave.known);
+          lowers = low;
+          work = let w = noted_work g s t out noted in omega (arith, w);
+          best = sinks_best g s t low.origins (noted_sinks g s t out noted);
+        };
+        went = λ h. inr (let limit = noted.limit in omega (arith, dear, limit));
+      }
 
   entered_stays : cost_at s node ≤ label + entry_cost g.space node → Enters g s s label node
   entered_stays low = record { spreads = spreads_refl g s wave; went = λ h. inr (omega (arith, low)) }
@@ -93,7 +100,7 @@ module _ (g : Ground) (ok : IsGround g) (s : Wave) (wave : IsWave g s) (label no
       let e = same.same in
       let fits = same.fits in
       let some = from.some in
-      let inside = inside_kept (omega (arith, e, fits, narrow)) (omega (arith, e, sum, some, fits)) in
+      let was = entered_here g s wave node (omega (arith, e, fits, narrow)) (omega (arith, e, sum, some, fits)) in
       let low = set_keeps g s t node _ same.set row_in e (omega (arith, sum, some, fits)) in
       let costs : (v : ℕ) → cost_at t v ≡ cost_at s v = λ v. elim (cases_eq v node) [
         | inl f ↦ rw f (ap (λ l. l.cost) (label_here g s t node _ same.set row_in) ∙ e)
@@ -102,24 +109,14 @@ module _ (g : Ground) (ok : IsGround g) (s : Wave) (wave : IsWave g s) (label no
       record {
         spreads = record {
           wave = set_wave g s t node _ same.set row_in wave (omega (arith, e)) (omega (arith, fits, narrow)) low.origins
-              (set_enters g s t node _ same.set row_in label (omega (arith, e)) from.from from.near from.edge inside (omega (arith, sum, fits)));
+              (set_enters g s t node _ same.set row_in label (omega (arith, e)) from.from from.near from.edge was.inside (omega (arith, sum, fits)) was.priced);
           lowers = low;
           work = let a = set_same_work g s t node _ same.set row_in e in let b = ap (λ q. sum_by weight_of q) same.set.queue in omega (arith, a, b);
           best = best_same g s t low.origins same.best costs;
         };
         went = λ h. inr (let here = ap (λ l. l.cost) (label_here g s t node _ same.set row_in) in omega (arith, here, sum));
       }
-  entered_kept t cost greatest narrow sum (inr (inr left)) =
-      let low = noted_lowers g s t greatest left.noted in
-      record {
-        spreads = record {
-          wave = noted_wave g s t greatest left.noted wave (ap length left.known ∙ wave.sized) (rw (left.noted.boxes, left.known) wave.known);
-          lowers = low;
-          work = let w = noted_work g s t greatest left.noted in omega (arith, w);
-          best = sinks_best g s t low.origins (noted_sinks g s t greatest left.noted);
-        };
-        went = λ h. inr (let out = left.out in let limit = left.noted.limit in omega (arith, out, sum, limit));
-      }
+  entered_kept t cost greatest narrow sum (inr (inr left)) = entered_out t greatest left.noted left.known (let out = left.out in omega (arith, out, sum))
 
 -- ---- a sink
 module _ (g : Ground) (ok : IsGround g) (s : Wave) (wave : IsWave g s) (sink : ℕ) (target : IsOpen g s sink) where
@@ -129,8 +126,8 @@ module _ (g : Ground) (ok : IsGround g) (s : Wave) (wave : IsWave g s) (sink : �
   sink_in : sink < length s.labels
   sink_in = let rows = wave.rows in let lt = ok.space.sinks_in sink target.0 in omega (arith, rows, lt)
 
-  pub sink_lowered : (t : Wave) (label cost parent : ℕ) → LowersSink s t sink (record { cost = cost; parent = parent }) → IsFrom g s label parent sink → IsInside g.space sink → cost < cost_at s sink → cost < FAR → cost ≡ label + entry_cost g.space sink → Enters g s t label sink
-  sink_lowered t label cost parent low from inside less near sum =
+  pub sink_lowered : (t : Wave) (label cost parent price : ℕ) → LowersSink s t sink (record { cost = cost; parent = parent; price = price }) → IsFrom g s label parent sink → IsInside g.space sink → cost < cost_at s sink → cost < FAR → cost ≡ label + entry_cost g.space sink → price ≡ entry_cost g.space sink → Enters g s t label sink
+  sink_lowered t label cost parent price low from inside less near sum priced =
       let start = from.from in
       let set = low.set in
       let down = set_lowers g s t sink _ set sink_in less (omega (arith, start, sum)) in
@@ -138,7 +135,7 @@ module _ (g : Ground) (ok : IsGround g) (s : Wave) (wave : IsWave g s) (sink : �
       record {
         spreads = record {
           wave = set_wave g s t sink _ set sink_in wave (omega (arith, less)) near down.origins
-              (set_enters g s t sink _ set sink_in label (omega (arith, less)) start from.near from.edge inside (omega (arith, sum)));
+              (set_enters g s t sink _ set sink_in label (omega (arith, less)) start from.near from.edge inside (omega (arith, sum)) priced);
           lowers = record {
             down = down.down;
             wait = λ v. elim (down.wait v) [
@@ -151,13 +148,13 @@ module _ (g : Ground) (ok : IsGround g) (s : Wave) (wave : IsWave g s) (sink : �
             boxes = down.boxes;
           };
           work = let a = set_work g s t sink _ set sink_in less in let b = ap (λ q. sum_by weight_of q) set.queue in omega (arith, a, b);
-          best = nearer t cost parent low down.origins here less near;
+          best = nearer t cost parent price low down.origins here less near;
         };
         went = λ h. inr (omega (arith, here, sum));
       }
     where
-      nearer : (t : Wave) (cost parent : ℕ) (low : LowersSink s t sink (record { cost = cost; parent = parent })) → SameOrigins s t → cost_at t sink ≡ cost → cost < cost_at s sink → cost < FAR → IsBest g s → IsBest g t
-      nearer t cost parent low origins here less near best = record {
+      nearer : (t : Wave) (cost parent price : ℕ) (low : LowersSink s t sink (record { cost = cost; parent = parent; price = price })) → SameOrigins s t → cost_at t sink ≡ cost → cost < cost_at s sink → cost < FAR → IsBest g s → IsBest g t
+      nearer t cost parent price low origins here less near best = record {
         low = λ b open_now. let at = low.best in elim (cases_eq b sink) [
           | inl e ↦ rw e (omega (arith, at, here))
           | inr ne ↦
@@ -199,7 +196,7 @@ module _ (g : Ground) (ok : IsGround g) (s : Wave) (wave : IsWave g s) (sink pin
   tap_from label wire edge from near = record { edge = edge; from = from; near = near; some = let costs = ok.space.costly wire pin sink edge leads.edge in omega (arith, costs) }
 
   -- its label is lowered
-  module _ (t : Wave) (cost parent : ℕ) (set : IsLabelled s t pin (record { cost = cost; parent = parent })) (enters : IsEntering g s cost parent pin) (near : cost < FAR) where
+  module _ (t : Wave) (cost parent price : ℕ) (priced : price ≡ entry_cost g.space pin) (set : IsLabelled s t pin (record { cost = cost; parent = parent; price = price })) (enters : IsEntering g s cost parent pin) (near : cost < FAR) where
     pin_in : pin < length s.labels
     pin_in = let rows = wave.rows in let n = ok.space.range parent pin enters.edge in omega (arith, rows, n)
 
@@ -210,7 +207,7 @@ module _ (g : Ground) (ok : IsGround g) (s : Wave) (wave : IsWave g s) (sink pin
     pin_wave =
         let less = enters.less in
         set_wave g s t pin _ set pin_in wave (omega (arith, less)) near pin_down.origins
-        (set_enters g s t pin _ set pin_in (cost_at s parent) (omega (arith, less)) (omega arith) enters.reached enters.edge enters.inside enters.paid)
+        (set_enters g s t pin _ set pin_in (cost_at s parent) (omega (arith, less)) (omega arith) enters.reached enters.edge enters.inside enters.paid priced)
 
     -- and its sink is entered from it
     pub pin_from : IsFrom g t cost pin sink
@@ -222,15 +219,15 @@ module _ (g : Ground) (ok : IsGround g) (s : Wave) (wave : IsWave g s) (sink pin
     }
 
   -- and its sink offered the way over it
-  pub pin_lowered : (t u : Wave) (cost parent : ℕ) → IsLabelled s t pin (record { cost = cost; parent = parent }) → t.best ≡ s.best → IsEntering g s cost parent pin → cost < FAR → Enters g t u cost sink → LowersPin g s u pin cost
-  pin_lowered t u cost parent set best enters near after =
+  pub pin_lowered : (t u : Wave) (cost parent price : ℕ) → price ≡ entry_cost g.space pin → IsLabelled s t pin (record { cost = cost; parent = parent; price = price }) → t.best ≡ s.best → IsEntering g s cost parent pin → cost < FAR → Enters g t u cost sink → LowersPin g s u pin cost
+  pin_lowered t u cost parent price priced set best enters near after =
       let lt : pin < length s.labels = let rows = wave.rows in let n = ok.space.range parent pin enters.edge in omega (arith, rows, n) in
       let less = enters.less in
       let paid = enters.paid in
       let down = set_lowers g s t pin _ set lt less (omega (arith, paid)) in
       let here : cost_at t pin ≡ cost = ap (λ l. l.cost) (label_here g s t pin _ set lt) in
       let wave_then = set_wave g s t pin _ set lt wave (omega (arith, less)) near down.origins
-      (set_enters g s t pin _ set lt (cost_at s parent) (omega (arith, less)) (omega arith) enters.reached enters.edge enters.inside paid) in
+      (set_enters g s t pin _ set lt (cost_at s parent) (omega (arith, less)) (omega arith) enters.reached enters.edge enters.inside paid priced) in
       let second = after.spreads in
       record {
         spreads = record {
@@ -253,13 +250,13 @@ module _ (g : Ground) (ok : IsGround g) (s : Wave) (wave : IsWave g s) (sink pin
             boxes = both.boxes;
           };
           work = let a = set_work g s t pin _ set lt less in let b = ap (λ q. sum_by weight_of q) set.queue in let c = second.work in omega (arith, a, b, c);
-          best = λ was. second.best (pin_best t cost parent set lt best down.origins was);
+          best = λ was. second.best (pin_best t cost parent price set lt best down.origins was);
         };
         at = let d = second.lowers.down pin in omega (arith, d, here);
       }
     where
-      pin_best : (t : Wave) (cost parent : ℕ) (set : IsLabelled s t pin (record { cost = cost; parent = parent })) → pin < length s.labels → t.best ≡ s.best → SameOrigins s t → IsBest g s → IsBest g t
-      pin_best t cost parent set lt best origins was = sinks_best g s t origins (record {
+      pin_best : (t : Wave) (cost parent price : ℕ) (set : IsLabelled s t pin (record { cost = cost; parent = parent; price = price })) → pin < length s.labels → t.best ≡ s.best → SameOrigins s t → IsBest g s → IsBest g t
+      pin_best t cost parent price set lt best origins was = sinks_best g s t origins (record {
         best = best;
         labels = λ b wanted. label_there g s t pin _ set lt b (λ e. false≢true (sym (ok.space.ends pin sink leads.edge) ∙ ok.space.are_sinks pin (rw e at wanted)));
       }) was

@@ -1,12 +1,16 @@
 -- Costs as they are kept.
 use Rattle.std.proofs.Common.{◌≡◌, ℕ, ◌<◌, ◌≤◌, ◌↔◌, true, false, refl, inl, inr, sym, ap, ◌∙◌, arith}
-use Rattle.std.specs.Prelude.{nat_le}
+use Rattle.std.specs.Prelude.{min, nat_le}
 use Rattle.std.proofs.lemmas.Bool.{cases_lt}
 use Rattle.std.proofs.lemmas.Bool.Decides.{nat_tests}
+use Rattle.wavefront.specs.Space.{entry_cost}
+use Rattle.wave_ground.specs.kept.Grounds.{Ground}
 use Rattle.group_wave.specs.declared.labels.LabelRow.{LabelRow}
 use Rattle.group_wave.specs.kept.Labels.{label_of, widened}
 use Rattle.group_wave.specs.kept.WaveState.{FAR, Wave}
-use Rattle.group_wave.specs.kept.Wave.{IsOrigin, cost_at, label_at}
+use Rattle.group_wave.specs.kept.Wave.{IsOrigin, IsWave, cost_at, label_at, price_of}
+use Rattle.group_wave.proofs.LabelRows.{reached_is}
+use Rattle.group_wave.proofs.Lower.{entered_here}
 
 pub exact : (greatest cost : ℕ) → cost < greatest → widened greatest cost ≡ cost
 exact greatest cost less = let test : nat_le greatest cost ≡ false = grind (arith, nat_tests) in rw test refl
@@ -41,3 +45,13 @@ module _ {K : Type 0} (value : K → ℕ) (greatest : ℕ) (w : Wave) (node : �
       ap (λ l. l.parent) at ∙ o.1,
     ),
   )
+
+  -- where a node is reached, and is no start, its row has its price
+  pub row_priced : (g : Ground) → IsWave g w → greatest ≤ FAR → 0 < value row.cost → value row.cost < greatest → value row.price ≡ min (entry_cost g.space node) greatest
+  row_priced g wave narrow some below =
+      let same = row_exact below in
+      let from = entered_here g w wave node (omega (arith, same, below, narrow)) (omega (arith, same, some)) in
+      let price : value row.price ≡ price_of w node = ap (λ l. l.price) (sym (reached_is value greatest row below) ∙ at) in
+      let paid = from.paid in
+      let priced = from.priced in
+      omega (arith, price, priced, paid, same, below)

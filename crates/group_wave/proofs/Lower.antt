@@ -156,8 +156,16 @@ module _ (g : Ground) where
               inside = e.inside;
               reached = rw parent (omega (arith, d, near));
               paid = rw (parent, key) (omega (arith, d, paid));
+              priced = ap (λ l. l.price) (same v) ∙ e.priced;
             })
       ]
+
+  -- a node that is reached, and is no start, is entered
+  pub entered_here : (w : Wave) → IsWave g w → (v : ℕ) → cost_at w v < FAR → 0 < cost_at w v → IsEntered g w v
+  entered_here w wave v near some = elim (wave.entered v near) [
+    | inl o ↦ absurd (let zero = o.0 in omega (arith, zero, some))
+    | inr e ↦ e
+  ]
 
   -- ---- a label is set
   module _ (s t : Wave) (node : ℕ) (label : NodeLabel) (set : IsLabelled s t node label) (lt : node < length s.labels) where
@@ -225,11 +233,13 @@ module _ (g : Ground) where
           inside = e.inside;
           reached = rw parent (omega (arith, d, reached));
           paid = rw (parent, key) (omega (arith, d, paid));
+          priced = ap (λ l. l.price) same ∙ e.priced;
         }
 
     -- a way that is offered and taken
-    pub set_enters : (key : ℕ) → label.cost ≤ cost_at s node → cost_at s label.parent ≤ key → key < FAR → HasEdge g.space label.parent node → IsInside g.space node → key + entry_cost g.space node ≤ label.cost → IsEntered g t node
-    set_enters key less above near edge inside cost =
+    pub set_enters : (key : ℕ) → label.cost ≤ cost_at s node → cost_at s label.parent ≤ key → key < FAR → HasEdge g.space label.parent node → IsInside g.space node → key + entry_cost g.space node ≤ label.cost → label.price ≡ entry_cost g.space node
+        → IsEntered g t node
+    set_enters key less above near edge inside cost price =
         let key_here : cost_at t node ≡ label.cost = ap (λ l. l.cost) label_here in
         let parent_here : parent_of t node ≡ label.parent = ap (λ l. l.parent) label_here in
         let d = set_down less label.parent in
@@ -238,6 +248,7 @@ module _ (g : Ground) where
           inside = inside;
           reached = rw parent_here (omega (arith, d, above, near));
           paid = rw (parent_here, key_here) (omega (arith, d, above, cost));
+          priced = ap (λ l. l.price) label_here ∙ price;
         }
 
     pub set_wave : IsWave g s → label.cost ≤ cost_at s node → label.cost < FAR → SameOrigins s t → IsEntered g t node → IsWave g t

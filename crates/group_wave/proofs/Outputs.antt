@@ -225,7 +225,7 @@ module _ (g : Ground) (ok : IsGround g) (s : Wave) (wave : IsWave g s) (pin : �
   pub output_from : IsFrom g s 0 g.space.net.source pin
   output_from = let some = output_costs g.space pin output_kind in record { edge = edge; from = (let z = start.0 in omega (arith, z)); near = omega arith; some = omega (arith, some) }
 
-  module _ (t : Wave) (cost : ℕ) (set : IsLabelled s t pin (record { cost = cost; parent = g.space.net.source })) (inside : IsInside g.space pin) (less : cost < cost_at s pin) (near : cost < FAR) (sum : cost ≡ entry_cost g.space pin) where
+  module _ (t : Wave) (cost : ℕ) (set : IsLabelled s t pin (record { cost = cost; parent = g.space.net.source; price = cost })) (inside : IsInside g.space pin) (less : cost < cost_at s pin) (near : cost < FAR) (sum : cost ≡ entry_cost g.space pin) where
     output_down : Lowers g s t (λ v. v ≡ pin)
     output_down = set_lowers g s t pin _ set output_in less (let z = start.0 in omega (arith, z))
 
@@ -236,7 +236,7 @@ module _ (g : Ground) (ok : IsGround g) (s : Wave) (wave : IsWave g s) (pin : �
     output_wave =
         let z = start.0 in
         set_wave g s t pin _ set output_in wave (omega (arith, less)) near output_down.origins
-        (set_enters g s t pin _ set output_in 0 (omega (arith, less)) (omega (arith, z)) (omega arith) edge inside (omega (arith, sum)))
+        (set_enters g s t pin _ set output_in 0 (omega (arith, less)) (omega (arith, z)) (omega arith) edge inside (omega (arith, sum)) sum)
 
     pub output_lowered : (u : Wave) → t.best ≡ s.best → Spreads g t u → WentAlong g u pin cost → Enters g s u 0 pin
     output_lowered u best second went = record {

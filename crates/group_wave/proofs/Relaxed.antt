@@ -7,9 +7,9 @@ use Rattle.wavefront.specs.Space.{entry_cost}
 use Rattle.wavefront.proofs.WaysLeft.{wire_paid}
 use Rattle.wave_ground.specs.kept.Grounds.{Ground, IsGround}
 use Rattle.wave_queue.specs.kept.Queues.{Waiting}
-use Rattle.group_wave.specs.kept.Wave.{AreTracks, IsBound, IsOf, IsWave, WentOn, cost_at, weight_of, work_of}
+use Rattle.group_wave.specs.kept.Wave.{AreTracks, IsBound, IsOf, IsWave, WentOn, cost_at, price_of, weight_of, work_of}
 use Rattle.group_wave.specs.kept.Steps.{Enters, IsLabelled, IsNoted, IsPushed, IsStep, KeepsLabel, KeepsSinks, Lowers, RelaxesTrack, Spreads}
-use Rattle.group_wave.proofs.Lower.{keeps, label_here, label_there, lowers_then, set_enters, set_keeps, set_lowers, set_same_work, set_wave, set_work, still_open}
+use Rattle.group_wave.proofs.Lower.{entered_here, keeps, label_here, label_there, lowers_then, set_enters, set_keeps, set_lowers, set_same_work, set_wave, set_work, still_open}
 use Rattle.group_wave.proofs.Noted.{noted_label, noted_lowers, noted_sinks, noted_wave, noted_work}
 use Rattle.group_wave.proofs.Pushed.{new_wait, pushed_cost, pushed_label, pushed_wave, pushed_work}
 use Rattle.group_wave.proofs.Sinks.{sinks_best, sinks_then, wire_no_sink}
@@ -68,7 +68,7 @@ module _ (g : Ground) (ok : IsGround g) (s : Wave) (wave : IsWave g s) (label wi
         let limit = noted.limit in
         omega (arith, low, limit)))
 
-  module _ (t : Wave) (cost : ℕ) (set : IsLabelled s t wire (record { cost = cost; parent = parent })) (best : t.best ≡ s.best) where
+  module _ (t : Wave) (cost price : ℕ) (priced : price ≡ entry_cost g.space wire) (set : IsLabelled s t wire (record { cost = cost; parent = parent; price = price })) (best : t.best ≡ s.best) where
     set_sinks : KeepsSinks g s t
     set_sinks = record {
       best = best;
@@ -84,7 +84,7 @@ module _ (g : Ground) (ok : IsGround g) (s : Wave) (wave : IsWave g s) (label wi
 
       lowered_wave : IsWave g t
       lowered_wave = set_wave g s t wire _ set row_in wave (omega (arith, less)) near lowered.origins
-          (set_enters g s t wire _ set row_in label (omega (arith, less)) step.from step.near step.edge step.inside above)
+          (set_enters g s t wire _ set row_in label (omega (arith, less)) step.from step.near step.edge step.inside above priced)
 
       lowered_work : work_of t + 3 ≤ work_of s
       lowered_work = let a = set_work g s t wire _ set row_in less in let b = ap (λ q. sum_by weight_of q) set.queue in omega (arith, a, b)
@@ -135,15 +135,16 @@ module _ (g : Ground) (ok : IsGround g) (s : Wave) (wave : IsWave g s) (label wi
       let c = paid in
       let e = same.same in
       let fits = same.fits in
+      let priced = (entered_here g s wave wire (omega (arith, e, fits, narrow)) (omega (arith, e, sum, c, fits))).priced in
       let low = set_keeps g s t wire _ same.set row_in e (omega (arith, sum, c, fits)) in
       record {
         wave = set_wave g s t wire _ same.set row_in wave (omega (arith, e)) (omega (arith, fits, narrow)) low.origins
-            (set_enters g s t wire _ same.set row_in label (omega (arith, e)) step.from step.near step.edge step.inside (omega (arith, sum, fits)));
+            (set_enters g s t wire _ same.set row_in label (omega (arith, e)) step.from step.near step.edge step.inside (omega (arith, sum, fits)) priced);
         lowers = record { down = low.down; wait = λ v. elim (low.wait v) [ inl f ↦ inl f | inr later ↦ elim later [ inl settled ↦ inr (inl settled) | inr none ↦ absurd none ] ]; origins = low.origins; kept = low.kept; limit = low.limit; boxes = low.boxes };
         at = λ f. absurd (false≢true f);
         went = inr (let h = ap (λ l. l.cost) (label_here g s t wire _ same.set row_in) in omega (arith, h, sum));
         work = let a = set_same_work g s t wire _ same.set row_in e in let b = ap (λ q. sum_by weight_of q) same.set.queue in omega (arith, a, b);
-        sinks = set_sinks t cost same.set same.best;
+        sinks = set_sinks t cost (price_of s wire) priced same.set same.best;
       }
   relaxed_kept t cost greatest least narrow sum (inr (inr left)) =
       relaxed_out t greatest least left.noted left.known (let out = left.out in omega (arith, out, sum))

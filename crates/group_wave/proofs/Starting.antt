@@ -24,7 +24,7 @@ use Rattle.group_wave.proofs.Grouped.{group_bound, wire_within}
 
 -- the label of a start
 abbrev pub start_label : ℕ → NodeLabel
-start_label node = record { cost = 0; parent = node }
+start_label node = record { cost = 0; parent = node; price = 0 }
 
 -- nothing is owed to a node that is settled
 pub settled_complete : (g : Ground) (w : Wave) (node : ℕ) → IsCompleteBut g w (λ v. v ≡ node) → IsSettled g w node → IsComplete g w

@@ -73,20 +73,20 @@ impl<K: Key> Wave<K> {
     ghost use Rattle.wave_ground.specs.kept.Grounds.{groups_of};
     ghost use Rattle.wave_queue.specs.kept.Queues.{entry_of};
     ghost use Rattle.group_wave.specs.kept.Labels.{label_of};
-    ghost use Rattle.group_wave.specs.kept.Wave.{IsWave, cost_at, label_at};
+    ghost use Rattle.group_wave.specs.kept.Wave.{IsWave, cost_at, label_at, price_of};
     ghost use Rattle.group_wave.specs.kept.Steps.{IsLabelled, IsNoted, IsPushed, KeepsLabel};
 
     /// Puts a label on a node.
     #[inline(always)]
-    fn set(&mut self, node: u32, cost: K, parent: u32) -> Result<(), AllocError>
+    fn set(&mut self, node: u32, cost: K, parent: u32, price: K) -> Result<(), AllocError>
         requires there { node < length self.old.labels }
         requires fits { K.value cost < K.greatest }
         ensures set { OnOk result (IsLabelled self.old self.new node
-            (record { cost = K.value cost; parent = parent })) }
+            (record { cost = K.value cost; parent = parent; price = K.value price })) }
         ensures best { self.new.best ≡ self.old.best }
         ensures rows { length self.new.labels ≡ length self.old.labels }
     {
-        self.labels.set(node, cost, parent)
+        self.labels.set(node, cost, parent, price)
     }
 
     /// Lets an entry wait.
@@ -104,8 +104,11 @@ impl<K: Key> Wave<K> {
     fn set_parent(&mut self, node: u32, parent: u32)
         requires there { node < length self.old.labels }
         requires reached { cost_at self.old node < FAR }
-        ensures set { IsLabelled self.old self.new node
-            (record { cost = cost_at self.old node; parent = parent }) }
+        ensures set { IsLabelled self.old self.new node (record {
+          cost = cost_at self.old node;
+          parent = parent;
+          price = price_of self.old node;
+        }) }
         ensures best { self.new.best ≡ self.old.best }
     {
         self.labels.set_parent(node, parent);

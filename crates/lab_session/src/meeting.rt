@@ -23,6 +23,8 @@ pub struct Meeting {
     met: AtomicU32,
     /// How often a worker looked again at a net.
     looked: AtomicU32,
+    /// How often a search was reported for a net that had one already.
+    again: AtomicU32,
     patience: Patience,
 }
 
@@ -36,6 +38,7 @@ impl Meeting {
             searched: AtomicU32::new(0),
             met: AtomicU32::new(0),
             looked: AtomicU32::new(0),
+            again: AtomicU32::new(0),
             patience: Patience::new(),
         }
     }
@@ -67,6 +70,10 @@ impl Meeting {
         if looked > 0 {
             write!(out, ", looked {looked} times")?;
         }
+        let again = self.again.load(Ordering::SeqCst);
+        if again > 0 {
+            write!(out, ", searched again {again} times")?;
+        }
         if self.patience.is_gone() {
             out.push_str(", gave up")?;
         }
@@ -97,6 +104,9 @@ impl Meeting {
 
     pub fn searched(&self, net: u32) {
         if self.holds(net) {
+            if self.searched.load(Ordering::SeqCst) & flag(net) != 0 {
+                self.again.fetch_add(1, Ordering::SeqCst);
+            }
             if self.completes(&self.searched, net) && !self.patience.is_gone() {
                 self.met.fetch_add(1, Ordering::SeqCst);
             }

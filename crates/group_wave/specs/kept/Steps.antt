@@ -16,7 +16,7 @@ use Rattle.wavefront.specs.kept.Spaces.{node_count}
 use Rattle.wavefront.specs.Ways.{AreDistinct, IsWay, way_cost}
 use Rattle.wave_ground.specs.kept.Grounds.{Ground, IsGround, groups_of}
 use Rattle.wave_queue.specs.kept.Queues.{Waiting}
-use Rattle.group_wave.specs.kept.Wave.{AreTracks, IsBest, IsComplete, IsOf, IsOpen, IsOrigin, IsSettled, IsWave, WentOn, cost_at, label_at, weight_of, work_of}
+use Rattle.group_wave.specs.kept.Wave.{AreTracks, IsBest, IsComplete, IsOf, IsOpen, IsOrigin, IsSettled, IsWave, WentOn, cost_at, label_at, price_of, weight_of, work_of}
 
 -- t is w with the label of a node set
 pub record IsLabelled (w t : Wave) (node : ℕ) (label : NodeLabel) : Type 0 where
@@ -28,7 +28,7 @@ pub record IsLabelled (w t : Wave) (node : ℕ) (label : NodeLabel) : Type 0 whe
 
 -- t is w with another node before one, at the cost that it has
 pub record IsSameCost (w t : Wave) (node cost parent greatest : ℕ) : Type 0 where
-  pub set : IsLabelled w t node (record { cost = cost; parent = parent })
+  pub set : IsLabelled w t node (record { cost = cost; parent = parent; price = price_of w node })
   pub best : t.best ≡ w.best
   pub same : cost ≡ cost_at w node
   pub fits : cost < greatest

@@ -14,7 +14,7 @@ use Rattle.wave_queue.specs.kept.Queues.{Waiting}
 
 -- the label of a node that the wave has not reached
 abbrev pub unreached : NodeLabel
-unreached = record { cost = FAR; parent = 0 }
+unreached = record { cost = FAR; parent = 0; price = 0 }
 
 -- a node's label; a number that is no node is never reached
 abbrev pub label_at : Wave → ℕ → NodeLabel
@@ -25,6 +25,9 @@ cost_at w v = (label_at w v).cost
 
 abbrev pub parent_of : Wave → ℕ → ℕ
 parent_of w v = (label_at w v).parent
+
+abbrev pub price_of : Wave → ℕ → ℕ
+price_of w v = (label_at w v).price
 
 -- the wave starts here
 abbrev pub IsOrigin : Wave → ℕ → Type 0
@@ -58,12 +61,13 @@ Serves g w = (p : ℕ) → p < length g.space.net.sinks → IsOpen g w (slice_in
 abbrev pub AreKnown : Ground → Wave → Type 0
 AreKnown g w = (group wires : ℕ) → get_or w.known group None ≡ Some wires → IsLow w.boxes (wire_of (group_at (groups_of g) group)) wires
 
--- v is entered from its parent, at a cost that its label covers
+-- v is entered from its parent, at a cost that its label covers, and its price is kept
 pub record IsEntered (g : Ground) (w : Wave) (v : ℕ) : Type 0 where
   pub edge : HasEdge g.space (parent_of w v) v
   pub inside : IsInside g.space v
   pub reached : cost_at w (parent_of w v) < FAR
   pub paid : cost_at w (parent_of w v) + entry_cost g.space v ≤ cost_at w v
+  pub priced : price_of w v ≡ entry_cost g.space v
 
 -- one of the entry's tracks is v
 pub record Holds (g : Ground) (e : Waiting) (v : ℕ) : Type 0 where

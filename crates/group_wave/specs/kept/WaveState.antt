@@ -9,11 +9,12 @@ use Rattle.wave_queue.specs.kept.Queues.{Waiting}
 abbrev pub FAR : ℕ
 FAR = 340282366920938463463374607431768211455
 
--- the cost of a way to a node, and the node before it; at a start the cost is 0, and the node is
--- its own predecessor
+-- the cost of a way to a node, the node before it, and what it costs to enter the node; at a start
+-- the cost is 0, the node is its own predecessor, and the price doesn't count
 pub record NodeLabel : Type 0 where
   pub cost : ℕ
   pub parent : ℕ
+  pub price : ℕ
 
 pub record Wave : Type 0 where
   pub labels : List NodeLabel

@@ -30,7 +30,7 @@ impl<K: Key> Wave<K> {
     ghost use Rattle.wave_queue.specs.kept.Queues.{entry_of};
     ghost use Rattle.group_wave.specs.kept.Wave.{IsOpen, IsOrigin, IsWave, cost_at};
     ghost use Rattle.group_wave.specs.kept.Steps.{Enters, IsEntering, IsFrom, IsLive, IsTapOf, LowersPin, LowersSink, Spreads, TookTap, TookTaps, IsOut};
-    ghost use Rattle.wavefront.specs.Space.{HasEdge};
+    ghost use Rattle.wavefront.specs.Space.{HasEdge, entry_cost};
 
     /// Whether the wave starts at a node.
     pub(crate) fn starts_at(&self, node: u32) -> bool
@@ -51,16 +51,16 @@ impl<K: Key> Wave<K> {
     }
 
     /// Lowers an open sink's label.
-    fn lower_sink(&mut self, sink: u32, cost: K, pin: u32) -> Result<(), AllocError>
+    fn lower_sink(&mut self, sink: u32, cost: K, pin: u32, price: K) -> Result<(), AllocError>
         requires there { sink < length self.old.labels }
         requires fits { K.value cost < K.greatest }
         ensures { OnOk result (LowersSink self.old self.new sink
-            (record { cost = K.value cost; parent = pin })) }
+            (record { cost = K.value cost; parent = pin; price = K.value price })) }
     {
         if cost.is_below(self.best) {
             self.best = cost;
         }
-        self.set(sink, cost, pin)
+        self.set(sink, cost, pin, price)
     }
 
     /// Offers an open sink the way over an input pin of a label. A sink of the net is inside its
@@ -81,9 +81,10 @@ impl<K: Key> Wave<K> {
         ensures { OnOk result (Enters ground.now self.old self.new (K.value label) sink) }
     {
         let row = self.labels.row(sink);
-        let cost = label.plus(K::cut(ground.sink_cost(sink)));
+        let price = K::cut(ground.sink_cost(sink));
+        let cost = label.plus(price);
         if cost.is_below(row.cost) {
-            return self.lower_sink(sink, cost, pin);
+            return self.lower_sink(sink, cost, pin, price);
         }
         self.keep_least(sink, pin, row, cost);
         Ok(())
@@ -96,16 +97,18 @@ impl<K: Key> Wave<K> {
         wire: u32,
         tap: Tap,
         cost: K,
+        price: K,
     ) -> Result<(), AllocError>
         requires ground { IsGround ground.now }
         requires wave { IsWave ground.now self.old }
         requires tap { IsPinOf ground.now.space.device tap.sink tap.pin }
         requires sink { IsOpen ground.now self.old tap.sink }
         requires enters { IsEntering ground.now self.old (K.value cost) wire tap.pin }
+        requires price { K.value price ≡ entry_cost ground.now.space tap.pin }
         requires fits { K.value cost < K.greatest }
         ensures { OnOk result (LowersPin ground.now self.old self.new tap.pin (K.value cost)) }
     {
-        self.set(tap.pin, cost, wire)?;
+        self.set(tap.pin, cost, wire, price)?;
         self.enter_sink(ground, cost, tap.pin, tap.sink)
     }
 
@@ -128,9 +131,10 @@ impl<K: Key> Wave<K> {
         ensures { OnOk result (Enters ground.now self.old self.new (K.value label) tap.pin) }
     {
         let row = self.labels.row(tap.pin);
-        let cost = label.plus(K::cut(ground.pin_cost(tap.pin)));
+        let price = K::cut(ground.pin_cost(tap.pin));
+        let cost = label.plus(price);
         if cost.is_below(row.cost) {
-            return self.lower_pin(ground, wire, tap, cost);
+            return self.lower_pin(ground, wire, tap, cost, price);
         }
         self.keep_least(tap.pin, wire, row, cost);
         Ok(())

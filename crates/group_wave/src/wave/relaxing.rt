@@ -40,20 +40,32 @@ struct Target {
     parent: u32,
 }
 
-/// The label that a wire would get by the way.
+/// What it costs to enter a wire that has no label yet.
 #[inline(always)]
-fn label_by<K: Key>(ground: &Ground<'_>, step: Relaxing<K>, wire: u32) -> K
+fn new_price<K: Key>(ground: &Ground<'_>, wire: u32) -> K
     requires node_in { wire < node_count ground.now.space }
     requires is { is_wire_at ground.now.space.device wire ≡ true }
-    requires least { K.value step.least ≡
-        min (K.value step.label + least_wire_cost) K.greatest }
-    ensures { K.value result ≡
-        min (K.value step.label + entry_cost ground.now.space wire) K.greatest }
+    ensures { K.value result ≡ min (entry_cost ground.now.space wire) K.greatest }
 {
     if ground.is_free(wire) {
-        return step.least;
+        return K::cut(WIRE);
     }
-    step.label.plus(K::cut(ground.wire_cost(wire)))
+    K::cut(ground.wire_cost(wire))
+}
+
+/// What it costs to enter a wire. Where it has a label the price is kept there.
+#[inline(always)]
+fn price_by<K: Key>(ground: &Ground<'_>, row: LabelRow<K>, wire: u32) -> K
+    requires node_in { wire < node_count ground.now.space }
+    requires is { is_wire_at ground.now.space.device wire ≡ true }
+    requires kept { K.value row.cost < K.greatest →
+        K.value row.price ≡ min (entry_cost ground.now.space wire) K.greatest }
+    ensures { K.value result ≡ min (entry_cost ground.now.space wire) K.greatest }
+{
+    if row.cost.is_below(K::greatest()) {
+        return row.price;
+    }
+    new_price(ground, wire)
 }
 
 impl<K: Key> Wave<K> {
@@ -90,12 +102,14 @@ impl<K: Key> Wave<K> {
         to: Target,
         cost: K,
         key: K,
+        price: K,
     ) -> Result<(), AllocError>
         requires ground { IsGround ground.now }
         requires wave { IsWave ground.now self.old }
         requires from { IsStep ground.now self.old (K.value step.label) to.wire to.parent }
         requires to { IsTarget ground.now step.group to.track to.wire }
         requires few { to.track < 64 }
+        requires price { K.value price ≡ entry_cost ground.now.space to.wire }
         requires cost { K.value cost ≡ K.value step.label + entry_cost ground.now.space to.wire }
         requires fits { K.value cost < K.greatest }
         requires less { K.value cost < cost_at self.old to.wire }
@@ -104,7 +118,7 @@ impl<K: Key> Wave<K> {
         ensures { OnOk result (RelaxesTrack ground.now self.old self.new
             (K.value step.label) (K.value step.least) to.wire false) }
     {
-        self.set(to.wire, cost, to.parent)?;
+        self.set(to.wire, cost, to.parent, price)?;
         self.wait(QueueEntry {
             key,
             label: cost,
@@ -124,12 +138,14 @@ impl<K: Key> Wave<K> {
         to: Target,
         cost: K,
         key: K,
+        price: K,
     ) -> Result<(), AllocError>
         requires ground { IsGround ground.now }
         requires wave { IsWave ground.now self.old }
         requires from { IsStep ground.now self.old (K.value step.label) to.wire to.parent }
         requires to { IsTarget ground.now step.group to.track to.wire }
         requires few { to.track < 64 }
+        requires price { K.value price ≡ entry_cost ground.now.space to.wire }
         requires cost { K.value cost ≡ K.value step.label + entry_cost ground.now.space to.wire }
         requires fits { K.value cost < K.greatest }
         requires less { K.value cost < cost_at self.old to.wire }
@@ -141,7 +157,7 @@ impl<K: Key> Wave<K> {
         if self.drops(key) {
             return Ok(());
         }
-        self.lower_to(ground, step, to, cost, key)
+        self.lower_to(ground, step, to, cost, key, price)
     }
 
     /// Lowers a wire's label, and lets the wire wait by itself, if no more is left from there than
@@ -153,12 +169,14 @@ impl<K: Key> Wave<K> {
         step: Relaxing<K>,
         to: Target,
         cost: K,
+        price: K,
     ) -> Result<(), AllocError>
         requires ground { IsGround ground.now }
         requires wave { IsWave ground.now self.old }
         requires from { IsStep ground.now self.old (K.value step.label) to.wire to.parent }
         requires to { IsTarget ground.now step.group to.track to.wire }
         requires few { to.track < 64 }
+        requires price { K.value price ≡ entry_cost ground.now.space to.wire }
         requires cost { K.value cost ≡ K.value step.label + entry_cost ground.now.space to.wire }
         requires fits { K.value cost < K.greatest }
         requires less { K.value cost < cost_at self.old to.wire }
@@ -166,7 +184,7 @@ impl<K: Key> Wave<K> {
             (K.value step.label) (K.value step.least) to.wire false) }
     {
         let wires = self.wires_left(ground, step.group);
-        self.lower_by(ground, step, to, cost, cost.plus(bound_over(wires)))
+        self.lower_by(ground, step, to, cost, cost.plus(bound_over(wires)), price)
     }
 
     /// Lowers a wire's label, and lets the wire wait by itself, if it isn't above the ceiling.
@@ -177,12 +195,14 @@ impl<K: Key> Wave<K> {
         step: Relaxing<K>,
         to: Target,
         cost: K,
+        price: K,
     ) -> Result<(), AllocError>
         requires ground { IsGround ground.now }
         requires wave { IsWave ground.now self.old }
         requires from { IsStep ground.now self.old (K.value step.label) to.wire to.parent }
         requires to { IsTarget ground.now step.group to.track to.wire }
         requires few { to.track < 64 }
+        requires price { K.value price ≡ entry_cost ground.now.space to.wire }
         requires cost { K.value cost ≡ K.value step.label + entry_cost ground.now.space to.wire }
         requires fits { K.value cost < K.greatest }
         requires less { K.value cost < cost_at self.old to.wire }
@@ -192,7 +212,7 @@ impl<K: Key> Wave<K> {
         if self.drops(cost) {
             return Ok(());
         }
-        self.lower_bounded(ground, step, to, cost)
+        self.lower_bounded(ground, step, to, cost, price)
     }
 
     /// Lowers a wire's label. If that is not the least there can be, the wire waits by itself.
@@ -204,12 +224,14 @@ impl<K: Key> Wave<K> {
         step: Relaxing<K>,
         to: Target,
         cost: K,
+        price: K,
     ) -> Result<bool, AllocError>
         requires ground { IsGround ground.now }
         requires wave { IsWave ground.now self.old }
         requires from { IsStep ground.now self.old (K.value step.label) to.wire to.parent }
         requires to { IsTarget ground.now step.group to.track to.wire }
         requires few { to.track < 64 }
+        requires price { K.value price ≡ entry_cost ground.now.space to.wire }
         requires cost { K.value cost ≡ K.value step.label + entry_cost ground.now.space to.wire }
         requires fits { K.value cost < K.greatest }
         requires least { K.value step.least ≤ K.value cost }
@@ -219,10 +241,10 @@ impl<K: Key> Wave<K> {
         ensures fits { IfOk result (λ fresh. IsTrue fresh → K.value step.least < K.greatest) }
     {
         if step.least.is_below(cost) {
-            self.lower_alone(ground, step, to, cost)?;
+            self.lower_alone(ground, step, to, cost, price)?;
             return Ok(false);
         }
-        self.set(to.wire, cost, to.parent)?;
+        self.set(to.wire, cost, to.parent, price)?;
         Ok(true)
     }
 
@@ -250,9 +272,10 @@ impl<K: Key> Wave<K> {
         if row.cost.is_below(step.least) {
             return Ok(false);
         }
-        let cost = label_by(ground, step, to.wire);
+        let price = price_by(ground, row, to.wire);
+        let cost = step.label.plus(price);
         if cost.is_below(row.cost) {
-            return self.lower(ground, step, to, cost);
+            return self.lower(ground, step, to, cost, price);
         }
         self.keep_least(to.wire, to.parent, row, cost);
         Ok(false)
@@ -385,7 +408,7 @@ impl<K: Key> Wave<K> {
     }
 
     /// Lowers a wire's label, and lets the wire wait by itself, if its group, which has this span,
-    /// is inside the net's box.
+    /// is inside the net's box, and no more is left from there than the ceiling lets through.
     #[inline(always)]
     fn lower_if_inside(
         &mut self,
@@ -394,6 +417,7 @@ impl<K: Key> Wave<K> {
         to: Target,
         span: Span,
         cost: K,
+        price: K,
     ) -> Result<(), AllocError>
         requires ground { IsGround ground.now }
         requires wave { IsWave ground.now self.old }
@@ -401,6 +425,7 @@ impl<K: Key> Wave<K> {
         requires to { IsTarget ground.now step.group to.track to.wire }
         requires few { to.track < 64 }
         requires span { span ≡ (group_at (groups_of ground.now) step.group).span }
+        requires price { K.value price ≡ entry_cost ground.now.space to.wire }
         requires cost { K.value cost ≡ K.value step.label + entry_cost ground.now.space to.wire }
         requires fits { K.value cost < K.greatest }
         requires less { K.value cost < cost_at self.old to.wire }
@@ -409,12 +434,42 @@ impl<K: Key> Wave<K> {
         if !ground.is_span_inside(span) {
             return Ok(());
         }
-        self.lower_alone(ground, step, to, cost)
+        self.lower_bounded(ground, step, to, cost, price)
+    }
+
+    /// Lowers a wire's label, and lets the wire wait by itself, if it isn't above the ceiling, and
+    /// its group, which has this span, is inside the net's box.
+    #[inline(always)]
+    fn lower_alone_inside(
+        &mut self,
+        ground: &Ground<'_>,
+        step: Relaxing<K>,
+        to: Target,
+        span: Span,
+        cost: K,
+        price: K,
+    ) -> Result<(), AllocError>
+        requires ground { IsGround ground.now }
+        requires wave { IsWave ground.now self.old }
+        requires from { IsFrom ground.now self.old (K.value step.label) to.parent to.wire }
+        requires to { IsTarget ground.now step.group to.track to.wire }
+        requires few { to.track < 64 }
+        requires span { span ≡ (group_at (groups_of ground.now) step.group).span }
+        requires price { K.value price ≡ entry_cost ground.now.space to.wire }
+        requires cost { K.value cost ≡ K.value step.label + entry_cost ground.now.space to.wire }
+        requires fits { K.value cost < K.greatest }
+        requires less { K.value cost < cost_at self.old to.wire }
+        ensures { OnOk result (Enters ground.now self.old self.new (K.value step.label) to.wire) }
+    {
+        if self.drops(cost) {
+            return Ok(());
+        }
+        self.lower_if_inside(ground, step, to, span, cost, price)
     }
 
     /// Offers a wire of a group of this span a way, if its label is not below the least that there
-    /// can be. It waits by itself if its label goes down. A wire outside the net's box keeps none:
-    /// that is tested last, since most wires are inside, and most labels stay.
+    /// can be. It waits by itself if its label goes down. A wire outside the net's box gets none:
+    /// that is tested late, since most wires are inside, and most labels stay.
     #[inline(always)]
     fn relax_alone(
         &mut self,
@@ -432,13 +487,13 @@ impl<K: Key> Wave<K> {
         requires span { span ≡ (group_at (groups_of ground.now) step.group).span }
         requires row { label_of K.value K.greatest row ≡ label_at self.old to.wire }
         requires fits { K.value row.cost ≤ K.greatest }
-        requires least { K.value step.least ≡
-            min (K.value step.label + least_wire_cost) K.greatest }
+        requires some { 0 < K.value row.cost }
         ensures { OnOk result (Enters ground.now self.old self.new (K.value step.label) to.wire) }
     {
-        let cost = label_by(ground, step, to.wire);
+        let price = price_by(ground, row, to.wire);
+        let cost = step.label.plus(price);
         if cost.is_below(row.cost) {
-            return self.lower_if_inside(ground, step, to, span, cost);
+            return self.lower_alone_inside(ground, step, to, span, cost, price);
         }
         self.keep_least(to.wire, to.parent, row, cost);
         Ok(())

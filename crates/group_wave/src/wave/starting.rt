@@ -180,7 +180,7 @@ impl<K: Key> Wave<K> {
         requires less { K.value cost < cost_at self.old pin }
         ensures { OnOk result (Enters ground.now self.old self.new 0 pin) }
     {
-        self.set(pin, cost, ground.source())?;
+        self.set(pin, cost, ground.source(), cost)?;
         self.drive(ground, pin, cost)
     }
 
@@ -238,7 +238,8 @@ impl<K: Key> Wave<K> {
             (MoreOrigins self.old self.new ground.now.space.net.source) }
     {
         let source = ground.source();
-        self.set(source, K::zero(), source)?;
+        let label = K::zero();
+        self.set(source, label, source, label)?;
         ground.successors(source, next)?;
         self.enter_outputs(ground, next)
     }
@@ -255,7 +256,7 @@ impl<K: Key> Wave<K> {
         let _few = ground.group(place.group);
         let wires = self.wires_left(ground, place.group);
         let label = K::zero();
-        self.set(wire, label, wire)?;
+        self.set(wire, label, wire, label)?;
         self.wait(QueueEntry {
             key: label.plus(bound_over(wires)),
             label,
@@ -276,7 +277,7 @@ impl<K: Key> Wave<K> {
         ensures best { OnOk result (IsBest ground.now self.old → IsBest ground.now self.new) }
     {
         let label = K::zero();
-        self.set(pin, label, pin)?;
+        self.set(pin, label, pin, label)?;
         self.drive(ground, pin, label)
     }
 
@@ -295,7 +296,8 @@ impl<K: Key> Wave<K> {
         if is_output(ground.kind(node)) {
             return self.start_output(ground, node);
         }
-        self.set(node, K::zero(), node)
+        let label = K::zero();
+        self.set(node, label, node, label)
     }
 
     /// Lets the wave start at the nodes of a way to a sink too, the sink first.

@@ -1,7 +1,8 @@
-use Rattle.std.proofs.Common.{◌∙◌, length, ap, sym}
-use Rattle.std.proofs.lemmas.List.{length-map}
-use Rattle.group_wave.proofs.LabelRows.{blank_rows}
+use Rattle.std.proofs.Common.{◌∙◌}
+use Rattle.group_wave.proofs.LabelRows.{blank_rows, count_rows}
 use Rattle.group_wave.proofs.labels.Labels.clear.Goals as goal
 
 pub returns : goal.returns
-returns g c = blank_rows g.K.Key.value g.K.Key.greatest c.take_off.new.rows.items _ c.take_off.ensures.blank (c.take_off.ensures.count ∙ sym (length-map c.self.inside.rows.items _) ∙ ap length c.self.view_is)
+returns g c =
+    let count = count_rows g.K.Key.value g.K.Key.greatest c.self.inside.rows.items c.self.inside.prices.items c.args.self.now c.self.invariant.sized c.self.view_is in
+    blank_rows g.K.Key.value g.K.Key.greatest c.take_off.new.rows.items c.self.inside.prices.items _ c.take_off.ensures.blank (c.take_off.ensures.count ∙ count) (c.self.invariant.sized ∙ count)

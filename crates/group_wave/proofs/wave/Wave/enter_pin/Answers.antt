@@ -14,7 +14,7 @@ narrow g = g.met.K.Key.narrow
 
 pub returns : goal.returns
 returns g c =
-    let total : g.K.Key.value c.plus-cost.result ≡ min (g.K.Key.value c.args.label + entry_cost c.args.ground.now.space c.args.tap.pin) g.K.Key.greatest = omega (arith, c.plus-cost.ensures, c.cut.ensures, c.pin_cost.ensures) in
+    let total : g.K.Key.value c.plus-cost.result ≡ min (g.K.Key.value c.args.label + entry_cost c.args.ground.now.space c.args.tap.pin) g.K.Key.greatest = omega (arith, c.plus-cost.ensures, c.cut-price.ensures, c.pin_cost.ensures) in
     entered_kept c.args.ground.now c.requires.ground c.args.self.now c.requires.wave (g.K.Key.value c.args.label) c.args.tap.pin c.args.wire
     (tap_from c.args.ground.now c.requires.ground c.args.self.now c.requires.wave c.args.tap.sink c.args.tap.pin c.requires.tap (g.K.Key.value c.args.label) c.args.wire c.requires.edge c.requires.from (omega (arith, c.requires.fits, narrow g)))
     c.keep_least.new.self (g.K.Key.value c.plus-cost.result) g.K.Key.greatest (narrow g) total c.keep_least.ensures
@@ -28,6 +28,12 @@ lower_pin-requires-clause-enters g c =
       edge = c.requires.edge;
       inside = pin_inside c.args.ground.now c.requires.ground c.args.tap.sink c.args.tap.pin c.requires.tap c.requires.sink.0;
       reached = omega (arith, c.requires.from, c.requires.fits, narrow g);
-      paid = omega (arith, c.requires.from, less, fits, c.plus-cost.ensures, c.cut.ensures, c.pin_cost.ensures);
+      paid = omega (arith, c.requires.from, less, fits, c.plus-cost.ensures, c.cut-price.ensures, c.pin_cost.ensures);
       less = below;
     }
+
+pub lower_pin-requires-clause-price : goal.lower_pin-requires-clause-price
+lower_pin-requires-clause-price g c =
+    let less = c.if-is_below.ensures.0 refl in
+    let fits = c.row-row.ensures.fits in
+    omega (arith, less, fits, c.plus-cost.ensures, c.cut-price.ensures, c.pin_cost.ensures)

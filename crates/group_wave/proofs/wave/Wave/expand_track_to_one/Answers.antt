@@ -9,7 +9,7 @@ use Rattle.wave_queue.specs.kept.Queues.{entry_of}
 use Rattle.group_wave.specs.kept.WaveState.{FAR, Wave}
 use Rattle.group_wave.specs.kept.Wave.{WentOn, cost_at, unreached}
 use Rattle.group_wave.proofs.Beside.{beside_from, beside_on, beside_step, beside_target, beside_within}
-use Rattle.group_wave.proofs.Costs.{cost_below}
+use Rattle.group_wave.proofs.Costs.{cost_below, no_less}
 use Rattle.group_wave.proofs.Grouped.{wire_within}
 use Rattle.group_wave.proofs.Relaxed.{relaxed_low}
 use Rattle.group_wave.proofs.wave.Wave.expand_track_to_one.Goals as goal
@@ -60,6 +60,14 @@ relax_alone-requires-clause-to g c =
 
 pub relax_alone-requires-clause-span : goal.relax_alone-requires-clause-span
 relax_alone-requires-clause-span g c = ap (λ (x : Group). x.span) c.group-beside.ensures.group
+
+pub relax_alone-requires-clause-some : goal.relax_alone-requires-clause-some
+relax_alone-requires-clause-some g c =
+    let more = no_less c.is_below.result _ _ c.is_below.ensures c.if-is_below.false in
+    let least = c.plus.ensures in
+    let cut = c.cut.ensures in
+    let some = g.met.K.Key.some in
+    omega (arith, more, least, cut, some)
 
 pub returns-clause-spreads : goal.returns-clause-spreads
 returns-clause-spreads g c = on_ok_weaker c.relax_alone.result (λ enters. enters.spreads) c.relax_alone.ensures

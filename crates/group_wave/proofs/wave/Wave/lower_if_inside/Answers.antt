@@ -9,10 +9,10 @@ returns-then-not-is_span_inside g c =
     entered_outside c.args.ground.now c.requires.ground c.args.self.now c.requires.wave (g.K.Key.value c.args.step.label) c.args.to.wire c.args.to.parent c.requires.from
     (target_outside c.args.ground.now c.requires.ground c.args.step.group c.args.to.track c.args.to.wire c.requires.to c.args.span c.is_span_inside.result c.requires.span c.is_span_inside.ensures c.if-not-is_span_inside.true)
 
-pub lower_alone-requires-clause-from : goal.lower_alone-requires-clause-from
-lower_alone-requires-clause-from g c =
+pub lower_bounded-requires-clause-from : goal.lower_bounded-requires-clause-from
+lower_bounded-requires-clause-from g c =
     target_step c.args.ground.now c.requires.ground c.args.step.group c.args.to.track c.args.to.wire c.requires.to c.args.self.now (g.K.Key.value c.args.step.label) c.args.to.parent c.args.span c.is_span_inside.result
     c.requires.from c.requires.span c.is_span_inside.ensures c.if-not-is_span_inside.false
 
 pub returns : goal.returns
-returns g c = on_ok_weaker c.lower_alone.result (track_enters c.args.ground.now c.args.self.now c.lower_alone.new.self (g.K.Key.value c.args.step.label) (g.K.Key.value c.args.step.least) c.args.to.wire) c.lower_alone.ensures
+returns g c = on_ok_weaker c.lower_bounded.result (track_enters c.args.ground.now c.args.self.now c.lower_bounded.new.self (g.K.Key.value c.args.step.label) (g.K.Key.value c.args.step.least) c.args.to.wire) c.lower_bounded.ensures

@@ -25,10 +25,10 @@ returns g c =
     let within = c.requires.from.within in
     let entry : Waiting = record { key = value c.args.key; label = value c.args.cost; group = c.args.step.group; tracks = c.with_bit.result; begun = false } in
     let here = ap (λ l. l.cost) (label_here ground was set wire _ c.in_ok-set.ensures.set (omega (arith, rows, within))) in
-    let low = lowered ground c.requires.ground was wave label wire c.args.to.parent c.requires.from set (value c.args.cost) c.in_ok-set.ensures.set c.in_ok-set.ensures.best
+    let low = lowered ground c.requires.ground was wave label wire c.args.to.parent c.requires.from set (value c.args.cost) (value c.args.price) c.requires.price c.in_ok-set.ensures.set c.in_ok-set.ensures.best
     c.requires.less (omega (arith, fits, narrow)) (omega (arith, sum)) (omega (arith, sum)) in
     on_ok_weaker c.wait.result (λ pushed. relaxed_alone ground c.requires.ground was wave label wire c.args.to.parent c.requires.from
-    set (value c.args.cost) c.in_ok-set.ensures.set c.in_ok-set.ensures.best
+    set (value c.args.cost) (value c.args.price) c.requires.price c.in_ok-set.ensures.set c.in_ok-set.ensures.best
     c.requires.less (omega (arith, fits, narrow)) (omega (arith, sum)) (omega (arith, sum))
     c.wait.new.self entry (value c.args.step.least) pushed
     (record { holds = record { track = c.args.to.track; bit = c.with_bit.ensures.here; wire = c.requires.to.is }; label = sym here })

@@ -17,4 +17,4 @@ returns g c =
         | inr end ↦ end
       ]
     ] in
-    on_ok_weaker c.set.result (λ r. end_starts c.args.ground.now c.args.self.now c.set.new.self c.args.node (rw c.zero.ensures at r) (omega (arith, c.requires.there, c.requires.wave.rows)) c.requires.wave c.requires.complete end) c.set.ensures.set
+    on_ok_weaker c.set.result (λ r. end_starts c.args.ground.now c.args.self.now c.set.new.self c.args.node (rw c.zero-label.ensures at r) (omega (arith, c.requires.there, c.requires.wave.rows)) c.requires.wave c.requires.complete end) c.set.ensures.set
