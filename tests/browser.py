@@ -1,4 +1,4 @@
-"""Headless Chromium, which is told what to do through a pipe (Chrome DevTools Protocol)."""
+"""Headless Chromium, driven through a pipe (Chrome DevTools Protocol)."""
 import base64
 import contextlib
 import json
@@ -14,7 +14,7 @@ LONGEST = 120  # Seconds that an answer may take.
 
 
 def program():
-    """Chromium's program, or None where there is none."""
+    """Chromium's program, or None if there is none."""
     return next(filter(None, map(shutil.which, NAMES)), None)
 
 
@@ -23,7 +23,7 @@ class NoAnswer(Exception):
 
 
 class Browser:
-    """A browser with one page. What is typed and clicked there is as if a user did it."""
+    """A browser with one page. Its keys and clicks work like a user's."""
 
     def __init__(self, width=1200, height=800):
         self.folder = tempfile.mkdtemp()
@@ -67,7 +67,7 @@ class Browser:
         self.remove_folder()
 
     def remove_folder(self):
-        """Removes the browser's folder, into which processes of its own may still write."""
+        """Removes the browser's folder, although its processes may still write there."""
         for _ in range(50):
             shutil.rmtree(self.folder, ignore_errors=True)
             if not os.path.exists(self.folder):
@@ -77,7 +77,7 @@ class Browser:
     # ---- messages
 
     def call(self, method, **words):
-        """Calls a method of the protocol, and answers its result."""
+        """Calls a method of the protocol and returns its result."""
         self.number += 1
         message = {"id": self.number, "method": method, "params": words}
         if self.session:
@@ -108,21 +108,21 @@ class Browser:
     # ---- the page
 
     def open(self, path):
-        """Opens a file, and waits until it was drawn."""
+        """Opens a file and waits until it is drawn."""
         self.complaints = []
         self.call("Page.navigate", url=f"file://{path}")
         self.value("new Promise(done => document.readyState === 'complete' ? done() : addEventListener('load', done))")
         self.rest()
 
     def value(self, expression):
-        """The value of an expression of JavaScript in the page."""
+        """The value of a JavaScript expression in the page."""
         ran = self.call("Runtime.evaluate", expression=expression, returnByValue=True, awaitPromise=True)
         if "exceptionDetails" in ran:
             raise NoAnswer(f"{expression}: {ran['exceptionDetails']}")
         return ran["result"].get("value")
 
     def rest(self):
-        """Waits until the page has drawn."""
+        """Waits until the page is drawn."""
         self.value("new Promise(done => requestAnimationFrame(() => requestAnimationFrame(done)))")
 
     def mouse(self, kind, x, y, **words):

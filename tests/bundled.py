@@ -1,4 +1,4 @@
-"""The designs that come with the program: the netlist, the architecture and the placement of each. And a copy of tools/."""
+"""The bundled designs: the netlist, the architecture and the placement of each. Also a copy of tools/."""
 import compileall
 import pathlib
 import shutil
@@ -16,7 +16,7 @@ SHIFT = (EXAMPLES / "shift.net", LUT4, EXAMPLES / "shift.place")
 
 
 def copy_of_tools(folder):
-    """Copies tools/ into a folder, with its modules compiled, so that not each call of a tool compiles them; the copy."""
+    """Copies tools/ into a folder and compiles its modules, so that calls of tools don't. Returns the copy."""
     tools = pathlib.Path(shutil.copytree(TOP / "tools", pathlib.Path(folder, "tools")))
     compileall.compile_dir(tools, quiet=2)
     return tools

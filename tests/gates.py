@@ -1,7 +1,7 @@
-"""What a netlist of gates does, and what it does once it is packed: both are simulated.
+"""Simulates a netlist of gates, and the netlist after packing.
 
-The readers are plain and of their own, for files that are good. A value is an integer, each bit of
-which belongs to a run of its own: so many runs are simulated at once.
+The readers are plain ones of this module, for files without faults. A value is an integer; each of
+its bits belongs to a run of its own, so many runs are simulated at once.
 """
 import contextlib
 import importlib.machinery
@@ -23,10 +23,10 @@ ALL = 2**LANES - 1
 
 
 def script(path):
-    """A script as a module, whose name has no ending."""
+    """A script, whose name has no suffix, as a module."""
     loader = importlib.machinery.SourceFileLoader(path.name.replace("-", "_"), str(path))
     module = importlib.util.module_from_spec(importlib.util.spec_from_loader(loader.name, loader))
-    sys.modules[loader.name] = module  # where its dataclasses look it up
+    sys.modules[loader.name] = module  # its dataclasses look it up there
     loader.exec_module(module)
     return module
 
@@ -34,7 +34,7 @@ def script(path):
 def told(tool, folder, *words):
     """The status of a tool, and what it prints on both outputs. It runs in this process.
 
-    Words that end as names of files do name files of the folder.
+    Words with a suffix of file names are files of the folder.
     """
     out, complaints = (io.TextIOWrapper(io.BytesIO()) for _ in range(2))
     with contextlib.redirect_stdout(out), contextlib.redirect_stderr(complaints):
@@ -50,7 +50,7 @@ def told(tool, folder, *words):
 
 
 def lines_of(text):
-    """The words of each line, without comments; a line goes on after a backslash."""
+    """The words of each line, without comments; a backslash continues a line."""
     whole = re.sub(r"\\\s*\n", " ", re.sub(r"#.*", "", text))
     return [line.split() for line in whole.splitlines() if line.split()]
 
@@ -62,7 +62,7 @@ class Table:
         self.inputs, self.rows = inputs, []
 
     def value(self, values):
-        """Its output where its inputs have these values."""
+        """Its output for these values of its inputs."""
         met = 0
         for pattern, _ in self.rows:
             row = ALL
@@ -93,7 +93,7 @@ class Gates:
                 table.rows.append((key, words[0]) if words else ("", key))
 
     def run(self, stimuli, names):
-        """What each of these names has in each cycle."""
+        """The value of each of these names in each cycle."""
         state, answers = {}, []
         for stimulus in stimuli:
             values = {**stimulus, **state}
@@ -142,7 +142,7 @@ class Packed:
                 kind, nets, subblocks = self.blocks[name]
                 subblocks.append(Subblock(words, nets, subblocks))
                 self.subblocks[words[0]] = subblocks[-1]
-        # What drives each net: a subblock, or None where it is a pad.
+        # What drives each net: a subblock, or None if it is a pad.
         self.drivers = {}
         for kind, nets, subblocks in self.blocks.values():
             if kind == ".input":
@@ -152,14 +152,14 @@ class Packed:
                     self.drivers[nets[int(subblock.output)]] = subblock
 
     def table_of(self, subblock):
-        """The look-up table of a subblock, or None where it only hands on to the flip-flop."""
+        """The look-up table of a subblock, or None if it only feeds the flip-flop."""
         if subblock.name not in self.gates.flip_flops:
             return self.gates.tables[subblock.name]
         taken = self.gates.flip_flops[subblock.name]
         return None if taken in self.subblocks else self.gates.tables.get(taken)
 
     def run(self, stimuli):
-        """What each output and each subblock has in each cycle, by the pins that nets are at."""
+        """The value of each output and each subblock in each cycle, according to the pins of nets."""
         answers, state = [], {}
         for stimulus in stimuli:
             known = {**stimulus, **state}

@@ -1,4 +1,4 @@
-"""A session of lab that is asked call by call, and whose time and memory are measured."""
+"""A session of lab that gets one call after another; its time and memory are measured."""
 import re
 import subprocess
 import sys
@@ -9,7 +9,7 @@ MARK = "3141592653"
 
 
 class Session:
-    """A running lab: it gets calls, and is asked for a number behind each."""
+    """A running lab: it gets calls, and is asked for a number after each."""
 
     def __init__(self, lab):
         self.process = subprocess.Popen([lab], stdin=subprocess.PIPE, stdout=subprocess.PIPE, text=True)
@@ -36,11 +36,11 @@ class Session:
         return int(self.ask(call)[0].split()[0])
 
     def time(self, times, call):
-        """How long a call takes that is made so many times, in microseconds."""
+        """How long a call takes, in microseconds, if it is made this many times."""
         return int(self.ask(f"time {times} {call}")[0].split()[-2]) / times
 
     def peak(self):
-        """The most memory that it had, in bytes."""
+        """The peak of its memory, in bytes."""
         return self.memory("VmHWM")
 
     def resident(self):
@@ -48,9 +48,9 @@ class Session:
         return self.memory("VmRSS")
 
     def memory(self, name):
-        """What Linux tells of its memory, in bytes."""
-        told = Path(f"/proc/{self.process.pid}/status").read_text()
-        return 1024 * int(re.search(rf"^{name}:\s+(\d+) kB", told, re.MULTILINE)[1])
+        """A figure that Linux reports about its memory, in bytes."""
+        status = Path(f"/proc/{self.process.pid}/status").read_text()
+        return 1024 * int(re.search(rf"^{name}:\s+(\d+) kB", status, re.MULTILINE)[1])
 
     def end(self):
         self.process.stdin.close()

@@ -1,7 +1,7 @@
-"""Designs that are made to be measured: one at the limits of a netlist, one that fills the greatest array, a routing of nearly 2^24 bytes, and arrays
-of look-up tables that take what blocks near them drive.
+"""Designs for measurements: one at the limits of a netlist, one that fills the greatest array, a routing of nearly 2^24 bytes, and arrays of look-up
+tables that take the nets of blocks near them.
 
-The names of the first two have a hundred bytes that differ only at their ends.
+The names in the first two have a hundred bytes and differ only at their ends.
 """
 import random
 from dataclasses import dataclass
@@ -13,7 +13,7 @@ from bundled import SMALL, UART
 SIDE, PADS, PINS = 100, 16, 4
 MOST_BLOCKS, MOST_NETS = 20_000, 65_535
 MOST_BYTES = 2**24
-# The channels of the routing have so many tracks: one for each pin of the blocks of half a row.
+# The tracks of the routing's channels: one for each pin of the blocks of half a row.
 WIDTH = PINS * SIDE // 2
 PERIMETER = (
     *((0, y) for y in range(1, SIDE + 1)), *((SIDE + 1, y) for y in range(1, SIDE + 1)),
@@ -22,7 +22,7 @@ PERIMETER = (
 
 @dataclass(frozen=True)
 class Design:
-    """The files of a design, as far as it has them, and the width of its routing."""
+    """The files that a design has, and the width of its routing."""
 
     arch: Path
     net: Path
@@ -32,7 +32,7 @@ class Design:
 
 
 def write(folder, name, text):
-    """Writes a file of a folder, and gives its path."""
+    """Writes a file of a folder, and returns its path."""
     file = Path(folder, name)
     file.write_text(text)
     return file
@@ -71,7 +71,7 @@ def net_name(number, nets):
 
 
 def block_lines(number, nets):
-    """A logic block that drives four nets, and takes four that blocks far away drive."""
+    """A logic block that drives four nets, and takes four nets of distant blocks."""
     own = [PINS * number + pin for pin in range(PINS)]
     driven = [net_name(net, nets) for net in own]
     taken = [net_name((net + nets // 2) % nets, nets) if net < nets else "open" for net in own]
@@ -79,14 +79,14 @@ def block_lines(number, nets):
 
 
 def make_limits(folder):
-    """The most blocks and nets that a netlist may have; no array has places for so many."""
+    """The most blocks and nets that a netlist may have; no array has places for that many."""
     arch = write_arch(folder, "limits.arch", PADS, "bottom")
     blocks = (block_lines(number, MOST_NETS) for number in range(MOST_BLOCKS))
     return Design(arch, write(folder, "limits.net", "".join(blocks)))
 
 
 def make_full(folder):
-    """A logic block at each place of the greatest array, and pads at each place beside it; they take the nets of the blocks."""
+    """A logic block at each place of the greatest array, and pads at each place around it; they take the nets of the blocks."""
     arch = write_arch(folder, "full.arch", PADS, "bottom")
     nets, pads = PINS * SIDE * SIDE, len(PERIMETER) * PADS
     blocks = [block_lines(number, nets) for number in range(SIDE * SIDE)]
@@ -103,7 +103,7 @@ def write_place(folder, name, height, rows):
 
 
 def row_block(x, y):
-    """A block's lines: one of the left half drives the nets that the one across takes."""
+    """A block's lines: a block of the left half drives the nets that the block across takes."""
     none = ["open"] * PINS
     nets = [f"n{min(x, SIDE + 1 - x)}_{y}_{pin}" for pin in range(PINS)]
     pins = none + nets if 2 * x <= SIDE else nets + none
@@ -148,7 +148,7 @@ def make_large(folder):
         WIDTH)
 
 def block_beside(chance, x, y, side):
-    """Another block's place, mostly a near one: steps along both axes that get rarer with their length."""
+    """The place of another block, mostly a near one: longer steps along both axes are rarer."""
     while True:
         steps = [chance.choice((-1, 1)) * int(chance.expovariate(1 / 3)) for _ in range(2)]
         place = (x + steps[0], y + steps[1])
@@ -157,7 +157,7 @@ def block_beside(chance, x, y, side):
 
 
 def make_local(folder, side, seed):
-    """An array that is full of look-up tables, each of which takes the outputs of three others, mostly near ones."""
+    """An array full of look-up tables; each takes the outputs of three others, mostly near ones."""
     chance = random.Random(seed)
     places = [(x, y) for y in range(1, side + 1) for x in range(1, side + 1)]
     taken = {place: [block_beside(chance, *place, side) for _ in range(3)] for place in places}

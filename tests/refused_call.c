@@ -1,9 +1,9 @@
-// Refuses calls of a program that it is loaded into (LD_PRELOAD): of the kind that REFUSED_KIND names, `memory` (malloc, calloc, realloc,
-// aligned_alloc, posix_memalign and memalign, counted together) or `threads` (pthread_create), one by its number, from 1, and if wanted all
-// behind it too. The program is loaded once for many runs: each begins as a copy of the process (fork), before the program has begun. The
-// runs come as jobs from the file descriptor that stands in REFUSED_JOBS, one after another; what came of each goes to REFUSED_ENDS.
-// Where a call was refused, a byte is told beside what the run printed. Where a line is printed that is REFUSED_MARK, a line is told: how
-// many calls were made before.
+// Refuses calls of a program into which it is loaded (LD_PRELOAD): calls of the kind that REFUSED_KIND names, `memory` (malloc, calloc,
+// realloc, aligned_alloc, posix_memalign and memalign, counted together) or `threads` (pthread_create). It refuses one by its number, from
+// 1, and if wanted all after it too. The program is loaded once for many runs: each begins as a copy of the process (fork), before the
+// program has begun. The runs come as jobs from the file descriptor in REFUSED_JOBS, one after another; the results go to REFUSED_ENDS.
+// In addition to what the run printed, a byte reports that a call was refused. For each printed line that is REFUSED_MARK, a line reports
+// how many calls were made before.
 #define _GNU_SOURCE
 #include <dlfcn.h>
 #include <errno.h>
@@ -17,7 +17,7 @@
 #include <sys/wait.h>
 #include <unistd.h>
 
-// glibc's own, under names that nothing stands in for.
+// glibc's own functions, under names that nothing replaces.
 void *__libc_malloc(size_t);
 void *__libc_calloc(size_t, size_t);
 void *__libc_realloc(void *, size_t);
@@ -27,15 +27,15 @@ typedef int (*Create)(pthread_t *, const pthread_attr_t *, void *(*)(void *), vo
 
 enum Kind { NOTHING, MEMORY, THREADS };
 
-// A run: the number of the call to refuse, 0 for none, whether all behind it are refused too, and after how many seconds it is ended.
+// A run: the number of the call to refuse, 0 for none, whether all after it are refused too, and after how many seconds it is ended.
 struct Job {
   unsigned long number, from, seconds;
 };
 
-// What a run has: what it prints on both streams, and what is told of it.
-enum { PRINTED, COMPLAINED, TOLD, FILES };
+// The files of a run: what it prints on both streams, and the report on its calls.
+enum { PRINTED, COMPLAINED, REPORTED, FILES };
 
-// What came of a run: its status as waitpid has it, and how long its files are, which follow.
+// The result of a run: its status as waitpid has it, and the sizes of its files, which follow.
 struct End {
   unsigned long status, sizes[FILES];
 };
@@ -43,7 +43,7 @@ struct End {
 static enum Kind kind = NOTHING;
 static unsigned long number;
 static int from;
-static int tells = -1;
+static int report = -1;
 static const char *mark = "";
 static atomic_ulong asked;
 
@@ -59,7 +59,7 @@ static void must(int holds) {
     abort();
 }
 
-// Hands on all bytes; nothing of it asks for memory.
+// Writes all bytes without asking for memory.
 static void put(int file, const void *bytes, size_t count) {
   const char *rest = bytes;
   while (count > 0) {
@@ -74,7 +74,7 @@ static void put(int file, const void *bytes, size_t count) {
 static void become(const struct Job *job, const int *files) {
   number = job->number;
   from = job->from != 0;
-  tells = files[TOLD];
+  report = files[REPORTED];
   must(dup2(files[PRINTED], STDOUT_FILENO) >= 0 && dup2(files[COMPLAINED], STDERR_FILENO) >= 0);
   must(close(files[PRINTED]) == 0 && close(files[COMPLAINED]) == 0);
   alarm((unsigned)job->seconds);
@@ -90,8 +90,8 @@ static void put_file(int to, int file, size_t size) {
   }
 }
 
-// Tells how a run ended, and what its files have, which are emptied for the next one.
-static void tell_end(int ends, int status, const int *files) {
+// Reports how a run ended and what its files contain, and empties them for the next run.
+static void report_end(int ends, int status, const int *files) {
   struct End end = {(unsigned long)status, {0}};
   for (int at = 0; at < FILES; at++) {
     off_t size = lseek(files[at], 0, SEEK_END);
@@ -105,7 +105,7 @@ static void tell_end(int ends, int status, const int *files) {
   }
 }
 
-// Makes one run after another, each as a copy of this process: this comes back as each of them.
+// Makes one run after another, each as a copy of this process: this function returns in each copy.
 static void serve(int jobs, int ends) {
   struct Job job;
   int files[FILES];
@@ -123,12 +123,12 @@ static void serve(int jobs, int ends) {
       return;
     }
     must(waitpid(run, &status, 0) == run);
-    tell_end(ends, status, files);
+    report_end(ends, status, files);
   }
   _exit(0);
 }
 
-// Nothing is refused before: only the loader and the C library have asked for anything.
+// Nothing is refused before this: only the loader and the C library have asked for anything.
 __attribute__((constructor)) static void begin(void) {
   mark = word_in("REFUSED_MARK");
   serve(file_in("REFUSED_JOBS"), file_in("REFUSED_ENDS"));
@@ -144,7 +144,7 @@ static int is_refused(enum Kind of) {
     return 0;
   unsigned long place = atomic_fetch_add(&asked, 1) + 1;
   if (place == number)
-    put(tells, "!", 1);
+    put(report, "!", 1);
   return place == number || (from && place > number);
 }
 
@@ -176,17 +176,17 @@ int posix_memalign(void **out, size_t alignment, size_t size) {
   return 0;
 }
 
-// Tells how many calls were made; nothing of it asks for memory.
-static void tell_count(void) {
+// Reports how many calls were made, without asking for memory.
+static void report_count(void) {
   char line[24];
   int length = snprintf(line, sizeof line, "%lu\n", atomic_load(&asked));
-  put(tells, line, (size_t)length);
+  put(report, line, (size_t)length);
 }
 
 ssize_t write(int file, const void *bytes, size_t count) {
   size_t length = strlen(mark);
   if (file == STDOUT_FILENO && length > 0 && count == length + 1 && memcmp(bytes, mark, length) == 0)
-    tell_count();
+    report_count();
   return syscall(SYS_write, file, bytes, count);
 }
 

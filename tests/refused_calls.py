@@ -1,4 +1,4 @@
-"""Runs the program, and tests of crates, with calls for memory or for threads refused: what without-memory and without-threads share."""
+"""Runs the program, and tests of crates, with calls for memory or threads refused: what without-memory and without-threads share."""
 import argparse
 import concurrent.futures
 import functools
@@ -16,26 +16,26 @@ from typing import Callable, Optional
 
 from bundled import TOP
 
-# Stands for the routing file, and for a script, in the words of a run.
+# Placeholders for the routing file, and for a script, in the words of a run.
 ROUTE = "ROUTE"
 SCRIPT = "SCRIPT"
 OLD_ROUTING = b"an old routing\n"
 SECONDS = 120
 PROCESSORS = len(os.sched_getaffinity(0))
-# So often a run is made that says nothing.
+# How often a run is made if its answer says nothing.
 TRIES = 5
-# Up to here each call is refused; of later ones, where they are thinned out, each hundredth after it.
+# Each call is refused up to this one; with thinning, later ones are refused at steps of a hundredth of their number.
 EACH_CALL = 300
-# A job, and what came of it, as refused_call.c has them.
+# A job and its result, as refused_call.c has them.
 JOB = struct.Struct("3L")
 END = struct.Struct("4L")
-# What is told where a call was refused.
+# What is reported if a call was refused.
 REFUSED = b"!"
 
 
 @dataclass(frozen=True)
 class Answer:
-    """What came of a run: its status, what it printed on both streams, and what the routing file has, if it is there."""
+    """The result of a run: its status, what it printed on both streams, and the contents of the routing file, if there is one."""
 
     status: int
     printed: bytes
@@ -48,13 +48,13 @@ class Answer:
 
 
 def says_all(_answer):
-    """Of no answer."""
+    """Whether an answer says nothing: none does."""
     return False
 
 
 @dataclass(frozen=True)
 class Run:
-    """A command that is run again and again: its words, what the routing file or the script has before, which answers are right, and which
+    """A command that is run again and again: its words, the routing file or the script before it, which answers are right, and which
     say nothing."""
 
     name: str
@@ -64,7 +64,7 @@ class Run:
     says_nothing: Callable = says_all
 
     def answer(self):
-        """The answer where nothing is refused."""
+        """The answer if nothing is refused."""
         with tempfile.TemporaryDirectory() as folder:
             files = Files(folder, self.words)
             files.put(self.before)
@@ -73,7 +73,7 @@ class Run:
 
 
 class Files:
-    """The files of runs in a folder: a routing or a script, where the words have one."""
+    """The files of runs in a folder: a routing or a script, if the words have one."""
 
     def __init__(self, folder, words):
         names = {ROUTE: f"{folder}/new.route", SCRIPT: f"{folder}/script.lab"}
@@ -83,7 +83,7 @@ class Files:
         self.there = None
 
     def put(self, before):
-        """Has the file be as it is before a run."""
+        """Makes the file what it is before a run."""
         if self.route and before is None:
             pathlib.Path(self.route).unlink(missing_ok=True)
         elif self.route or (self.script and before != self.there):
@@ -91,7 +91,7 @@ class Files:
             self.there = before
 
     def routing(self):
-        """What the routing file has, None where there is none."""
+        """The contents of the routing file, None if there is none."""
         try:
             return pathlib.Path(self.route).read_bytes() if self.route else None
         except FileNotFoundError:
@@ -114,14 +114,14 @@ class Loaded:
         os.close(writer)
 
     def answer(self, before, number, is_from):
-        """The answer of a run, None where it takes too long, and what is told of its calls."""
+        """The answer of a run, None if it takes too long, and the report on its calls."""
         self.files.put(before)
         os.write(self.jobs, JOB.pack(number, is_from, SECONDS))
         status, *sizes = END.unpack(self.ends.read(END.size))
-        printed, complained, told = map(self.ends.read, sizes)
+        printed, complained, report = map(self.ends.read, sizes)
         status = os.waitstatus_to_exitcode(status)
         answer = None if status == -signal.SIGALRM else Answer(status, printed, complained, self.files.routing())
-        return answer, told
+        return answer, report
 
     def end(self):
         os.close(self.jobs)
@@ -131,7 +131,7 @@ class Loaded:
 
 
 class Refusals:
-    """A program of which calls of a kind are refused, loaded as often as there are processors. Each makes a run at a time."""
+    """A program with calls of one kind refused, loaded once for each processor. Each copy makes one run at a time."""
 
     def __init__(self, library, kind, words, mark="", each=EACH_CALL, share=100):
         self.kind, self.each, self.share = kind, each, share
@@ -149,7 +149,7 @@ class Refusals:
             loaded.end()
 
     def made(self, before, number, is_from=False):
-        """The answer of a run by one that is idle, and what is told of its calls."""
+        """The answer of a run by an idle copy, and the report on its calls."""
         loaded = self.idle.get()
         try:
             return loaded.answer(before, number, is_from)
@@ -157,15 +157,15 @@ class Refusals:
             self.idle.put(loaded)
 
     def answer(self, run, number, is_from):
-        """The answer of a run where the call of this number is refused, and if wanted all behind it; and whether it was made."""
+        """The answer of a run with the call of this number refused, and all after it if wanted; and whether it was made."""
         for _ in range(TRIES):
-            answer, told = self.made(run.before, number, is_from)
+            answer, report = self.made(run.before, number, is_from)
             if answer is None or not run.says_nothing(answer):
                 break
-        return answer, REFUSED in told
+        return answer, REFUSED in report
 
     def count(self, run):
-        """How many calls of the kind a run makes: the greatest number that one of them has, narrowed down from both sides."""
+        """How many calls of the kind a run makes: their greatest number, found by bisection."""
         least, over = 0, 1
         while self.answer(run, over, False)[1]:
             least, over = over, 2 * over
@@ -175,16 +175,16 @@ class Refusals:
         return least
 
     def numbers(self, is_thinned):
-        """The numbers of the calls that are refused: where they are thinned out, later ones by a share of what lies behind."""
+        """The numbers of the calls that are refused; with thinning, the steps between later ones grow with the number."""
         number = 1
         while True:
             yield number
             number += 1 + (number // self.share if is_thinned and number >= self.each else 0)
 
     def counts_at_marks(self, script):
-        """The answer of a script to which nothing is refused, and how many calls it made before each line that is a mark."""
-        answer, told = self.made(script, 0)
-        return answer, [int(line) for line in told.splitlines()]
+        """The answer of a script with nothing refused, and how many calls it made before each line that is a mark."""
+        answer, report = self.made(script, 0)
+        return answer, [int(line) for line in report.splitlines()]
 
     def answers(self, run, is_from, numbers):
         """Refuses one call after another until the run makes no more: the number of each, the answer, and whether the call was made."""
@@ -192,7 +192,7 @@ class Refusals:
             for chunk in chunks(numbers):
                 given = list(pool.map(lambda number: self.answer(run, number, is_from), chunk))
                 yield from ((number, *answered) for number, answered in zip(chunk, given))
-                if not all(told for _, told in given):
+                if not all(is_refused for _, is_refused in given):
                     break
 
     def refuse(self, run, is_from, is_thinned):
@@ -200,16 +200,16 @@ class Refusals:
         return self.refuse_numbers(run, is_from, self.numbers(is_thinned))
 
     def refuse_numbers(self, run, is_from, numbers, keep=lambda number, answer: None):
-        """Refuses the calls of some numbers, and hands on what came of each; how many were refused, and how many answers are wrong."""
+        """Refuses the calls of some numbers, and passes on each right answer; how many were refused, and how many answers are wrong."""
         way = f"all {self.kind} from" if is_from else self.kind
         refused = last = wrong = 0
-        for number, answer, told in self.answers(run, is_from, numbers):
+        for number, answer, is_refused in self.answers(run, is_from, numbers):
             if answer is None or not run.is_right(answer):
                 wrong += 1
                 print(f"{run.name}: {way} call {number}: {answer or 'no answer'}"[:600], flush=True)
-            elif told:
+            elif is_refused:
                 keep(number, answer)
-            if told:
+            if is_refused:
                 refused, last = refused + 1, number
         print(f"{run.name}: {way}: {refused} of some {last} refused, {wrong} wrong answers", flush=True)
         return refused, wrong
@@ -223,7 +223,7 @@ def chunks(numbers):
 
 
 def usual_of(words, before=None):
-    """The answer of a command to which nothing is refused."""
+    """The answer of a command with nothing refused."""
     return Run("", words, before, None).answer()
 
 
@@ -234,7 +234,7 @@ def run_of(name, words, before=None, refusals=(b"error: memory\n",)):
 
 
 def run_that_complains(name, words, refusals):
-    """A run whose answer is always the same, or that of a refusal, but that standard error may have a front of its lines."""
+    """A run whose answer is always the same, or that of a refusal; standard error may have only a front of its lines."""
     usual = usual_of(words)
     lines = usual.complained.splitlines(keepends=True)
     fronts = [b"".join(lines[:count]) for count in range(len(lines) + 1)]
@@ -254,7 +254,7 @@ def is_legal(program, design, width, routing):
 
 
 def run_by_workers(name, words, program, design, width_of, before=None):
-    """A run of several workers, of which any legal routing is right, at the width that what it prints says."""
+    """A run of several workers: any routing is right that is legal at the width that the run prints."""
 
     def is_right(given):
         if given.is_refusal((b"error: memory\n", b"error: no thread\n"), before):
@@ -276,14 +276,14 @@ def search_by_workers(name, program, design, start, workers, before=None):
     words = (program, "width", *design, ROUTE, "--start", start, "--workers", workers, "--no-bound", "--iterations", "10")
 
     def width_of(printed):
-        told = re.fullmatch(rb"(?:width \d+: (?:not )?routed\n)+least routed width: (\d+)\n", printed)
-        return told and told[1].decode()
+        found = re.fullmatch(rb"(?:width \d+: (?:not )?routed\n)+least routed width: (\d+)\n", printed)
+        return found and found[1].decode()
 
     return run_by_workers(name, words, program, design, width_of, before)
 
 
 def tests_of(crate, suffix):
-    """The tests of a crate whose names end so, as `rt ci` or `rt test` built them last."""
+    """The tests of a crate whose names have this suffix, as `rt ci` or `rt test` built them last."""
     program = TOP / f"crates/{crate}/out/{crate}_tests"
     if not program.is_file():
         return []
@@ -297,20 +297,20 @@ def run_of_test(crate, program, name):
 
 
 def runs_of_crates(crates, suffix):
-    """The tests of these crates, or of all, whose names end so."""
+    """The tests of these crates, or of all, whose names have this suffix."""
     for crate in crates or sorted(path.name for path in (TOP / "crates").iterdir()):
         yield from tests_of(crate, suffix)
 
 
 def built_library(folder):
-    """The library that refuses calls, built in a folder."""
+    """Builds the library that refuses calls in a folder, and returns its path."""
     library = f"{folder}/refused_call.so"
     subprocess.run([os.environ.get("CC", "cc"), "-O1", "-shared", "-fPIC", "-o", library, TOP / "tests/refused_call.c", "-ldl"], check=True)
     return library
 
 
 def refuse_run(library, kind, run, ways, is_thinned):
-    """Refuses the calls of a run, one by one and in another way from each one on; how many were refused and how many answers wrong, by way."""
+    """Refuses the calls of a run, one by one, or all from each one on; for each of these ways, how many were refused and how many answers wrong."""
     with Refusals(library, kind, run.words) as refusals:
         return [refusals.refuse(run, is_from, is_thinned) for is_from in ways]
 
@@ -319,13 +319,13 @@ def main(kind, runs_of_program):
     """Refuses the calls of a kind in the program's runs, or in tests of crates; the status to exit with."""
     words = argparse.ArgumentParser(description=f"Runs a program with {kind} refused.")
     words.add_argument("program", nargs="?", metavar="PROGRAM", help="the program, one of this repository's")
-    words.add_argument("--all", action="store_true", help="refuse each call: else later ones are thinned out")
+    words.add_argument("--all", action="store_true", help="refuse each call, also those that are else thinned out")
     words.add_argument("--crates", nargs="*", metavar="CRATE", help=f"tests of these crates, or of all, that are named .._without_{kind}")
     given = words.parse_args()
     if (given.program is None) == (given.crates is None):
         words.error("either a program or --crates")
     program = given.program and os.path.abspath(given.program)
-    # after a refusal a test of a crate calls again, which must succeed: so none is refused from some call on
+    # After a refusal a test of a crate calls again, and that must succeed: so the tests aren't run with all calls refused from one on.
     ways, runs = ((False, True), runs_of_program(program)) if program else ((False,), runs_of_crates(given.crates, f"_without_{kind}"))
     with tempfile.TemporaryDirectory() as folder:
         library = built_library(folder)

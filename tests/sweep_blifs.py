@@ -10,10 +10,10 @@ from sweep_checks import COLUMNS, SweepChecks
 
 
 class BlifChecks(SweepChecks):
-    """What becomes of BLIFs."""
+    """Checks of sweeps with BLIFs."""
 
     def of_blifs(self):
-        """BLIFs are packed and placed once, by several seeds, and their least widths are put together."""
+        """BLIFs are packed and placed once, with several seeds, and their least widths are put together."""
         for path in (EXAMPLES / "flow/light.blif", TOP / "tests/blifs/t481.blif"):
             shutil.copy(path, self.folder)
         words = ["k4n1.arch", "lut4.arch", "light", "t481.blif", "--from-blif", "made"]
@@ -37,7 +37,7 @@ class BlifChecks(SweepChecks):
             by_seed = [of[seed] for seed in "17"]
             wanted = [*names, *map(str, by_seed), f"{sum(by_seed) / 2:.2f}", str(max(by_seed) - min(by_seed))]
             self.expect(f"the widths of {names}", row, wanted)
-        self.expect("the means behind them", rows[5][:2], ["architecture", "routed"])
+        self.expect("the means after them", rows[5][:2], ["architecture", "routed"])
         inodes = {name: (self.folder / name).stat().st_ino for name in made}
         self.calls()
         self.sweep(*words, "--out", "blifs.tsv")
@@ -64,7 +64,7 @@ class BlifChecks(SweepChecks):
             self.expect(f"{line[made]}", self.read_file(line[made]), self.read_file(words[4]))
 
     def of_blifs_that_fail(self):
-        """A BLIF that can't be packed is a line, and a sweep that is stopped leaves no half placement."""
+        """A BLIF that can't be packed has a line, and a sweep that is stopped leaves no half placement."""
         shutil.copy(EXAMPLES / "flow/light.blif", self.folder)
         (self.folder / "bad.blif").write_text(".inputs a\n.outputs y\n")
         words = ["lut4.arch", "--from-blif", "bad made", "--out", "bad.blifs.tsv"]
@@ -83,13 +83,13 @@ class BlifChecks(SweepChecks):
         self.told("a stop while it is placed", complaint, "ended by SIGTERM with 1 of 1 jobs left")
         self.expect("what is left", [path.suffix for path in (self.folder / "stopped made").iterdir()], [".net"])
         for words, told in (
-            (["lut4.arch", "counter", "--seeds", "1-3"], "want --from-blif"),
-            (["lut4.arch", "counter", "--effort", "2"], "want --from-blif"),
-            (["lut4.arch", "--from-blif", "made", "counter.net"], "counter.net: with --from-blif circuits are BLIFs"),
-            (["lut4.arch", "--from-blif", "made"], "a BLIF at least"), (["light", "--from-blif", "made"], "an architecture"),
-            *((["lut4.arch", "light", "--from-blif", "made", "--seeds", seeds], "is no list of seeds")
+            (["lut4.arch", "counter", "--seeds", "1-3"], "need --from-blif"),
+            (["lut4.arch", "counter", "--effort", "2"], "need --from-blif"),
+            (["lut4.arch", "--from-blif", "made", "counter.net"], "counter.net: with --from-blif, circuits are BLIFs"),
+            (["lut4.arch", "--from-blif", "made"], "and a BLIF"), (["light", "--from-blif", "made"], "an architecture"),
+            *((["lut4.arch", "light", "--from-blif", "made", "--seeds", seeds], "is not a list of at most 1000 seeds")
               for seeds in ("", "x", "3-1", "1-", "1-1001", "5000000000")),
-            *((["lut4.arch", "light", "--from-blif", "made", "--effort", effort], "is no number above 0")
+            *((["lut4.arch", "light", "--from-blif", "made", "--effort", effort], "is not a number above 0")
               for effort in ("0", "nan", "1001")),
             (["--job", "lut4.arch", "light", "--from-blif", "made", "--seeds", "1-2"], "one seed"),
         ):

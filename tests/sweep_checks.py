@@ -1,4 +1,4 @@
-"""What the checks of tools/sweep share: a folder with designs, a stand-in of the program, calls."""
+"""What the checks of tools/sweep share: a folder with designs, a stand-in for the program, calls."""
 import csv
 import os
 import re
@@ -15,12 +15,12 @@ COLUMNS = (
     " wirelength nets blocks array occupancy width_seconds route_seconds message"
 ).split()
 HEAD = "\t".join(COLUMNS) + "\n"
-# So many seconds a sweep may take to come to something, on a machine that has more to do.
+# The seconds that a sweep may take to reach a state, on a busy machine.
 LONGEST = 60
 # The columns that differ from run to run.
 SECONDS = ("width_seconds", "route_seconds")
-# It does what the file `how` says to calls of the command that the file names, and calls the
-# program for all others.
+# For the command that the file `how` names it does what that file says, and otherwise it calls the
+# program.
 STAND_IN = """#!/bin/sh
 echo "$*" >>calls
 if read -r what command how 2>/dev/null <how && [ "$1" = "$command" ] && [ "${2##*/}" = "$what" ]
@@ -47,7 +47,7 @@ exec PROGRAM "$@"
 
 
 class SweepChecks:
-    """What sweeps in a folder of their own come to."""
+    """Sweeps in a folder of their own, and their results."""
 
     def __init__(self, program, folder):
         self.program, self.folder, self.passed, self.failed = program, folder, 0, 0
@@ -81,11 +81,11 @@ class SweepChecks:
         return path
 
     def words(self, *words):
-        """A sweep's words; -S shows that it wants the standard library alone."""
+        """A sweep's words; -S shows that it needs only the standard library."""
         return [sys.executable, "-S", self.tool, "--program", self.stand_in, *words]
 
     def sweep(self, *words, status=0):
-        """The text and the complaints of a sweep, whose status is looked at."""
+        """The text and the complaints of a sweep, after a check of its status."""
         ran = subprocess.run(
             self.words(*words), cwd=self.folder, capture_output=True, text=True, check=False
         )
@@ -105,7 +105,7 @@ class SweepChecks:
         return ran.returncode, ran.stdout, ran.stderr
 
     def lines(self, name):
-        """The lines of a table, whose form is looked at."""
+        """The lines of a table, after a check of its form."""
         text = (self.folder / name).read_text()
         return self.read(text, name)
 
@@ -129,7 +129,7 @@ class SweepChecks:
         (self.folder / "how").write_text(text)
 
     def same(self, what, got, want):
-        """The lines are the same but for seconds, in any order."""
+        """The lines are the same except for seconds, in any order."""
         def bare(lines):
             return sorted(
                 tuple(text for name, text in line.items() if name not in SECONDS) for line in lines
@@ -138,7 +138,7 @@ class SweepChecks:
         self.expect(what, bare(got), bare(want))
 
     def begin(self, *words, **variables):
-        """Begins a sweep of which a job's search waits, and answers when that waits."""
+        """Begins a sweep in which a job's search waits, and returns when it does."""
         (self.folder / "waits").unlink(missing_ok=True)
         sweep = subprocess.Popen(
             self.words(*words), cwd=self.folder, stdout=subprocess.PIPE, stderr=subprocess.PIPE,
@@ -149,16 +149,16 @@ class SweepChecks:
         return sweep, int(self.read_file("waits"))
 
     def wait_for(self, sweep, happens):
-        """Waits until something happens, or ends a sweep in which it doesn't."""
+        """Waits until something happens, or ends the sweep if it doesn't."""
         until = time.monotonic() + LONGEST
         while not happens():
             if time.monotonic() > until or sweep.poll() is not None:
                 sweep.terminate()
-                raise SystemExit(f"a sweep doesn't get where it should: {sweep.communicate()}")
+                raise SystemExit(f"a sweep doesn't reach the expected state: {sweep.communicate()}")
             time.sleep(0.01)
 
     def end(self):
-        """Ends the sweeps that run on, where a check was broken off."""
+        """Ends the sweeps that still run after a check was broken off."""
         for sweep in self.begun:
             if sweep.poll() is None:
                 sweep.terminate()

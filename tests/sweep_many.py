@@ -1,4 +1,4 @@
-"""Checks of many jobs: files that list them, what is left of them, GNU parallel and Slurm."""
+"""Checks of many jobs: files that list them, how many are left, GNU parallel and Slurm."""
 import os
 import pty
 import re
@@ -11,8 +11,8 @@ from bundled import TOP
 from gates import script
 from sweep_checks import COLUMNS, HEAD, SweepChecks
 
-# It does what Slurm does with an array of tasks, but for their time: it takes at most 1,000, which
-# begin in no order. Without --wait it leaves them, as if they came later.
+# It does what Slurm does with an array of tasks, except for their time: it takes at most 1,000, which
+# begin in no order. Without --wait it doesn't run them, as if they came later.
 SBATCH = """#!PYTHON
 import argparse
 import concurrent.futures
@@ -46,7 +46,7 @@ if options.wait:
     with concurrent.futures.ThreadPoolExecutor(2) as pool:
         sys.exit(max(pool.map(run, tasks)))
 """
-# A sweep of so many jobs, each of which writes a line at once.
+# A sweep of this many jobs, each of which writes a line at once.
 JOBS = 1100
 LIST = """#!/bin/sh
 i=0; while [ $i -lt JOBS ]; do i=$((i + 1)); echo "echo 'job $i'"; done
@@ -61,10 +61,10 @@ def block_of(word):
 
 
 class ManyChecks(SweepChecks):
-    """What becomes of many jobs."""
+    """Checks of sweeps with many jobs."""
 
     def of_jobs_files(self):
-        """A file lists jobs, whose paths begin at its folder; they are run beside the other ones."""
+        """A file lists jobs, with paths relative to its folder; they are run in addition to the other ones."""
         inner = self.folder / "job lists"
         inner.mkdir()
         (inner / "all").write_text(
@@ -97,15 +97,15 @@ class ManyChecks(SweepChecks):
         jobs = [[*shlex.split(line)[-2:], line.count("--seeds 2")] for line in listed]
         self.expect("listed BLIFs", jobs, [[f"{at}{arch}.arch", f"{at}light.blif", seed] for arch in ("k4n1", "lut4") for seed in (0, 1)])
         for text, words, told in (
-            ("a.arch\n", [], "wrong line 1: a job is of three words, ARCH NET PLACE"),
-            ("# none\na.arch b c d\n", [], "wrong line 2: a job is of three words"),
+            ("a.arch\n", [], "wrong line 1: the line must be ARCH NET PLACE, or ARCH STEM"),
+            ("# none\na.arch b c d\n", [], "wrong line 2: the line must be ARCH NET PLACE"),
             ("a.arch 'b\n", [], "wrong line 1: No closing quotation"),
-            ("-a b c\n", [], "-a: the program takes this name for an option"),
-            ("a.arch b c\n", ["k4n1.arch"], "a circuit at least"),
+            ("-a b c\n", [], "-a: the program would take this name for an option"),
+            ("a.arch b c\n", ["k4n1.arch"], "and a circuit"),
             ("a.arch b c\n", ["counter"], "an architecture"),
-            ("a.arch b c\n", ["--job"], "three words"),
-            ("a.arch b c\n", ["--from-blif", "made"], "of BLIFs a job is of two words, ARCH BLIF"),
-            ("a.arch b.net\n", ["--from-blif", "made"], "with --from-blif circuits are BLIFs"),
+            ("a.arch b c\n", ["--job"], "three files"),
+            ("a.arch b c\n", ["--from-blif", "made"], "with --from-blif, the line must be ARCH BLIF"),
+            ("a.arch b.net\n", ["--from-blif", "made"], "with --from-blif, circuits are BLIFs"),
         ):
             (self.folder / "wrong").write_text(text)
             self.told(f"{text!r} {words}", self.sweep("--jobs", "wrong", *words, status=2)[1], told)
@@ -114,7 +114,7 @@ class ManyChecks(SweepChecks):
         self.expect("a list of none", self.sweep("--jobs", "wrong"), (HEAD, ""))
 
     def of_terminals(self):
-        """On a terminal standard error tells what is left after each job; else it tells nothing."""
+        """On a terminal standard error says after each job how many are left; otherwise it says nothing."""
         words = ["k4n1.arch", "counter", "nowhere", "uart", "--out", "terminal.tsv"]
         master, slave = pty.openpty()
         ran = subprocess.Popen(self.words(*words), cwd=self.folder, stdout=subprocess.PIPE, stderr=slave)
@@ -127,23 +127,23 @@ class ManyChecks(SweepChecks):
             pass
         os.close(master)
         self.expect("on a terminal", (ran.communicate()[0], ran.returncode), (b"", 1))
-        lines = [re.sub(r"(some|after) \d+ (s|min)", r"\1 N", line) for line in said.decode().splitlines()]
-        self.expect("what it tells", lines, [
+        lines = [re.sub(r"(about|after) \d+ (s|min)", r"\1 N", line) for line in said.decode().splitlines()]
+        self.expect("what it says", lines, [
             "sweep: 3 jobs to run",
-            "sweep: 1 of 3: k4n1.arch counter.net routed, 2 tracks; 2 left, some N",
+            "sweep: 1 of 3: k4n1.arch counter.net routed, 2 tracks; 2 left, about N",
             "sweep: not run: nowhere.net: No such file or directory",
-            "sweep: 2 of 3: k4n1.arch nowhere.net not run; 1 left, some N",
+            "sweep: 2 of 3: k4n1.arch nowhere.net not run; 1 left, about N",
             "sweep: 3 of 3: k4n1.arch uart.net routed, 4 tracks; none left, after N",
         ])
         left = script(self.tool).left
         for number, many, seconds, wanted in (
-            (1, 2, 0.1, "1 left, some 1 s"), (3, 12, 29, "9 left, some 87 s"), (3, 12, 30, "9 left, some 2 min"),
-            (1, 100, 60, "99 left, some 2 h"), (10, 1000, 1000, "990 left, some 28 h"), (4, 4, 240, "none left, after 4 min"),
+            (1, 2, 0.1, "1 left, about 1 s"), (3, 12, 29, "9 left, about 87 s"), (3, 12, 30, "9 left, about 2 min"),
+            (1, 100, 60, "99 left, about 2 h"), (10, 1000, 1000, "990 left, about 28 h"), (4, 4, 240, "none left, after 4 min"),
         ):
             self.expect(f"left after {number} of {many}", left(number, many, seconds), wanted)
 
     def pasted(self, block, tool, tools):
-        """What a block of commands leaves in a folder with designs, where a sweep is this tool."""
+        """What a block of commands leaves in a folder with designs, if this tool is the sweep."""
         top = self.folder / "pasted"
         for name in ("k4n1.arch", "lut4.arch"):
             (top / "circuits").mkdir(parents=True, exist_ok=True)
@@ -185,7 +185,7 @@ class ManyChecks(SweepChecks):
         lines = table.read_text().splitlines()
         self.expect("Slurm: each of many once", sorted(lines), sorted(f"job {number}" for number in range(1, JOBS + 1)))
         if not shutil.which("parallel"):
-            print("left out, since it isn't there: GNU parallel")
+            print("skipped, because it is missing: GNU parallel")
             return
         table.unlink()
         ran = self.pasted(block_of("parallel -j"), self.words(), tools)

@@ -1,4 +1,4 @@
-"""Checks of sweeps over files with long names, and with names that steer a terminal."""
+"""Checks of sweeps over files with long names, and with names that control a terminal."""
 import hashlib
 import os
 import re
@@ -9,10 +9,10 @@ from sweep_checks import SweepChecks
 
 
 class NameChecks(SweepChecks):
-    """What becomes of names."""
+    """Checks of names in sweeps."""
 
     def of_long_names(self):
-        """Names of kept routings are short enough, and differ where jobs do."""
+        """Names of kept routings are short enough, and differ if jobs do."""
         arch, wide = "a" * 200 + ".arch", "\u00e9" * 120
         shutil.copy(COUNTER[1], self.folder / arch)
         circuits = ["n" * 200, "n" * 199 + "m", "n" * 100, wide]
@@ -34,7 +34,7 @@ class NameChecks(SweepChecks):
         self.expect("bytes of a name", max(len(os.fsencode(name)) for name in kept) < 255, True)
 
     def of_control_characters(self):
-        """Tables and terminals have `?` in place of control characters, and jobs are told apart."""
+        """Tables and terminals have `?` instead of control characters, and jobs stay distinct."""
         circuits = ["a\tb", "a\nb", "a\x1b[2Jb", "a\x7f\u009bb", "a\x01b", "a?b"]
         shown = ["a?b", "a?b", "a?[2Jb", "a??b", "a?b", "a?b"]
         for circuit in circuits:
@@ -73,13 +73,13 @@ class NameChecks(SweepChecks):
         self.clean("a list of jobs", said)
 
     def clean(self, what, texts):
-        """There is no control character in texts, but for ends of lines."""
+        """There is no control character in texts, except ends of lines."""
         found = re.findall(r"[\x00-\x09\x0b-\x1f\x7f-\x9f]", "".join(texts).replace("\t", ""))
         self.expect(f"{what}: control characters", found, [])
 
 
 def name_part(file):
-    """What stands for a file in the name of a kept routing, as docs/SWEEP.md has it."""
+    """The part of a kept routing's name that denotes a file, as docs/SWEEP.md has it."""
     stem = os.path.splitext(file)[0].encode()
     if len(stem) <= 100:
         return stem.decode()

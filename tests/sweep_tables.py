@@ -1,9 +1,9 @@
-"""Checks of the tables of a text that sweeps print, in Markdown and LaTeX."""
+"""Checks of the tables for a text that sweeps print, in Markdown and LaTeX."""
 import re
 
 from sweep_checks import COLUMNS, HEAD, SweepChecks
 
-# Names of circuits, with what stands for them in Markdown and in LaTeX.
+# Names of circuits, and how they are written in Markdown and in LaTeX.
 NAMES = {
     "plain": ("plain", "plain"),
     "a_b": (r"a\_b", r"a\_b"),
@@ -16,16 +16,16 @@ NAMES = {
     "\x1b[2J\udcff": (r"?\[2J?", "{?}{[}2J{?}"),
 }
 HEADING = "Least routed channel widths, in tracks."
-BOUNDS = " In brackets stands the bound: below it no router can route the placement."
+BOUNDS = " The bound is in brackets: below it no router can route the placement."
 MEANS = " Numbers with decimals are means over the placements of a circuit."
-ROUTED = " Where N of M placements have a routed width, it is the mean of these."
+ROUTED = " If N of M placements have a routed width, it is the mean of these."
 
 
 class TableChecks(SweepChecks):
-    """What tables say of least widths."""
+    """Checks of tables of least widths."""
 
     def table_file(self, name, rows):
-        """Writes a table with rows; what a row leaves out is usual."""
+        """Writes a table with rows; what a row leaves out has the usual value."""
         usual = {
             "architecture": "k.arch", "netlist": "n.net", "placement": "p.place", "status": "routed",
             "bound": "2", "least_width": "3", "width": "4", "wirelength": "5", "occupancy": "0.1000",
@@ -37,12 +37,12 @@ class TableChecks(SweepChecks):
         return name
 
     def rows_in(self, text):
-        """The cells of each table in Markdown, with what stands above it."""
+        """The cells of each table in Markdown, with the text above it."""
         found = re.findall(r"(?m)^(Least .*)\n\n((?:\|.*\n)+)", text + "\n")
         return [(head, [row.strip("| \n").split(" | ") for row in rows.splitlines()]) for head, rows in found]
 
     def of_tables(self):
-        """A table from a file has the figures of its lines; after a sweep it has those of its jobs."""
+        """A table from a file has the figures of its lines; after a sweep it has those of the sweep's jobs."""
         jobs = ["k4n1.arch", "lut4.arch", "counter", "uart", "--out", "texts.tsv"]
         self.calls()
         said = self.sweep(*jobs, "--table", "md")[0]
@@ -76,7 +76,7 @@ class TableChecks(SweepChecks):
         ]))
 
     def of_cells(self):
-        """What stands for several placements, for jobs without a width, and for several lines of one job."""
+        """The cells for several placements, for jobs without a width, and for several lines of one job."""
         made = "m/k.light.0123456789abcdef"
         failed = {"least_width": "", "bound": "", "wirelength": "", "occupancy": ""}
         self.table_file("cells.tsv", [
@@ -101,7 +101,7 @@ class TableChecks(SweepChecks):
         self.expect("names in two folders", (head, rows[0], [row[0] for row in rows[2:]]), (HEADING, ["circuit", "p/k", "q/k"], ["p/n", "q/n"]))
 
     def of_escapes(self):
-        """Names stand in a table as what they are."""
+        """A table shows names as they are."""
         self.table_file("names.tsv", [
             {"architecture": f"{name}.arch", "netlist": f"{name}.net", "options": "--x '`'"} for name in NAMES
         ])
@@ -117,33 +117,33 @@ class TableChecks(SweepChecks):
         self.told("options in Markdown", self.sweep("--table", "md", "--out", "names.tsv")[0], "sweep: `` --x '`' ``.")
 
     def of_tables_that_fail(self):
-        """Files that are no tables are refused, and nothing is made; a sweep passes wrong lines over."""
+        """Files that aren't tables are refused, and nothing is made; a sweep skips wrong lines."""
         self.calls()
         for name, text, said in (
             ("no table", "x\n", "no table:1: it is not a table"),
             ("older", HEAD.replace("\tbound", ""), "older:1: it has the columns of another version"),
             ("empty", "", "empty:1: it is not a table"),
             ("head", HEAD, "the table has no line"),
-            ("short", HEAD + "a\tb\n", "short:2: it has not 19 columns but 2"),
-            ("half", HEAD + "a" + "\t" * 18, "half:2: the line is not whole"),
+            ("short", HEAD + "a\tb\n", "short:2: it has 2 columns instead of 19"),
+            ("half", HEAD + "a" + "\t" * 18, "half:2: the line is incomplete"),
         ):
             (self.folder / name).write_text(text)
             self.told(f"{name}", self.sweep("--table", "md", "--out", name, status=1)[1], f"sweep: {said}")
         for column, word in (("least_width", "x"), ("bound", "-1"), ("wirelength", "1e9"), ("route_seconds", ""), ("occupancy", "nan")):
             self.table_file("wrong", [{column: word}])
-            said = f"`{word}` is no {column}" if word else f"it is of a routed job, and has no {column}"
+            said = f"invalid {column} `{word}`" if word else f"it is of a routed job, but has no {column}"
             self.told(f"a wrong {column}", self.sweep("--table", "md", "--out", "wrong", status=1)[1], f"wrong:2: {said}")
             complaint = self.sweep("lut4.arch", "counter", "--out", "wrong", "--summary")[1]
-            self.told(f"a wrong {column} in a sweep", complaint, f"wrong line 2: it is passed over, since {said}")
+            self.told(f"a wrong {column} in a sweep", complaint, f"wrong line 2: skipped: {said}")
         said = self.sweep("--table", "md", "--out", "nothing.tsv", status=1)[1]
         self.told("a table that isn't there", said, "nothing.tsv: No such file or directory")
         self.expect("it isn't made", (self.folder / "nothing.tsv").exists(), False)
         for words, told in (
-            (["--table", "md"], "want --out"), (["--table", "html", "--out", "x.tsv"], "invalid choice: 'html'"),
-            (["lut4.arch", "counter", "--table", "md"], "want --out"),
-            (["lut4.arch", "counter", "--table", "md", "--out", "x.tsv", "--jobs-list"], "no --table"),
+            (["--table", "md"], "need --out"), (["--table", "html", "--out", "x.tsv"], "invalid choice: 'html'"),
+            (["lut4.arch", "counter", "--table", "md"], "need --out"),
+            (["lut4.arch", "counter", "--table", "md", "--out", "x.tsv", "--jobs-list"], "or --table"),
             (["--table", "md", "--out", "x.tsv", "--summary"], "an architecture"),
-            (["--job", *"abc", "--table", "md", "--out", "x.tsv"], "its line alone"),
+            (["--job", *"abc", "--table", "md", "--out", "x.tsv"], "combined with --out"),
         ):
             self.told(f"{words}", self.sweep(*words, status=2)[1], told)
         self.table_file("right", [{}])

@@ -1,6 +1,6 @@
 """Reads a netlist of gates in BLIF, as yosys and ABC write it after mapping to look-up tables.
 
-docs/FORMATS.md has the lines that are read ("BLIF"). A file that is refused raises `vpr430.Fault`.
+docs/FORMATS.md lists the lines that are read ("BLIF"). A refused file raises `vpr430.Fault`.
 """
 from __future__ import annotations
 
@@ -9,8 +9,8 @@ import re
 
 import vpr430
 
-# Lines that tell nothing of what a design does.
-PASSED_OVER = (".default_input_arrival", ".default_output_required", ".area", ".delay")
+# Lines that don't change what a design does.
+SKIPPED = (".default_input_arrival", ".default_output_required", ".area", ".delay")
 # Lines of hierarchy and of cells that are not look-up tables.
 SUBCIRCUITS = (".subckt", ".gate", ".mlatch", ".search", ".conn", ".blackbox")
 EDGES = ("re", "fe")
@@ -47,7 +47,7 @@ class Lut:
 
 @dataclasses.dataclass
 class Latch:
-    """A flip-flop. Its clock is None where the file names none."""
+    """A flip-flop. Its clock is None if the file names none."""
 
     output: str
     input: str
@@ -67,12 +67,12 @@ class Model:
 
 
 class Reading:
-    """A model while its file is read, line by line."""
+    """A model that is being read, line by line."""
 
     def __init__(self):
         self.model = Model("", [], [], [], [])
         self.model_line, self.is_ended = None, False
-        # The look-up table to which rows of a cover belong.
+        # The look-up table whose cover is being read.
         self.lut = None
 
     def take(self, line):
@@ -85,7 +85,7 @@ class Reading:
         if key == ".model":
             self.take_model(line)
         elif self.is_ended:
-            raise line.fault(f"`{key}` stands behind `.end`")
+            raise line.fault(f"`{key}` after `.end`")
         elif key in (".inputs", ".outputs"):
             ports = self.model.inputs if key == ".inputs" else self.model.outputs
             ports += [Port(name, line) for name in line.words[1:]]
@@ -99,13 +99,13 @@ class Reading:
             raise line.fault(
                 f"`{key}` is a subcircuit: flatten the design and map it to look-up tables first"
             )
-        elif key not in PASSED_OVER:
-            raise line.fault(f"`{key}` is no keyword of BLIF that is read here")
+        elif key not in SKIPPED:
+            raise line.fault(f"`{key}` is not a supported BLIF keyword")
 
     def take_model(self, line):
         if self.model_line:
             raise line.fault(
-                f"a second model: line {self.model_line.number} has the first; flatten the design"
+                f"a second model (line {self.model_line.number} has the first): flatten the design"
             )
         self.model_line = line
         self.model.name = " ".join(line.words[1:])
@@ -117,42 +117,42 @@ class Reading:
         self.model.luts.append(self.lut)
 
     def take_row(self, line):
-        """A row of a cover, as `1-0 1`, or `1` of a constant."""
+        """Reads a row of a cover, such as `1-0 1`, or `1` for a constant."""
         if self.lut is None:
-            raise line.fault(f"`{line.words[0]}` is a row of no `.names`")
+            raise line.fault(f"`{line.words[0]}` is a row without a `.names`")
         many = len(self.lut.inputs)
         *pattern, value = line.words
         wanted = [many] if many else []
         if list(map(len, pattern)) != wanted or value not in ("0", "1"):
-            raise line.fault(f"it is no row of a cover of {many} inputs")
+            raise line.fault(f"not a row of a cover with {many} inputs")
         if not all(re.fullmatch("[01-]*", part) for part in pattern):
-            raise line.fault("a row has other characters than `0`, `1` and `-`")
+            raise line.fault("a row may only have the characters `0`, `1` and `-`")
         if self.lut.cover and self.lut.cover[0][1] != int(value):
-            raise line.fault("the rows of one cover have both values")
+            raise line.fault("the rows of a cover have different output values")
         self.lut.cover.append(("".join(pattern), int(value)))
 
     def take_latch(self, line):
-        """A line as `.latch D Q re clk 0`, where the edge and its clock, and the start may lack."""
+        """Reads a line such as `.latch D Q re clk 0`; edge with clock, and start, are optional."""
         words = list(line.words[1:])
         if len(words) in (3, 5) and words.pop() not in ("0", "1", "2", "3"):
-            raise line.fault("a flip-flop starts as 0, 1, 2 or 3")
+            raise line.fault("the start of a flip-flop must be 0, 1, 2 or 3")
         if len(words) not in (2, 4):
-            raise line.fault("it has not the form `.latch INPUT OUTPUT re CLOCK START`")
+            raise line.fault("the line must have the form `.latch INPUT OUTPUT re CLOCK START`")
         if len(words) == 4 and words[2] not in EDGES:
-            raise line.fault(f"a latch `{words[2]}`: only flip-flops (`re`, `fe`) are packed")
+            raise line.fault(f"latch type `{words[2]}`: only flip-flops (`re`, `fe`) are packed")
         clock = words[3] if len(words) == 4 and words[3] != "NIL" else None
         self.model.latches.append(Latch(words[1], words[0], clock, line))
 
 
 def read_model(path):
-    """The one model of a file."""
+    """Reads the model of a file."""
     lines, end = vpr430.read_lines(path)
     reading = Reading()
     for line in lines:
         reading.take(line)
     model = reading.model
     if not model.inputs and not model.outputs and not model.luts and not model.latches:
-        raise end.fault("the file ends without a design")
+        raise end.fault("the file has no design")
     check_names(model)
     return model
 
@@ -166,7 +166,7 @@ def drivers_of(model):
             number = drivers[name].line.number
             raise driver.line.fault(f"`{name}` is driven twice: line {number} drives it too")
         if name == vpr430.OPEN:
-            raise driver.line.fault(f"the name `{name}` stands for no net in a netlist: rename it")
+            raise driver.line.fault(f"`{name}` can't be the name of a net in a netlist: rename it")
         drivers[name] = driver
     return drivers
 
@@ -184,7 +184,7 @@ def uses_of(model):
 
 
 def check_names(model):
-    """Refuses a name that isn't driven just once, outputs that stand twice, and clocks in logic."""
+    """Refuses names that aren't driven exactly once, and duplicate outputs."""
     drivers = drivers_of(model)
     for name, line, what in uses_of(model):
         if name not in drivers:
@@ -192,5 +192,5 @@ def check_names(model):
     met = {}
     for port in model.outputs:
         if port.name in met:
-            raise port.line.fault(f"the output `{port.name}` stands twice")
+            raise port.line.fault(f"duplicate output `{port.name}`")
         met[port.name] = port

@@ -1,6 +1,6 @@
-"""What the tools in Python share: messages, exit statuses, and files that are written whole.
+"""Code that the Python tools share: messages, exit statuses, and files that are written whole.
 
-A tool answers 0 where all went well, 1 where a file is at fault, 2 for wrong words, and 3 where a
+A tool exits with 0 on success, 1 if a file is at fault, 2 for an invalid command line, and 3 if a
 file can't be read or written.
 """
 import contextlib
@@ -17,11 +17,11 @@ CONTROL = re.compile(r"[\x00-\x1f\x7f-\x9f]")
 
 
 class WrongWords(Exception):
-    """The words of the command line can't be meant."""
+    """The command line is invalid."""
 
 
 def shown(text):
-    """A text as terminals have it, with `?` in place of each control character."""
+    """A text for a terminal, with `?` instead of each control character."""
     return CONTROL.sub("?", text)
 
 
@@ -31,13 +31,13 @@ def put(*lines):
         text = "".join(f"{shown(str(line))}\n" for line in lines)
         sys.stdout.buffer.write(text.encode(**vpr430.TEXT))
         sys.stdout.buffer.flush()
-    except (OSError, AttributeError) as fault:  # closed from the start it is None
+    except (OSError, AttributeError) as fault:  # sys.stdout is None if it was closed at the start
         reason = getattr(fault, "strerror", "it is closed")
         raise vpr430.Unread(f"standard output: {reason}") from fault
 
 
 def say(*lines):
-    """Reports on standard error, if that can be written."""
+    """Prints lines on standard error, if it can be written."""
     try:
         text = "".join(f"{shown(str(line))}\n" for line in lines)
         sys.stderr.buffer.write(text.encode(**vpr430.TEXT))
@@ -47,7 +47,7 @@ def say(*lines):
 
 
 def is_same(path, other):
-    """Whether two names are of one file."""
+    """Whether two names refer to the same file."""
     try:
         return os.path.samefile(path, other)
     except OSError:
@@ -55,14 +55,14 @@ def is_same(path, other):
 
 
 def refuse_inputs(path, inputs):
-    """Refuses to write over a file that is read."""
+    """Refuses to overwrite an input file."""
     for other in inputs:
         if is_same(path, other):
-            raise vpr430.Unread(f"{path}: it is not written, since it is the input {other}")
+            raise vpr430.Unread(f"{path}: not written, because it is the input {other}")
 
 
 def mode_of(path):
-    """The mode of a file, or that of a new one."""
+    """The mode of a file, or the mode that a new file gets."""
     try:
         return stat.S_IMODE(os.stat(path).st_mode)
     except OSError:
@@ -72,9 +72,9 @@ def mode_of(path):
 
 
 def write_whole(path, text):
-    """Writes a file, all of it or nothing: a new file beside it takes its name at the end.
+    """Writes a text or bytes to a file, all or nothing.
 
-    It gets a text, or bytes.
+    A new file in the same folder takes the file's name at the end.
     """
     try:
         data = text if isinstance(text, bytes) else text.encode(**vpr430.TEXT)
@@ -84,7 +84,7 @@ def write_whole(path, text):
             return
         target = os.path.realpath(path)
         if os.path.exists(target) and not os.access(target, os.W_OK):
-            raise PermissionError(0, "it may not be written")
+            raise PermissionError(0, "no permission to write it")
         descriptor, new = tempfile.mkstemp(prefix=".new-", dir=os.path.dirname(target))
         try:
             with open(descriptor, "wb") as file:
@@ -100,12 +100,12 @@ def write_whole(path, text):
 
 
 def end_by_signal(number, _frame):
-    """Ends as an interrupt does, so that no half file stays."""
+    """Exits as on an interrupt, so that no partial file stays."""
     raise SystemExit(128 + number)
 
 
 def main(run, words=None):
-    """Runs a tool with these words, or those of the command line, and answers its exit status."""
+    """Runs a tool with these arguments, or the command line's, and returns its exit status."""
     signal.signal(signal.SIGTERM, end_by_signal)
     try:
         run(sys.argv[1:] if words is None else words)

@@ -1,4 +1,4 @@
-# Completions of pathfinder for bash, to be sourced. tools/manual made them from its help.
+# Completions of pathfinder for bash, to be sourced. tools/manual makes them from its help.
 
 _pathfinder() {
   local word=${COMP_WORDS[COMP_CWORD]} before=${COMP_WORDS[COMP_CWORD - 1]} words= values=

@@ -1,11 +1,11 @@
-# Adds up what tests count, and runs them, one by one (run) or side by side (plan, run_planned). Sourced by ./test, ./prove and
+# Runs tests, one by one (run) or in parallel (plan, run_planned), and adds up their counts. Sourced by ./test, ./prove and
 # .ci/run.
 
 passed=0
 failed=0
 failures=
 
-# The numbers of the last line 'N passed, M failed' of a log, or one failure where there is none.
+# Adds the numbers of the last line 'N passed, M failed' of a log, or one failure if there is none.
 count() {
   local line
   line=$(grep -E '^[0-9]+ passed, [0-9]+ failed' "$1" | tail -n 1)
@@ -18,7 +18,7 @@ count() {
   fi
 }
 
-# Adds what came of a command: its log, its status, and its words. A failure that it does not count is one.
+# Adds the result of a command, given by its log, its status, and its words. A failure that the log doesn't count is one.
 add() {
   local log=$1 status=$2 failed_before=$failed
   shift 2
@@ -47,7 +47,7 @@ run() {
   return "$status"
 }
 
-# Prints the last lines of each command that failed, and the sum as the last line. The status is 0 where something passed and
+# Prints the last lines of each command that failed, and the sum as the last line. The status is 0 if something passed and
 # nothing failed.
 finish() {
   [ -z "$failures" ] || printf '\nwhat failed:\n%s' "$failures"
@@ -59,11 +59,11 @@ finish() {
 
 # ---- Temporary files
 
-# The folder of the script's own temporary files, where it has one.
+# The folder of the script's own temporary files, if it has one.
 own=
 
-# Has all temporary files stand in one folder, in which every user may make some, as in /tmp. A signal ends what runs, and takes
-# them all away.
+# Puts all temporary files into one folder, in which every user may create files, as in /tmp. A signal ends the running commands
+# and removes the folder.
 own_files() {
   local signal
   own=$(mktemp -d "${TMPDIR:-/tmp}/tests-XXXXXX") || exit 1
@@ -76,18 +76,18 @@ own_files() {
   done
 }
 
-# Takes the folder away, or says where it is: a test that failed may have kept files there.
+# Removes the folder, or prints where it is: a test that failed may have kept files there.
 leave_files() {
   rm -rf "$own/logs"
   rmdir "$own/files" "$own" 2>/dev/null || echo "temporary files were left in $own/files"
 }
 
-# Ends what runs, takes all temporary files away, and ends by the signal that came.
+# Ends the running commands, removes all temporary files, and ends by the signal that arrived.
 end_by() {
   local tries
   trap '' INT TERM HUP PIPE
   exec 2>/dev/null
-  # Python cleans up at this one.
+  # Python cleans up on this signal.
   signal_running -INT
   for ((tries = 0; tries < 50; tries++)); do
     signal_running -0 || break
@@ -100,11 +100,11 @@ end_by() {
   kill "-$1" "$$"
 }
 
-# ---- Commands side by side
+# ---- Commands in parallel
 
-# The commands that are planned, each as words of a shell, in the order in which what they print is shown; those of them that
-# begin before the others, by their places; and of each that was begun, by its place, its process group as long as it runs, when
-# it began, how many seconds it took, and its status.
+# The planned commands, each as shell words, in the order in which their output is shown; the indices of those that start first;
+# and for each command that was started, by its index: its process group while it runs, when it began, how many seconds it took,
+# and its status.
 planned=()
 first=()
 running=()
@@ -113,19 +113,19 @@ took=()
 ended=()
 shown=0
 
-# Plans a command, which is run beside others (run_planned).
+# Plans a command, which runs in parallel with others (run_planned).
 plan() {
   planned+=("$(printf '%q ' "$@")")
 }
 
-# Plans one that takes so long that it begins before the others.
+# Plans a command that takes long, so that it starts before the others.
 plan_first() {
   first+=("${#planned[@]}")
   plan "$@"
 }
 
-# Runs what is planned, as many commands at a time as there are processors. What each prints is shown whole, in the order of the
-# plan, as soon as it and all before it have ended; and its counts are added. It wants own_files, and `top`, the repository.
+# Runs the planned commands, as many at a time as there are processors. Shows the output of each as a whole, in the order of the
+# plan, as soon as it and all before it have ended, and adds its counts. It needs own_files, and `top`, the repository.
 run_planned() {
   local at most
   most=$(nproc)
@@ -139,7 +139,7 @@ run_planned() {
   done
 }
 
-# Begins a planned command, as a process group, which a signal ends whole.
+# Starts a planned command as a process group, which a signal ends as a whole.
 begin() {
   set -m
   {
@@ -152,14 +152,14 @@ begin() {
   tell_running
 }
 
-# Waits until one of the commands that run has ended, or more, and shows what can be shown.
+# Waits until at least one of the running commands has ended, and shows what can be shown.
 await_end() {
   local at waited many=${#running[@]}
   while [ "${#running[@]}" -eq "$many" ]; do
     wait -n
     waited=$?
     for at in "${!running[@]}"; do
-      # What was killed leaves no status; by 127 there is nothing left to wait for.
+      # A killed command leaves no status; 127 means that there is nothing left to wait for.
       if [ -s "$own/logs/$at.status" ] || [ "$waited" -eq 127 ] || ! kill -0 "${running[at]}" 2>/dev/null; then
         ended[at]=$(cat "$own/logs/$at.status" 2>/dev/null || echo 1)
         took[at]=$((SECONDS - began[at]))
@@ -171,7 +171,7 @@ await_end() {
   tell_running
 }
 
-# Shows what was printed by those that have ended and whose turn it is.
+# Shows the output of the commands that have ended and whose turn it is.
 show_ended() {
   while [ -n "${ended[shown]-}" ]; do
     tell ''
@@ -183,7 +183,7 @@ show_ended() {
   done
 }
 
-# Tells what runs.
+# Shows which commands run.
 tell_running() {
   local at names=
   for at in "${!running[@]}"; do
@@ -193,12 +193,12 @@ tell_running() {
   [ -z "$names" ] || tell "$shown of ${#planned[@]} shown; now$names"
 }
 
-# Writes a line on a terminal, in place of the one before.
+# Writes a line on a terminal, which replaces the one before.
 tell() {
   [ ! -t 1 ] || [ "${TERM:-dumb}" = dumb ] || printf '\r\e[K%.79s' "$1"
 }
 
-# Sends a signal to all that runs; whether there is something.
+# Sends a signal to all running commands; whether there is one.
 signal_running() {
   local group is_there=1
   for group in "${running[@]}"; do

@@ -2,11 +2,11 @@
 
 /**
  * The page that tools/draw writes: a routing on an array, with pan and zoom, and with the
- * iterations of a run where the page has them. `picture` is the one global name; what it offers is
- * for the console and for tests/check-pictures.
+ * iterations of a run if the page has them. `picture` is the only global name; it is for the
+ * console and for tests/check-pictures.
  *
  * Coordinates of the layout are those of tools/picture.py: whole units, from the lower left corner
- * to the right and upward. A box is [left, low, right, high], also of a line or a point.
+ * to the right and upward. A box is [left, low, right, high], also for a line or a point.
  */
 const picture = (() => {
   const KINDS = ["SOURCE", "SINK", "OPIN", "IPIN", "CHANX", "CHANY"];
@@ -14,18 +14,18 @@ const picture = (() => {
   const [, SINK, OPIN, IPIN, CHANX, CHANY] = KINDS.keys();
   const PAD = LABELS.indexOf("Pad");
   const MOST_ROWS = 400;
-  // A full drawing that takes longer, in milliseconds, waits until the view rests.
+  // A full drawing that takes longer than QUICK milliseconds waits until the view rests.
   const QUICK = 12;
   const REST = 90;
   const LEAST_SCALE = 0.01;
-  // The least size of letters, and how wide one is as a share of that.
+  // The least font size, and the width of a character as a share of the font size.
   const LEAST_TEXT = 5;
   const CHARACTER = 0.58;
   const MOST_SCALE = 40;
 
   const element = (id) => document.getElementById(id);
 
-  /** The numbers that a text in base64 has. */
+  /** The numbers in a base64 text. */
   function unpack(text, Numbers) {
     const bytes = atob(text);
     const unpacked = new Uint8Array(bytes.length);
@@ -47,7 +47,7 @@ const picture = (() => {
       for (let node = 0; node < this.count; node++) this.index(node);
     }
 
-    /** Makes a node be found by each of its places. */
+    /** Makes `at` find a node by each of its places. */
     index(node) {
       for (const [x, y] of this.places(node)) {
         this.byPlace.set(Nodes.key(this.kind[node], x, y, this.number[node]), node);
@@ -76,7 +76,7 @@ const picture = (() => {
       return this.kind[node] >= CHANX;
     }
 
-    /** How many places a wire passes. */
+    /** The number of places that a wire passes. */
     length(node) {
       return this.endX[node] - this.x[node] + this.endY[node] - this.y[node] + 1;
     }
@@ -90,7 +90,7 @@ const picture = (() => {
     }
   }
 
-  /** Where the two intervals are nearest to each other. */
+  /** Where two intervals are nearest to each other. */
   function nearest(low, high, otherLow, otherHigh) {
     if (high < otherLow) return [high, otherLow];
     if (otherHigh < low) return [low, otherHigh];
@@ -127,7 +127,7 @@ const picture = (() => {
       return this.blockStart(at) + (at >= 1 && at <= most ? this.side : this.padDepth);
     }
 
-    /** The box of all that may stand at a place. */
+    /** The box of a place with all its blocks. */
     place(x, y) {
       return [
         this.blockStart(x),
@@ -154,7 +154,7 @@ const picture = (() => {
       return [start, box[1], start + this.channel, box[3]];
     }
 
-    /** The line of a wire, so far from where its channel begins. */
+    /** The line of a wire at this offset from where its channel begins. */
     wire(node, offset) {
       const { x, y, endX, endY, kind } = this.nodes;
       if (kind[node] === CHANX) {
@@ -185,14 +185,14 @@ const picture = (() => {
     }
 
     /**
-     * Where a coordinate is: in which column or row, or in the channel behind which one, and how
-     * far from where that begins.
+     * Where a coordinate is: the column or row, or the channel after it, and the offset from where
+     * that begins.
      */
     static part(layout, coordinate, most) {
-      const behind = coordinate - layout.padDepth;
-      if (behind < 0) return { isChannel: false, at: 0, offset: coordinate };
-      const at = Math.min(Math.floor(behind / layout.tile), most);
-      const offset = behind - at * layout.tile;
+      const inside = coordinate - layout.padDepth;
+      if (inside < 0) return { isChannel: false, at: 0, offset: coordinate };
+      const at = Math.min(Math.floor(inside / layout.tile), most);
+      const offset = inside - at * layout.tile;
       if (offset < layout.channel) return { isChannel: true, at, offset };
       return { isChannel: false, at: at + 1, offset: offset - layout.channel };
     }
@@ -237,7 +237,7 @@ const picture = (() => {
       return { net, nodes: own, steps };
     }
 
-    /** The users of all nodes stand in one array, and of each node where its own begin. */
+    /** Makes one array of the users of all nodes, and one of where those of each node begin. */
     countUsers() {
       const { count } = this.nodes;
       const starts = new Uint32Array(count + 1);
@@ -258,7 +258,7 @@ const picture = (() => {
       return [...this.users.subarray(this.starts[node], this.starts[node + 1])];
     }
 
-    /** How many tracks are taken at each place of a channel; in a global one each net takes one. */
+    /** How many tracks are used at each place of a channel; in a global one each net uses one. */
     occupancy(isGlobal) {
       const taken = new Map();
       for (let node = 0; node < this.nodes.count; node++) {
@@ -281,7 +281,7 @@ const picture = (() => {
       return wires.reduce((sum, node) => sum + this.nodes.length(node), 0);
     }
 
-    /** What is said of a node, as `pathfinder report` does of an overused one. */
+    /** A node and its use, as `pathfinder report` prints an overused one. */
     inWords(node) {
       const used = `used ${this.used(node)} of ${this.nodes.capacity[node]}`;
       return `node ${node} ${this.nodes.name(node)} ${used}`;
@@ -296,7 +296,7 @@ const picture = (() => {
       this.netOf = new Map(this.nets.map((net) => [net.net, net]));
     }
 
-    /** How far from where its channel begins a wire of a net is drawn. */
+    /** The offset of a net's wire from where its channel begins. */
     offset(node, net) {
       const { pitch, channel, tracks, nodes } = this.layout;
       if (!this.isGlobal) return pitch * (nodes.number[node] + 1);
@@ -310,7 +310,7 @@ const picture = (() => {
       return this.layout.wire(node, this.offset(node, net));
     }
 
-    /** The line of a step, or null where it stays within a block. */
+    /** The line of a step, or null if it stays within a block. */
     step(start, end, net) {
       const { nodes } = this.layout;
       const areWires = [nodes.isWire(start), nodes.isWire(end)];
@@ -321,7 +321,7 @@ const picture = (() => {
       );
     }
 
-    /** All lines of a net, flat: four numbers a line, two a dot. */
+    /** All lines of a net as flat lists: four numbers for a line, two for a dot. */
     net(tree) {
       const { nodes } = this.layout;
       const lines = { net: tree.net, wires: [], switches: [], wrong: [], taps: [], drivers: [] };
@@ -368,7 +368,7 @@ const picture = (() => {
     }
   }
 
-  /** The box round lines, or null where there are none. */
+  /** The bounding box of lines, or null if there are none. */
   function boundsOf(lists) {
     const box = [Infinity, Infinity, -Infinity, -Infinity];
     for (const list of lists) {
@@ -406,7 +406,7 @@ const picture = (() => {
       return [this.left + x / this.scale, this.top - y / this.scale];
     }
 
-    /** Shows a box in a canvas of this size, with some room round it. */
+    /** Shows a box in a canvas of this size, with some room around it. */
     show(box, width, height, most = MOST_SCALE) {
       const [wide, high] = [box[2] - box[0] + 24, box[3] - box[1] + 24];
       this.scale = Math.min(Math.max(Math.min(width / wide, height / high), LEAST_SCALE), most);
@@ -476,7 +476,7 @@ const picture = (() => {
       this.context.strokeRect(...this.onCanvas(box));
     }
 
-    /** Lines along an axis, as filled rectangles: that is quicker than strokes. */
+    /** Draws lines along an axis as filled rectangles, which is faster than strokes. */
     straight(lines, thickness) {
       const { view, context } = this;
       const half = thickness / 2;
@@ -536,7 +536,7 @@ const picture = (() => {
       }
     }
 
-    /** A name within a box, along its longer side, without its middle where it is too long. */
+    /** Draws a name within a box, along its longer side, without its middle if it is too long. */
     name(name, box) {
       const { view, context } = this;
       const [wide, high] = [(box[2] - box[0]) * view.scale, (box[3] - box[1]) * view.scale];
@@ -555,7 +555,7 @@ const picture = (() => {
       context.restore();
     }
 
-    /** The pins of the logic blocks that are seen. */
+    /** Draws the pins of the visible logic blocks. */
     pins() {
       const { layout, data, view, context } = this;
       if (layout.spacing * view.scale < 8) return;
@@ -566,7 +566,7 @@ const picture = (() => {
       }
     }
 
-    /** The tracks; from afar the channels. */
+    /** Draws the tracks, or the channels if the scale is small. */
     tracks(wires) {
       const { layout, view, context, data } = this;
       if (data.isGlobal || layout.pitch * view.scale < 2) {
@@ -578,7 +578,7 @@ const picture = (() => {
       this.straight(wires, 1);
     }
 
-    /** The channels of this number, from one end to the other. */
+    /** Draws the two channels with this number, from one end to the other. */
     channels(at) {
       const { nx, ny, padDepth, channel, width, height } = this.layout;
       const start = this.layout.channelStart(at);
@@ -596,7 +596,7 @@ const picture = (() => {
       }
     }
 
-    /** Shades of what nodes have cost, the darker the more. */
+    /** Shades wires by their histories, darker for greater ones. */
     histories(histories, sketch) {
       let most = 1;
       for (const history of histories.values()) most = Math.max(most, history);
@@ -614,7 +614,7 @@ const picture = (() => {
 
     // ---- nets
 
-    /** Nets of one colour. */
+    /** Draws nets of one colour. */
     nets(nets, colour, weight) {
       const { view, context } = this;
       const scale = Math.max(view.scale, 0.25);
@@ -644,7 +644,7 @@ const picture = (() => {
     }
   }
 
-  /** A name without its middle, for so much room. */
+  /** A name without its middle, for this much room. */
   function shortened(name, room) {
     const many = Math.max(Math.floor(room / (CHARACTER * LEAST_TEXT)) - 1, 2);
     const head = Math.ceil(many / 2);
@@ -742,7 +742,7 @@ const picture = (() => {
       return routing.overused.map((node) => [node, routing.used(node) - this.nodes.capacity[node]]);
     }
 
-    /** The history of each node after an iteration: what all up to it have left. */
+    /** The history of each node after an iteration: the sum over all iterations up to it. */
     historiesOf(shot) {
       const histories = new Map();
       if (!this.data.acc || !this.data.shots[shot].row) return histories;
@@ -770,7 +770,7 @@ const picture = (() => {
       this.redraw();
     }
 
-    /** Brings a box into view, if it isn't there. */
+    /** Brings a box into view, unless it is visible. */
     bring(box, isClose = false) {
       const [left, low] = this.view.from(0, this.height);
       const [right, high] = this.view.from(this.width, 0);
@@ -779,13 +779,13 @@ const picture = (() => {
       this.redraw();
     }
 
-    /** Draws all anew at the next occasion. */
+    /** Redraws everything in the next frame. */
     redraw() {
       this.isStale = true;
       this.present();
     }
 
-    /** Shows the view: all anew if that is quick, else the last drawing where it now is. */
+    /** Shows the view: redraws everything if that is fast, else moves the last drawing. */
     present() {
       if (this.isAsked) return;
       this.isAsked = true;
@@ -802,7 +802,7 @@ const picture = (() => {
       this.timer = setTimeout(() => this.redraw(), REST);
     }
 
-    /** Puts the last drawing where the view has it. */
+    /** Shows the last drawing at its position in the view. */
     drawGround() {
       const canvas = element("ground");
       const context = canvas.getContext("2d");
@@ -885,7 +885,7 @@ const picture = (() => {
       return node === undefined ? null : { node, nets: this.routing.netsAt(node) };
     }
 
-    /** The place of a global channel, and there first the net whose line is nearest. */
+    /** The place of a global channel, with the net whose line is nearest first. */
     globalWireAt(kind, x, y, offset) {
       const node = this.nodes.at(kind, x, y, 0);
       if (node === undefined) return null;
@@ -907,7 +907,7 @@ const picture = (() => {
       return null;
     }
 
-    /** The pin of a logic block or the pad's pin near a point. */
+    /** The pin of a logic block near a point. */
     pinAt(x, y, pointX, pointY) {
       const block = this.data.blocks.find((one) => one.x === x && one.y === y && !one.isPad);
       if (!block) return null;
@@ -930,13 +930,13 @@ const picture = (() => {
       return null;
     }
 
-    /** A pad, with its pin's node. */
+    /** A pad with the node of its pin. */
     padHit(block) {
       const node = this.nodes.at(block.isInput ? OPIN : IPIN, block.x, block.y, block.position);
       return { block, node, nets: this.routing.netsAt(node) };
     }
 
-    /** What is said of what is under the pointer. */
+    /** The text for what is under the pointer. */
     inWords(hit) {
       const lines = [];
       if (hit.block) lines.push(`${hit.block.isPad ? "pad" : "logic block"} ${hit.block.name}`);
@@ -950,15 +950,15 @@ const picture = (() => {
       return lines.join("\n");
     }
 
-    // ---- nets that are lit up
+    // ---- highlighted nets
 
-    /** Lights up a net of these: the next one where one of them is lit up already. */
+    /** Highlights one of these nets: the next one if one of them is highlighted already. */
     chooseOf(nets, isAdded) {
       const at = nets.findIndex((net) => this.chosen.has(net));
       this.choose(nets.length ? nets[(at + 1) % nets.length] : null, isAdded);
     }
 
-    /** Lights up a net, alone or besides others; null lights up all. */
+    /** Highlights a net, alone or in addition to others; null clears the highlights. */
     choose(net, isAdded = false) {
       if (!isAdded) this.chosen.clear();
       if (net !== null) this.chosen.add(net);
@@ -966,14 +966,14 @@ const picture = (() => {
       this.redraw();
     }
 
-    /** Lights up a net, and brings it into view. */
+    /** Highlights a net, and brings it into view. */
     find(net, isAdded) {
       this.choose(net, isAdded);
       const lines = this.sketch.netOf.get(net);
       if (lines && lines.bounds) this.bring(lines.bounds);
     }
 
-    /** Brings an overused node into view, and lights up its nets. */
+    /** Brings an overused node into view, and highlights its nets. */
     findNode(node) {
       this.chosen = new Set(this.routing.netsAt(node));
       this.panel.showChosen();
@@ -996,7 +996,7 @@ const picture = (() => {
       element("search").addEventListener("input", () => this.showNets());
       const { wrong } = page.data;
       element("wrong").hidden = !wrong.length;
-      element("wrong").textContent = `${wrong.length} steps are no switches of the device (dashed)`;
+      element("wrong").textContent = `${wrong.length} steps aren't switches of the device (dashed)`;
     }
 
     /** The slider and the rows of the log. */
@@ -1083,11 +1083,11 @@ const picture = (() => {
       return line;
     }
 
-    /** Names the nets that are lit up, and marks their lines. */
+    /** Names the highlighted nets, and marks their lines. */
     showChosen() {
       const { chosen, data } = this.page;
       const names = [...chosen].map((net) => data.nets[net].name);
-      element("chosen").textContent = names.length ? `lit up: ${names.join(" ")}` : "";
+      element("chosen").textContent = names.length ? `highlighted: ${names.join(" ")}` : "";
       for (const line of element("nets").children) {
         line.classList.toggle("is-chosen", chosen.has(Number(line.dataset.net)));
       }
@@ -1095,7 +1095,7 @@ const picture = (() => {
       if (first) first.scrollIntoView({ block: "nearest" });
     }
 
-    /** Small drawings with their texts. */
+    /** Fills the legend: small drawings with their texts. */
     legend() {
       const { data } = this.page;
       const colour = data.netColours[0];
@@ -1145,7 +1145,7 @@ const picture = (() => {
     return Object.assign(document.createElement(tag), { textContent: text });
   }
 
-  /** Fills a list with lines for items, and says how many more there are. */
+  /** Fills a list with lines for items, and adds how many more there are. */
   function fillList(list, items, lineOf) {
     list.replaceChildren(...items.slice(0, MOST_ROWS).map(lineOf));
     if (items.length <= MOST_ROWS) return;
@@ -1154,7 +1154,7 @@ const picture = (() => {
     list.append(note);
   }
 
-  /** What the mouse, fingers and keys do. */
+  /** Handles the mouse, touches and keys. */
   class Pointer {
     constructor(page) {
       this.page = page;
@@ -1222,19 +1222,19 @@ const picture = (() => {
       this.page.chooseOf(hit ? hit.nets : [], event.shiftKey);
     }
 
-    /** Tells what is at a point of the canvas. */
+    /** Shows what is at a point of the canvas. */
     point(where) {
       const { page } = this;
       const hit = where && page.at(...page.view.from(...where));
       const isSame = page.hit && hit ? page.hit.node === hit.node : !page.hit && !hit;
       page.hit = hit;
       element("tip").hidden = !hit;
-      if (hit) this.tell(page.inWords(hit), ...where);
+      if (hit) this.showTip(page.inWords(hit), ...where);
       if (!isSame) page.drawOver();
     }
 
-    /** Shows a text beside a point of the canvas. */
-    tell(text, x, y) {
+    /** Shows a text next to a point of the canvas. */
+    showTip(text, x, y) {
       const tip = element("tip");
       tip.textContent = text;
       const [wide, high] = [tip.offsetWidth, tip.offsetHeight];

@@ -1,7 +1,7 @@
-"""The page of a routing, or of the iterations of a run: one file, which a browser shows alone.
+"""The page of a routing, or of the iterations of a run: one self-contained file for a browser.
 
-The page is tools/draw.html with tools/draw.js and the data in it. Numbers of nodes and trees are
-packed: as bytes in base64.
+The page is tools/draw.html with tools/draw.js and the data inserted. Numbers of nodes and trees are
+bytes in base64.
 """
 from __future__ import annotations
 
@@ -20,20 +20,20 @@ from vpr430 import Kind
 TOOLS = pathlib.Path(__file__).resolve().parent
 KINDS = ("SOURCE", "SINK", "OPIN", "IPIN", "CHANX", "CHANY")
 LABELS = ("Class", "Pin", "Pad", "Track")
-# Letters of arrays, for numbers of one, two and four bytes.
+# Type codes of arrays, for numbers of one, two and four bytes.
 BYTE, SHORT, LONG, SIGNED = "B", "H", "I", "i"
 
 
 @dataclasses.dataclass
 class Shot:
-    """What the page shows at once: a routing, and where it is an iteration's its row of the log."""
+    """What the page shows at a time: a routing, and if it is an iteration's, its row of the log."""
 
     sections: list
     row: list | None = None
 
 
 def packed(numbers, letter):
-    """Numbers as the text of their bytes, the lowest of each first."""
+    """Numbers as bytes in base64, little-endian."""
     values = array.array(letter, numbers)
     if sys.byteorder == "big":
         values.byteswap()
@@ -80,7 +80,7 @@ def nets_data(design, colours):
 
 
 def pins_data(architecture):
-    """The pins of a logic block. A global one is at no side."""
+    """The pins of a logic block. A global pin has no side."""
     return [
         {
             "isInput": pin.is_input,
@@ -91,7 +91,7 @@ def pins_data(architecture):
 
 
 def lists_data(shots):
-    """The lists of nodes of all shots, each once, and each shot with the lists of its nets."""
+    """The distinct lists of nodes of all shots, and each shot with the lists of its nets."""
     numbers, data = {}, []
     for shot in shots:
         lists = [tuple(section.nodes) if section else () for section in shot.sections]
@@ -105,7 +105,7 @@ def lists_data(shots):
 
 
 def wrong_steps(design, shots):
-    """The steps that are no switches of the device, as edges are written."""
+    """The steps that aren't switches of the device, in the form of edges."""
     edges = set(design.graph.edges)
     steps = (
         f"{start} -> {end}"
@@ -116,7 +116,7 @@ def wrong_steps(design, shots):
 
 
 def page_data(design, shots, acc):
-    """All that the page shows. `acc` is what overuse adds to the history of a node."""
+    """Everything that the page shows. `acc` is what overuse adds to the history of a node."""
     last = picture.Routing(design, design.graph, shots[-1].sections)
     colours = picture.colours_of(len(design.netlist.nets), last)
     lists, shots_data = lists_data(shots)
@@ -148,7 +148,7 @@ def page_text(design, shots, acc=0):
     parts = {
         "TITLE": html.escape(design.title),
         "SCRIPT": (TOOLS / "draw.js").read_text().rstrip(),
-        "DATA": data.replace("<", "\\u003c"),  # no text of a name ends the element
+        "DATA": data.replace("<", "\\u003c"),  # so that no name ends the element
     }
     template = (TOOLS / "draw.html").read_text()
     return re.sub("@(TITLE|SCRIPT|DATA)@", lambda mark: parts[mark[1]], template)

@@ -1,6 +1,6 @@
-"""The picture of a routing as SVG: its parts from the ground upward.
+"""The picture of a routing as SVG, from the background to the foreground.
 
-It is the same for the same files, byte for byte.
+The same files give the same picture, byte for byte.
 """
 from __future__ import annotations
 
@@ -10,7 +10,7 @@ import html
 import picture
 
 MARGIN, HEAD, LINE, TEXT_SIZE, LEAST_SIZE, LEAST_WIDTH = 12, 46, 20, 12, 6, 460
-# How wide a character is, as a share of the size of the letters; a little more than most are.
+# The width of a character as a share of the font size, a little more than most characters have.
 CHARACTER = 0.58
 STYLE = """
 text{font-family:sans-serif;fill:#222}
@@ -35,7 +35,7 @@ path,rect{fill:none}
 
 
 def path_of(lines):
-    """The path of lines that each have a first and a last point."""
+    """The path of lines, each given by its first and last point."""
     parts = []
     for x, y, end_x, end_y in lines:
         if y == end_y:
@@ -48,7 +48,7 @@ def path_of(lines):
 
 
 def path_text(name, lines):
-    """The element of a path, or nothing where it has no line."""
+    """The element of a path, or an empty text if it has no line."""
     return f'<path class="{name}" d="{path_of(lines)}"/>' if lines else ""
 
 
@@ -57,7 +57,7 @@ def title_text(text):
 
 
 def fitting(name, room):
-    """A name for so much room, without its middle where it is too long, and the size of letters."""
+    """A name for this much room, without its middle if it is too long, and its font size."""
     size = min(TEXT_SIZE - 1, int(room / (CHARACTER * max(len(name), 1))))
     if size >= LEAST_SIZE:
         return name, size
@@ -66,7 +66,7 @@ def fitting(name, room):
 
 
 class Svg:
-    """The SVG picture of a routing: its parts from the ground upward."""
+    """The SVG picture of a routing, from the background to the foreground."""
 
     def __init__(self, design, routing):
         self.design, self.routing = design, routing
@@ -76,13 +76,13 @@ class Svg:
         self.chosen = set(design.chosen)
         self.edges = set(design.graph.edges)
         self.offset = picture.offsets_in(design.layout, routing, self.options.is_global)
-        # Of each pin the lines from it to the wires that nets tap; known once the nets are drawn.
+        # For each pin the lines to the wires that nets tap; known after the nets are drawn.
         self.taps = collections.defaultdict(list)
 
     # ---- coordinates, from the top downward
 
     def line(self, x, y, end_x, end_y):
-        """A line of the layout as it stands in the picture."""
+        """A line of the layout in the coordinates of the picture."""
         top = HEAD + self.layout.height
         return x + self.left, top - y, end_x + self.left, top - end_y
 
@@ -94,7 +94,7 @@ class Svg:
     # ---- the array
 
     def blocks(self):
-        """The blocks with their names, and outlines where none stands."""
+        """The blocks with their names, and the outlines of free sites."""
         sites = self.design.placement.sites
         for site in self.design.free_sites():
             yield f'<rect class="free" {self.box_words(self.layout.block(*site))}/>'
@@ -130,7 +130,7 @@ class Svg:
         return [path_text("track", lines)]
 
     def heat(self):
-        """The places of channels, darker where more tracks are taken."""
+        """The places of channels, darker if more tracks are used."""
         taken = self.routing.occupancy(self.options.is_global)
         for (kind, x, y), many in sorted(taken.items()):
             box = self.layout.channel_place(kind, x, y)
@@ -143,7 +143,7 @@ class Svg:
     # ---- nets
 
     def nets(self):
-        """The nets. Those that are chosen come last, over the others."""
+        """The nets, the chosen ones last, on top of the others."""
         colours = picture.colours_of(len(self.design.netlist.nets), self.routing)
         for tree in sorted(self.routing.trees, key=lambda tree: tree.net in self.chosen):
             colour = picture.NET_COLOURS[colours[tree.net]]
@@ -180,13 +180,13 @@ class Svg:
             self.taps[step[1]].append(line)
 
     def mood(self, net):
-        """How a net is drawn beside others, as the end of its class."""
+        """The suffix of a net's class: whether it is highlighted, faded or thin."""
         if self.chosen:
             return " chosen" if net in self.chosen else " faded"
         return " thin" if self.options.heat else ""
 
     def overused(self):
-        """The overused nodes, over all else."""
+        """The overused nodes, on top of everything else."""
         for number in self.routing.overused:
             node = self.nodes[number]
             nets = self.routing.nets_at[number]
@@ -205,7 +205,7 @@ class Svg:
         return f'<rect class="mark" {self.box_words(self.layout.block(node.x, node.y, position))}/>'
 
     def wire_lines(self, number):
-        """The lines of a wire: in a global channel one for each net."""
+        """The lines of a wire: one, or in a global channel one for each net."""
         nets = self.routing.nets_at[number]
         shown = nets if self.options.is_global else nets[:1]
         return [
@@ -216,7 +216,7 @@ class Svg:
     # ---- head and legend
 
     def head(self):
-        """Two lines of text: what the picture is of, and what is used."""
+        """Two lines of text: what the picture shows, and what is used."""
         wires = sum(node.is_wire for node in self.nodes)
         figures = (
             f"trees {len(self.routing.trees)} of {self.design.to_route},"
@@ -228,7 +228,7 @@ class Svg:
         yield f'<text x="{MARGIN}" y="35" font-size="{TEXT_SIZE}">{figures}</text>'
 
     def legend_items(self):
-        """What the legend has: a drawing of 26 x 12, and its text."""
+        """The items of the legend: a drawing of 26 x 12, and its text."""
         blue = picture.NET_COLOURS[0]
         box = 'x="3" y="0" width="20" height="12"'
         if self.options.is_global:
@@ -289,6 +289,6 @@ class Svg:
 
 
 def heat_colour(many, room):
-    """The colour of a channel with room for so many, of which so many are taken."""
+    """The colour of a place of a channel where `many` of `room` tracks are used."""
     last = len(picture.HEAT_COLOURS) - 1
     return picture.HEAT_COLOURS[min(-(-many * last // room), last)]

@@ -1,6 +1,6 @@
 """What a picture of a routing shows: where each thing is drawn, which nets use what, and colours.
 
-Everything is in whole units, from the lower left corner of the array to the right and upward. The
+Coordinates are whole units, from the lower left corner of the array to the right and upward. The
 tracks of a channel are `PITCH` units apart. tools/draw.js draws by the same rules, and
 tests/check-pictures compares the two.
 """
@@ -19,29 +19,29 @@ import vpr430
 from vpr430 import Kind, Node
 
 PITCH = 6
-# How deep a pad is, seen from its channel.
+# The depth of a pad, seen from its channel.
 PAD_DEPTH = 56
-# Pins of a logic block are so far apart, and closer where there are many.
+# The greatest and the least distance between pins of a logic block, and the usual length of a side.
 MOST_SPACING, LEAST_SPACING, USUAL_SIDE = 9, 3, 96
-# Colours of nets: colour-blind people can tell them apart, and none is close to that of overuse.
+# Colours of nets: colour-blind people can distinguish them, and none is close to that of overuse.
 NET_COLOURS = ("#0072b2", "#e69f00", "#009e73", "#aa4499", "#56b4e9", "#332288", "#999933")
 OVERUSED_COLOUR = "#d00000"
 HISTORY_COLOUR = "#b39ddb"
-# Of channels, from empty to full.
+# Colours of channels, from empty to full.
 HEAT_COLOURS = ("#ffffff", "#edf6e4", "#d0e9cf", "#a6d6c9", "#7cbcc8", "#5a9cc2", "#3f78b0")
 
-# What no page and no picture may have: control characters, and what is no character of a text.
+# What no page and no picture may have: control characters, surrogates and noncharacters.
 BAD_CHARACTER = re.compile("[\x00-\x1f\x7f-\x9f\ud800-\udfff\ufffe\uffff]")
 
 
 def legible(name):
-    """A name as it is shown: what is no character of a text is U+FFFD."""
+    """A name as it is shown, with U+FFFD instead of each such character or invalid byte."""
     text = name.encode(**vpr430.TEXT).decode("utf-8", "replace")
     return BAD_CHARACTER.sub("\ufffd", text)
 
 
 class Box(typing.NamedTuple):
-    """A rectangle, or a line or a point where sides meet."""
+    """A rectangle, or a line or a point if sides coincide."""
 
     left: int
     low: int
@@ -84,18 +84,18 @@ class Layout:
         return self.channel_start(self.ny) + self.channel + PAD_DEPTH
 
     def channel_start(self, at):
-        """Where the channel behind a column or a row begins."""
+        """Where the channel after a column or a row begins."""
         return PAD_DEPTH + at * (self.side + self.channel)
 
     def block_start(self, at):
-        """Where a column or a row begins. Those of pads are 0 and the last one."""
+        """Where a column or a row begins. The first and the last one have pads."""
         return self.channel_start(at - 1) + self.channel if at else 0
 
     def block_end(self, at, most):
         return self.block_start(at) + (self.side if 1 <= at <= most else PAD_DEPTH)
 
     def place(self, x, y):
-        """The box of all that may stand at a place."""
+        """The box of a place with all its blocks."""
         return Box(
             self.block_start(x), self.block_start(y),
             self.block_end(x, self.nx), self.block_end(y, self.ny),
@@ -121,7 +121,7 @@ class Layout:
         return box._replace(left=left, right=left + self.channel)
 
     def wire(self, node, offset):
-        """The line of a wire, so far from where its channel begins."""
+        """The line of a wire at this offset from where its channel begins."""
         first, last = (self.channel_place(node.kind, *end) for end in (node[1:3], node[3:5]))
         if node.kind == "CHANX":
             return Box(first.left, first.low + offset, last.right, first.low + offset)
@@ -161,7 +161,7 @@ def join(box, other):
 
 
 def source_of(netlist, architecture, placement, net):
-    """The node from which a net begins."""
+    """The source node of a net."""
     driver = net.driver
     site = placement.sites[driver.block]
     if netlist.blocks[driver.block].kind is Kind.CLB:
@@ -183,7 +183,7 @@ class Design:
     layout: Layout
 
     def source(self, net):
-        """The node from which a net begins."""
+        """The source node of a net."""
         nets = self.netlist.nets
         return source_of(self.netlist, self.architecture, self.placement, nets[net])
 
@@ -193,7 +193,7 @@ class Design:
 
     @property
     def to_route(self):
-        """How many nets are to be routed."""
+        """The number of nets to route."""
         return sum(net.is_routed for net in self.netlist.nets)
 
     @functools.cached_property
@@ -206,7 +206,7 @@ class Design:
         return [numbers[name] for name in self.options.nets]
 
     def free_sites(self):
-        """The places at which no block stands."""
+        """The sites without a block."""
         taken = {(site.x, site.y, site.position) for site in self.placement.sites}
         logic = [
             (x, y, 0) for x in range(1, self.layout.nx + 1) for y in range(1, self.layout.ny + 1)
@@ -220,7 +220,7 @@ class Design:
 
     @property
     def title(self):
-        """What is drawn, in a line."""
+        """A line that describes what is drawn."""
         mode = ", global routing" if self.options.is_global else ""
         layout, name = self.layout, legible(os.path.basename(self.options.net))
         return f"{name}: {layout.nx} x {layout.ny} blocks, width {layout.tracks}{mode}"
@@ -265,7 +265,7 @@ class Routing:
         return [node for node in self.nets_at if self.graph.nodes[node].is_wire]
 
     def occupancy(self, is_global):
-        """How many tracks of each place of a channel are taken; in a global one each net takes one.
+        """How many tracks are used at each place of a channel; in a global one each net uses one.
 
         A place is the kind of its channel, its column and its row.
         """
@@ -279,14 +279,14 @@ class Routing:
         return taken
 
     def in_words(self, number):
-        """What is said of a node: as `report` does of an overused one."""
+        """A node and its use, as `report` prints an overused one."""
         used = len(self.nets_at.get(number, ()))
         text = f"node {number} {self.graph.nodes[number]}"
         return f"{text} used {used} of {self.graph.capacities[number]}"
 
 
 def colours_of(nets, routing):
-    """A colour for each net, by its number: one that few nets beside its wires have."""
+    """A colour for each net, by its number: one that few nets next to its wires have."""
     beside = collections.defaultdict(lambda: [0] * len(NET_COLOURS))
     colours, given = [number % len(NET_COLOURS) for number in range(nets)], [0] * len(NET_COLOURS)
     for tree in routing.trees:
@@ -304,9 +304,9 @@ def colours_of(nets, routing):
 
 
 def offsets_in(layout, routing, is_global):
-    """A function of a node and a net: how far from where its channel begins the wire is drawn.
+    """A function of a node and a net: the offset of the wire from where its channel begins.
 
-    A global channel has one node a place: there the nets stand side by side.
+    A global channel has one node at each place, and its nets are drawn side by side.
     """
     if not is_global:
         return lambda number, net: PITCH * (routing.graph.nodes[number].number + 1)
@@ -320,7 +320,7 @@ def offsets_in(layout, routing, is_global):
 
 
 def step_line(layout, graph, step, lines):
-    """The line of a step, or None where it stays within a block. `lines` are those of wires."""
+    """The line of a step, or None if it stays within a block. `lines` are those of wires."""
     start, end = (graph.nodes[number] for number in step)
     if not start.is_wire and not end.is_wire:
         return None

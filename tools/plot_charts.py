@@ -1,7 +1,7 @@
-"""Draws the charts of tools/plot by matplotlib: runs by iteration, and the results of sweeps.
+"""Draws the charts of tools/plot with matplotlib: runs by iteration, and the results of sweeps.
 
-A chart is a figure of matplotlib. It is the same for the same input, as a file too: no setting of
-the user has a part in it, and no date.
+A chart is a figure of matplotlib. The same input gives the same chart, and the same file: it
+doesn't depend on the user's settings, and has no date.
 """
 from __future__ import annotations
 
@@ -10,7 +10,7 @@ import logging
 import os
 import warnings
 
-# Else it tells of its search for fonts, and draws as an environment wants it.
+# Otherwise it reports its search for fonts, and the environment selects how it draws.
 logging.getLogger("matplotlib").setLevel(logging.ERROR)
 os.environ.pop("MPLBACKEND", None)
 
@@ -47,26 +47,26 @@ STYLE = {
     "grid.linewidth": 0.5,
     "lines.linewidth": 1.1,
     "lines.markersize": 3.2,
-    # Texts of a PDF are fonts that publishers take, and those of SVG look the same everywhere.
+    # PDF texts use fonts that publishers accept, and SVG texts look the same everywhere.
     "pdf.fonttype": 42,
     "svg.fonttype": "path",
     "svg.hashsalt": "pathfinder",
 }
-# Without dates, so that a chart is the same each time.
+# No dates, so that a chart is the same each time.
 METADATA = {".svg": {"Date": None}, ".pdf": {"CreationDate": None}, ".png": {}}
-# Colours that most people tell apart (Okabe and Ito), with markers for those who print in grey.
+# Colours that most people can distinguish (Okabe and Ito), with markers for prints in grey.
 COLOURS = "#0072b2 #d55e00 #009e73 #cc79a7 #e69f00 #56b4e9 #000000 #8c8c00".split()
 MARKERS = "os^Dv<>P"
 DASHES = ["-", "--", ":", "-."]
-# Inches: the width of a column of a paper, a panel's height, a row's, and what is around panels.
+# Inches: the width of a column of a paper, the height of a panel and of a row, and the margins.
 COLUMN, PANEL, LEGEND_ROW, MARGIN = 3.5, 1.15, 0.15, 0.45
-LETTER, HANDLE = 0.062, 0.45  # Inches of a letter of the legend and of what stands before a name.
+LETTER, HANDLE = 0.062, 0.45  # Inches of a letter of the legend and of the handle before a name.
 MOST_LETTERS = 40
 DOTS_PER_INCH, MOST_DOTS = 300, 40_000_000
 
 
 def shown(name):
-    """A name as a chart has it: without control characters, shortened, and never a formula."""
+    """A name for a chart: without control characters, shortened, and never a formula."""
     name = command.shown(name).encode("utf-8", "replace").decode()
     if len(name) > MOST_LETTERS:
         half = MOST_LETTERS // 2 - 1
@@ -75,7 +75,7 @@ def shown(name):
 
 
 def styles(many):
-    """How so many series are drawn: colours, then markers with them, then dashes."""
+    """The styles of this many series: colours, then markers with them, then dashes."""
     for at in range(many):
         yield {
             "color": COLOURS[at % len(COLOURS)],
@@ -85,7 +85,7 @@ def styles(many):
 
 
 def columns_of(names, width):
-    """How many columns a legend of these names has within a width."""
+    """The number of columns of a legend with these names within a width."""
     widest = HANDLE + LETTER * max(map(len, names))
     return max(1, min(len(names), int(width / widest)))
 
@@ -93,7 +93,7 @@ def columns_of(names, width):
 class Sheet:
     """An empty figure with a legend of names above, and below it rows and columns of panels.
 
-    Heights are those of the rows in inches; one name has no legend.
+    Heights are those of the rows in inches. A single name has no legend.
     """
 
     def __init__(self, size, width, heights, columns, names):
@@ -107,7 +107,7 @@ class Sheet:
         )
 
     def panel(self, row, column, **shared):
-        """The axes of a panel, by its row and column from 0 on."""
+        """The axes of a panel, by its row and column, counted from 0."""
         return self.figure.add_subplot(self.grid[row + 1, column], **shared)
 
     def add_legend(self, handles):
@@ -121,13 +121,13 @@ class Sheet:
             bbox_to_anchor=(0, 0.5), borderaxespad=0, borderpad=0, frameon=False, handlelength=2,
             columnspacing=1.2, ncol=self.many,
         )
-        # A label that begins with `_` would be left out.
+        # Matplotlib leaves out a label that begins with `_`.
         for text, name in zip(legend.get_texts(), self.names):
             text.set_text(name)
 
 
 def count_axis(axis):
-    """Has an axis show whole numbers, with commas within great ones."""
+    """Makes an axis show whole numbers, with commas between thousands."""
     axis.set_major_locator(MaxNLocator(integer=True, nbins=6, min_n_ticks=1))
     axis.set_major_formatter(StrMethodFormatter("{x:,.0f}"))
 
@@ -135,9 +135,9 @@ def count_axis(axis):
 # ---- Runs ----------------------------------------------------------------------------------------
 
 PANELS = {"overused": "overused\nnodes", "unrouted": "unrouted\nnets", "wirelength": "wirelength"}
-# A greater number of overused nodes has a logarithmic axis, which has a place for 0.
+# More overused nodes than this have a logarithmic axis, which includes 0.
 MOST_LINEAR = 10
-# At most so many markers stand on a line.
+# The most markers on a line.
 MOST_MARKERS = 20
 
 
@@ -181,14 +181,14 @@ def add_runs(axes, column, runs):
 
 # ---- Results of sweeps ---------------------------------------------------------------------------
 
-ROW, SERIES = 0.24, 0.07  # Inches of a row, and of each series within.
+ROW, SERIES = 0.24, 0.07  # Inches of a row, and of each series within it.
 BOUND = {"color": "#888888", "marker": "|", "linestyle": "none", "markersize": 6}
-# From this ratio of the greatest to the least on wirelengths have a logarithmic axis.
+# Above this ratio of the greatest to the least, wirelengths have a logarithmic axis.
 LEAST_DECADES = 20
 
 
 def chart_of_results(results, size=None):
-    """The chart of sweeps: for each circuit a row, with a point for each architecture."""
+    """The chart of sweeps: a row for each circuit, with a point for each architecture."""
     series, circuits = results.series_names(), results.circuit_names()
     names = [shown(series[one]) for one in results.series]
     has_bounds = any(result.bounds for result in results.of.values())
@@ -215,7 +215,7 @@ def chart_of_results(results, size=None):
 
 
 def add_rows(axes, names):
-    """Has an axis of rows with names, from the top to the bottom, with pale lines between them."""
+    """Names the rows of an axis from top to bottom, and draws pale lines between them."""
     axes.set_yticks(range(len(names)))
     axes.set_yticklabels(names)
     axes.set_ylim(len(names) - 0.5, -0.5)
@@ -250,7 +250,7 @@ def add_series(axes, column, results, series, offset, style):
 
 
 def scale_wirelengths(axes, results):
-    """Has the axis of wirelengths begin at 0, or be logarithmic where they are of many sizes."""
+    """Starts the axis of wirelengths at 0, or makes it logarithmic if they differ much."""
     values = [value for result in results.of.values() for value in result.wirelengths if value]
     if values and max(values) > LEAST_DECADES * min(values):
         axes.set_xscale("log")
@@ -273,9 +273,9 @@ def chart_of(contents, size=None):
 
 
 def image_of(contents, size, ending):
-    """The bytes of the image of a chart, in the form of a file's ending."""
+    """The bytes of the image of a chart, in the format of a file's ending."""
     with matplotlib.rc_context(), warnings.catch_warnings():
-        warnings.simplefilter("ignore")  # of letters that the font doesn't have
+        warnings.simplefilter("ignore")  # about letters that the font doesn't have
         matplotlib.rcdefaults()
         matplotlib.rcParams.update(STYLE)
         figure = chart_of(contents, size)

@@ -1,4 +1,4 @@
-"""A job of a sweep as it is run: the program's calls, and the columns of its line."""
+"""How a job of a sweep is run: the calls of the program, and the columns of its line."""
 import fractions
 import itertools
 import math
@@ -17,12 +17,12 @@ from sweep_streams import TEXT, Ended, NotRun, shown
 from sweep_table import name_part
 
 MOST_TRACKS = 256
-# How long a program that is asked to end may take before it is killed.
+# The seconds that a program has to end after SIGTERM before it is killed.
 GRACE = 2.0
 
 
 def signal_group(program, number):
-    """Sends a signal to a program that runs, and to what it started."""
+    """Sends a signal to a running program, and to the processes that it started."""
     if program.poll() is None:
         try:
             os.killpg(program.pid, number)
@@ -31,17 +31,17 @@ def signal_group(program, number):
 
 
 class Running:
-    """The programs that run, so that they are ended with the sweep."""
+    """The running programs, which end with the sweep."""
 
     def __init__(self):
         self.lock, self.is_ending, self.programs = threading.Lock(), False, set()
 
     def run(self, words, seconds):
-        """Status, text and complaints of a program, the status None where the time was over."""
+        """Status, output and error output of a program; the status is None after a timeout."""
         with self.lock:
             if self.is_ending:
                 raise Ended
-            # Of a group of its own: the terminal's interrupt comes to the sweep alone.
+            # In a session of its own, so that only the sweep gets the terminal's interrupt.
             program = subprocess.Popen(
                 words, stdin=subprocess.DEVNULL, stdout=subprocess.PIPE, stderr=subprocess.PIPE,
                 start_new_session=True, **TEXT,
@@ -61,7 +61,7 @@ class Running:
         return status, text, complaints
 
     def end(self):
-        """Ends what runs, and lets nothing more begin."""
+        """Ends the running programs, and lets no more start."""
         with self.lock:
             self.is_ending = True
             programs = list(self.programs)
@@ -85,27 +85,27 @@ def size_of(job):
 
 
 def wirelength_of(path):
-    """The places of the wires that a routing's nets use, each wire once a net."""
+    """The places of the wires that a routing's nets use, each wire once per net."""
     nets = itertools.groupby(vpr430.nodes_in(path), key=operator.itemgetter(0))
     used = ({node for _, node in pairs if node.is_wire} for _, pairs in nets)
     return sum(node.places for nodes in used for node in nodes)
 
 
 def places_of(array, width):
-    """The places that the tracks of all channels of an array have."""
+    """The number of places of the tracks of all channels of an array."""
     nx, ny = (int(number) for number in array.split(" x "))
     return width * (nx * (ny + 1) + ny * (nx + 1))
 
 
 class Run:
-    """A job as it is run: the columns of its line."""
+    """A running job: the columns of its line."""
 
     def __init__(self, plan, running, job, folder):
         self.plan, self.running, self.job, self.folder = plan, running, job, folder
         self.figures, self.begun = {}, time.monotonic()
 
     def call(self, command, width=None):
-        """Status, text and complaints of a command over the job's files."""
+        """Status, output and error output of a command on the job's files."""
         seconds = None
         if self.plan.timeout:
             seconds = max(self.begun + self.plan.timeout - time.monotonic(), 0.0)
@@ -119,14 +119,14 @@ class Run:
             raise NotRun(f"{self.plan.program}: {fault.strerror}") from fault
 
     def time(self, command, width=None):
-        """Calls a command, and notes its seconds."""
+        """Calls a command, and records its seconds."""
         begun = time.monotonic()
-        came_to = self.call(command, width)
+        result = self.call(command, width)
         self.figures[f"{command}_seconds"] = f"{time.monotonic() - begun:.3f}"
-        return came_to
+        return result
 
     def fails(self, status, text, complaints, what):
-        """Notes why a command gave no answer; its status is None where the time was over."""
+        """Records why a command gave no result; its status is None after a timeout."""
         said = message_of(text + complaints)
         if status is None:
             limit = f"{self.plan.timeout:.15g}"
@@ -143,7 +143,7 @@ class Run:
         self.figures.update(status=status, message=message)
 
     def has_bound(self):
-        """Notes the width below which there is no routing; answers whether the job goes on."""
+        """Records the width below which there is no routing; returns whether the job goes on."""
         status, text, complaints = self.call("bound")
         found = re.match(r"no routing (?:below width (\d+)|at any width)\n", text)
         if status == 0 and found:
@@ -183,7 +183,7 @@ class Run:
             self.fails(status, text, complaints, "route")
 
     def measure(self):
-        """Adds the circuit's size, where the program has read its files."""
+        """Adds the circuit's size, if the program has read its files."""
         if self.figures["status"] not in ("routed", "not routed", "no width"):
             return
         self.figures.update(size_of(self.job))
@@ -192,7 +192,7 @@ class Run:
             self.figures["occupancy"] = f"{self.figures['wirelength'] / places:.4f}"
 
     def keep(self, whole):
-        """Moves the routings to where they are kept."""
+        """Moves the routings to the folder of --keep."""
         arch, net = name_part(self.job.arch, ".arch"), name_part(self.job.net, ".net")
         ends = {}
         if "least_width" in self.figures:

@@ -1,4 +1,4 @@
-"""How the jobs of a sweep are run: their files, their names, and the words of the program."""
+"""How the jobs of a sweep are run: their files, their names, and the options of the program."""
 import collections
 import decimal
 import hashlib
@@ -16,12 +16,12 @@ TOP = pathlib.Path(__file__).resolve().parent.parent
 SWEEP = TOP / "tools/sweep"
 USUAL_RATIO = decimal.Decimal("1.2")
 
-# What makes a netlist and a placement of a BLIF; the other files are those that the two import.
+# The scripts that make a netlist and a placement from a BLIF, and the modules that they import.
 PACK, PLACE = TOP / "tools/pack", TOP / "tools/place"
 MAKERS = [PACK, PLACE, *(TOP / f"tools/{name}.py" for name in ("blif", "command", "vpr430"))]
 
 Job = collections.namedtuple("Job", "arch net place")
-# What a job's netlist and placement are made of.
+# What a job's netlist and placement are made from.
 Source = collections.namedtuple("Source", "blif seed")
 
 
@@ -35,7 +35,7 @@ def sum_of_file(path):
 
 
 def message_of(text):
-    """What a program said, in one line that a table can have."""
+    """The output of a program, as one line for a table."""
     lines = [" ".join(shown(line).split()) for line in text.split("\n")]
     return "; ".join(line for line in lines if line)[:300]
 
@@ -48,16 +48,16 @@ def find_program(options):
             [TOP / "tools/program", "pathfinder"], stdout=subprocess.PIPE, check=True, **TEXT
         )
     except (OSError, subprocess.CalledProcessError) as fault:
-        raise NotRun("there is no program") from fault
+        raise NotRun("the program `pathfinder` can't be run") from fault
     return found.stdout.strip()
 
 
 class Designs:
-    """BLIFs that are packed and placed. What comes of them is kept in a folder.
+    """BLIFs that are packed and placed. The results are kept in a folder.
 
-    A netlist has the name ARCH.CIRCUIT.SUM.net there, and its placement by seed 3 the name
+    A netlist has the name ARCH.CIRCUIT.SUM.net there, and its placement with seed 3 the name
     ARCH.CIRCUIT.SUM.s3.place. SUM is over the BLIF, the architecture, the effort and the scripts
-    that pack and place, so that a file that is there needn't be made again.
+    that pack and place, so that an existing file needn't be made again.
     """
 
     def __init__(self, options):
@@ -71,7 +71,7 @@ class Designs:
         try:
             whole = self.makers + sum_of_file(arch) + sum_of_file(blif)
         except NotRun:
-            whole = b""  # it isn't made
+            whole = b""  # a file can't be read, so nothing is made
         whole = hashlib.sha256(whole + shlex.join(self.effort).encode()).hexdigest()[:16]
         name = f"{name_part(arch, '.arch')}.{name_part(blif, '.blif')}.{whole}"
         net = os.path.join(self.folder, f"{name}.net")
@@ -82,13 +82,13 @@ class Designs:
             yield job
 
     def words_of(self, job):
-        """The words that make a job by itself."""
+        """The options and the files that make a job by itself."""
         blif, seed = self.sources[job]
         more = ["--from-blif", self.folder, "--seeds", str(seed)]
         return [*more, *self.effort], [job.arch, blif]
 
     def make(self, job, running):
-        """Makes the netlist and the placement of a job, where they aren't there."""
+        """Makes the netlist and the placement of a job, unless they exist."""
         blif, seed = self.sources[job]
         os.makedirs(self.folder, exist_ok=True)
         with self.locks[job.net]:
@@ -97,7 +97,7 @@ class Designs:
         self.call(running, job.place, PLACE, job.net, job.arch, *words)
 
     def call(self, running, made, maker, *words):
-        """Has a file made by a script, where it isn't there."""
+        """Calls a script to make a file, unless it exists."""
         if os.path.exists(made):
             return
         run = [sys.executable, str(maker), *words, "-o", made]
@@ -121,25 +121,25 @@ class Plan:
         self.before = self.search + both
         if self.ratio != USUAL_RATIO:
             self.before = ["--ratio", f"{self.ratio.normalize():f}", *self.before]
-        self.behind = ["--", *options.handed] if options.handed else []
-        self.options = shlex.join(self.before + self.behind)
+        self.after = ["--", *options.handed] if options.handed else []
+        self.options = shlex.join(self.before + self.after)
         self.explain = ["--explain"] if "--explain" in options.handed else []
-        # A search upward begins at the bound, so it can't be told to leave that out.
+        # A search upward begins at the bound, so it doesn't take --no-bound.
         is_quiet = not options.upward and not self.refusal("width", ["--no-bound"])
         self.quiet = ["--no-bound"] if is_quiet else []
         self.try_words()
 
     def words_of(self, command, width=None):
-        """The words of a command's options."""
+        """The options of a command."""
         if command == "bound":
             return self.explain
         own = [*self.search, *self.quiet] if command == "width" else ["--width", str(width)]
         return own + self.handed
 
     def refusal(self, command, words):
-        """What the program says against words of a command; nothing where it takes them.
+        """What the program says if it refuses options of a command; nothing if it accepts them.
 
-        It gets them with files that it refuses then.
+        It gets them with files that it then refuses.
         """
         nothing = [os.devnull] * (3 if command == "bound" else 4)
         try:
@@ -155,11 +155,11 @@ class Plan:
         return said or f"status {tried.returncode}"
 
     def try_words(self):
-        """Has the program look at the words that it will get."""
+        """Lets the program check the options that it will get."""
         for command in ("width", "route", "bound"):
             refusal = self.refusal(command, self.words_of(command, 1))
             if refusal:
-                raise WrongWords(f"`pathfinder {command}` with these words: {refusal}")
+                raise WrongWords(f"`pathfinder {command}` refuses these options: {refusal}")
 
     def line_of(self, job):
         """The command line of a job."""
@@ -167,16 +167,16 @@ class Plan:
         words += ["--timeout", f"{self.timeout:.15g}"] if self.timeout else []
         words += ["--keep", self.keep] if self.keep else []
         more, files = self.designs.words_of(job) if self.designs else ([], job)
-        line = shlex.join([*words, *more, *self.before, *files, *self.behind])
+        line = shlex.join([*words, *more, *self.before, *files, *self.after])
         if line != shown(line):
             raise WrongWords(f"{line}: --jobs-list can't print a control character")
         return line
 
     def names_of(self, job, kept=None):
-        """The columns by which a job is told from others; sums of files may be kept for a while.
+        """The columns that identify a job. `kept` has the sums of files that were read before.
 
-        A name whose control characters aren't shown is part of the sum, so that it differs from
-        that of the other names that are shown so.
+        A name with control characters is part of the sum, so that the sum differs from those of
+        other names that look the same.
         """
         kept = {} if kept is None else kept
         whole = hashlib.sha256(self.options.encode(**TEXT))

@@ -1,4 +1,4 @@
-"""What the tables of sweeps say of circuits and architectures, for the tables and plots of a text.
+"""The results of sweeps by circuit and architecture, for the tables and plots of a paper.
 
     rows = sweep_results.rows_of(source, "new.tsv")  # the bytes of a table, and its name
     results = sweep_results.Results(rows)
@@ -15,12 +15,12 @@ import typing
 import vpr430
 from sweep_table import COLUMNS, HEAD, NAMES, fault_of, name_part, no_table, stem_of
 
-# The end of the name of a netlist that a sweep has packed, and what a placement of it adds.
+# The end of the name of a netlist that a sweep packed, and what the name of a placement adds.
 MADE_NET, MADE_PLACE = r"(?P<circuit>.+)\.[0-9a-f]{16}", r"\.s(?P<seed>[0-9]+)\.place"
 
 
 class Series(typing.NamedTuple):
-    """What stands beside other ones of its kind: the circuits of a table on an architecture."""
+    """What is compared: the results of a table on an architecture with a list of options."""
 
     table: str
     architecture: str
@@ -29,22 +29,22 @@ class Series(typing.NamedTuple):
 
 @dataclasses.dataclass
 class Result:
-    """What the placements of a circuit came to on an architecture."""
+    """The results of the placements of a circuit on an architecture."""
 
     widths: list = dataclasses.field(default_factory=list)
     bounds: list = dataclasses.field(default_factory=list)
     wirelengths: list = dataclasses.field(default_factory=list)
-    # Of each placement its status, in the words of docs/SWEEP.md.
+    # The status of each placement (docs/SWEEP.md).
     statuses: list = dataclasses.field(default_factory=list)
 
 
 def is_table(source):
-    """Whether bytes begin as a table of a sweep, of this version or another one."""
+    """Whether bytes begin like a table of a sweep, of this version or another one."""
     return source.split(b"\n", 1)[0].decode(**vpr430.TEXT).split("\t")[: len(NAMES)] == NAMES
 
 
 def rows_of(source, name):
-    """The rows of a table, by its bytes and its name: what each column has."""
+    """The rows of a table, given by its bytes and its name: the fields by column."""
     lines = source.decode(**vpr430.TEXT).split("\n")
     rows = []
     if lines[0] + "\n" != HEAD:
@@ -54,7 +54,7 @@ def rows_of(source, name):
         line = vpr430.Line(name, number, tuple(words))
         if number == len(lines) and not text or text + "\n" == HEAD:
             continue
-        fault = "the line is not whole" if number == len(lines) else fault_of(words)
+        fault = "the line is incomplete" if number == len(lines) else fault_of(words)
         if fault:
             raise line.fault(fault)
         rows.append(dict(zip(COLUMNS, words)))
@@ -62,10 +62,10 @@ def rows_of(source, name):
 
 
 def circuit_of(row):
-    """The circuit of a line, and what tells its placement from others.
+    """The circuit of a line, and what identifies its placement.
 
-    Where a sweep has packed and placed a BLIF, the circuit is the BLIF's name, and the placement is
-    told by its seed. So one of a changed BLIF takes the place of the one before.
+    If a sweep packed and placed a BLIF, the circuit is the BLIF's name, and the seed identifies the
+    placement. So a placement of a changed BLIF replaces the one before.
     """
     stem = stem_of(os.path.basename(row["netlist"]), ".net")
     arch = re.escape(name_part(row["architecture"], ".arch"))
@@ -77,16 +77,16 @@ def circuit_of(row):
 
 
 def short_names(names):
-    """What stands for files whose endings are left out: their last parts, where these differ."""
+    """Short names for paths without their endings: their last parts, if these differ."""
     short = {name: os.path.basename(name) for name in names}
     return short if len(set(short.values())) == len(short) else {name: name for name in names}
 
 
 class Results:
-    """The results of tables by series and circuit, in the order in which they first stand there.
+    """The results of tables by series and circuit, in the order of their first lines.
 
-    Of several lines of one placement the last one counts. `tables` has the names of the tables that
-    rows are of, where there are several.
+    If a placement has several lines, the last one counts. `tables` has the name of each row's
+    table, if there are several.
     """
 
     def __init__(self, rows, tables=None):
@@ -102,13 +102,12 @@ class Results:
         self.circuits = list(dict.fromkeys(circuit for _, circuit in self.of))
 
     def circuit_names(self):
-        """What stands for each circuit."""
+        """The name to show for each circuit."""
         return short_names(self.circuits)
 
     def series_names(self, with_options=True):
-        """What stands for each series: its table among several, its architecture, and its options.
-
-        Options stand there where a table has several.
+        """The name to show for each series: its table if there are several, its architecture, and
+        its options if a table has several lists of them.
         """
         stems = {series: stem_of(series.architecture, ".arch") for series in self.series}
         short = short_names(list(dict.fromkeys(stems.values())))
@@ -122,7 +121,7 @@ class Results:
 
 
 def add_row(result, row):
-    """Adds what a row has to a circuit's result."""
+    """Adds a row to a circuit's result."""
     result.statuses.append(row["status"])
     if row["least_width"]:
         result.widths.append(int(row["least_width"]))

@@ -1,4 +1,4 @@
-"""What a sweep prints, and the reasons for which it can't go on."""
+"""The output of a sweep, and the exceptions that end a job or the sweep."""
 import os
 import re
 
@@ -7,26 +7,26 @@ CONTROL = re.compile(r"[\x00-\x1f\x7f-\x9f]")
 
 
 class WrongWords(Exception):
-    """The words of the command line can't be a sweep's."""
+    """The command line is invalid."""
 
 
 class NotRun(Exception):
-    """A job, or all, could not be run, for a reason that is not of the circuit."""
+    """A job, or the whole sweep, could not be run, for a reason other than the circuit."""
 
 
 class Ended(Exception):
-    """The sweep ends, so a job has no line."""
+    """The sweep ends, so a job gets no line."""
 
 
 def shown(text):
-    """A text as tables and terminals have it, with `?` in place of each control character."""
+    """A text for tables and terminals, with `?` instead of each control character."""
     return CONTROL.sub("?", text)
 
 
 def hold_descriptors():
-    """Puts something where standard streams are closed, so that no file gets their numbers.
+    """Opens /dev/null for each closed standard stream, so that no other file gets its number.
 
-    It can't be written, as what was closed can't.
+    It is opened for reading only, so that writing fails as on the closed stream.
     """
     while (held := os.open(os.devnull, os.O_RDONLY)) <= 2:
         os.set_inheritable(held, True)
@@ -48,7 +48,7 @@ def put(text):
 
 
 def say(*lines):
-    """Reports on standard error, if that can be written; the sweep goes on where it can't."""
+    """Prints lines on standard error; if that fails, the sweep goes on."""
     try:
         write(2, "sweep: " + "".join(f"{shown(str(line))}\n" for line in lines))
     except OSError:

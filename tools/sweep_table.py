@@ -14,18 +14,18 @@ COLUMNS = [
     "trials", "width", "iterations", "wirelength", "nets", "blocks", "array", "occupancy",
     "width_seconds", "route_seconds", "message",
 ]
-# The columns that tell one job from another.
+# The columns that identify a job.
 NAMES = COLUMNS[:5]
 HEAD = "\t".join(COLUMNS) + "\n"
-# The columns of which means are printed, and the forms of those that are counted with.
+# The columns whose means are printed, and the formats of those that are used in calculations.
 MEANS = ["least_width", "wirelength", "occupancy", "width_seconds", "route_seconds"]
 FIGURES = {
     "bound": r"none|[1-9][0-9]{0,8}", "least_width": r"[1-9][0-9]{0,2}",
     "wirelength": r"[0-9]{1,18}", "occupancy": r"[0-9]{1,9}\.[0-9]{4}",
     "width_seconds": r"[0-9]{1,12}\.[0-9]{3}", "route_seconds": r"[0-9]{1,12}\.[0-9]{3}",
 }
-# How many bytes a file's stem may have in the name of a kept routing, and how many of a longer one
-# stand there: a file system has names of 255 bytes.
+# The most bytes of a file's stem in the name of a kept routing, and how many remain of a longer
+# one: file systems allow names of 255 bytes.
 MOST_STEM, CUT_STEM = 100, 83
 
 
@@ -34,7 +34,7 @@ def stem_of(path, suffix):
 
 
 def name_part(path, suffix):
-    """What stands for a file in the name of a kept routing (docs/SWEEP.md)."""
+    """The part of the name of a kept routing that names a file (docs/SWEEP.md)."""
     stem = stem_of(os.path.basename(path), suffix)
     part, whole = shown(stem), stem.encode(**TEXT)
     if len(part.encode(**TEXT)) <= MOST_STEM:
@@ -45,30 +45,30 @@ def name_part(path, suffix):
 
 
 def no_table(head):
-    """Why a file with this first line is no table to append to."""
+    """Why a file with this first line is not a table to append to."""
     if head.split("\t")[: len(NAMES)] == NAMES:
         return "it has the columns of another version; name another file"
-    return "it is not a table of this command's"
+    return "it is not a table of `sweep`"
 
 
 def fault_of(words):
-    """Why a table has no line of these words; nothing where it may have it."""
+    """Why these fields can't be a line of a table; nothing if they can."""
     if len(words) != len(COLUMNS):
-        return f"it has not {len(COLUMNS)} columns but {len(words)}"
+        return f"it has {len(words)} columns instead of {len(COLUMNS)}"
     line = dict(zip(COLUMNS, words))
     for name, form in FIGURES.items():
         if line[name] and not re.fullmatch(form, line[name]):
-            return f"`{line[name]}` is no {name}"
+            return f"invalid {name} `{line[name]}`"
     lacking = [name for name in MEANS if line["status"] == "routed" and not line[name]]
-    return f"it is of a routed job, and has no {lacking[0]}" if lacking else ""
+    return f"it is of a routed job, but has no {lacking[0]}" if lacking else ""
 
 
 class Table:
-    """Where lines go. What a file has is read first; a line is appended whole."""
+    """The table to which lines are appended, each whole. An existing file is read first."""
 
     def __init__(self, path=None, has_head=True):
         self.path, self.lines = path, {}
-        # What keeps a table from being printed, where standard output is closed.
+        # Why the table can't be printed, if standard output is closed.
         self.fault = None
         if path is None:
             self.file = os.dup(1)
@@ -78,18 +78,18 @@ class Table:
         try:
             self.file = os.open(path, os.O_RDWR | os.O_CREAT | os.O_APPEND, 0o666)
             if not stat.S_ISREG(os.fstat(self.file).st_mode):
-                raise NotRun(f"{path}: it is not a file that can be read and appended to")
+                raise NotRun(f"{path}: it is not a regular file")
             self.lock()
             self.read()
         except OSError as fault:
             raise NotRun(f"{path}: {fault.strerror}") from fault
 
     def lock(self):
-        """Two sweeps that append to one file would run the same jobs twice."""
+        """Locks the file: two sweeps that append to it would run the same jobs twice."""
         try:
             fcntl.flock(self.file, fcntl.LOCK_EX | fcntl.LOCK_NB)
         except BlockingIOError as fault:
-            raise NotRun(f"{self.path}: another sweep appends to it") from fault
+            raise NotRun(f"{self.path}: another sweep is appending to it") from fault
         except OSError:
             pass  # a file system without locks
 
@@ -101,7 +101,7 @@ class Table:
         if bytes_read and (not lines or lines[0] + "\n" != HEAD):
             raise NotRun(f"{self.path}: {no_table(lines[0] if lines else '')}")
         if len(whole) < len(bytes_read):
-            say(f"{self.path}: its last line is half a line, and is taken out")
+            say(f"{self.path}: its last line is incomplete and is removed")
             os.ftruncate(self.file, len(whole))
         if not bytes_read:
             self.write(HEAD)
@@ -111,7 +111,7 @@ class Table:
             words = line.split("\t")
             fault = fault_of(words)
             if fault:
-                say(f"{self.path} line {number}: it is passed over, since {fault}")
+                say(f"{self.path} line {number}: skipped: {fault}")
                 continue
             self.keep(dict(zip(COLUMNS, words)))
 
@@ -119,7 +119,7 @@ class Table:
         self.lines[tuple(line[name] for name in NAMES)] = line
 
     def line_of(self, plan, job, kept):
-        """The line of a job, by its files as they are now."""
+        """The line of a job, for its files as they are now."""
         try:
             names = plan.names_of(job, kept)
         except NotRun:
@@ -127,14 +127,14 @@ class Table:
         return self.lines.get(tuple(names.values()), {"status": "not run"})
 
     def rows_of(self, plan, jobs):
-        """Of each job all columns of its line."""
+        """For each job all columns of its line."""
         kept, empty = {}, dict.fromkeys(COLUMNS, "")
         return [
             {**empty, **plan.columns_of(job, ""), **self.line_of(plan, job, kept)} for job in jobs
         ]
 
     def lacks(self, plan, job, kept):
-        """Whether a job has no line, or one that could come to something else now."""
+        """Whether a job has no line, or is `not run`, or timed out and gets more time now."""
         line = self.line_of(plan, job, kept)
         if line["status"] != "timed out":
             return line["status"] == "not run"
@@ -147,7 +147,7 @@ class Table:
         self.keep(line)
 
     def write(self, text):
-        """Writes a line whole, or nothing of it, as where standard output is closed."""
+        """Writes a line whole or not at all, the latter if standard output is closed."""
         if self.fault:
             return
         at = os.fstat(self.file).st_size if self.path else None
@@ -169,7 +169,7 @@ def geometric_mean(values):
 
 
 def print_summary(plan, table, jobs):
-    """The geometric means of each architecture, over the circuits that were routed."""
+    """Prints the geometric means of each architecture, over the circuits that were routed."""
     kept = {}
     lines = {job: table.line_of(plan, job, kept) for job in jobs}
     rows = [["architecture", "routed", *MEANS]]
@@ -190,7 +190,7 @@ def put_rows(rows):
 
 
 def print_seeds(plan, table, jobs):
-    """Of each BLIF on each architecture the least widths by seed, their mean and their spread."""
+    """Prints the least widths of each BLIF on each architecture by seed, their mean and spread."""
     seeds = plan.designs.seeds
     rows = [["architecture", "circuit", *(f"seed_{seed}" for seed in seeds), "mean", "spread"]]
     kept, found = {}, {}

@@ -1,4 +1,4 @@
-"""The least widths of a sweep as a table of a text: circuits by architectures, in Markdown or LaTeX."""
+"""The least widths of a sweep as a table of circuits by architectures, in Markdown or LaTeX."""
 from __future__ import annotations
 
 import re
@@ -8,13 +8,13 @@ from sweep_streams import shown
 FORMS = ("md", "latex")
 NO_ROW = "-"
 HEADING = "Least routed channel widths, in tracks."
-BOUNDS = "In brackets stands the bound: below it no router can route the placement."
+BOUNDS = "The bound is in brackets: below it no router can route the placement."
 MEANS = "Numbers with decimals are means over the placements of a circuit."
-ROUTED = "Where N of M placements have a routed width, it is the mean of these."
+ROUTED = "If N of M placements have a routed width, it is the mean of these."
 OPTIONS = "Options of the sweep:"
 
 
-# ---- What stands in a table ----------------------------------------------------------------------
+# ---- The contents of a table ---------------------------------------------------------------------
 
 
 def mean_of(values, is_one):
@@ -23,7 +23,7 @@ def mean_of(values, is_one):
 
 
 def cell_of(result):
-    """What stands for a circuit on an architecture."""
+    """The cell of a circuit on an architecture."""
     if result is None:
         return NO_ROW
     many = len(result.statuses)
@@ -39,7 +39,7 @@ def cell_of(result):
 
 
 def sentences_of(results):
-    """What the numbers of a table are, but for its options."""
+    """The sentences that explain the numbers of a table, except its options."""
     yield HEADING
     if any(result.bounds for result in results):
         yield BOUNDS
@@ -68,7 +68,7 @@ def tables_of(results):
 
 
 def plain(text):
-    """A text without what no document can have."""
+    """A text without characters that no document can have."""
     return shown(text).encode("utf-8", "replace").decode()
 
 
@@ -78,7 +78,7 @@ def markdown(text):
 
 
 def code(text):
-    """A text as Markdown has code. The fence is longer than what stands within."""
+    """A text as code in Markdown. The fence is longer than each run of backticks in the text."""
     fence = "`" * (1 + max(map(len, re.findall("`+", text)), default=0))
     return f"{fence} {plain(text)} {fence}" if "`" in text else f"`{plain(text)}`"
 
@@ -94,7 +94,7 @@ def markdown_table(sentences, options, rows):
 
 # ---- LaTeX ---------------------------------------------------------------------------------------
 
-# What stands for letters that mean something to LaTeX, or make another one with those beside them.
+# Replacements of characters that are special in LaTeX, alone or next to others.
 LATEX = {
     "\\": r"\textbackslash{}", "{": r"\{", "}": r"\}", "$": r"\$", "&": r"\&", "#": r"\#",
     "%": r"\%", "_": r"\_", "^": r"\textasciicircum{}", "~": r"\textasciitilde{}",
@@ -109,7 +109,7 @@ def latex(text):
 
 
 def latex_table(sentences, options, rows):
-    """A table in LaTeX, which wants no package."""
+    """A table in LaTeX, which needs no package."""
     if options:
         sentences += rf" {OPTIONS} \texttt{{{latex(options)}}}."
     head, *others = [rf"    {' & '.join(map(latex, row))} \\" for row in rows]

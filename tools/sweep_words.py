@@ -1,4 +1,4 @@
-"""The words of a sweep's command line: its options, and the jobs that they name."""
+"""The command line of a sweep: its options, and the jobs that it names."""
 import argparse
 import decimal
 import itertools
@@ -23,12 +23,12 @@ class Words(argparse.ArgumentParser):
 
 
 def whole_number(most=None):
-    """Reads a whole number above 0, up to the most, if any; the program has bounds of its own."""
+    """A parser of whole numbers from 1 to `most`, if given; the program has limits of its own."""
     what = f"from 1 to {most}" if most else "above 0"
 
     def read(text):
         if not re.fullmatch(r"0*[1-9][0-9]{0,8}", text) or int(text) > (most or int(text)):
-            raise argparse.ArgumentTypeError(f"{text!r} is no whole number {what}")
+            raise argparse.ArgumentTypeError(f"{text!r} is not a whole number {what}")
         return int(text)
 
     return read
@@ -41,36 +41,36 @@ def time_limit(text):
         value = 0.0
     if not 0 < value <= MOST_SECONDS:
         what = f"number of seconds above 0, up to {MOST_SECONDS}"
-        raise argparse.ArgumentTypeError(f"{text!r} is no {what}")
+        raise argparse.ArgumentTypeError(f"{text!r} is not a {what}")
     return value
 
 
 def seeds(text):
-    """Seeds as `1-5,9` tells them, each once."""
+    """The seeds of a list such as `1-5,9`, each once."""
     found = []
     for part in text.split(","):
         ends = re.fullmatch(r"([0-9]{1,10})(?:-([0-9]{1,10}))?", part)
         first, last = (int(ends[1]), int(ends[2] or ends[1])) if ends else (1, 0)
         if not first <= last <= MOST_SEED or len(found) + last - first >= MOST_SEEDS:
-            what = f"seeds up to {MOST_SEED}, as 1-5 or 1,4,9, at most {MOST_SEEDS}"
-            raise argparse.ArgumentTypeError(f"{text!r} is no list of {what}")
+            what = f"at most {MOST_SEEDS} seeds up to {MOST_SEED}, such as 1-5 or 1,4,9"
+            raise argparse.ArgumentTypeError(f"{text!r} is not a list of {what}")
         found += range(first, last + 1)
     return list(dict.fromkeys(found))
 
 
 def effort(text):
-    """The words of an effort for the placer."""
+    """The option of the placer for an effort."""
     try:
         value = float(text)
     except ValueError:
         value = 0.0
     if not 0 < value <= MOST_EFFORT:
-        raise argparse.ArgumentTypeError(f"{text!r} is no number above 0, up to {MOST_EFFORT}")
+        raise argparse.ArgumentTypeError(f"{text!r} is not a number above 0, up to {MOST_EFFORT}")
     return ["--effort", f"{value:.15g}"]
 
 
 def ratio(text):
-    """A ratio that a word tells exactly: 1.1 times 10 tracks are 11, and not a little more."""
+    """A ratio, exactly: 1.1 times 10 tracks is 11, and not a little more."""
     if not re.fullmatch(r"[0-9]+(\.[0-9]+)?", text) or decimal.Decimal(text) < 1:
         raise ValueError(text)
     return decimal.Decimal(text)
@@ -80,7 +80,7 @@ ratio.__name__ = "ratio of 1 or more"
 
 
 def read_words(words):
-    """The options of a command line."""
+    """Parses a command line."""
     handed = []
     if "--" in words:
         at = words.index("--")
@@ -111,30 +111,30 @@ def read_words(words):
     options = parser.parse_intermixed_args(words)
     options.handed = handed
     if (options.summary or options.table) and not options.out:
-        raise WrongWords("--summary and --table want --out")
+        raise WrongWords("--summary and --table need --out")
     if options.jobs_list and (options.summary or options.table):
-        raise WrongWords("--jobs-list runs nothing, so there is no --summary and no --table")
+        raise WrongWords("--jobs-list can't be combined with --summary or --table")
     if (options.seeds or options.effort) and options.from_blif is None:
-        raise WrongWords("--seeds and --effort are of the placer, and want --from-blif")
-    # A table that is printed as it stands, with no job to run.
+        raise WrongWords("--seeds and --effort need --from-blif")
+    # Whether a finished table is printed, with no job to run.
     options.lists = options.arch + options.circuits + options.job_files
     options.is_finished = bool(options.table) and not (
         options.words or options.lists or options.from_blif or options.summary
     )
     if options.job and (options.out or options.jobs_list):
-        raise WrongWords("--job prints its line alone: without --out and --jobs-list")
+        raise WrongWords("--job can't be combined with --out or --jobs-list")
     return options
 
 
 def split_words(words):
-    """The architectures and the circuits that words name."""
+    """The architectures and the circuits that arguments name."""
     architectures, circuits, at = [], [], 0
     while at < len(words):
         word, at = words[at], at + 1
         if word.endswith(".arch"):
             architectures.append(word)
         elif word.endswith(".place"):
-            raise WrongWords(f"{word}: a placement stands right behind its netlist NAME.net")
+            raise WrongWords(f"{word}: a placement must come right after its netlist NAME.net")
         elif word.endswith(".net") and at < len(words) and words[at].endswith(".place"):
             circuits.append((word, words[at]))
             at += 1
@@ -145,17 +145,17 @@ def split_words(words):
 
 
 def split_designs(words):
-    """The architectures and the BLIFs that words name."""
+    """The architectures and the BLIFs that arguments name."""
     architectures = [word for word in words if word.endswith(".arch")]
     others = [word for word in words if not word.endswith(".arch")]
     for word in others:
         if word.endswith((".net", ".place")):
-            raise WrongWords(f"{word}: with --from-blif circuits are BLIFs, as uart.blif")
+            raise WrongWords(f"{word}: with --from-blif, circuits are BLIFs, such as uart.blif")
     return architectures, [stem_of(word, ".blif") + ".blif" for word in others]
 
 
 def lines_in(path):
-    """The words of each line of a file that lists circuits, and the line's number."""
+    """The number and the words of each line of a file that lists circuits."""
     try:
         lines = pathlib.Path(path).read_text(**TEXT).split("\n")
     except OSError as fault:
@@ -185,7 +185,7 @@ def circuits_in(path):
     """The circuits that a file lists; their paths begin at its folder."""
     for number, words in lines_in(path):
         if len(words) > 2:
-            raise WrongWords(f"{path} line {number}: a netlist and a placement are two words")
+            raise WrongWords(f"{path} line {number}: the line must be a stem, or NET PLACE")
         yield circuit_of(words, os.path.dirname(path))
 
 
@@ -193,7 +193,7 @@ def designs_in(path):
     """The BLIFs that a file lists; their paths begin at its folder."""
     for number, words in lines_in(path):
         if len(words) > 1:
-            raise WrongWords(f"{path} line {number}: a BLIF is one word")
+            raise WrongWords(f"{path} line {number}: the line must be one BLIF")
         yield design_of(words[0], os.path.dirname(path))
 
 
@@ -202,7 +202,7 @@ def jobs_in(path):
     folder = os.path.dirname(path)
     for number, (arch, *circuit) in lines_in(path):
         if not 1 <= len(circuit) <= 2:
-            raise WrongWords(f"{path} line {number}: a job is of three words, ARCH NET PLACE")
+            raise WrongWords(f"{path} line {number}: the line must be ARCH NET PLACE, or ARCH STEM")
         yield os.path.join(folder, arch), circuit_of(circuit, folder)
 
 
@@ -211,36 +211,36 @@ def made_jobs_in(path):
     folder = os.path.dirname(path)
     for number, words in lines_in(path):
         if len(words) != 2:
-            raise WrongWords(f"{path} line {number}: of BLIFs a job is of two words, ARCH BLIF")
+            raise WrongWords(f"{path} line {number}: with --from-blif, the line must be ARCH BLIF")
         yield os.path.join(folder, words[0]), design_of(words[1], folder)
 
 
 def jobs_named(options, split, listed, listed_jobs, what):
-    """The jobs that words and files name, each an architecture and a circuit, without designs."""
+    """The jobs that arguments and files name, each an architecture and a circuit."""
     architectures, circuits = split(options.words)
     architectures += options.arch
     for path in options.circuits:
         circuits += listed(path)
     jobs = [(arch, circuit) for arch in architectures for circuit in circuits]
     if bool(architectures) != bool(circuits) or not (jobs or options.job_files):
-        raise WrongWords(f"it wants an architecture (NAME.arch) and {what} at least, or --jobs")
+        raise WrongWords(f"expected at least an architecture (NAME.arch) and {what}, or --jobs")
     for path in options.job_files:
         jobs += listed_jobs(path)
     return jobs
 
 
 def refuse_options(paths):
-    """Refuses names of files that begin as an option does."""
+    """Refuses names of files that begin like an option."""
     for path in paths:
         if path.startswith("-"):
-            raise WrongWords(f"{path}: the program takes this name for an option")
+            raise WrongWords(f"{path}: the program would take this name for an option")
 
 
 def made_jobs_of(options, designs):
     """Each BLIF with each architecture and each seed, once."""
     jobs = jobs_named(options, split_designs, designs_in, made_jobs_in, "a BLIF")
     if options.job and (options.lists or len(jobs) != 1 or len(designs.seeds) != 1):
-        raise WrongWords("--job wants with --from-blif two words, ARCH BLIF, and one seed")
+        raise WrongWords("--job with --from-blif needs ARCH BLIF and one seed")
     refuse_options(itertools.chain.from_iterable(jobs))
     made = [designs.jobs(arch, blif) for arch, blif in dict.fromkeys(jobs)]
     return list(dict.fromkeys(itertools.chain.from_iterable(made)))
@@ -250,7 +250,7 @@ def jobs_of(options):
     """Each circuit with each architecture, once."""
     if options.job:
         if len(options.words) != 3 or options.lists:
-            raise WrongWords("--job wants three words: ARCH NET PLACE")
+            raise WrongWords("--job needs three files: ARCH NET PLACE")
         jobs = [Job(*options.words)]
     else:
         named = jobs_named(options, split_words, circuits_in, jobs_in, "a circuit")

@@ -8,15 +8,15 @@
     sections = vpr430.read_routing("uart.route", design.netlist, design.placement, graph)
     log = vpr430.read_log("run.log")  # what `pathfinder route .. --log run.log` writes
 
-Netlists, placements and routings are written too. docs/FORMATS.md describes the files and their
-limits, and has a table of this module ("In Python"). A file that is refused raises `Fault`, whose
-text is `FILE:LINE: what is wrong`, and one that can't be read raises `Unread`. Of an architecture
-only what packing, placing, routing and drawing need is kept; the other lines are passed over. What
-`netlist_text`, `placement_text` and `routing_text` answer is read again to the same blocks, nets,
-sites and nodes.
+It also writes netlists, placements and routings. docs/FORMATS.md describes the files and their
+limits, and has a table of the calls of this module ("In Python"). A refused file raises `Fault`,
+whose text is `FILE:LINE: what is wrong`; one that can't be read raises `Unread`. Of an architecture
+it keeps only what packing, placing, routing and drawing need, and skips the other lines. The texts
+that `netlist_text`, `placement_text` and `routing_text` return give the same blocks, nets, sites
+and nodes when they are read again.
 
-Names are texts in which bytes that are no UTF-8 are kept (`surrogateescape`). This module needs
-Python 3.8 or later, and its standard library alone.
+Names keep bytes that aren't UTF-8 (`surrogateescape`). This module needs only Python 3.8 or later
+and its standard library.
 """
 from __future__ import annotations
 
@@ -31,11 +31,11 @@ MOST_NUMBER = 2**32 - 1
 # Pads at a place, pins of a block, classes, blocks, nets, logic blocks in a row or a column.
 MOST_PADS, MOST_PINS, MOST_CLASSES = 16, 64, 64
 MOST_BLOCKS, MOST_NETS, MOST_SIDE = 20_000, 65_535, 100
-# No net: what stands in a pinlist or a subblock where a pin is not used.
+# No net: the word for an unused pin in a pinlist or a subblock.
 OPEN = "open"
 TEXT = {"encoding": "utf-8", "errors": "surrogateescape"}
 BAD_BYTE = re.compile(rb"[\x00-\x08\x0e-\x1f\x7f]")
-# How wide the lines are that are written here.
+# The most columns of a written line, if its words allow.
 WIDEST = 79
 
 
@@ -43,7 +43,7 @@ WIDEST = 79
 
 
 class Fault(Exception):
-    """A file says what it may not."""
+    """A file is malformed, or has what it may not have."""
 
 
 class Unread(Exception):
@@ -52,14 +52,14 @@ class Unread(Exception):
 
 @dataclasses.dataclass(frozen=True)
 class Line:
-    """A line of a file by its words. One that is continued has the number of its first line."""
+    """A line of a file by its words. A continued line has the number of its first line."""
 
     path: str
     number: int
     words: tuple
 
     def fault(self, what):
-        """The fault that this line has."""
+        """A fault of this line."""
         return Fault(f"{self.path}:{self.number}: {what}")
 
     def number_of(self, word, least=0, most=MOST_NUMBER):
@@ -67,17 +67,17 @@ class Line:
         digits = word.lstrip("0") or word[-1:]
         is_number = re.fullmatch("[0-9]+", word) and len(digits) <= len(str(most))
         if not is_number or not least <= int(digits) <= most:
-            raise self.fault(f"`{word}` is no number from {least} to {most}")
+            raise self.fault(f"`{word}` is not a number from {least} to {most}")
         return int(digits)
 
     def expect(self, form):
-        """Refuses a line of other words than its form, but where that has capitals."""
+        """Refuses a line without the words of a form; those in capitals match any word."""
         wanted = form.split()
         fits = len(self.words) == len(wanted) and all(
             want.isupper() or word == want for word, want in zip(self.words, wanted)
         )
         if not fits:
-            raise self.fault(f"it has not the form `{form}`")
+            raise self.fault(f"the line must have the form `{form}`")
 
 
 def read_source(path):
@@ -95,12 +95,12 @@ def read_source(path):
 def _lines_of(rows, path):
     """The lines of rows of bytes that have words.
 
-    A comment is cut first; a line whose last word then ends in a backslash goes on in the next one.
+    Comments are removed first; then a backslash at the end of a line continues it on the next one.
     """
     held, first = [], None
     for number, row in enumerate(rows, 1):
         if BAD_BYTE.search(row):
-            raise Line(path, number, ()).fault("a control character stands here")
+            raise Line(path, number, ()).fault("the line has a control character")
         words = row.split(b"#", 1)[0].split()
         first = first or number
         goes_on = bool(words) and words[-1].endswith(b"\\")
@@ -116,13 +116,13 @@ def _lines_of(rows, path):
 
 
 def read_lines(path):
-    """The lines of a file that have words, and one without words where the file ends."""
+    """The lines of a file that have words, and one without words for the end of the file."""
     rows = read_source(path).split(b"\n")
     return list(_lines_of(rows, path)), Line(path, len(rows), ())
 
 
 def folded(words, indent="   "):
-    """Words as a line, which is continued by backslashes where it would be too wide."""
+    """Words as a line, which is continued by backslashes if it would be too wide."""
     rows, row = [], ""
     for word in words:
         if row.strip() and len(row) + 1 + len(word) > WIDEST - 2:
@@ -158,12 +158,12 @@ class Pin:
 
 @dataclasses.dataclass(frozen=True)
 class Architecture:
-    """A device: how many pads fit beside a row or column, and what a logic block is like."""
+    """A device: how many pads fit at each place of its border, and what a logic block is like."""
 
     pads: int
     pins: tuple
-    # How many subblocks a logic block has and how many inputs their look-up tables; None where the
-    # file doesn't say.
+    # How many subblocks a logic block has, and how many inputs their look-up tables have; None if
+    # the file doesn't say.
     subblocks: int | None
     lut_size: int | None
 
@@ -179,12 +179,12 @@ class Architecture:
         return [pin for pin in self.pins if pin.is_global]
 
 
-# The keywords of an architecture that have no part here.
-PASSED_OVER = (
+# The keywords of an architecture that aren't used here.
+SKIPPED = (
     "chan_width_io chan_width_x chan_width_y switch_block_type Fc_type Fc_output Fc_input Fc_pad"
     " segment switch"
 ).split()
-# The keywords that have one number, with the least and the most that it may be.
+# The keywords that have one number, with its least and its greatest value.
 COUNTS = {
     "io_rat": (1, MOST_PADS),
     "subblocks_per_clb": (0, MOST_NUMBER),
@@ -193,16 +193,16 @@ COUNTS = {
 
 
 def _pin_of(line, number):
-    """The pin of a line as `inpin class: 0 top left`."""
+    """The pin of a line such as `inpin class: 0 top left`."""
     key, *words = line.words
     if len(words) < 2 or words[0] != "class:":
-        raise line.fault(f"it has not the form `{key} class: N SIDES`")
+        raise line.fault(f"the line must have the form `{key} class: N SIDES`")
     pin_class = line.number_of(words[1], most=MOST_CLASSES - 1)
     is_global = key == "inpin" and words[2:3] == ["global"]
     names = words[3:] if is_global else words[2:]
     for name in names:
         if name not in [side.value for side in Side]:
-            raise line.fault(f"`{name}` is no side of a block")
+            raise line.fault(f"`{name}` is not a side of a block")
     if not names and not is_global:
         raise line.fault("the pin has no side")
     return Pin(number, pin_class, key == "inpin", is_global, frozenset(map(Side, names)))
@@ -216,7 +216,7 @@ def read_architecture(path):
         key = line.words[0]
         if key in COUNTS:
             if key in counts:
-                raise line.fault(f"`{key}` stands twice")
+                raise line.fault(f"duplicate `{key}`")
             line.expect(f"{key} N")
             counts[key] = line.number_of(line.words[1], *COUNTS[key])
         elif key in ("inpin", "outpin"):
@@ -226,13 +226,13 @@ def read_architecture(path):
             pins.append(pin)
             if len(pins) > MOST_PINS:
                 raise line.fault(f"there are more than {MOST_PINS} pins")
-        elif key not in PASSED_OVER and not key.startswith(("T_", "C_", "R_")):
-            raise line.fault(f"`{key}` is no keyword of an architecture")
+        elif key not in SKIPPED and not key.startswith(("T_", "C_", "R_")):
+            raise line.fault(f"`{key}` is not a keyword of an architecture")
     if "io_rat" not in counts or not pins:
         lacking = "a pin" if pins == [] and "io_rat" in counts else "`io_rat`"
         raise end.fault(f"the file ends without {lacking}")
     if sorted(directions) != list(range(len(directions))):
-        raise end.fault("the file ends with a class left out below another one")
+        raise end.fault("classes must run from 0 without gaps")
     sizes = (counts.get(key) for key in ("subblocks_per_clb", "subblock_lut_size"))
     return Architecture(counts["io_rat"], tuple(pins), *sizes)
 
@@ -241,7 +241,7 @@ def read_architecture(path):
 
 
 class Kind(enum.Enum):
-    """What a block is: a pad that drives a net, a pad that takes one, or a logic block."""
+    """The kind of a block: a pad that drives a net, a pad that takes one, or a logic block."""
 
     INPUT = "input"
     OUTPUT = "output"
@@ -250,10 +250,10 @@ class Kind(enum.Enum):
 
 @dataclasses.dataclass(frozen=True)
 class Subblock:
-    """A look-up table and a flip-flop of a logic block, by what its inputs, output and clock are
-    joined to.
+    """A look-up table and a flip-flop of a logic block, by the connections of its inputs, output
+    and clock.
 
-    Each is a pin of the block by its number, `open`, or at an input `ble_N`, the output of the
+    Each is the number of a pin of the block, `open`, or for an input `ble_N`, the output of the
     block's subblock N.
     """
 
@@ -265,13 +265,13 @@ class Subblock:
 
 @dataclasses.dataclass
 class Block:
-    """A block with the net of each of its pins, or None where a pin is open."""
+    """A block with the net of each of its pins, or None for an open pin."""
 
     name: str
     kind: Kind
     nets: list
     subblocks: list = dataclasses.field(default_factory=list)
-    # What is said of the block in a comment, where it is written.
+    # The text of a comment on the block in a written netlist.
     note: str = ""
 
     @property
@@ -281,7 +281,7 @@ class Block:
 
 @dataclasses.dataclass(frozen=True)
 class Terminal:
-    """A pin of a block, by the block's number and the pin's place in its pinlist."""
+    """A pin of a block, by the block's number and the pin's position in its pinlist."""
 
     block: int
     pin: int
@@ -298,7 +298,7 @@ class Net:
 
     @property
     def is_routed(self):
-        """Whether wires are wanted for it."""
+        """Whether it needs wires."""
         return bool(self.sinks) and not self.is_global
 
     def terminals(self):
@@ -307,7 +307,7 @@ class Net:
 
 @dataclasses.dataclass
 class Netlist:
-    """Blocks and nets, numbered from 0 as FORMATS.md tells."""
+    """Blocks and nets, numbered from 0 as FORMATS.md explains."""
 
     blocks: list
     nets: list
@@ -322,7 +322,7 @@ def drives(architecture, block, pin):
 
 
 def join_nets(architecture, blocks, global_names):
-    """The nets at the pins of blocks, and of each the blocks that drive it too many."""
+    """The nets at the pins of blocks, and for each net with several drivers the second one."""
     nets, too_many = {}, {}
     for number, block in enumerate(blocks):
         for pin, name in enumerate(block.nets):
@@ -339,19 +339,19 @@ def join_nets(architecture, blocks, global_names):
 
 
 def _block_of(architecture, element, line):
-    """The block of an element's line and of its pinlist's."""
+    """The block that an element's line and its pinlist's line describe."""
     if line.words[0] != "pinlist:":
-        raise line.fault("a pinlist must stand here")
+        raise line.fault("a pinlist must follow an element")
     kind = Kind(element.words[0][1:])
     nets = [None if word == OPEN else word for word in line.words[1:]]
     many = len(architecture.pins) if kind is Kind.CLB else 1
     if len(nets) != many:
-        raise line.fault(f"the pinlist has not {many} names but {len(nets)}")
+        raise line.fault(f"the pinlist has {len(nets)} names instead of {many}")
     return Block(element.words[1], kind, nets)
 
 
 def _subblock_of(architecture, line):
-    """The subblock of a line, or None where it has another form: `pathfinder` reads none of it."""
+    """The subblock of a line, or None if it has another form: `pathfinder` doesn't read it."""
     many = architecture.lut_size
     if many is None or len(line.words) != many + 4:
         return None
@@ -382,9 +382,9 @@ def read_netlist(path, architecture):
             subblock = _subblock_of(architecture, line)
             blocks[-1].subblocks += [subblock] if subblock else []
         else:
-            raise line.fault(f"`{key}` can't stand here")
+            raise line.fault(f"unexpected `{key}`")
     if element:
-        raise end.fault("the file ends behind an element without its pinlist")
+        raise end.fault("the file ends after an element without its pinlist")
     nets, too_many = join_nets(architecture, blocks, set(global_names))
     if len(nets) > MOST_NETS:
         raise end.fault(f"there are more than {MOST_NETS} nets")
@@ -395,7 +395,7 @@ def read_netlist(path, architecture):
 
 
 def _check_net(architecture, netlist, net, too_many, pinlists):
-    """Refuses a net that isn't driven just once, or has to be routed to pins that can't be."""
+    """Refuses a net that isn't driven exactly once, or that can't be routed to one of its pins."""
     ends = [end.block for end in (net.driver, *net.sinks) if end]
     line = pinlists[min(ends)]
     if net.driver is None:
@@ -408,15 +408,15 @@ def _check_net(architecture, netlist, net, too_many, pinlists):
             continue
         pin = architecture.pins[end.pin]
         if pin.is_global:
-            raise line.fault(f"the net `{net.name}` isn't global, and takes a pin that is")
+            raise line.fault(f"the net `{net.name}` isn't global, but is on a global pin")
         if (end.block, pin.pin_class) in met:
             name = netlist.blocks[end.block].name
-            raise line.fault(f"the net `{net.name}` takes two pins of a class of `{name}`")
+            raise line.fault(f"the net `{net.name}` is on two pins of one class of `{name}`")
         met.add((end.block, pin.pin_class))
 
 
 def netlist_text(blocks, global_names, heads=()):
-    """The text of a netlist, with lines of comment at its head."""
+    """The text of a netlist, with comment lines at its head."""
     parts = ["".join(f"# {head}\n" for head in heads)]
     if global_names:
         parts.append(folded([".global", *global_names]))
@@ -436,7 +436,7 @@ def netlist_text(blocks, global_names, heads=()):
 
 @dataclasses.dataclass(frozen=True)
 class Site:
-    """A place of the array and, at its border, which pad of the place."""
+    """A place of the array and, at its border, the pad's number at the place."""
 
     x: int
     y: int
@@ -453,7 +453,7 @@ class Placement:
 
 
 def pad_places(nx, ny):
-    """The places of pads, once round the array from the lower left corner upward."""
+    """The places of pads, around the array from the lower left corner upward."""
     left = [(0, y) for y in range(1, ny + 1)]
     top = [(x, ny + 1) for x in range(1, nx + 1)]
     right = [(nx + 1, y) for y in range(ny, 0, -1)]
@@ -462,7 +462,7 @@ def pad_places(nx, ny):
 
 
 def is_site(architecture, nx, ny, block, site):
-    """Whether a block may stand there."""
+    """Whether a block may be placed there."""
     is_column, is_row = 1 <= site.x <= nx, 1 <= site.y <= ny
     if not block.is_pad:
         return is_column and is_row and site.position == 0
@@ -476,7 +476,7 @@ def read_placement(path, architecture, netlist):
     heads = ("Netlist file: NET Architecture file: ARCH", "Array size: NX x NY logic blocks")
     for at, form in enumerate(heads):
         if at == len(lines):
-            raise end.fault(f"the file ends without its line `{form}`")
+            raise end.fault(f"the file has no line `{form}`")
         lines[at].expect(form)
     nx, ny = (lines[1].number_of(lines[1].words[at], 1, MOST_SIDE) for at in (2, 4))
     numbers = {block.name: number for number, block in enumerate(netlist.blocks)}
@@ -488,23 +488,23 @@ def read_placement(path, architecture, netlist):
         if name not in numbers:
             raise line.fault(f"the netlist has no block `{name}`")
         if numbers[name] in sites:
-            raise line.fault(f"the block `{name}` stands in a row before")
+            raise line.fault(f"an earlier row places the block `{name}`")
         if not is_site(architecture, nx, ny, netlist.blocks[numbers[name]], site):
-            raise line.fault(f"the block `{name}` can't stand there")
+            raise line.fault(f"the block `{name}` can't be placed there")
         if site in taken:
-            raise line.fault("a block of a row before stands there")
+            raise line.fault("an earlier row has the same site")
         sites[numbers[name]] = site
         taken.add(site)
     for name, number in numbers.items():
         if number not in sites:
-            raise end.fault(f"the file ends without a row of the block `{name}`")
+            raise end.fault(f"the file has no row for the block `{name}`")
     return Placement(nx, ny, [sites[number] for number in range(len(netlist.blocks))])
 
 
 def placement_text(placement, netlist, net_name, arch_name):
     """The text of a placement. The names are those of its files, for the head.
 
-    There each is one word: what would end it or begin a comment is `_`.
+    Each is one word there: `_` replaces characters that would end it or begin a comment.
     """
     names = [re.sub(r"[\s#\\\x00-\x1f\x7f]", "_", name) for name in (net_name, arch_name)]
     rows = [
@@ -531,7 +531,7 @@ class Design:
     placement: Placement
 
     def end(self, terminal):
-        """The node of a terminal: a SOURCE where it drives its net, else a SINK."""
+        """The node of a terminal: a SOURCE if it drives its net, else a SINK."""
         block = self.netlist.blocks[terminal.block]
         site = self.placement.sites[terminal.block]
         kind = "SOURCE" if drives(self.architecture, block, terminal.pin) else "SINK"
@@ -564,7 +564,7 @@ def read_design(net_path, arch_path, place_path):
 
 
 class Node(typing.NamedTuple):
-    """A node of a device: its kind, its first and its last place, and which one of there it is."""
+    """A node of a device: its kind, its first and its last place, and its label and number."""
 
     kind: str
     x: int
@@ -589,7 +589,7 @@ class Node(typing.NamedTuple):
 
     @property
     def places(self):
-        """How many places it passes, which is the length of a wire."""
+        """The number of places that it passes, which is the length of a wire."""
         return 1 + self.end_x - self.x + self.end_y - self.y
 
 
@@ -602,16 +602,16 @@ LISTED_NODE = re.compile(
 
 @dataclasses.dataclass
 class Graph:
-    """The nodes of a device by their numbers, for how many nets each has room, and the edges.
+    """The nodes of a device by their numbers, the number of nets that each has room for, and edges.
 
-    An edge is a line of the listing, as `84 -> 64`. In the listing of `graph --types` a wire has a
-    type, and an edge into a wire a switch.
+    An edge is a line of the listing, such as `84 -> 64`. In the listing of `graph --types` a wire
+    has a type, and an edge into a wire has a switch.
     """
 
     nodes: list
     capacities: list
     edges: list
-    # Of each node the type; None for what is no wire, and where the listing has none.
+    # The type of each node; None if it isn't a wire, or if the listing has no types.
     types: list = dataclasses.field(default_factory=list)
 
     @functools.cached_property
@@ -621,19 +621,19 @@ class Graph:
 
     @functools.cached_property
     def successors(self):
-        """Of each node the numbers of the nodes to which it leads."""
+        """For each node the numbers of the nodes to which it leads."""
         return [[end for end, _ in ends] for ends in self.steps]
 
     @functools.cached_property
     def steps(self):
-        """Of each node the numbers of the nodes to which it leads, each with the switch or None."""
+        """For each node the numbers of the nodes to which it leads, each with a switch or None."""
         steps, many = [[] for _ in self.nodes], len(self.nodes)
         for edge in self.edges:
             start, _, rest = edge.partition(" -> ")
             end, has_switch, switch = rest.partition(" switch ")
             are_numbers = all(map(str.isdecimal, (start, end, switch if has_switch else "0")))
             if not are_numbers or max(int(start), int(end)) >= many:
-                raise Fault(f"graph: `{edge}` is no edge between two of its nodes")
+                raise Fault(f"graph: `{edge}` is not an edge between two of its nodes")
             steps[int(start)].append((int(end), int(switch) if has_switch else None))
         return steps
 
@@ -641,12 +641,12 @@ class Graph:
 def graph_of(listing, name="graph"):
     """The graph of the listing that `pathfinder graph` prints, with types or without.
 
-    The name is that of the listing in faults.
+    Faults use the name for the listing.
     """
     head, *lines = listing.splitlines() or [""]
     counts = re.fullmatch(r"(\d+) nodes, (\d+) edges", head)
     if not counts or int(counts[1]) + int(counts[2]) != len(lines):
-        raise Fault(f"{name}:1: it is no listing of `pathfinder graph`")
+        raise Fault(f"{name}:1: it is not a listing of `pathfinder graph`")
     many = int(counts[1])
     nodes, capacities, types = [], [], []
     for number, line in enumerate(lines[:many]):
@@ -661,7 +661,7 @@ def graph_of(listing, name="graph"):
 
 
 class RoutedNet(typing.NamedTuple):
-    """A net that is to be routed, by its number: the numbers of its source and of its sinks."""
+    """A net to route, by its number: the numbers of its source and of its sinks."""
 
     number: int
     name: str
@@ -670,28 +670,28 @@ class RoutedNet(typing.NamedTuple):
 
 
 def _routed_net_of(line):
-    """The net of a line as `net 0 rx source 96 sinks 341 375`."""
+    """The net of a line such as `net 0 rx source 96 sinks 341 375`."""
     words = line.words
     if len(words) < 7 or (words[0], words[3], words[5]) != ("net", "source", "sinks"):
-        raise line.fault("it has not the form `net N NAME source N sinks N ..`")
+        raise line.fault("the line must have the form `net N NAME source N sinks N ..`")
     number, source, *sinks = (line.number_of(word) for word in (words[1], words[4], *words[6:]))
     return RoutedNet(number, words[2], source, tuple(sinks))
 
 
 def nets_of(listing, name="nets"):
-    """The nets of the listing that `pathfinder nets` prints, by whatever name, in their order."""
+    """The nets of the listing that `pathfinder nets` prints, in order. Faults use the name."""
     nets = []
     for at, row in enumerate(listing.splitlines(), 1):
         line = Line(name, at, tuple(row.split()))
         net = _routed_net_of(line)
         if nets and nets[-1].number >= net.number:
-            raise line.fault("its number isn't greater than that of the net before")
+            raise line.fault("the net's number isn't greater than that of the net before")
         nets.append(net)
     return nets
 
 
 def read_nets(path):
-    """The nets of a file that has what `pathfinder nets` prints."""
+    """The nets of a file with the output of `pathfinder nets`."""
     return nets_of(read_source(path).decode(**TEXT), path)
 
 
@@ -700,14 +700,14 @@ def read_nets(path):
 
 @dataclasses.dataclass
 class Section:
-    """What a routing lists for a net: nodes by their numbers, each with the number of its line."""
+    """The section of a net in a routing: nodes by number, each with the number of its line."""
 
     line: int
     nodes: list = dataclasses.field(default_factory=list)
     lines: list = dataclasses.field(default_factory=list)
 
     def steps(self, graph):
-        """The pairs of nodes of which the second is reached from the first."""
+        """The pairs of successive nodes: the second is reached from the first."""
         return [
             (before, node)
             for before, node in zip(self.nodes, self.nodes[1:])
@@ -727,11 +727,11 @@ BRACKETS = str.maketrans("(,)", "   ")
 
 
 def _named_node(line):
-    """The node that a line of a routing names, be it one of the device or not."""
+    """The node that a line of a routing names, whether the device has it or not."""
     words = " ".join(line.words).translate(BRACKETS).split()
     has_ends = len(words) == 8 and words[0] in WIRES and words[3] == "to"
     if len(words) != 5 and not has_ends or words[-2] not in NODE_LABELS.get(words[0], ()):
-        raise line.fault("it has not the form `KIND (X,Y) LABEL: NUMBER`")
+        raise line.fault("the line must have the form `KIND (X,Y) LABEL: NUMBER`")
     kind, label = words[0], words[-2]
     x, y, *end = (line.number_of(word) for word in (*words[1:3], *words[4:-2][: 2 * has_ends]))
     first, last = sorted([(x, y), tuple(end) or (x, y)])
@@ -756,7 +756,7 @@ def _net_of(line, nets):
     else:
         has_form = len(words) == 3
     if not has_form or not (name.startswith("(") and name.endswith(")") and len(name) > 1):
-        raise line.fault("it has not the form `Net N (NAME)`")
+        raise line.fault("the line must have the form `Net N (NAME)`")
     line.number_of(words[1])
     if (name[1:-1], is_global) not in nets:
         what = "global net" if is_global else "net that isn't global"
@@ -765,9 +765,9 @@ def _net_of(line, nets):
 
 
 def _check_routing_head(lines, end, placement):
-    """Refuses a routing that doesn't begin as one of this array."""
+    """Refuses a routing that doesn't begin like one for this array."""
     if len(lines) < 2:
-        raise end.fault("the file ends without its two first lines")
+        raise end.fault("the file has fewer than two lines")
     size = lines[0]
     last = "blocks." if size.words[-1] == "blocks." else "blocks"
     size.expect(f"Array size: NX x NY logic {last}")
@@ -777,9 +777,9 @@ def _check_routing_head(lines, end, placement):
 
 
 def read_routing(path, netlist, placement, graph):
-    """Of each net of a netlist its section in a routing, or None where it has none.
+    """For each net of a netlist its section in a routing, or None if it has none.
 
-    Global nets have none here. Whether the routing is legal isn't looked at.
+    Global nets have None here. It doesn't check whether the routing is legal.
     """
     lines, end = read_lines(path)
     _check_routing_head(lines, end, placement)
@@ -789,7 +789,7 @@ def read_routing(path, netlist, placement, graph):
         if line.words[0] == "Net":
             number = _net_of(line, numbers)
             if number in began:
-                raise line.fault("a line before begins a section of the same net")
+                raise line.fault("an earlier line begins a section of the same net")
             began.add(number)
             net, section = netlist.nets[number], Section(line.number)
             sections[number] = None if net.is_global else section
@@ -797,11 +797,11 @@ def read_routing(path, netlist, placement, graph):
         elif net and net.is_global and line.words[0] == "Block":
             continue
         elif net is None or not net.is_routed:
-            raise line.fault("no node can stand here")
+            raise line.fault("unexpected node")
         else:
             node = _node_of(line, graph)
             if before is not None and graph.nodes[before].kind == "SINK" and node not in met:
-                raise line.fault("a path begins at a node that stood in no line of the net before")
+                raise line.fault("a path begins at a node that no earlier line of the net has")
             section.nodes.append(node)
             section.lines.append(line.number)
             met.add(node)
@@ -810,9 +810,9 @@ def read_routing(path, netlist, placement, graph):
 
 
 def nodes_in(path):
-    """Each node that a routing names, behind the name of its net, as they stand in the file.
+    """Each node that a routing names, after the name of its net, in the order of the file.
 
-    No device is wanted, and the file may be of any length.
+    It needs no device, and the file may have any length.
     """
     name, is_global = None, False
     try:
@@ -829,8 +829,8 @@ def nodes_in(path):
 def routing_text(design, graph, routes):
     """The text of a routing, as `pathfinder` writes it.
 
-    The routes are those of the nets, by their numbers: None or the numbers of nodes, way by way,
-    each from the source, or from a node that stood before, to a sink. So are those of a section.
+    The routes are those of the nets, by their numbers: None, or the numbers of nodes, path by path,
+    each from the source or an earlier node to a sink, like the nodes of a section.
     """
     netlist, placement = design.netlist, design.placement
     rows = [f"Array size: {placement.nx} x {placement.ny} logic blocks.", "", "Routing:"]
@@ -848,7 +848,7 @@ def routing_text(design, graph, routes):
 
 
 class Iteration(typing.NamedTuple):
-    """What an iteration left: a row of a log, by its columns."""
+    """The state after an iteration: a row of a log, by its columns."""
 
     width: int
     iteration: int
@@ -862,7 +862,7 @@ class Iteration(typing.NamedTuple):
 
 @dataclasses.dataclass
 class Log:
-    """What a log says of a run.
+    """The log of a run.
 
     The head has the lines before the titles, by their first words: `head["acc"]` is `20 twentieths
     of a wire`. A negotiation is the list of its iterations; a log of `width` has one for each width
@@ -880,7 +880,7 @@ DECIMALS = ("present", "seconds")
 def _iteration_of(line):
     """The iteration of a row."""
     if len(line.words) != len(TITLES):
-        raise line.fault(f"it has not the {len(TITLES)} columns of a log")
+        raise line.fault(f"the row doesn't have the {len(TITLES)} columns of a log")
     values = []
     for title, word in zip(TITLES, line.words):
         if title not in DECIMALS:
@@ -889,12 +889,12 @@ def _iteration_of(line):
         elif re.fullmatch(r"[0-9]{1,12}\.[0-9]{1,9}", word):
             values.append(float(word))
         else:
-            raise line.fault(f"`{word}` is no decimal number, as 0.5000")
+            raise line.fault(f"`{word}` is not a decimal number such as 0.5000")
     return Iteration(*values)
 
 
 def log_of(source, name="log"):
-    """The log that a file has, by its bytes and its name."""
+    """The log of a file, given by its bytes and its name."""
     log, has_titles = Log({}, []), False
     rows = source.decode(**TEXT).split("\n")
     for number, row in enumerate(rows, 1):
@@ -906,7 +906,7 @@ def log_of(source, name="log"):
         elif line.words == TITLES:
             has_titles = True
         elif line.words and not has_titles:
-            raise line.fault("it is no log of `pathfinder`")
+            raise line.fault("it is not a log of `pathfinder`")
         elif line.words:
             new, last = _iteration_of(line), log.negotiations[-1][-1] if log.negotiations else None
             if new.iteration == 1:
@@ -915,7 +915,7 @@ def log_of(source, name="log"):
                 raise line.fault("it is not the row of the next iteration")
             log.negotiations[-1].append(new)
     if not has_titles:
-        raise Line(name, len(rows), ()).fault("the file ends without the titles of a log")
+        raise Line(name, len(rows), ()).fault("the file has no line with the titles of a log")
     return log
 
 

@@ -1,4 +1,4 @@
-"""A congestion book, plain and slow, from the definitions: what it holds, as lists, and counts made by going over all of them."""
+"""A congestion book, plain and slow, from the definitions: it keeps lists, and counts by going over all of them."""
 from figures import places_of
 from judge import tree_fault
 from trees import pairs_of, text_of
@@ -7,7 +7,7 @@ MOST_ROWS = 500
 
 
 class Book:
-    """Of each net its tree's rows or nothing, the rows of overuse, the turns of each iteration, and who holds which drawn net."""
+    """The rows of each net's tree or nothing, the rows of overuse, the turns of each iteration, and who holds which drawn net."""
 
     def __init__(self, problem, acc):
         self.device, self.nets, self.acc = problem.device, problem.nets, acc
@@ -17,7 +17,7 @@ class Book:
         self.histories = [0] * len(self.device.nodes)
 
     def uses(self, but=None):
-        """By how many nets each node is used, one net left out."""
+        """How many nets use each node, with one net left out."""
         uses = [0] * len(self.device.nodes)
         for net, rows in enumerate(self.trees):
             if rows is not None and net != but:
@@ -26,7 +26,7 @@ class Book:
         return uses
 
     def overuse(self):
-        """Of each node that more nets use than may, by how many, ascending by node."""
+        """The nodes that more nets use than may, in ascending order, and by how many more."""
         return [(node, used - room) for node, (used, room) in enumerate(zip(self.uses(), self.device.capacities)) if used > room]
 
     def draw(self, worker, view):
@@ -49,7 +49,7 @@ class Book:
         return "looked"
 
     def has_filled(self, net, rows, view):
-        """Whether a node is full now by the other nets, and was not by those in the view."""
+        """Whether the other nets fill a node now, and those in the view did not."""
         if net >= len(self.nets):
             return "refused: there is no such net"
         if len(view) != len(self.device.nodes):
@@ -132,7 +132,7 @@ class Book:
         return "true" if self.drawn == 0 else "false"
 
     def dump(self):
-        """All lines of what the book holds."""
+        """All lines of the book's contents."""
         nodes = enumerate(zip(self.uses(), self.histories))
         return [
             *(f"tree {net}: {self.tree(net)}" for net in range(len(self.nets))),

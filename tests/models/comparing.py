@@ -1,4 +1,4 @@
-"""Compares what the program answers with what a model says, over cases that are drawn by seeds."""
+"""Compares the program's answers with those of a model, over random cases drawn by seeds."""
 import argparse
 import concurrent.futures
 import os
@@ -15,7 +15,7 @@ ROUTE = "new.route"
 
 @dataclass
 class Case:
-    """The words and files of a run, and what must come of it: its text, its status, and the routing file, if there is one."""
+    """The words and files of a run, and its required results: its text, its status, and the routing file, if there is one."""
 
     words: list
     files: dict
@@ -52,7 +52,7 @@ def first_difference(got, want):
 
 
 def judge(program, draw, seed):
-    """What is wrong with the case of a seed, the case, and the kinds that it counts as."""
+    """What is wrong with the case of a seed, the case, and the kinds under which it counts."""
     case = draw(random.Random(seed))
     return difference(program, case), case
 
@@ -74,8 +74,8 @@ def asked(doc, count):
     return os.path.abspath(given.program), range(*given.seeds)
 
 
-def tell(kinds, seeds, failed):
-    """Tells what was met how often, and how many seeds passed and failed; the status to exit with."""
+def print_counts(kinds, seeds, failed):
+    """Prints how often each kind was met, and how many seeds passed and failed; the status to exit with."""
     name = pathlib.Path(sys.argv[0]).name
     print(f"{name}: " + ", ".join(f"{kind} {number}" for kind, number in sorted(kinds.items())))
     print(f"{len(seeds) - failed} passed, {failed} failed")
@@ -94,4 +94,4 @@ def main(doc, draw, count):
             if wrong:
                 failed += 1
                 print(f"seed {seed}: {' '.join(case.words)}: {wrong} (files in {keep(case, seed)})", flush=True)
-    return tell(kinds, seeds, failed)
+    return print_counts(kinds, seeds, failed)

@@ -1,8 +1,7 @@
 """Cuts of an array, counted slowly in the listing of a device.
 
 The listing is that of `graph --global`. There each place of a channel is one node, and a pin leads
-to the places beside it, or they lead to it. So nothing here knows but by the listing where a pin's
-sides are.
+to the places beside it, or they lead to it. So only the listing shows on which sides a pin is.
 """
 import re
 from dataclasses import dataclass
@@ -74,7 +73,7 @@ def sides(cut, places):
 
 
 def is_cut(listing, cut, source, sinks):
-    """Whether each output pin that is left has a sink that it is parted from."""
+    """Whether each output pin that is left is parted from some sink."""
     for output in listing.following[source]:
         if output in cut.pins:
             continue
@@ -86,7 +85,7 @@ def is_cut(listing, cut, source, sinks):
 
 
 def has_way_round(detailed, cut, closed, source, sinks):
-    """Whether from an output pin that is left all sinks are reached, off what is closed."""
+    """Whether some output pin that is left reaches all sinks without what is closed."""
     for output in detailed.following[source]:
         met, waiting = {output}, [output]
         while waiting and output not in cut.pins:
@@ -109,7 +108,7 @@ def bound(nets, pins, places):
 
 
 def draw(random, listing, pins):
-    """A cut by chance: a line, a box or some corners, with a few places and pins of blocks."""
+    """A random cut: a line, a box or some corners, with a few places and pins of blocks."""
     nx, ny = listing.size()
     corners = [(x, y) for x in range(nx + 1) for y in range(ny + 1)]
     kind, at, other = random.random(), random.randint(0, nx), random.randint(0, ny)
@@ -135,7 +134,7 @@ def runs(columns):
 
 
 def text(cut, named, counts):
-    """The certificate; `named` has the words of pins, `counts` are those of nets, pins, places."""
+    """The certificate; `named` has the words of pins, and `counts` the numbers of nets, pins and places."""
     heads = zip(("bound", "nets", "pins", "places"), (bound(*counts) or "none", *counts))
     lines = [f"{key} {value}" for key, value in heads]
     for row in sorted({y for _, y in cut.corners}):

@@ -1,10 +1,10 @@
-"""Random architectures and placed netlists, as texts and as what they say."""
+"""Random architectures and placed netlists, as texts and as values."""
 from collections import namedtuple
 from dataclasses import dataclass, field
 
 from device import ONE, SIDES, SINK, SOURCE, Architecture, Node, Pin, Segment
 
-# A block's kind, name, place, and the nets of its pins, None where one is open. A pad's place has a position.
+# A block's kind, name, place, and the nets of its pins, None for an open pin. A pad's place has a position.
 Block = namedtuple("Block", "kind name x y position nets")
 # A net by its number in the netlist: its name, whether it is global, and its terminals, each a block and a class (None: a pad).
 Net = namedtuple("Net", "number name is_global driver sinks")
@@ -74,7 +74,7 @@ class Design:
 
     @staticmethod
     def draw(random, arch, nx, ny, nets):
-        """Blocks at random sites, and at most so many nets, each from a free output to free inputs."""
+        """Blocks at random sites, and at most this many nets, each from a free output to free inputs."""
         design = Design(arch, nx, ny)
         logic = [(x, y) for x in range(1, nx + 1) for y in range(1, ny + 1)]
         edge = [(x, y) for x in (0, nx + 1) for y in range(1, ny + 1)] + [(x, y) for y in (0, ny + 1) for x in range(1, nx + 1)]
@@ -107,7 +107,7 @@ class Design:
                 self.globals.add(name)
 
     def free_pins(self, is_sink):
-        """The pins that may drive a net, or may be driven, as a block's and a pin's number."""
+        """The pins that may drive a net, or may be driven, each as the numbers of a block and a pin."""
         found = []
         for number, block in enumerate(self.blocks):
             if block.kind == "clb":
@@ -117,7 +117,7 @@ class Design:
         return found
 
     def terminal(self, block, pin):
-        """A pin's block and class; of a pad there is no class."""
+        """A pin's block and class; a pad has no class."""
         return block, self.arch.pins[pin].group if self.blocks[block].kind == "clb" else None
 
     def drives(self, block, pin):
@@ -125,7 +125,7 @@ class Design:
         return kind == "input" or (kind == "clb" and not self.arch.pins[pin].is_input)
 
     def nets(self):
-        """All nets, by first appearance in a pinlist."""
+        """All nets, in the order of their first appearance in a pinlist."""
         pins = [(name, block, pin) for block, it in enumerate(self.blocks) for pin, name in enumerate(it.nets) if name]
         found = []
         for number, name in enumerate(dict.fromkeys(name for name, _, _ in pins)):

@@ -1,4 +1,4 @@
-"""A device, plain and slow, from the definitions: a list of its nodes in order, and an edge wherever two of them have one."""
+"""A device, plain and slow, from the definitions: a list of its nodes in order, and the edges between any two of them."""
 from collections import defaultdict
 from dataclasses import dataclass
 from typing import NamedTuple, Optional
@@ -22,7 +22,7 @@ class Pin:
 
 @dataclass(frozen=True)
 class Segment:
-    """A type of wire: how often it is, in units of 10^-9, how many places long (None is a longline), and what drives it."""
+    """A type of wire: its frequency in units of 10^-9, its length in places (None is a longline), and what drives it."""
 
     frequency: int
     length: Optional[int]
@@ -33,7 +33,7 @@ class Segment:
 
 @dataclass(frozen=True)
 class Architecture:
-    """What a device follows from; the three Fc are in units of 10^-9, of tracks or of the width."""
+    """The architecture of a device; the three Fc are in units of 10^-9, of tracks or of the width."""
 
     pads: int
     pins: tuple
@@ -52,7 +52,7 @@ class Architecture:
 
 
 class Node(NamedTuple):
-    """A node; the numbers of nodes follow the order of these."""
+    """A node; the numbers of nodes follow this order."""
 
     kind: int
     x: int
@@ -65,14 +65,14 @@ class Device:
 
     def __init__(self, arch, nx, ny, width, is_global=False):
         self.arch, self.nx, self.ny, self.width, self.is_global = arch, nx, ny, width, is_global
-        # The number of each track's type, the wires, and which of them is where.
+        # The number of each track's type, the wires, and the wire at each place.
         self.types = [self.type_number(track) for track in range(width)]
         self.spans = dict(self.wires())
         self.wires_at = dict(self.wire_places())
         self.nodes = sorted([*self.terminals(), *self.spans])
         self.ids = {node: number for number, node in enumerate(self.nodes)}
         self.sinks = {number for number, node in enumerate(self.nodes) if node.kind == SINK}
-        # Of each node, by its number, its first and its last place, and its capacity.
+        # The first place, the last place and the capacity of each node, by its number.
         self.places_of = [self.span(node) for node in self.nodes]
         self.capacities = [self.capacity(node) for node in self.nodes]
         self.successors = [[] for _ in self.nodes]
@@ -93,7 +93,7 @@ class Device:
         return [at for at in every if self.is_logic(*at)], [at for at in every if self.is_pad(*at)]
 
     def terminals(self):
-        """The nodes of the blocks: of a logic block one for each class and each pin, of a pad's position one of each kind."""
+        """The nodes of the blocks: for a logic block one for each class and each pin, for a pad's position one of each kind."""
         logic, pads = self.places()
         for x, y in logic:
             for is_input, kind in ((False, SOURCE), (True, SINK)):
@@ -116,7 +116,7 @@ class Device:
         return self.arch.segments[kind], self.types[:track].count(kind)
 
     def runs(self, track, length):
-        """The wires of a track in a channel of so many places: their first and last ones."""
+        """The wires of a track in a channel of this many places: the first and the last place of each."""
         if self.is_global:
             return [(at, at) for at in range(1, length + 1)]
         segment, rank = self.track_type(track)
@@ -199,7 +199,7 @@ class Device:
                 yield (node, wire) if node.kind == OPIN else (wire, node)
 
     def corners(self, wire):
-        """The corners that a wire touches: one of its places joins the corner before it and the one behind it."""
+        """The corners that a wire touches: each of its places joins the corner before it and the one after it."""
         x1, y1, x2, y2 = self.spans[wire]
         if wire.kind == CHANX:
             return [(x, y1) for x in range(x1 - 1, x2 + 1)]
@@ -231,11 +231,11 @@ class Device:
         return f"{KINDS[node.kind]} {self.place_text(node)} {self.label(node)}: {node.number}"
 
     def type_text(self, node):
-        """What the line of a node says of its type."""
+        """The part of a node's line about its type."""
         return f" type {self.type_number(node.number)}" if node.kind in (CHANX, CHANY) else ""
 
     def switch_text(self, begin, end):
-        """What the line of an edge says of its switch."""
+        """The part of an edge's line about its switch."""
         if end.kind not in (CHANX, CHANY):
             return ""
         segment = self.arch.segments[self.type_number(end.number)]

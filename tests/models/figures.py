@@ -1,4 +1,4 @@
-"""What `report` prints of a routing, and `check --explain` says of it, counted plainly from the definitions."""
+"""What `report` prints, and `check --explain` says, about a routing, counted plainly from the definitions."""
 import functools
 
 from device import CHANX, CHANY
@@ -18,7 +18,7 @@ def hundredths(number, count):
 
 
 class Routing:
-    """A routing of a design: of each routed net a list of pairs of nodes, or None."""
+    """A routing of a design: for each routed net a list of pairs of nodes, or None."""
 
     def __init__(self, device, design, lists):
         self.device, self.design = device, design
@@ -32,13 +32,13 @@ class Routing:
         self.occupied = self.occupancy()
 
     def is_used_of(self, wires):
-        """How many of these wires are used, of how many, and so of their places."""
+        """How many of these wires are used, of how many, and the same for their places."""
         used = [wire for wire in wires if wire in self.used]
         lengths = [sum(len(places_of(self.device, wire)) for wire in some) for some in (used, wires)]
         return f"{len(used)} of {len(wires)}", f"{lengths[0]} of {lengths[1]}"
 
     def occupancy(self):
-        """How many tracks are occupied at each place of each kind of channel; of a global one how many nets are there."""
+        """How many tracks are occupied at each place of each kind of channel; in a global one how many nets are there."""
         found = {}
         for wire in self.device.spans:
             nets = sum(wire in nodes for nodes in self.covered)
@@ -100,7 +100,7 @@ class Routing:
             yield f"node {number} {node} used {len(names)} of {room} nets {' '.join(names)}"
 
     def named(self, text):
-        """The lines of the file that name an overused node, which has the text of no other one."""
+        """The lines of the file that name an overused node; no two nodes have the same text."""
         over = {self.device.text(self.device.nodes[number]): number for number, _, _ in self.overuses()}
         for line, words in enumerate(text.split("\n"), 1):
             node = over.get(" ".join(words.split()))
@@ -108,9 +108,9 @@ class Routing:
                 yield f"line {line} node {node}"
 
     def uses(self, text, name):
-        """The lines of the file of this name that name an overused node, with the net whose section they stand in.
+        """The lines of the file of this name that name an overused node, with the net of their section.
 
-        A net uses a node that it covers, and only names another one, with which its section begins.
+        A net uses a node that it covers; it only names another one, with which its section begins.
         """
         over = {self.device.text(self.device.nodes[number]): (number, names) for number, names, _ in self.overuses()}
         net = None
@@ -178,7 +178,7 @@ class Routing:
 
 
 def faults(device, design, lists):
-    """Of each net that isn't routed its name and its first fault."""
+    """The name and the first fault of each net that isn't routed."""
     for net, (source, sinks), pairs in zip(design.routed(), design.problem(device), lists):
         fault = "Unrouted" if pairs is None else tree_fault(device, source, sinks, pairs)
         if fault:
@@ -186,13 +186,13 @@ def faults(device, design, lists):
 
 
 def overuse_in_words(device, design, lists, text, name):
-    """What `check --explain` says of the overused nodes of a routing, whose file has this name and text."""
+    """What `check --explain` says about the overused nodes of a routing whose file has this name and text."""
     routing = Routing(device, design, lists)
     return [*routing.overused(), *routing.uses(text, name)]
 
 
 def report(device, design, lists, bound, text, options):
-    """What `report` prints with these options of the routing, whose file has this text, with the bound of its netlist."""
+    """What `report` prints with these options for the routing whose file has this text, with the bound of its netlist."""
     routing = Routing(device, design, lists)
     lines = [*routing.whole(bound), *routing.types(), *routing.channels(), *routing.overused(), *routing.named(text)]
     lines += routing.each_net() if "--full-stats" in options else []

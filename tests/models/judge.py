@@ -15,7 +15,7 @@ def reached(pairs, begin):
 
 
 def is_listed(device, source, pairs):
-    """Whether each path goes on from the one before, or begins, behind a sink, at the source or at an end met before."""
+    """Whether each path goes on from the one before, or begins, after a sink, at the source or at an end met before."""
     if pairs and pairs[0][0] != source:
         return False
     for place in range(1, len(pairs)):
@@ -33,7 +33,7 @@ def dangles(pairs, source, sinks):
 
 
 def tree_fault(device, source, sinks, pairs):
-    """The first of the faults of a net's list, None where it routes the net."""
+    """The first of the faults of a net's list, None if it routes the net."""
     ends, wanted = [end for _, end in pairs], set(sinks)
     sinks_met = {end for end in ends if end < len(device.nodes) and device.nodes[end].kind == SINK}
     faults = (
@@ -54,7 +54,7 @@ def covered(source, pairs):
 
 
 def overuse(device, problem, lists):
-    """Of each overused node by how many nets, ascending by node."""
+    """The overused nodes in ascending order, each with the number of nets too many."""
     uses = [0] * len(device.nodes)
     for (source, _), pairs in zip(problem, lists):
         for node in covered(source, pairs) if pairs is not None else ():
@@ -63,7 +63,7 @@ def overuse(device, problem, lists):
 
 
 def verdict(device, design, lists):
-    """What `check` prints of a list of pairs, or None, for each routed net."""
+    """What `check` prints for lists of pairs, or None, one for each routed net."""
     problem = list(design.problem(device))
     for net, (source, sinks), pairs in zip(design.routed(), problem, lists):
         fault = "Unrouted" if pairs is None else tree_fault(device, source, sinks, pairs)

@@ -7,7 +7,7 @@ from device import IPIN, KINDS, SINK, Device
 from judge import covered, overuse
 
 
-# Of the kinds of nodes of which it isn't 20.
+# The base costs of the kinds of nodes for which it isn't 20.
 BASE_COSTS = {SINK: 0, IPIN: 19}
 
 
@@ -39,7 +39,7 @@ class Settings:
 
 
 class Box:
-    """The box round a net's terminals, widened on each side."""
+    """The box around a net's terminals, widened on each side."""
 
     def __init__(self, device, terminals, margin):
         nodes = [device.nodes[node] for node in terminals]
@@ -58,7 +58,7 @@ def cost(device, node, others, history, present):
 
 
 def search(device, net, others, histories, present, margin, kept=None):
-    """The pairs of a net's tree; or None, where a sink isn't reached. The net keeps to the tree of the pairs `kept`, if there is one."""
+    """The pairs of a net's tree; or None if a sink isn't reached. The net keeps to the tree of the pairs `kept`, if there is one."""
     pairs, open_sinks = grow(device, net, others, histories, present, margin, kept)
     return None if open_sinks else pairs
 
@@ -84,7 +84,7 @@ def grow(device, net, others, histories, present, margin, kept=None):
 
 
 def way(device, tree, starts, open_sinks, box, cost_of):
-    """The nodes from a start to the sink that is taken first: nodes are taken by their cost and then their number."""
+    """The nodes from a start to the sink that is taken first: nodes are taken in the order of their cost and then their number."""
     least, before, taken = {start: 0 for start in starts}, {}, set()
     waiting = [(0, start) for start in starts]
     heapq.heapify(waiting)
@@ -98,7 +98,7 @@ def way(device, tree, starts, open_sinks, box, cost_of):
         for after in device.successors[node]:
             if after in tree or (after in device.sinks and after not in open_sinks) or not box.has(device.places_of[after]):
                 continue
-            # No cost is below 0, so that a node which was reached for less is never reached for even less.
+            # No cost is below 0, so a node that was reached for less is never reached for even less.
             if after in least and least[after] <= total:
                 continue
             reached = total + cost_of(after)
@@ -161,7 +161,7 @@ def negotiate(device, problem, settings):
 
 
 def uses_of_others(device, problem, lists, net):
-    """By how many other nets each node is used."""
+    """How many other nets use each node."""
     uses = [0] * len(device.nodes)
     for number, ((source, _), pairs) in enumerate(zip(problem, lists)):
         if number != net and pairs is not None:
@@ -171,7 +171,7 @@ def uses_of_others(device, problem, lists, net):
 
 
 def route(design, width, is_global, settings):
-    """What `route` prints, and the routing that it writes, None where it finds none."""
+    """What `route` prints, and the routing that it writes, None if it finds none."""
     device = Device(design.arch, design.nx, design.ny, width, is_global)
     problem = list(design.problem(device))
     lists, is_routed, iterations = negotiate(device, problem, settings)
@@ -182,7 +182,7 @@ def route(design, width, is_global, settings):
 
 
 def next_width(trials, start):
-    """The width to try behind these trials, None where the search is over."""
+    """The width to try after these trials, None if the search is over."""
     routed = [width for width, is_routed in trials if is_routed]
     if not trials:
         return start
@@ -194,7 +194,7 @@ def next_width(trials, start):
 
 
 def least_width(design, start, is_global, settings):
-    """What `width` prints, and the routing that it writes, None where it finds none."""
+    """What `width` prints, and the routing that it writes, None if it finds none."""
     trials, found = [], {}
     while (width := next_width(trials, start)) is not None:
         _, found[width] = route(design, width, is_global, settings)
@@ -212,7 +212,7 @@ def node_line(device, node):
 
 
 def section(device, pairs):
-    """The nodes of a net's lines: each pair's end, and where a pair doesn't go on from the one before, its begin too."""
+    """The nodes of a net's lines: each pair's end, and its begin too if it doesn't go on from the pair before."""
     nodes = []
     for place, (begin, end) in enumerate(pairs):
         goes_on = place and begin == pairs[place - 1][1] and device.nodes[begin].kind != SINK

@@ -26,7 +26,7 @@ class Problem:
 
     @staticmethod
     def draw(random, device, count, sizes):
-        """So many nets, each of one of these numbers of sinks, or of all that there are. Several may share a terminal, and many
+        """This many nets, each with one of these numbers of sinks, or all that there are. Several may share a terminal, and many
         have a source of several outputs."""
         sources, sinks = nodes_of(device, SOURCE), nodes_of(device, SINK)
         wide = [source for source in sources if len(device.successors[source]) > 1] or sources

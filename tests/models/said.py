@@ -1,4 +1,4 @@
-"""How `lab` says values."""
+"""How `lab` prints values."""
 
 
 def words(numbers):
@@ -10,6 +10,6 @@ def boolean(value):
 
 
 def counts(arch):
-    """What an architecture has, with one switch."""
+    """The counts of an architecture with one switch."""
     classes = len(arch.groups(True)) + len(arch.groups(False))
     return f"{len(arch.pins)} pins, {classes} classes, {len(arch.segments)} segments, 1 switches"

@@ -1,4 +1,4 @@
-"""Compares what `lab` answers to scripts that are drawn by seeds with what a model says."""
+"""Compares the answers of `lab` to random scripts, drawn by seeds, with those of a model."""
 import concurrent.futures
 import os
 import pathlib
@@ -8,16 +8,16 @@ import tempfile
 from collections import Counter
 from dataclasses import dataclass, field
 
-from comparing import asked, tell
+from comparing import asked, print_counts
 
-# The scripts of so many seeds are one run of the program.
+# One run of the program takes the scripts of this many seeds.
 CHUNK = 8
 SECONDS = 300
 
 
 @dataclass
 class Case:
-    """The calls of a script, and of each the lines that must be answered, or functions that say what is wrong with them."""
+    """The calls of a script, and for each the lines that must be answered, or functions that say what is wrong with them."""
 
     calls: list = field(default_factory=list)
     kinds: Counter = field(default_factory=Counter)
@@ -51,7 +51,7 @@ class Case:
                 if wrong:
                     return f"call {number} ({call[:60]!r}): {wrong}"
         rest = list(have)
-        return f"behind the last call: got {rest[0][:100]!r}" if rest else ""
+        return f"after the last call: got {rest[0][:100]!r}" if rest else ""
 
 
 def wrong_with(line, answer):
@@ -66,7 +66,7 @@ def wrong_with(line, answer):
 
 
 def mark(seed):
-    """The line that is answered ahead of a seed's case, and the call for it."""
+    """The line that is answered before a seed's case, and the call for it."""
     return f"1: case {seed}", f"lines <<\ncase {seed}\n>>\n"
 
 
@@ -82,7 +82,7 @@ def answers_by_seed(text, seeds):
 
 
 def judge(program, draw, seeds):
-    """Of the case of each seed what is wrong with its answers, or nothing, where it is then kept, and the kinds that it met."""
+    """For the case of each seed, what is wrong with its answers or nothing, where a wrong one is kept, and the kinds that it met."""
     cases = {seed: draw(random.Random(seed)) for seed in seeds}
     script = "".join(mark(seed)[1] + case.script() for seed, case in cases.items())
     try:
@@ -118,4 +118,4 @@ def main(doc, draw, count):
                 if wrong:
                     failed += 1
                     print(f"seed {seed}: {wrong} (script in {path})", flush=True)
-    return tell(kinds, seeds, failed)
+    return print_counts(kinds, seeds, failed)

@@ -1,4 +1,4 @@
-"""Trees of nets as rows, each a node and the row that it hangs on, and lists of pairs; how they are written, drawn and spoilt."""
+"""Trees of nets as rows, each a node and the row that it hangs on, and lists of pairs: writes, draws and corrupts them."""
 from device import CHANX, IPIN, SINK
 from negotiation import grow
 from views import draw_margin, draw_present, draw_view
@@ -21,7 +21,7 @@ def pairs_of(rows):
 
 
 def text_of(rows):
-    """A tree as it is written: chains of nodes, those behind the first one each behind its row."""
+    """A tree as it is written: chains of nodes; each after the first one has its row before it."""
     words = [str(rows[0][0])]
     for place, (node, parent) in enumerate(rows[1:], 1):
         words += [str(node)] if parent == place - 1 else [f"{parent}:", str(node)]
@@ -51,7 +51,7 @@ def hang(rows, parent, way):
 
 
 def draw_legal(random, device, net):
-    """A tree that routes a net, searched for among random costs or walked by chance; None where none is found."""
+    """A tree that routes a net, searched for among random costs or walked at random; None if none is found."""
     if random.random() < 0.5:
         return wander(random, device, net)
     view = draw_view(random, len(device.nodes))
@@ -60,7 +60,7 @@ def draw_legal(random, device, net):
 
 
 def wander(random, device, net):
-    """A tree whose ways to one sink after the other are walked by chance."""
+    """A tree whose ways to one sink after the other are walked at random."""
     source, sinks = net
     rows = [(source, None)]
     for sink in random.sample(sinks, len(sinks)):
@@ -79,8 +79,8 @@ def shuffled(random, things):
 
 
 def stroll(random, device, met, start, sink):
-    """The nodes of a way to a sink that enters no node that was met, by chance; None where there is none, and all that were entered are met
-    then, since none of them leads there."""
+    """The nodes of a random way to a sink that enters no node that was met; None if there is none. Then all entered nodes count as met,
+    since none of them leads there."""
     seen, way, left = {*met, start}, [], [shuffled(random, device.successors[start])]
     while left:
         if not left[-1]:
@@ -187,14 +187,14 @@ SPOILS = (
 
 
 def spoil(random, device, rows):
-    """A tree that is spoilt in one way or two."""
+    """A tree, corrupted in one way or two."""
     for _ in range(random.choice((1, 1, 1, 2))):
         rows = random.choice(SPOILS)(random, device, rows)
     return rows
 
 
 def draw_tree(random, device, net):
-    """A tree for a net, mostly spoilt."""
+    """A tree for a net, mostly corrupted."""
     rows = draw_legal(random, device, net) or [(net[0], None)]
     return spoil(random, device, rows) if random.random() < 0.8 else rows
 
@@ -247,13 +247,13 @@ SPOILS_OF_PAIRS = (shuffle, delete, double, exchange, turn, add_a_circle, add_an
 
 
 def draw_list(random, device, net):
-    """The pairs of a tree that routes a net, None where none is found."""
+    """The pairs of a tree that routes a net, None if none is found."""
     rows = draw_legal(random, device, net)
     return rows and pairs_of(rows)
 
 
 def draw_lists(random, device, problem):
-    """Lists of pairs, mostly such that route the nets; some spoilt, of other nets, left out or one too many."""
+    """Lists of pairs, most of which route the nets; some are corrupted, of other nets, left out or one too many."""
     lists = [draw_list(random, device, net) for net in problem]
     for _ in range(random.choice((0, 0, 1, 1, 2))):
         net = random.randrange(len(lists)) if lists else None

@@ -1,11 +1,11 @@
-"""What a net sees of the others."""
+"""Views: what a net sees of the others."""
 
 MOST_OTHERS = 65_535
 MOST_HISTORY = 2**42
 
 
 class View:
-    """Of each node how many other nets use it, and its history."""
+    """How many other nets use each node, and the node's history."""
 
     def __init__(self, size):
         self.others, self.histories = [0] * size, [0] * size
@@ -56,7 +56,7 @@ def walls(random):
 
 
 def brink(random):
-    """Histories by which some ways cost a little less than 2^32 and others a little more."""
+    """Histories with which some ways cost a little less than 2^32 and others a little more."""
     return 0, max(0, 2**28 // random.randint(1, 5) - random.randint(-5, 60))
 
 
